@@ -1,0 +1,18 @@
+//! The plain types that every other crate speaks of.
+#![tactic(auto)]
+
+mod audit;
+pub mod limits;
+mod lists;
+mod memory;
+mod refusal;
+mod settings;
+
+pub use audit::{Closing, Openings, ProofShare};
+pub use lists::{List, Text};
+pub use memory::NoMemory;
+pub use refusal::Refusal;
+pub use settings::Settings;
+
+#[cfg(test)]
+mod tests;

@@ -1,0 +1,16 @@
+//! The limits of a system of mailboxes.
+
+/// A message has at least so many bytes.
+pub const LEAST_WIDTH: u32 = 16;
+
+/// A message has at most so many bytes.
+pub const MOST_WIDTH: u32 = 4096;
+
+/// There are at most so many boxes.
+pub const MOST_BOXES: u32 = 4096;
+
+/// There are at most so many lanes.
+pub const MOST_LANES: u16 = 256;
+
+/// At most so many commands are outstanding on the link.
+pub const MOST_WINDOW: u8 = 32;
