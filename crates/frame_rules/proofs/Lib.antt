@@ -3,3 +3,6 @@ pub mod Fields
 pub mod FormLaws
 pub mod BodyFields
 pub mod BodyLaws
+pub mod HeaderLaws
+pub mod Growing
+pub mod GrammarLaws

@@ -4,6 +4,7 @@
 mod fault;
 mod frame;
 mod kind;
+pub mod laws;
 
 pub use fault::FrameFault;
 pub use frame::{Body, DepositBody, Frame, ReplyBody};

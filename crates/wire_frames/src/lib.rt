@@ -8,6 +8,7 @@ mod header;
 mod kinds;
 mod refusals;
 mod tagged;
+mod writing;
 
 pub use decoding::decode;
 pub use frame_rules::{Body, DepositBody, Frame, FrameFault, ReplyBody};
