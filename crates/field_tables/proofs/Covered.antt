@@ -28,3 +28,7 @@ covered = refl
 pub differ : all_differ (powers 255 1) ≡ true
 unfolding all_differ powers has product_at twist_at
 differ = refl
+
+pub no_zero : has 0 (powers 255 1) ≡ false
+unfolding powers has product_at twist_at
+no_zero = refl

@@ -1,14 +1,14 @@
 -- Each number from 1 to 255 is one power of 128 below the 255th, and a product adds the exponents.
-use Rattle.std.specs.Prelude.{◌≡◌, ◌≢◌, ℕ, ◌+◌, ◌<◌, ◌≤◌, ◌==◌, List, [], ◌∷◌, length, Bool, true, false, cond, ◌&&◌, not, refl}
+use Rattle.std.specs.Prelude.{◌≡◌, ◌≢◌, ℕ, ◌+◌, ◌<◌, ◌≤◌, ◌==◌, List, [], ◌∷◌, length, Bool, true, false, cond, ◌&&◌, not, replicate, ◌⊎◌, refl}
 use Rattle.std.proofs.Common.{zero, suc, sym, ◌∙◌, ap, subst, get_or, arith}
 use Rattle.std.proofs.Common.{set, inl, inr, get_or-set_same, get_or-set_other}
 use Rattle.std.proofs.lemmas.Bool.{cases_eq}
 use borrow.Author.Tests.{eqb-true, eq-eqb, eqb_apart}
 use Rattle.tower_field.specs.Levels.{product_at}
 use Rattle.tower_field.specs.Elements.{product_below}
-use Rattle.tower_field.specs.Products.{product_assoc, times_one}
+use Rattle.tower_field.specs.Products.{product_assoc, product_comm, zero_times, times_one}
 use Rattle.field_tables.specs.Powers.{power_of}
-use Rattle.field_tables.proofs.Covered.{powers, has, covers, all_differ, covered, differ}
+use Rattle.field_tables.proofs.Covered.{powers, has, covers, all_differ, covered, differ, no_zero}
 
 pub power_below : (i : ℕ) → power_of i < 256
 unfolding power_of
@@ -93,21 +93,57 @@ powers_apart i j l m e =
     let within : j < length (powers 255 1) = subst (λ n. j < n) (sym (powers_length 255 1)) m in
     differ_apart (powers 255 1) differ i j l within (powers_at_one i (omega arith) ∙ e ∙ sym (powers_at_one j m))
 
--- what the tables give for two numbers that are not zero
-pub tables_give : (power log : List ℕ) → ((i : ℕ) → i < 510 → get_or power i 0 ≡ power_of i) → ((i : ℕ) → i < 255 → get_or log (power_of i) 0 ≡ i) →
-    (a b : ℕ) → 0 < a → a < 256 → 0 < b → b < 256 →
-    (get_or log a 0 + get_or log b 0 < 510) × (get_or power (get_or log a 0 + get_or log b 0) 0 ≡ product_at 3 a b)
-tables_give power log powers_are logs_are a b l h m k =
-    let i = log_of a l h in
-    let j = log_of b m k in
-    let log_a : get_or log a 0 ≡ i.0 = ap (λ n. get_or log n 0) (sym i.2) ∙ logs_are i.0 i.1 in
-    let log_b : get_or log b 0 ≡ j.0 = ap (λ n. get_or log n 0) (sym j.2) ∙ logs_are j.0 j.1 in
-    let below_a : i.0 < 255 = i.1 in
-    let below_b : j.0 < 255 = j.1 in
-    let within : i.0 + j.0 < 510 = omega arith in (
-      rw (log_a, log_b) within,
-      rw (log_a, log_b) (powers_are (i.0 + j.0) within ∙ power_add i.0 j.0 ∙ ap (λ n. product_at 3 n (power_of j.0)) i.2 ∙ ap (product_at 3 a) j.2),
-    )
+pub power_apart : (i : ℕ) → i < 255 → power_of i ≢ 0
+power_apart i h e =
+    let within : i < length (powers 255 1) = subst (λ n. i < n) (sym (powers_length 255 1)) h in
+    let there : has 0 (powers 255 1) ≡ true = place_has 0 (powers 255 1) i within (powers_at_one i h ∙ e) in
+    let never = no_zero in
+    cc
+
+pub zeros_alone : (n i : ℕ) → let zeros : List ℕ = replicate n 0 in get_or zeros i 0 ≡ 0
+zeros_alone zero i = refl
+zeros_alone (suc n) zero = refl
+zeros_alone (suc n) (suc i) = zeros_alone n i
+
+-- what the tables hold
+pub record AreTables (power log : List ℕ) : Type 0 where
+  pub powers : (i : ℕ) → i < 510 → get_or power i 0 ≡ power_of i
+  pub zeros : (i : ℕ) → 510 ≤ i → get_or power i 0 ≡ 0
+  pub logs : (i : ℕ) → i < 255 → get_or log (power_of i) 0 ≡ i
+  pub log_of_zero : get_or log 0 0 ≡ 510
+
+-- a logarithm is 510 for zero, and below 255 for all others
+log_cases : (power log : List ℕ) → AreTables power log → (a : ℕ) → a < 256 → ((a ≡ 0) × (get_or log a 0 ≡ 510)) ⊎ ((i : ℕ) × (i < 255) × (power_of i ≡ a) × (get_or log a 0 ≡ i))
+log_cases power log are zero h = inl (refl, are.log_of_zero)
+log_cases power log are (suc a) h =
+    let i = log_of (suc a) (omega arith) h in
+    inr (i.0, i.1, i.2, ap (λ n. get_or log n 0) (sym i.2) ∙ are.logs i.0 i.1)
+
+-- a product by the tables, wherever both factors are numbers of level 3
+pub tables_give : (power log : List ℕ) → AreTables power log → (a b : ℕ) → a < 256 → b < 256 →
+    (get_or log a 0 + get_or log b 0 < 1021) × (get_or power (get_or log a 0 + get_or log b 0) 0 ≡ product_at 3 a b)
+tables_give power log are a b m k =
+    elim (log_cases power log are a m) [
+      | inl p ↦
+          let log_a : get_or log a 0 ≡ 510 = p.1 in
+          let small : get_or log b 0 ≤ 510 = elim (log_cases power log are b k) [ inl q ↦ let e : get_or log b 0 ≡ 510 = q.1 in omega arith | inr q ↦ let e : get_or log b 0 ≡ q.0 = q.3 in let l : q.0 < 255 = q.1 in omega arith ] in
+          (omega arith, are.zeros _ (omega arith) ∙ sym (ap (λ n. product_at 3 n b) p.0 ∙ zero_times 3 b k))
+      | inr p ↦
+          elim (log_cases power log are b k) [
+            | inl q ↦
+                let log_b : get_or log b 0 ≡ 510 = q.1 in
+                let log_a : get_or log a 0 ≡ p.0 = p.3 in
+                let low : p.0 < 255 = p.1 in
+                (omega arith, are.zeros _ (omega arith) ∙ sym (product_comm 3 a b m k ∙ ap (λ n. product_at 3 n a) q.0 ∙ zero_times 3 a m))
+            | inr q ↦
+                let log_a : get_or log a 0 ≡ p.0 = p.3 in
+                let log_b : get_or log b 0 ≡ q.0 = q.3 in
+                let low_a : p.0 < 255 = p.1 in
+                let low_b : q.0 < 255 = q.1 in
+                let within : p.0 + q.0 < 510 = omega arith in
+                (omega arith, rw (log_a, log_b) (are.powers (p.0 + q.0) within ∙ power_add p.0 q.0 ∙ ap (λ n. product_at 3 n (power_of q.0)) p.2 ∙ ap (product_at 3 a) q.2))
+          ]
+    ]
 
 -- a step of the loop that fills the tables
 pub power_filled : (power : List ℕ) (i : ℕ) → i < length power → ((j : ℕ) → j < i → get_or power j 0 ≡ power_of j) → (j : ℕ) → j < i + 1 → get_or (set power i (power_of i)) j 0 ≡ power_of j
