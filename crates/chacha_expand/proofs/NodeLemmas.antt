@@ -20,6 +20,19 @@ module _ (state : ℕ) where
   abbrev pub words_of_key : List ℕ
   words_of_key = even % 2 ^ 32 ∷ even / 2 ^ 32 % 2 ^ 32 ∷ even / 2 ^ 64 % 2 ^ 32 ∷ even / 2 ^ 96 % 2 ^ 32 ∷ 0 ∷ 0 ∷ 0 ∷ 0 ∷ []
 
+  -- the same words from the halves of 64 bits
+  pub low_word : even % 2 ^ 64 % 2 ^ 32 ≡ even / 1 % 2 ^ 32
+  low_word = omega arith
+
+  pub second_word : even % 2 ^ 64 / 2 ^ 32 ≡ even / 2 ^ 32 % 2 ^ 32
+  second_word = omega arith
+
+  pub third_word : even / 2 ^ 64 % 2 ^ 64 % 2 ^ 32 ≡ even / 2 ^ 64 % 2 ^ 32
+  third_word = omega arith
+
+  pub fourth_word : even / 2 ^ 64 % 2 ^ 64 / 2 ^ 32 ≡ even / 2 ^ 96 % 2 ^ 32
+  fourth_word = omega arith
+
   next_word_down : (x : ℕ) → x / 256 / 256 / 256 / 256 ≡ x / 2 ^ 32
   next_word_down x = omega arith
 
@@ -46,6 +59,11 @@ module _ (state : ℕ) where
 word_bytes_sum : (w rest : ℕ) → w < 2 ^ 32
     → w / 1 % 256 + 256 * (w / 256 % 256 + 256 * (w / 65536 % 256 + 256 * (w / 16777216 % 256 + 256 * rest))) ≡ w + 2 ^ 32 * rest
 word_bytes_sum w rest h = omega arith
+
+-- four words by their halves of 64 bits
+pub four_words : (a b c d : ℕ) → a + 2 ^ 32 * b + 2 ^ 64 * (c + 2 ^ 32 * d) ≡ value_in (2 ^ 32) (a ∷ b ∷ c ∷ d ∷ [])
+unfolding value_in
+four_words a b c d = omega arith
 
 module _ (key : List ℕ) where
   abbrev word : ℕ → ℕ

