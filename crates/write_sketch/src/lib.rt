@@ -2,8 +2,8 @@
 #![tactic(auto)]
 
 ghost use Rattle.std.specs.Prelude.{◌≡◌, length, bit_xor};
-ghost use Rattle.audit_rules.specs.Audit.{product, sums_of};
-ghost use Rattle.write_sketch.specs.Challenges.{challenge_rs, challenge_ss};
+ghost use Rattle.audit_rules.specs.Audit.{product};
+ghost use Rattle.write_sketch.specs.Challenges.{sums_under};
 
 pub use audit_rules::Sums;
 use chacha_expand::challenge;
@@ -31,7 +31,7 @@ fn with_box(tables: &Tables, sums: Sums, w: u128, r: u128, s: u128) -> Sums
 /// lists give four zeros.
 pub fn sums(states: &[u128], addresses: &[u128], ckey: &[u8; 32]) -> Sums
     requires { length states.now ≡ length addresses.now }
-    ensures sums { result ≡ sums_of states.now (challenge_rs ckey.now addresses.now) (challenge_ss ckey.now addresses.now) }
+    ensures sums { result ≡ sums_under ckey.now addresses.now states.now }
 {
     let tables = Tables::new();
     let mut sums = Sums {
