@@ -1,12 +1,12 @@
 -- A line is an event exactly where it spells one.
-use Rattle.std.proofs.Common.{◌≡◌, ℕ, ◌+◌, ◌-◌, ◌<◌, ◌≤◌, ◌^◌, ◌⊎◌, inl, inr, List, ◌++◌, Option, Some, None, option_map, codes, arith, refl, ◌∙◌, ap, subst}
+use Rattle.std.proofs.Common.{◌≡◌, ℕ, ◌-◌, ◌<◌, ◌≤◌, ◌^◌, ◌⊎◌, inl, inr, List, ◌++◌, Some, option_map, codes, arith, refl, ◌∙◌, ap, subst}
 use Rattle.std.specs.Fmt.{decimal}
 use Rattle.express_words.specs.declared.settings.Settings.{Settings}
 use Rattle.schedule_text.specs.declared.schedule.Asked.{Asked}
 use Rattle.schedule_text.specs.declared.schedule.Asked.TheVariants.{Register, Read}
 use Rattle.schedule_text.specs.declared.schedule.Event.{Event}
 use Rattle.schedule_text.specs.declared.schedule.Event.TheVariants.{Ask, Finish}
-use Rattle.schedule_text.specs.Fields.{◌>>=◌, after, number_at, last_number, address_of}
+use Rattle.schedule_text.specs.Fields.{after, number_at, last_number, address_of}
 use Rattle.schedule_text.specs.Grammar.{register_of, read_of, asked_of, ask_of, finish_of, event_of}
 use Rattle.schedule_text.specs.Spelling.{SpellsAddress, SpellsAsked, SpellsEvent}
 use Rattle.schedule_text.proofs.FieldLaws.{bind_some, map_some, or_else_some, after_found, after_only, number_found, number_only, last_found, last_only, address_found, address_only}

@@ -1,12 +1,12 @@
 -- A field is found exactly where it is spelled so.
-use Rattle.std.proofs.Common.{◌≡◌, ◌≢◌, ℕ, zero, suc, ◌+◌, ◌-◌, ◌*◌, ◌<◌, ◌≤◌, ◌^◌, ◌⊎◌, inl, inr, nat_eq, nat_le, ◌&&◌, Bool, true, false, cond, List, [], ◌∷◌, ◌++◌, length, get_or, Option, Some, None, option_map, Result, Ok, Err, codes, arith, rules, refl, sym, ◌∙◌, ap, ap₂, subst, append-nil}
+use Rattle.std.proofs.Common.{◌≡◌, ◌≢◌, ℕ, zero, suc, ◌+◌, ◌-◌, ◌*◌, ◌<◌, ◌≤◌, ◌^◌, ◌⊎◌, inl, inr, nat_eq, nat_le, ◌&&◌, Bool, true, false, cond, List, [], ◌∷◌, ◌++◌, get_or, Option, Some, None, option_map, Result, Ok, Err, codes, arith, rules, refl, sym, ◌∙◌, ap, ap₂, subst, append-nil}
 use Rattle.std.specs.Char.{is_ascii_digit}
 use Rattle.std.specs.Str.{all_ascii_digits}
 use Rattle.std.specs.Fmt.{decimal}
 use Rattle.std.specs.Int.{w128, from_be_bytes}
 use Rattle.std.specs.Result.{result_ok}
 use Rattle.std.proofs.lemmas.Str.Parse.{IsNumeralModel, numerals_by_fold}
-use Rattle.std.proofs.lemmas.Fmt.{decimal-digits_value, digits_value-decimal, digits_decimal, first_decimal, decimal_nonempty, decimal_digit}
+use Rattle.std.proofs.lemmas.Fmt.{decimal-digits_value, digits_value-decimal, digits_decimal, first_decimal, decimal_digit}
 use Rattle.std.proofs.lemmas.Bool.{eqb-true, eqb-false, ne_eqb, le-leb, leb-true}
 use Rattle.std.proofs.lemmas.Grind.{common_steps}
 use Rattle.hex.specs.Hex.{decode_sized}
@@ -191,4 +191,3 @@ seed_found digits seed h = at_read (decode_sized digits 32) refl h
 pub spaced : (low high : ℕ) (bytes : List ℕ) (found : ℕ × List ℕ) (rest : List ℕ) → high < 2 ^ 64 → number_at low high bytes ≡ Some found → after (codes " ") found.1 ≡ Some rest
     → bytes ≡ decimal found.0 ++ (codes " " ++ rest)
 spaced low high bytes found rest small h k = (number_found low high bytes found small h).text ∙ ap (λ r. decimal found.0 ++ r) (after_found (codes " ") found.1 rest k)
-

@@ -1,9 +1,9 @@
 -- A line is a header exactly where it spells one.
-use Rattle.std.proofs.Common.{◌≡◌, ℕ, ◌+◌, ◌-◌, ◌<◌, ◌≤◌, ◌^◌, ◌==◌, nat_eq, ◌%◌, true, List, ◌++◌, Option, Some, codes, arith, refl, ◌∙◌, ap, subst}
+use Rattle.std.proofs.Common.{◌≡◌, ℕ, ◌<◌, ◌≤◌, ◌^◌, ◌==◌, nat_eq, ◌%◌, true, List, ◌++◌, Some, codes, arith, refl, ◌∙◌, ap, subst}
 use Rattle.std.specs.Fmt.{decimal}
 use Rattle.std.proofs.lemmas.Bool.{eqb-true}
 use Rattle.schedule_text.specs.declared.schedule.Header.{Header}
-use Rattle.schedule_text.specs.Fields.{◌>>=◌, after, wanted, number_at, seed_of}
+use Rattle.schedule_text.specs.Fields.{after, wanted, number_at, seed_of}
 use Rattle.schedule_text.specs.Grammar.{header_of}
 use Rattle.schedule_text.specs.Spelling.{SpellsHeader}
 use Rattle.schedule_text.proofs.FieldLaws.{bind_some, after_found, after_only, number_found, number_only, spaced, wanted_found, seed_found}
@@ -87,4 +87,3 @@ header_only line header h =
       after_only (codes " ") h.digits,
       h.seed,
     ) refl
-

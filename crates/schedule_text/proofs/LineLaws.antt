@@ -1,5 +1,5 @@
 -- The lines of a text are these exactly where it spells them so.
-use Rattle.std.proofs.Common.{◌≡◌, ◌≢◌, ℕ, inl, inr, nat_eq, Bool, true, false, cond, List, [], ◌∷◌, ◌++◌, arith, refl, sym, ◌∙◌, ap, subst}
+use Rattle.std.proofs.Common.{◌≡◌, ◌≢◌, ℕ, inl, inr, nat_eq, Bool, true, false, cond, List, [], ◌∷◌, ◌++◌, refl, sym, ◌∙◌, ap, subst}
 use Rattle.std.proofs.lemmas.Bool.{eqb-true, eqb-false, ne_eqb}
 use Rattle.schedule_text.specs.Grammar.{lines_of, onto_line}
 use Rattle.schedule_text.specs.Spelling.{HasNoLf, AreLines}
@@ -43,4 +43,3 @@ lines_only [] text h = rw h refl
 lines_only (line ∷ []) text (none, inl whole) = rw whole (line_then line [] none)
 lines_only (line ∷ []) text (none, inr last) = rw (last.0) (line_last line none last.1)
 lines_only (line ∷ next ∷ lines) text (none, (rest, is, h)) = rw is (line_then line rest none ∙ ap (λ ls. line ∷ ls) (lines_only (next ∷ lines) rest h))
-

@@ -1,7 +1,7 @@
-use Rattle.std.proofs.Common.{◌≡◌, ℕ, ◌+◌, ◌-◌, ◌*◌, ◌<◌, ◌≤◌, nat_le, ◌&&◌, Bool, true, false, cond, List, [], ◌∷◌, length, get_or, Option, Some, None, arith, refl, sym, ◌∙◌, ap}
+use Rattle.std.proofs.Common.{◌≡◌, ℕ, ◌+◌, ◌-◌, ◌*◌, ◌<◌, ◌≤◌, true, false, cond, List, [], ◌∷◌, length, get_or, None, arith, sym, ◌∙◌, ap}
 use Rattle.std.specs.Char.{is_ascii_digit}
 use Rattle.std.proofs.lemmas.Grind.{common_steps}
-use Rattle.schedule_text.specs.Fields.{digits_on, within, number_at}
+use Rattle.schedule_text.specs.Fields.{digits_on, within}
 
 -- reading on makes no number smaller
 pub digits_on_le : (n : ℕ) (bytes : List ℕ) → n ≤ (digits_on n bytes).0

@@ -1,5 +1,5 @@
 -- A text is read as a schedule exactly where it spells it, and refused at a line exactly where that is its first bad one.
-use Rattle.std.proofs.Common.{◌≡◌, ℕ, suc, ◌+◌, ◌-◌, ◌<◌, ◌≤◌, ◌^◌, ◌⊎◌, inl, inr, nat_eq, Bool, true, false, cond, List, [], ◌∷◌, ◌++◌, length, Option, Some, None, Result, Ok, Err, arith, refl, sym, ◌∙◌, ap, subst, zero-add}
+use Rattle.std.proofs.Common.{◌≡◌, ℕ, suc, ◌+◌, ◌-◌, ◌<◌, ◌≤◌, ◌^◌, ◌⊎◌, inl, inr, nat_eq, Bool, true, false, cond, List, [], ◌∷◌, ◌++◌, length, Option, Some, None, Result, Ok, Err, arith, refl, sym, ap, subst, zero-add}
 use Rattle.std.proofs.lemmas.Bool.{eqb-true, eqb-false, ne_eqb}
 use Rattle.express_words.specs.declared.settings.Settings.{Settings}
 use Rattle.schedule_text.specs.declared.schedule.Event.{Event}
@@ -7,7 +7,7 @@ use Rattle.schedule_text.specs.declared.schedule.Header.{Header}
 use Rattle.schedule_text.specs.declared.schedule.Schedule.{Schedule}
 use Rattle.schedule_text.specs.declared.schedule.TheConstants.{MOST_EVENTS}
 use Rattle.schedule_text.specs.Grammar.{event_of, event_then, events_of, lines_of, header_of, header_then, under, schedule_of_lines, schedule_of}
-use Rattle.schedule_text.specs.Spelling.{SpellsEvent, SpellsEvents, SpellsHeader, AreLines, SpellsSchedule, IsFirstBadEvent, IsFirstBadOf, IsFirstBadLine}
+use Rattle.schedule_text.specs.Spelling.{SpellsEvent, SpellsEvents, SpellsHeader, AreLines, SpellsSchedule, IsFirstBadOf, IsFirstBadLine}
 use Rattle.schedule_text.proofs.EventLaws.{event_found, event_only}
 use Rattle.schedule_text.proofs.LineLaws.{lines_found, lines_only}
 use Rattle.schedule_text.proofs.HeaderLaws.{header_found, header_only}
@@ -82,6 +82,7 @@ events_bad settings room n bad (line ∷ lines) lanes h = at_test (nat_eq room 0
   where
     here : (n ≡ bad) → (0 ≡ room) ⊎ ((event : Event) → SpellsEvent settings event line → ⊥) → IsBadFrom settings room n bad (line ∷ lines)
     here is cause = record { before = []; line = line; behind = lines; split = refl; events = []; spelled = tt; few = omega arith; cause = cause; place = omega (arith, is) }
+
     at_then : nat_eq room 0 ≡ false → (events_of settings (room - 1) (n + 1) lines ≡ Err bad → IsBadFrom settings (room - 1) (n + 1) bad lines)
         → ((event_of settings line ≡ None) × (n ≡ bad)) ⊎ ((event : Event) × (event_of settings line ≡ Some event) × (events_of settings (room - 1) (n + 1) lines ≡ Err bad))
         → IsBadFrom settings room n bad (line ∷ lines)
@@ -104,6 +105,7 @@ events_bad settings room n bad (line ∷ lines) lanes h = at_test (nat_eq room 0
         one_more : {m : ℕ} {X : Type 0} → (m ≡ room - 1) ⊎ X → (room ≡ 0 → ⊥) → (suc m ≡ room) ⊎ X
         one_more (inl e) more = inl (omega (arith, e, more))
         one_more (inr x) more = inr x
+
     at_test : (t : Bool) → nat_eq room 0 ≡ t → (events_of settings (room - 1) (n + 1) lines ≡ Err bad → IsBadFrom settings (room - 1) (n + 1) bad lines)
         → cond t (Err n) (event_then n (event_of settings line) (events_of settings (room - 1) (n + 1) lines)) ≡ Err bad → IsBadFrom settings room n bad (line ∷ lines)
     at_test true e others k = let is : n ≡ bad = cc in here is (inl (sym (eqb-true room 0 e)))
@@ -161,6 +163,7 @@ schedule_found text schedule h = at_lines (lines_of text) (lines_found text) h
         let head = header_found first header e in
         let r = events_found header.settings MOST_EVENTS 2 lines schedule.events (lanes_of header first head) u.0 in
         (first, lines, are, subst (λ (x : Header). SpellsHeader x first) u.1 head, subst (λ (x : Header). SpellsEvents x.settings schedule.events lines) u.1 r.0, r.1)
+
     at_lines : (lines : List (List ℕ)) → AreLines lines text → schedule_of_lines lines ≡ Ok schedule → SpellsSchedule schedule text
     at_lines [] are k = cc
     at_lines (first ∷ lines) are k = at_header first lines are (header_of first) refl k
@@ -184,6 +187,7 @@ bad_found text n h = at_lines (lines_of text) (lines_found text) h
         let head = header_found first header e in
         let r = events_bad header.settings MOST_EVENTS 2 n lines (lanes_of header first head) (under_bad header _ n k) in
         inr (header, head, record { before = r.before; line = r.line; behind = r.behind; split = r.split; events = r.events; spelled = r.spelled; few = r.few; bad = r.cause; place = r.place })
+
     at_lines : (lines : List (List ℕ)) → AreLines lines text → schedule_of_lines lines ≡ Err n → IsFirstBadLine n text
     at_lines [] are k = ([], are, cc)
     at_lines (first ∷ lines) are k = (first ∷ lines, are, at_header first lines (header_of first) refl k)

@@ -1,9 +1,9 @@
 -- Lines and events, one after another.
-use Rattle.std.proofs.Common.{◌≡◌, ℕ, ◌+◌, ◌-◌, ◌<◌, ◌≤◌, nat_eq, cond, Bool, true, false, List, [], ◌∷◌, ◌++◌, length, take, drop, get_or, Option, Some, None, Result, Ok, Err, arith, refl, sym, ◌∙◌, ap, append_assoc, append-nil, add-one, suc, zero}
+use Rattle.std.proofs.Common.{◌≡◌, ℕ, ◌+◌, ◌-◌, ◌<◌, nat_eq, cond, true, false, List, [], ◌∷◌, ◌++◌, length, take, drop, get_or, Some, None, Result, Ok, Err, arith, refl, sym, ◌∙◌, ap, append_assoc, append-nil, add-one, suc, zero}
 use Rattle.std.proofs.lemmas.List.{take_rest, length_push}
 use Rattle.std.proofs.lemmas.Bool.{ne_eqb}
 use Rattle.express_words.specs.declared.settings.Settings.{Settings}
-use Rattle.schedule_text.specs.Grammar.{lines_of, onto_line, events_of, event_of, event_then}
+use Rattle.schedule_text.specs.Grammar.{lines_of, events_of, event_of, event_then}
 use Rattle.schedule_text.specs.declared.schedule.Event.{Event}
 
 -- the events that stand before those of the lines that are left

@@ -1,4 +1,4 @@
-use Rattle.std.proofs.Common.{arith, rules, ◌≡◌, true}
+use Rattle.std.proofs.Common.{arith, rules}
 use Rattle.schedule_text.proofs.Numerals.{too_large_on}
 use Rattle.schedule_text.proofs.fields.digits_on.Goals as goal
 

@@ -1,4 +1,4 @@
-use Rattle.std.proofs.Common.{◌≡◌, List, ℕ, Result, Ok, Err}
+use Rattle.std.proofs.Common.{List, ℕ, Result, Ok, Err}
 use Rattle.schedule_text.specs.Grammar.{schedule_of}
 use Rattle.schedule_text.specs.Reading.{Gives}
 use Rattle.schedule_text.specs.Judging.{Judges}
