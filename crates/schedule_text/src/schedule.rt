@@ -12,7 +12,7 @@ pub struct Header {
 }
 
 /// What a client is asked.
-#[derive(Drop)]
+#[derive(Clone, Copy, Debug, PartialEq, Eq)]
 pub enum Asked {
     /// To register an address.
     Register(u128),
@@ -20,7 +20,7 @@ pub enum Asked {
     Read(u32),
 }
 
-#[derive(Drop)]
+#[derive(Clone, Copy, Debug, PartialEq, Eq)]
 pub enum Event {
     /// A client is asked; the request waits behind its others.
     Ask(u16, Asked),
