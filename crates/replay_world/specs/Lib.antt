@@ -1,0 +1,7 @@
+pub mod Requests
+pub mod Lines
+pub mod Run
+pub mod Output
+pub mod Shelf
+pub mod Answers
+pub mod View
