@@ -1,0 +1,3 @@
+pub mod Lending
+pub mod Region
+pub mod Slots
