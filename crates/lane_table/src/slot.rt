@@ -1,11 +1,9 @@
 //! The places of a table, one a lane.
 ghost use Rattle.std.specs.Prelude.{◌≡◌, ◌≤◌, ◌++◌, IfOk, IsSomeAnd, drop, length};
 ghost use Rattle.block_region.specs.Region.{bytes_at, with_content};
-ghost use Rattle.lane_table.specs.Table.{idle};
 ghost use Rattle.lane_table.specs.Slots.{AreIdle, lent, written_over};
 
-use crate::phase;
-use crate::row::{Row, Want};
+use crate::row::Row;
 use block_region::{Block, Region};
 use express_words::NoMemory;
 use std::alloc::Global;
