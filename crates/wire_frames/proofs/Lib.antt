@@ -1,0 +1,2 @@
+pub mod TaggedForms
+pub mod Writes
