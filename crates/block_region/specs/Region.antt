@@ -1,5 +1,5 @@
 -- A region as a caller sees it: for each class its blocks, each with its bytes while it is out.
-use Rattle.std.specs.Prelude.{◌≡◌, ℕ, List, [], Option, Some, None, is_none, position, count_by, replicate, slice_index_or, slice_set}
+use Rattle.std.specs.Prelude.{◌≡◌, ℕ, ◌<◌, List, [], ◌∷◌, Option, Some, None, is_none, position, count_by, replicate, slice_index_or, slice_set, length, map, unwrap_or, All}
 
 -- a block by its class and its number there
 pub record Place : Type 0 where
@@ -50,3 +50,26 @@ pub record TakesBlock (old new : List Shelf) (class : ℕ) (place : Place) : Typ
   pub in_class : place.class ≡ class
   pub free : first_free old class ≡ Some place.index
   pub zeros : new ≡ with_content old place (Some (replicate (class_of old class).size 0))
+
+abbrev pub zeros : ℕ → List ℕ
+zeros size = replicate size 0
+
+-- equal blocks, each with its bytes
+pub record Blocks : Type 0 where
+  pub size : ℕ
+  pub blocks : List (List ℕ)
+
+-- the blocks of a region's first class, while all of them are out
+abbrev pub blocks_in : List Shelf → Blocks
+blocks_in region = record { size = (class_of region 0).size; blocks = map (λ block. unwrap_or block []) (class_of region 0).blocks }
+
+-- a region of one class with these blocks, all of them out
+abbrev pub full : Blocks → List Shelf
+full b = shelf_of b.size (map Some b.blocks) ∷ []
+
+-- the region has one class, all of its blocks are out, and these are the rights to them, in order
+pub record IsArray (region : List Shelf) (places : List Place) : Type 0 where
+  pub whole : region ≡ full (blocks_in region)
+  pub sized : All (λ bytes. length bytes ≡ (blocks_in region).size) (blocks_in region).blocks
+  pub count : length places ≡ length (blocks_in region).blocks
+  pub each : (k : ℕ) (d : Place) → k < length places → slice_index_or places k d ≡ record { class = 0; index = k }

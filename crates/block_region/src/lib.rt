@@ -2,10 +2,12 @@
 #![tactic(auto)]
 
 mod block;
+mod block_array;
 mod region;
 mod shelf;
 
 pub use block::Block;
+pub use block_array::BlockArray;
 pub use region::{Class, Region};
 
 #[cfg(test)]

@@ -1,5 +1,5 @@
 -- Lists of bytes.
-use Rattle.std.proofs.Common.{◌≡◌, ℕ, zero, suc, ◌<◌, List, [], ◌∷◌, length, replicate, take, drop, ◌++◌, arith, refl, sym, ◌∙◌, ap, ap₂, bit_xor}
+use Rattle.std.proofs.Common.{◌≡◌, ℕ, zero, suc, List, [], ◌∷◌, length, replicate, take, drop, ◌++◌, arith, refl, sym, ap, ap₂, bit_xor}
 use Rattle.std.specs.Int.Bits.{xor_zero_l}
 use Rattle.dpf_rules.specs.Bytes as short
 use Rattle.mailbox_rules.specs.Tables.{xor_bytes}

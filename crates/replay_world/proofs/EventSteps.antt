@@ -1,11 +1,11 @@
 -- Events follow the run.
-use Rattle.std.proofs.Common.{◌≡◌, ℕ, zero, suc, ◌+◌, ◌<◌, ◌≤◌, Bool, true, false, cond, ◌&&◌, List, [], ◌∷◌, ◌++◌, length, take, get_or, arith, refl, sym, ◌∙◌, ap, ap₂, subst, add-one}
+use Rattle.std.proofs.Common.{◌≡◌, ℕ, zero, suc, ◌+◌, ◌<◌, ◌≤◌, Bool, true, false, cond, ◌&&◌, List, [], ◌∷◌, ◌++◌, length, take, get_or, arith, refl, sym, ◌∙◌, ap, ap₂, add-one}
 use Rattle.express_words.specs.declared.settings.Settings.{Settings}
 use Rattle.schedule_text.specs.declared.schedule.Header.{Header}
 use Rattle.schedule_text.specs.declared.schedule.Asked.{Asked}
 use Rattle.replay_world.specs.declared.state.State.{State}
-use Rattle.replay_world.specs.Run.{Run, refuses, is_idle, is_refused, refused_on, asked_on, worked_off, all_worked_off, finished}
-use Rattle.replay_world.specs.View.{IsAt, IsInRun, Follows}
+use Rattle.replay_world.specs.Run.{Run, refuses, is_idle, is_refused, refused_on, asked_on, worked_off, all_worked_off}
+use Rattle.replay_world.specs.View.{IsAt}
 
 -- one more request waits
 abbrev pub waits : Run → Asked → Run

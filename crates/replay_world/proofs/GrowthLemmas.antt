@@ -1,8 +1,8 @@
 -- A journal's table and results, as requests are sent and commands are carried out.
-use Rattle.std.proofs.Common.{◌≡◌, ℕ, zero, suc, ◌+◌, ◌-◌, ◌<◌, ◌≤◌, Bool, cond, List, [], ◌∷◌, ◌++◌, length, slice_get, Option, Some, None, arith, refl, sym, ◌∙◌, ap, ap₂, length-append}
+use Rattle.std.proofs.Common.{◌≡◌, ℕ, zero, suc, ◌+◌, ◌-◌, ◌<◌, ◌≤◌, Bool, cond, List, [], ◌∷◌, ◌++◌, length, slice_get, Some, arith, refl, ◌∙◌, ap, ap₂}
 use Rattle.express_words.specs.declared.settings.Settings.{Settings}
-use Rattle.mailbox_rules.specs.Requests.{Request, Line, Command, Operation, AddBox, BeginWrite, AuditWrite, SettleWrite, ReadBox, RetireBox, Refuse, operation_of, operation_by, request_at}
-use Rattle.mailbox_rules.specs.Tables.{Table, Writes, Result, empty_table, boxes_with, after_line, result_of, table_from, results_from, table_after, results_after}
+use Rattle.mailbox_rules.specs.Requests.{Request, Line, Command, Operation, AddBox, BeginWrite, AuditWrite, SettleWrite, ReadBox, RetireBox, Refuse, operation_of, request_at}
+use Rattle.mailbox_rules.specs.Tables.{Table, Writes, empty_table, boxes_with, after_line, result_of, table_from, results_from, table_after, results_after}
 use Rattle.mailbox_rules.proofs.Folds.{tables_grow, results_grow}
 use Rattle.replay_world.specs.Run.{does, table_by}
 use Rattle.replay_world.specs.View.{AreNumbered}

@@ -1,5 +1,5 @@
 -- The printed journal and the results behind it.
-use Rattle.std.proofs.Common.{◌≡◌, ℕ, suc, ◌+◌, List, [], ◌∷◌, ◌++◌, length, arith, refl, sym, ◌∙◌, ap}
+use Rattle.std.proofs.Common.{◌≡◌, ℕ, suc, List, [], ◌∷◌, ◌++◌, length, arith, refl, ap}
 use Rattle.express_words.specs.declared.settings.Settings.{Settings}
 use Rattle.mailbox_rules.specs.Requests.{Line, Operation}
 use Rattle.mailbox_rules.specs.Tables.{Table, Writes, Result, results_from, results_after}

@@ -8,3 +8,5 @@ pub mod RegisterStep
 pub mod ReadStep
 pub mod RefuseStep
 pub mod EventSteps
+pub mod Counts
+pub mod SharesText

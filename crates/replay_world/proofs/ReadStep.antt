@@ -1,24 +1,24 @@
 -- A read follows the run.
-use Rattle.std.proofs.Common.{◌≡◌, ℕ, zero, suc, ◌+◌, ◌<◌, ◌≤◌, true, Bool, List, [], ◌∷◌, ◌++◌, length, slice_get, replicate, Option, Some, None, arith, refl, sym, ◌∙◌, ap, ap₂, subst}
+use Rattle.std.proofs.Common.{◌≡◌, ℕ, zero, suc, ◌+◌, ◌<◌, true, Bool, List, [], ◌∷◌, ◌++◌, length, slice_get, replicate, Option, Some, arith, refl, sym, ◌∙◌, ap, ap₂, subst}
 use Rattle.std.proofs.lemmas.List.{length_push}
 use Rattle.express_words.specs.declared.settings.Settings.{Settings}
 use Rattle.mailbox_rules.specs.Requests as requests
 use Rattle.mailbox_rules.specs.Requests.{Request, Reads, Line}
 use Rattle.mailbox_rules.specs.Tables as rules
 use Rattle.mailbox_rules.specs.Tables.{Mailbox, Table, Writes, Result, xor_bytes, addresses, boxes_cleared, after_line, after_clearing, result_of, clearing_result, given}
-use Rattle.mailbox_rules.specs.Laws.{AreShares, IsShared, bytes_of}
+use Rattle.mailbox_rules.specs.Laws.{AreShares, bytes_of}
 use Rattle.schedule_text.specs.declared.schedule.Header.{Header}
 use Rattle.replay_world.specs.declared.state.State.{State}
 use Rattle.replay_world.specs.declared.lines.Told.TheVariants.{Done}
 use Rattle.replay_world.specs.declared.lines.Outcome.TheVariants.{Message}
 use Rattle.replay_world.specs.declared.lines.Entry.TheVariants.{WasRead}
 use Rattle.replay_world.specs.Shelf.{Shelf, HasShare}
-use Rattle.replay_world.specs.Lines.{told_of, message_of, entry_of, journal_of}
+use Rattle.replay_world.specs.Lines.{told_of, message_of, journal_of}
 use Rattle.replay_world.specs.Run.{Run, plain, shared, table_by, table_of, shares_of, results_of, sent_on, outcome_at, carried_out, last_result}
 use Rattle.replay_world.specs.View.{IsAt, AreNumbered, AllBelow, AreFit, shelf_of}
 use Rattle.replay_world.proofs.ByteLemmas.{zeros-sum}
 use Rattle.replay_world.proofs.GrowthLemmas.{IsGrowing, table-next, results-next, numbered-more, line_at}
-use Rattle.replay_world.proofs.SharesLemmas.{shares_of_run, addresses_shared, plain_grows, shared_grows}
+use Rattle.replay_world.proofs.SharesLemmas.{shares_of_run, same_count, plain_grows, shared_grows}
 use Rattle.replay_world.proofs.JournalLemmas.{length-results, journal_of-push, last_result-push}
 use Rattle.replay_world.proofs.RegisterStep.{all_below_more}
 
@@ -114,10 +114,10 @@ read_follows header r old new own box message at own_is zero_has one_has leader 
       leader = shelf_read settings _ _ old.leader new.leader box at.leader leader zero_next;
       helper = shelf_read settings _ _ old.helper new.helper box at.helper helper one_next;
       outcomes = outcomes ∙ ap (λ os. os ++ outcome_at os (Done Message) message ∷ []) at.outcomes
-      ∙ ap₂ (λ told bytes. r.outcomes ++ outcome_at r.outcomes told bytes ∷ []) (ap told_of (sym result)) (ap message_of (sym result));
+          ∙ ap₂ (λ told bytes. r.outcomes ++ outcome_at r.outcomes told bytes ∷ []) (ap told_of (sym result)) (ap message_of (sym result));
       journal = journal
-      ∙ ap₂ (λ lines n. lines ++ record { lane = 0; serial = n + 1; entry = WasRead box } ∷ []) at.journal at.sent
-      ∙ sym (ap (journal_of (r.lines ++ line_at (length r.sent + 1) Reads ∷ [])) results ∙ journal_of-push r.lines (results_of settings r) (line_at (length r.sent + 1) Reads) (rules.Gave box message) (length-results settings r));
+          ∙ ap₂ (λ lines n. lines ++ record { lane = 0; serial = n + 1; entry = WasRead box } ∷ []) at.journal at.sent
+          ∙ sym (ap (journal_of (r.lines ++ line_at (length r.sent + 1) Reads ∷ [])) results ∙ journal_of-push r.lines (results_of settings r) (line_at (length r.sent + 1) Reads) (rules.Gave box message) (length-results settings r));
       numbered = rw (length_push r.sent (requests.Read own)) (numbered-more (length r.sent) r.lines _ at.numbered (omega arith) (omega arith));
       few = rw (length_push r.sent (requests.Read own), length_push r.outcomes _) (omega (arith, at.few));
       fit = fit_push settings.width r.sent own at.fit;
@@ -128,16 +128,11 @@ get_below n [] i x below is = cc
 get_below n (y ∷ xs) zero x below is = subst (λ (v : ℕ). v < n) (some_is y x is) below.0
 get_below n (y ∷ xs) (suc i) x below is = get_below n xs i x below.1 is
 
-length_addresses : (boxes : List Mailbox) → length (addresses boxes) ≡ length boxes
-length_addresses [] = refl
-length_addresses (box ∷ boxes) = ap suc (length_addresses boxes)
-
 -- both servers have each box of the client's
 pub own_box_within : (header : Header) (s : State) (r : Run) (own box : ℕ) → IsAt header s r → slice_get s.client.owned.items own ≡ Some box → (box < length s.leader.boxes) × (box < length s.helper.boxes)
 own_box_within header s r own box at is =
     let below = get_below (length s.helper.boxes) s.client.owned.items own box at.own_boxes is in
-    let same = addresses_shared _ _ _ (shares_of_run header r at.fit) in
     let zero : length s.leader.boxes ≡ length (shares_of header 0 r).boxes = ap (λ (x : Shelf). length x.boxes) at.leader in
     let one : length s.helper.boxes ≡ length (shares_of header 1 r).boxes = ap (λ (x : Shelf). length x.boxes) at.helper in
-    let count : length (shares_of header 0 r).boxes ≡ length (shares_of header 1 r).boxes = sym (length_addresses _) ∙ ap length (same.0 ∙ sym same.1) ∙ length_addresses _ in
+    let count = same_count header r at.fit in
     (omega (arith, below, zero, one, count), below)

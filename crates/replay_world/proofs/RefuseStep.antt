@@ -1,5 +1,5 @@
 -- A request that the client refuses itself follows the run.
-use Rattle.std.proofs.Common.{◌≡◌, ℕ, zero, suc, ◌+◌, ◌<◌, ◌≤◌, nat_le, true, false, cond, List, [], ◌∷◌, ◌++◌, length, slice_get, Option, Some, None, Result, Ok, Err, OnOk, arith, refl, sym, ◌∙◌, ap, subst}
+use Rattle.std.proofs.Common.{◌≡◌, ℕ, zero, suc, ◌<◌, ◌≤◌, List, [], ◌∷◌, ◌++◌, length, slice_get, Some, None, Result, Ok, Err, OnOk, arith, refl, sym, ◌∙◌, ap, subst}
 use Rattle.std.proofs.lemmas.List.{length_push}
 use Rattle.std.proofs.lemmas.Bool.{le-leb, lt-leb}
 use Rattle.schedule_text.specs.declared.schedule.Header.{Header}
@@ -7,7 +7,7 @@ use Rattle.schedule_text.specs.declared.schedule.Asked.TheVariants as asked
 use Rattle.mailbox_rules.specs.Requests as requests
 use Rattle.replay_world.specs.declared.state.State.{State}
 use Rattle.replay_world.specs.declared.lines.Told.TheVariants.{NoOwn}
-use Rattle.replay_world.specs.Run.{Run, table_of, outcome_at, carried_out, worked_off, refused_on, told_on}
+use Rattle.replay_world.specs.Run.{Run, table_of, outcome_at, carried_out, worked_off, told_on}
 use Rattle.replay_world.specs.View.{IsAt, Follows}
 
 none_there : (xs : List ℕ) (n : ℕ) → slice_get xs n ≡ None → length xs ≤ n

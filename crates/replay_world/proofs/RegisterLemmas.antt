@@ -1,5 +1,5 @@
 -- What registering an address makes of a table, by the answer of a server's registry.
-use Rattle.std.proofs.Common.{◌≡◌, ℕ, zero, suc, ◌<◌, ◌≤◌, nat_le, nat_eq, Bool, true, false, cond, List, [], ◌∷◌, ◌++◌, length, map, position, Option, Some, None, Result, Ok, Err, arith, refl, sym, ◌∙◌, ap, ap₂}
+use Rattle.std.proofs.Common.{◌≡◌, ℕ, suc, ◌<◌, ◌≤◌, nat_le, nat_eq, Bool, true, false, cond, List, [], ◌∷◌, ◌++◌, length, position, Option, Some, None, Result, Ok, Err, arith, refl, sym, ◌∙◌, ap, ap₂}
 use Rattle.std.proofs.lemmas.Bool.{le-leb, lt-leb}
 use Rattle.mailbox_rules.specs.Tables as rules
 use Rattle.mailbox_rules.specs.Tables.{Mailbox, Table, addresses, box_of, new_box, after_register, register_result}

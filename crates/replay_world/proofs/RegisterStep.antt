@@ -1,5 +1,5 @@
 -- A registration follows the run.
-use Rattle.std.proofs.Common.{◌≡◌, ℕ, zero, suc, ◌+◌, ◌<◌, ◌≤◌, List, [], ◌∷◌, ◌++◌, length, Result, Ok, Err, arith, refl, sym, ◌∙◌, ap, ap₂, length-append, subst}
+use Rattle.std.proofs.Common.{◌≡◌, ℕ, ◌+◌, ◌<◌, ◌≤◌, List, [], ◌∷◌, ◌++◌, length, Result, Ok, Err, arith, sym, ◌∙◌, ap, ap₂, length-append, subst}
 use Rattle.std.proofs.lemmas.List.{length_push}
 use Rattle.express_words.specs.declared.settings.Settings.{Settings}
 use Rattle.mailbox_rules.specs.Requests as requests
@@ -12,10 +12,10 @@ use Rattle.replay_world.specs.Shelf as shelves
 use Rattle.replay_world.specs.Shelf.{Shelf}
 use Rattle.replay_world.specs.Lines.{told_of, entry_of, message_of, journal_of}
 use Rattle.replay_world.specs.Answers.{result_of_answer, owned_after}
-use Rattle.replay_world.specs.Run.{Run, plain, shared, table_by, table_of, shares_of, results_of, sent_on, outcome_at, carried_out, last_result, told_on}
+use Rattle.replay_world.specs.Run.{Run, plain, shared, table_by, table_of, shares_of, results_of, sent_on, outcome_at, carried_out, last_result}
 use Rattle.replay_world.specs.View.{IsAt, AreNumbered, AllBelow, AreFit, shelf_of}
 use Rattle.replay_world.proofs.GrowthLemmas.{IsGrowing, table-next, results-next, numbered-more, line_at}
-use Rattle.replay_world.proofs.RegisterLemmas.{IsRight, is_right, shelf_after, boxes_after, right_also, same_answer, registered}
+use Rattle.replay_world.proofs.RegisterLemmas.{IsRight, is_right, shelf_after, boxes_after, right_also, registered}
 use Rattle.replay_world.proofs.SharesLemmas.{shares_of_run, addresses_shared, plain_grows, shared_grows}
 use Rattle.replay_world.proofs.JournalLemmas.{length-results, journal_of-push, last_result-push, message_of-answer}
 
@@ -93,10 +93,10 @@ register_follows header r old new address answer leaders at helper leader seed w
       leader = shelf_registered settings _ _ old.leader new.leader address leaders at.leader leader zero_next;
       helper = shelf_registered settings _ _ old.helper new.helper address answer at.helper helper one_next;
       outcomes = outcomes ∙ ap (λ os. os ++ outcome_at os (told_of (result_of_answer answer)) [] ∷ []) at.outcomes
-      ∙ ap₂ (λ told message. r.outcomes ++ outcome_at r.outcomes told message ∷ []) (ap told_of (sym result)) (sym (ap message_of result ∙ message_of-answer answer));
+          ∙ ap₂ (λ told message. r.outcomes ++ outcome_at r.outcomes told message ∷ []) (ap told_of (sym result)) (sym (ap message_of result ∙ message_of-answer answer));
       journal = journal
-      ∙ ap₂ (λ lines n. lines ++ record { lane = 0; serial = n + 1; entry = entry_of Registers (result_of_answer answer) } ∷ []) at.journal at.sent
-      ∙ sym (ap (journal_of (r.lines ++ line_at (length r.sent + 1) Registers ∷ [])) results ∙ journal_of-push r.lines (results_of settings r) (line_at (length r.sent + 1) Registers) (result_of_answer answer) (length-results settings r));
+          ∙ ap₂ (λ lines n. lines ++ record { lane = 0; serial = n + 1; entry = entry_of Registers (result_of_answer answer) } ∷ []) at.journal at.sent
+          ∙ sym (ap (journal_of (r.lines ++ line_at (length r.sent + 1) Registers ∷ [])) results ∙ journal_of-push r.lines (results_of settings r) (line_at (length r.sent + 1) Registers) (result_of_answer answer) (length-results settings r));
       numbered = rw (length_push r.sent (requests.Register address)) (numbered-more (length r.sent) r.lines _ at.numbered (omega arith) (omega arith));
       few = rw (length_push r.sent (requests.Register address), length_push r.outcomes _) (omega (arith, at.few));
       fit = fit_push settings.width r.sent address at.fit;

@@ -1,9 +1,8 @@
 -- The plain table, and the two servers' shares of it.
-use Rattle.std.proofs.Common.{◌≡◌, ℕ, zero, suc, ◌+◌, ◌-◌, ◌<◌, ◌≤◌, true, Bool, List, [], ◌∷◌, ◌++◌, length, slice_get, Option, Some, None, arith, refl, sym, ◌∙◌, ap, ap₂}
-use Rattle.express_words.specs.declared.settings.Settings.{Settings}
+use Rattle.std.proofs.Common.{◌≡◌, ℕ, zero, suc, ◌-◌, List, [], ◌∷◌, length, slice_get, Option, Some, None, refl, sym, ◌∙◌, ap, ap₂}
 use Rattle.mailbox_rules.specs.Requests.{Request, Register, Write, Read, Retire, Line, request_at}
-use Rattle.mailbox_rules.specs.Tables.{Mailbox, Table, Writes, empty_table, table_from, table_after, xor_bytes, message_at, sum_of, addresses}
-use Rattle.mailbox_rules.specs.Laws.{IsShared, AreShares, bytes_of}
+use Rattle.mailbox_rules.specs.Tables.{Mailbox, Writes, empty_table, table_after, xor_bytes, message_at, sum_of, addresses}
+use Rattle.mailbox_rules.specs.Laws.{AreShares}
 use Rattle.mailbox_rules.proofs.Shares.{shares_add_up}
 use Rattle.schedule_text.specs.declared.schedule.Header.{Header}
 use Rattle.replay_world.specs.Run.{Run, does, plain, shared, table_by, table_of, shares_of}
@@ -54,6 +53,16 @@ addresses_shared (x ∷ xs) (y ∷ ys) [] h = absurd h
 addresses_shared (x ∷ xs) (y ∷ ys) (z ∷ zs) h =
     let others = addresses_shared xs ys zs h.1 in
     (ap₂ (λ a rest. a ∷ rest) h.0.one others.0, ap₂ (λ a rest. a ∷ rest) h.0.two others.1)
+
+length_addresses : (boxes : List Mailbox) → length (addresses boxes) ≡ length boxes
+length_addresses [] = refl
+length_addresses (box ∷ boxes) = ap suc (length_addresses boxes)
+
+-- both servers have as many boxes
+pub same_count : (header : Header) (r : Run) → AreFit header.settings.width r.sent → length (shares_of header 0 r).boxes ≡ length (shares_of header 1 r).boxes
+same_count header r fit =
+    let same = addresses_shared _ _ _ (shares_of_run header r fit) in
+    sym (length_addresses _) ∙ ap length (same.0 ∙ sym same.1) ∙ length_addresses _
 
 pub plain_grows : IsGrowing plain
 unfolding IsGrowing

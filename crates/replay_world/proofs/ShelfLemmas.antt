@@ -1,5 +1,5 @@
 -- The boxes of a registry, each with its share.
-use Rattle.std.proofs.Common.{◌≡◌, ℕ, zero, suc, ◌+◌, ◌<◌, ◌≤◌, true, List, [], ◌∷◌, ◌++◌, length, map, replicate, slice_get, slice_index_or, slice_set, Option, Some, None, option_map, Result, Ok, Err, Bool, false, nat_le, cond, subst, arith, refl, sym, ◌∙◌, ap, ap₂}
+use Rattle.std.proofs.Common.{◌≡◌, ℕ, zero, suc, ◌<◌, ◌≤◌, true, List, [], ◌∷◌, ◌++◌, length, replicate, slice_get, slice_index_or, slice_set, Option, Some, None, option_map, Result, Ok, Err, Bool, false, nat_le, cond, subst, arith, refl, sym, ◌∙◌, ap}
 use Rattle.std.proofs.lemmas.Bool.{leb-true, leb-false}
 use Rattle.mailbox_rules.specs.Tables.{Mailbox, addresses, box_of, boxes_cleared}
 use Rattle.mailbox_rules.specs.Laws.{bytes_of}
@@ -7,6 +7,7 @@ use Rattle.box_registry.specs.Boxes.{Box, addresses_of, place_of, answer_at}
 use Rattle.box_registry.specs.declared.fault.RegFault.{RegFault}
 use Rattle.box_registry.specs.declared.fault.RegFault.TheVariants.{Taken, Full}
 use Rattle.replay_world.specs.Shelf.{Shelf, mailboxes, HaveWidth, Registers}
+use Rattle.replay_world.specs.Schedules.{share_or_zeros}
 
 pub length-mailboxes : (boxes : List Box) (shares : List (List ℕ)) → length shares ≡ length boxes → length (mailboxes boxes shares) ≡ length boxes
 length-mailboxes [] shares h = refl
@@ -90,3 +91,13 @@ share-there width [] shares n h have within = absurd (omega (arith, within))
 share-there width (box ∷ boxes) [] n h have within = absurd (omega (arith, h))
 share-there width (box ∷ boxes) (x ∷ shares) zero h have within = (record { address = box.address; bytes = x; live = true }, refl, refl, have.0)
 share-there width (box ∷ boxes) (x ∷ shares) (suc n) h have within = share-there width boxes shares n (omega (arith, h)) have.1 (omega (arith, within))
+
+pub share-some : (width : ℕ) (boxes : List Mailbox) (n : ℕ) → n < length boxes → bytes_of (slice_get boxes n) ≡ share_or_zeros width (slice_get boxes n)
+share-some width [] n h = absurd (omega (arith, h))
+share-some width (box ∷ boxes) zero h = refl
+share-some width (box ∷ boxes) (suc n) h = share-some width boxes n (omega (arith, h))
+
+pub share-none : (width : ℕ) (boxes : List Mailbox) (n : ℕ) → length boxes ≤ n → replicate width 0 ≡ share_or_zeros width (slice_get boxes n)
+share-none width [] n h = refl
+share-none width (box ∷ boxes) zero h = absurd (omega (arith, h))
+share-none width (box ∷ boxes) (suc n) h = share-none width boxes n (omega (arith, h))

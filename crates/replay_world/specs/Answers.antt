@@ -1,10 +1,8 @@
 -- What the journal, the client and its list of boxes get from a registry's answer.
 use Rattle.std.specs.Prelude.{ℕ, List, [], ◌∷◌, ◌++◌, Result, Ok, Err}
-use Rattle.express_words.specs.declared.refusal.Refusal.TheVariants as refusals
 use Rattle.box_registry.specs.declared.fault.RegFault.{RegFault}
 use Rattle.box_registry.specs.declared.fault.RegFault.TheVariants.{Taken, Full}
 use Rattle.mailbox_rules.specs.Tables as rules
-use Rattle.replay_world.specs.declared.lines.Outcome.TheVariants as outcomes
 
 abbrev pub result_of_answer : Result ℕ RegFault → rules.Result
 result_of_answer (Ok n) = rules.Registered n

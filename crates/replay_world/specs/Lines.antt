@@ -1,11 +1,11 @@
 -- What is told of the results that the rules of the mailboxes give.
-use Rattle.std.specs.Prelude.{ℕ, Bool, true, false, List, [], ◌∷◌, Option, Some, None}
+use Rattle.std.specs.Prelude.{ℕ, List, [], ◌∷◌}
 use Rattle.express_words.specs.declared.refusal.Refusal.TheVariants as refusals
 use Rattle.mailbox_rules.specs.Requests.{Command, Line}
-use Rattle.mailbox_rules.specs.Tables.{Result, Registered, Taken, Full, Began, WasAudited, Settled, Gave, NoBox, Refused}
+use Rattle.mailbox_rules.specs.Tables.{Result, Registered, Taken, Full, Settled, Gave, NoBox}
 use Rattle.replay_world.specs.declared.lines.Outcome.TheVariants as outcomes
 use Rattle.replay_world.specs.declared.lines.Told.{Told}
-use Rattle.replay_world.specs.declared.lines.Told.TheVariants.{Done, NoOwn}
+use Rattle.replay_world.specs.declared.lines.Told.TheVariants.{Done}
 use Rattle.replay_world.specs.declared.lines.Entry.{Entry}
 use Rattle.replay_world.specs.declared.lines.Entry.TheVariants as entries
 use Rattle.replay_world.specs.declared.lines.JournalLine.{JournalLine}

@@ -7,7 +7,6 @@ use Rattle.express_words.specs.declared.refusal.Refusal.{Refusal}
 use Rattle.express_words.specs.declared.refusal.Refusal.TheVariants.{Malformed, Version, Lane, Stale, Phase, Taken, Full, NoBox, BadToken, NoDeposit, NotProved, Rejected, Again, LinkDown}
 use Rattle.mailbox_rules.specs.Tables.{Mailbox}
 use Rattle.schedule_text.specs.declared.schedule.Schedule.{Schedule}
-use Rattle.replay_world.specs.declared.lines.Outcome.{Outcome}
 use Rattle.replay_world.specs.declared.lines.Outcome.TheVariants as outcomes
 use Rattle.replay_world.specs.declared.lines.Told.{Told}
 use Rattle.replay_world.specs.declared.lines.Told.TheVariants.{Done, NoOwn}
@@ -17,8 +16,7 @@ use Rattle.replay_world.specs.declared.lines.Command.TheVariants as commands
 use Rattle.replay_world.specs.declared.lines.Entry.{Entry}
 use Rattle.replay_world.specs.declared.lines.Entry.TheVariants as entries
 use Rattle.replay_world.specs.declared.lines.JournalLine.{JournalLine}
-use Rattle.replay_world.specs.Lines.{journal_of}
-use Rattle.replay_world.specs.Run.{run_of, results_of, shares_of}
+use Rattle.replay_world.specs.Schedules.{outcomes_of, whole_journal, boxes_at}
 
 -- 32 hexadecimal digits, the most significant first
 abbrev pub number_text : ℕ → List ℕ
@@ -81,12 +79,10 @@ share_lines number [] ones = []
 share_lines number (zero ∷ zeros) [] = []
 share_lines number (zero ∷ zeros) (one ∷ ones) = share_line number one.address zero.bytes one.bytes ++ share_lines (number + 1) zeros ones
 
--- The outcomes in the order in which they came, the journal, the boxes with both servers' shares, and the end.
+-- The outcomes in the order in which they were told, the journal, the boxes with both servers' shares, and the end.
 unfoldable pub output_of : Schedule → List ℕ
 output_of schedule =
-    let r = run_of schedule in
-    let settings = schedule.header.settings in
-    flat_map outcome_line r.outcomes
-    ++ flat_map journal_line (journal_of r.lines (results_of settings r))
-    ++ share_lines 0 (shares_of schedule.header 0 r).boxes (shares_of schedule.header 1 r).boxes
+    flat_map outcome_line (outcomes_of schedule)
+    ++ flat_map journal_line (whole_journal schedule)
+    ++ share_lines 0 (boxes_at schedule 0) (boxes_at schedule 1)
     ++ codes "end\n"

@@ -1,8 +1,8 @@
 -- The run of a schedule of one client: its requests are worked off one after another, by the rules of the mailboxes.
-use Rattle.std.specs.Prelude.{ℕ, ◌+◌, nat_le, ◌&&◌, if◌then◌else◌, Bool, true, false, List, [], ◌∷◌, ◌++◌, length, slice_index_or}
+use Rattle.std.specs.Prelude.{ℕ, ◌+◌, nat_le, ◌&&◌, if◌then◌else◌, Bool, true, false, List, [], ◌∷◌, ◌++◌, length}
 use Rattle.express_words.specs.declared.settings.Settings.{Settings}
 use Rattle.mailbox_rules.specs.Requests.{Request, Line, Operation, operation_by}
-use Rattle.mailbox_rules.specs.Tables.{Table, Writes, Result, Refused, table_after, results_after, no_writes, plain_writes}
+use Rattle.mailbox_rules.specs.Tables.{Table, Writes, Result, Refused, table_after, results_after, plain_writes}
 use Rattle.schedule_text.specs.declared.schedule.Asked.{Asked}
 use Rattle.schedule_text.specs.declared.schedule.Asked.TheVariants as asked
 use Rattle.schedule_text.specs.declared.schedule.Event.{Event}

@@ -1,5 +1,5 @@
 -- The boxes of one server, each with the server's share of its bytes.
-use Rattle.std.specs.Prelude.{◌≡◌, ℕ, ◌≤◌, ◌<◌, true, List, [], ◌∷◌, ◌++◌, length, slice_get, Option, Some, None, Result, Ok, Err}
+use Rattle.std.specs.Prelude.{◌≡◌, ℕ, ◌≤◌, ◌<◌, true, List, [], ◌∷◌, ◌++◌, length, slice_get, Some, None, Result, Ok, Err}
 use Rattle.mailbox_rules.specs.Tables.{Mailbox, box_of, new_box}
 use Rattle.box_registry.specs.Boxes.{Box}
 use Rattle.box_registry.specs.declared.fault.RegFault.{RegFault}

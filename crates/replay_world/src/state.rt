@@ -32,7 +32,9 @@ fn told_for(answer: Result<u32, RegFault>) -> Told
 {
     match answer {
         Ok(box_number) => Told::Done(Outcome::Registered(box_number)),
-        Err(RegFault::Taken(box_number)) => Told::Done(Outcome::Refused(Refusal::Taken(box_number))),
+        Err(RegFault::Taken(box_number)) => Told::Done(Outcome::Refused(Refusal::Taken(
+            box_number,
+        ))),
         Err(RegFault::Full(limit)) => Told::Done(Outcome::Refused(Refusal::Full(limit))),
     }
 }
@@ -89,8 +91,9 @@ pub struct State {
 impl State {
     ghost use Rattle.std.specs.Prelude.{◌≡◌, ℕ, ◌+◌, ◌<◌, ◌≤◌, ◌^◌, length, OnOk, IfOk, slice_get, Some, None};
     ghost use Rattle.mailbox_rules.specs.Requests as rules;
-    ghost use Rattle.replay_world.specs.Run.{start, carried_out, worked_off, refused_on, asked_on, all_worked_off, finished, happens};
-    ghost use Rattle.replay_world.specs.View.{IsAt, IsInRun, Follows};
+    ghost use Rattle.replay_world.specs.Run.{Run, start, shares_of, carried_out, worked_off, refused_on, asked_on, all_worked_off, finished, happens};
+    ghost use Rattle.replay_world.specs.View.{IsAt, IsInRun, Follows, shelf_of};
+    ghost use Rattle.schedule_text.specs.declared.schedule.Header.{Header};
 
     pub fn open(alloc: Global, header: &Header) -> State
         ensures { IsAt header.now result start }
@@ -239,15 +242,14 @@ impl State {
         self.journal.as_slice()
     }
 
-    pub fn leader(&self) -> &Server
-        ensures { result.now ≡ self.now.leader }
+    /// A server. The leader is server 0.
+    pub fn server(&self, server: u8) -> &Server
+        requires { server < 2 }
+        ensures { (header : Header) (r : Run) → IsAt header self.now r → result.now ≡ shelf_of header.settings (shares_of header server r) }
     {
-        &self.leader
-    }
-
-    pub fn helper(&self) -> &Server
-        ensures { result.now ≡ self.now.helper }
-    {
-        &self.helper
+        match server {
+            0 => &self.leader,
+            _ => &self.helper,
+        }
     }
 }

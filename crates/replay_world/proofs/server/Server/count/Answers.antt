@@ -1,9 +1,6 @@
-use Rattle.std.proofs.Common.{◌≡◌, ◌<◌, ◌≤◌, ◌++◌, ◌∷◌, [], length, List, ℕ, Ok, Err, None, slice_get, slice_set, replicate, arith, sym, ◌∙◌, ap, refl}
-use Rattle.mailbox_rules.specs.Tables.{Mailbox, addresses, box_of, xor_bytes, new_box, boxes_cleared}
-use Rattle.mailbox_rules.specs.Laws.{bytes_of}
-use Rattle.box_registry.specs.Boxes.{Boxes, place_of}
-use Rattle.replay_world.specs.Shelf.{Shelf, mailboxes, Registers}
-use Rattle.replay_world.proofs.ShelfLemmas.{length-mailboxes, addresses-mailboxes, box_of-mailboxes, address-there, mailboxes-push, bytes-mailboxes, cleared-mailboxes, width-at, width-set, width-push, registers-refused, added-next}
+use Rattle.std.proofs.Common.{◌≡◌, length, arith, sym, ◌∙◌, ap}
+use Rattle.replay_world.specs.Shelf.{Shelf}
+use Rattle.replay_world.proofs.ShelfLemmas.{length-mailboxes}
 use Rattle.replay_world.proofs.server.Server.count.Goals as goal
 
 pub returns : goal.returns

@@ -1,4 +1,4 @@
-use Rattle.std.proofs.Common.{◌≡◌, ◌<◌, ◌≤◌, ◌++◌, ◌∷◌, [], length, List, ℕ, ◌+◌, Ok, Err, None, arith, sym, ◌∙◌, ap, ap₂, true, length-append}
+use Rattle.std.proofs.Common.{◌≡◌, ◌++◌, ◌∷◌, [], length, List, ℕ, ◌+◌, arith, sym, ◌∙◌, ap, ap₂, true, length-append}
 use Rattle.std.proofs.lemmas.List.{length-replicate}
 use Rattle.mailbox_rules.specs.Tables.{Mailbox, box_of, new_box}
 use Rattle.box_registry.specs.Boxes.{Boxes, with_box, answer_at, place_of}
@@ -25,8 +25,7 @@ registry c = rw c.in-Ok.is at c.in_ok-fault.ensures.added
 pub invariant_of-self-in-Ok : goal.invariant_of-self-in-Ok
 invariant_of-self-in-Ok c =
     let shares : length c.push.new.self.items ≡ length c.self.inside.shares.items + 1 = rw (items c) (length-append c.self.inside.shares.items _) in
-    let boxes : length c.add.new.self.boxes ≡ length c.self.inside.registry.boxes + 1 = rw (registry c) (length-append c.self.inside.registry.boxes _) in
-    (
+    let boxes : length c.add.new.self.boxes ≡ length c.self.inside.registry.boxes + 1 = rw (registry c) (length-append c.self.inside.registry.boxes _) in (
       omega (arith, shares, boxes, c.self.invariant.0),
       rw (items c) (width-push _ _ _ c.self.invariant.1 (ap length c.in_ok-share.ensures ∙ length-replicate _ 0)),
     )
@@ -46,14 +45,13 @@ returns-in-Ok-push c =
     let next = added-next _ _ _ _ answer in
     let place = ap (λ (s : Shelf). box_of c.args.address s.boxes) (sym c.self.view_is) ∙ box_of-mailboxes c.args.address _ _ c.self.invariant.0 in
     let count : length c.args.self.now.boxes ≡ length c.self.inside.registry.boxes = ap (λ (s : Shelf). length s.boxes) (sym c.self.view_is) ∙ length-mailboxes _ _ c.self.invariant.0 in
-    let limit : c.args.self.now.limit ≡ c.self.inside.registry.limit = ap (λ (s : Shelf). s.limit) (sym c.self.view_is) in
-    (
+    let limit : c.args.self.now.limit ≡ c.self.inside.registry.limit = ap (λ (s : Shelf). s.limit) (sym c.self.view_is) in (
       place ∙ next.0,
       omega (arith, next.1, count, limit),
       next.2 ∙ sym count,
       ap₂ (shelf c.self.inside.width) (registry c) (items c)
-      ∙ ap (λ boxes. with_boxes c.self.inside.registry.limit c.self.inside.width boxes)
-      (mailboxes-push c.self.inside.registry.boxes c.self.inside.shares.items _ _ c.self.invariant.0
-      ∙ ap (λ share. mailboxes c.self.inside.registry.boxes c.self.inside.shares.items ++ fresh c.args.address share ∷ []) c.in_ok-share.ensures)
-      ∙ ap (λ (s : Shelf). with_boxes s.limit s.width (s.boxes ++ new_box s.width c.args.address ∷ [])) c.self.view_is,
+          ∙ ap (λ boxes. with_boxes c.self.inside.registry.limit c.self.inside.width boxes)
+          (mailboxes-push c.self.inside.registry.boxes c.self.inside.shares.items _ _ c.self.invariant.0
+          ∙ ap (λ share. mailboxes c.self.inside.registry.boxes c.self.inside.shares.items ++ fresh c.args.address share ∷ []) c.in_ok-share.ensures)
+          ∙ ap (λ (s : Shelf). with_boxes s.limit s.width (s.boxes ++ new_box s.width c.args.address ∷ [])) c.self.view_is,
     )

@@ -1,11 +1,10 @@
-use Rattle.std.proofs.Common.{◌≡◌, ◌<◌, ◌≤◌, ◌++◌, ◌∷◌, [], length, List, ℕ, Ok, Err, None, slice_get, slice_set, replicate, arith, sym, ◌∙◌, ap, subst, refl, true}
+use Rattle.std.proofs.Common.{◌≡◌, length, List, slice_get, slice_set, replicate, arith, sym, ◌∙◌, ap, subst, true}
 use Rattle.std.proofs.lemmas.List.{length-replicate}
 use Rattle.std.proofs.Math.ListN.{length-set}
-use Rattle.mailbox_rules.specs.Tables.{Mailbox, addresses, box_of, xor_bytes, new_box, boxes_cleared}
+use Rattle.mailbox_rules.specs.Tables.{Mailbox, xor_bytes, boxes_cleared}
 use Rattle.mailbox_rules.specs.Laws.{bytes_of}
-use Rattle.box_registry.specs.Boxes.{Boxes, place_of}
 use Rattle.replay_world.specs.Shelf.{Shelf, mailboxes, HasShare}
-use Rattle.replay_world.proofs.ShelfLemmas.{length-mailboxes, addresses-mailboxes, box_of-mailboxes, address-there, mailboxes-push, bytes-mailboxes, cleared-mailboxes, width-at, width-set, share-there}
+use Rattle.replay_world.proofs.ShelfLemmas.{length-mailboxes, bytes-mailboxes, cleared-mailboxes, width-at, width-set, share-there}
 use Rattle.replay_world.proofs.server.Server.take.Goals as goal
 
 pub index_mut-share-requires : goal.index_mut-share-requires
@@ -28,11 +27,10 @@ zeros : (c : goal.After-slice_known-2-1) → c.take.new.self ≡ replicate c.sel
 zeros c = c.take.ensures.cleared ∙ ap (λ n. replicate n 0) (share_width c)
 
 pub invariant_of-self : goal.invariant_of-self
-invariant_of-self c =
-    (
-      length-set c.self.inside.shares.items c.args.box_number c.take.new.self ∙ c.self.invariant.0,
-      width-set _ _ c.args.box_number _ c.self.invariant.1 (ap length (zeros c) ∙ length-replicate _ 0),
-    )
+invariant_of-self c = (
+  length-set c.self.inside.shares.items c.args.box_number c.take.new.self ∙ c.self.invariant.0,
+  width-set _ _ c.args.box_number _ c.self.invariant.1 (ap length (zeros c) ∙ length-replicate _ 0),
+)
 
 pub returns-clause-added : goal.returns-clause-added
 returns-clause-added c =

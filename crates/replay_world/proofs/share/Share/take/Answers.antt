@@ -1,4 +1,4 @@
-use Rattle.std.proofs.Common.{◌≡◌, ◌∙◌, ap}
+use Rattle.std.proofs.Common.{◌∙◌, ap}
 use Rattle.dpf_rules.specs.Bytes.{xor_bytes}
 use Rattle.replay_world.proofs.ByteLemmas.{same_sum}
 use Rattle.replay_world.proofs.share.Share.take.Goals as goal

@@ -1,5 +1,4 @@
-use Rattle.std.proofs.Common.{◌≡◌, [], sym, ◌∙◌, ap, subst, refl}
-use Rattle.schedule_text.specs.declared.schedule.Header.{Header}
+use Rattle.std.proofs.Common.{[], ◌∙◌, ap, subst, refl}
 use Rattle.replay_world.specs.Run.{Run, all_worked_off}
 use Rattle.replay_world.specs.View.{IsAt}
 use Rattle.replay_world.proofs.EventSteps.{taken_follows}
@@ -15,8 +14,8 @@ work_off_all-requires-clause-run c =
 pub returns : goal.returns
 returns c = record {
   ok = λ header r at.
-  subst (λ waiting. IsAt header c.work_off_all.new.self (all_worked_off header.settings waiting (idle r)))
-  (c.as_slice.ensures.value ∙ ap (λ v. v.items) c.replace-waiting.ensures.value ∙ at.waiting)
-  (c.in_ok-work_off_all.ensures.ok header (idle r)
-  (taken_follows header r c.args.self.now _ at refl refl refl refl refl refl refl (ap (λ v. v.items) c.replace-waiting.ensures.after ∙ c.new.ensures.items)));
+      subst (λ waiting. IsAt header c.work_off_all.new.self (all_worked_off header.settings waiting (idle r)))
+      (c.as_slice.ensures.value ∙ ap (λ v. v.items) c.replace-waiting.ensures.value ∙ at.waiting)
+      (c.in_ok-work_off_all.ensures.ok header (idle r)
+      (taken_follows header r c.args.self.now _ at refl refl refl refl refl refl refl (ap (λ v. v.items) c.replace-waiting.ensures.after ∙ c.new.ensures.items)));
 }

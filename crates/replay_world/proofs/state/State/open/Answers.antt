@@ -1,4 +1,4 @@
-use Rattle.std.proofs.Common.{◌≡◌, ◌∙◌, sym, ap, refl, arith, [], length}
+use Rattle.std.proofs.Common.{◌∙◌, arith}
 use Rattle.mailbox_rules.specs.Tables.{table_after, table_from, results_after, results_from}
 use Rattle.replay_world.proofs.state.State.open.Goals as goal
 

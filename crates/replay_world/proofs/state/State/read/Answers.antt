@@ -1,4 +1,4 @@
-use Rattle.std.proofs.Common.{◌≡◌, ◌∙◌, ◌<◌, length, sym, ap, ap₂, refl, arith, List, ℕ, take, drop, ◌++◌, replicate}
+use Rattle.std.proofs.Common.{◌≡◌, ◌∙◌, length, ap, refl, arith, List, ℕ, take, drop, ◌++◌, replicate}
 use Rattle.mailbox_rules.specs.Tables.{xor_bytes}
 use Rattle.mailbox_rules.specs.Laws.{bytes_of}
 use Rattle.std.specs.Prelude.{slice_get}
@@ -33,6 +33,6 @@ message_is c =
 pub returns-clause-ok : goal.returns-clause-ok
 returns-clause-ok c =
     λ header r at.
-      read_follows header r c.args.self.now _ c.args.own c.args.box_number _ at c.requires.own_box c.take.ensures.there c.take-2.ensures.there c.take.ensures.cleared c.take-2.ensures.cleared
-      (message_is c)
-      refl refl refl refl c.in_ok-tell.ensures c.in_ok-note.ensures
+    read_follows header r c.args.self.now _ c.args.own c.args.box_number _ at c.requires.own_box c.take.ensures.there c.take-2.ensures.there c.take.ensures.cleared c.take-2.ensures.cleared
+    (message_is c)
+    refl refl refl refl c.in_ok-tell.ensures c.in_ok-note.ensures

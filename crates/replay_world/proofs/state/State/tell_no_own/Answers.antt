@@ -1,4 +1,4 @@
-use Rattle.std.proofs.Common.{◌≡◌, ◌∙◌, sym, ap, refl, ◌++◌, ◌∷◌, []}
+use Rattle.std.proofs.Common.{◌∙◌, ap, refl, ◌++◌, ◌∷◌, []}
 use Rattle.replay_world.specs.declared.lines.Told.TheVariants.{NoOwn}
 use Rattle.replay_world.specs.Run.{outcome_at}
 use Rattle.replay_world.proofs.RefuseStep.{told_follows}

@@ -1,8 +1,4 @@
-use Rattle.std.proofs.Common.{◌≡◌, ◌∙◌, sym, ap, refl, subst, Result, Ok, Err, OnOk}
-use Rattle.schedule_text.specs.declared.schedule.Header.{Header}
-use Rattle.replay_world.specs.declared.state.State.{State}
-use Rattle.replay_world.specs.Run.{Run}
-use Rattle.replay_world.specs.View.{IsAt, Follows}
+use Rattle.std.proofs.Common.{sym}
 use Rattle.replay_world.proofs.RefuseStep.{worked_none, worked_some, worked_register, follows_also}
 use Rattle.replay_world.proofs.state.State.work_off.Goals as goal
 

@@ -1,4 +1,4 @@
-use Rattle.std.proofs.Common.{◌≡◌, ◌<◌, ◌+◌, length, take, sym, ◌∙◌, ap, subst, arith}
+use Rattle.std.proofs.Common.{sym, subst, arith}
 use Rattle.replay_world.specs.View.{IsAt}
 use Rattle.replay_world.specs.Run.{all_worked_off}
 use Rattle.replay_world.proofs.EventSteps.{all_next, none_worked_off, take_whole}
@@ -16,12 +16,12 @@ work_off-requires-clause-room c = let room = c.loop-one.invariant.room in omega 
 pub loop-one-preserved : goal.loop-one-preserved
 loop-one-preserved c = record {
   follows = λ header r at.
-  subst (IsAt header c.work_off.new.self) (sym (all_next header.settings c.args.waiting.now c.loop-one.one-index _ r (omega arith))) (c.in_ok-work_off.ensures.ok header _ (c.loop-one.invariant.follows header r at));
+      subst (IsAt header c.work_off.new.self) (sym (all_next header.settings c.args.waiting.now c.loop-one.one-index _ r (omega arith))) (c.in_ok-work_off.ensures.ok header _ (c.loop-one.invariant.follows header r at));
   room = let more = c.in_ok-work_off.ensures.more in let room = c.loop-one.invariant.room in omega (arith, more, room);
 }
 
 pub returns : goal.returns
 returns c = record {
   ok = λ header r at.
-  subst (λ xs. IsAt header c.loop-one.self (all_worked_off header.settings xs r)) (take_whole c.args.waiting.now c.loop-one.one-index (omega arith)) (c.loop-one.invariant.follows header r at)
+      subst (λ xs. IsAt header c.loop-one.self (all_worked_off header.settings xs r)) (take_whole c.args.waiting.now c.loop-one.one-index (omega arith)) (c.loop-one.invariant.follows header r at);
 }

@@ -1,4 +1,4 @@
-use Rattle.std.proofs.Common.{◌≡◌, ◌+◌, ◌-◌, ◌<◌, ◌^◌, length, take}
+use Rattle.std.proofs.Common.{◌+◌, ◌-◌, ◌<◌, ◌^◌, length, take}
 use Rattle.replay_world.specs.Run.{all_worked_off}
 use Rattle.replay_world.specs.View.{Follows}
 use Rattle.replay_world.proofs.state.State.work_off_all.Given as goal
