@@ -1,0 +1,4 @@
+pub mod OpeningLemmas
+pub mod ShareLemmas
+pub mod HeldLemmas
+pub mod AddLemmas

@@ -1,0 +1,10 @@
+//! One server's shares of the boxes: what writes add to them, and what reads take.
+#![tactic(auto)]
+
+mod blocks;
+mod store;
+
+pub use store::ShareStore;
+
+#[cfg(test)]
+mod tests;

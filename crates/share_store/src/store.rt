@@ -1,0 +1,111 @@
+//! The shares by box.
+ghost use Rattle.std.specs.Prelude.{◌≡◌, ◌<◌, ◌≤◌, IfOk, false, length, not, replicate, take};
+ghost use Rattle.dpf_rules.specs.Bytes.{xor_bytes};
+ghost use Rattle.dpf_rules.specs.Walk.{last_of};
+ghost use Rattle.share_store.specs.Shares.{empty_share, share_at, shares_of, shares_with, with_cleared};
+
+use crate::blocks::{add_leaves, clear, take_all};
+use block_region::{Block, Class, Region};
+use dpf_keys::PublicPart;
+use dpf_rules::xor_into;
+use express_words::NoMemory;
+use std::alloc::Global;
+use std::marker::Model;
+
+/// One server's share of each box, and whether the box is live. All memory is taken at opening.
+#[derive(Drop)]
+pub struct ShareStore {
+    region: Region,
+    blocks: Vec<Block>,
+    live: Vec<bool>,
+}
+
+impl Model for ShareStore {
+    ghost use Rattle.std.specs.Prelude.{◌≡◌, length};
+    ghost use Rattle.block_region.specs.Region.{class_of};
+    ghost use Rattle.share_store.specs.Shares.{Shares, shares_of};
+    ghost use Rattle.share_store.specs.Blocks.{AreHeld, shares_in};
+
+    ghost Value = { Shares };
+
+    ghost view = { λ s. shares_of (class_of s.region 0).size (shares_in s.live.items (class_of s.region 0).blocks) };
+
+    ghost invariant = { λ s. (length s.region ≡ 1) × AreHeld s.live.items s.blocks.items (class_of s.region 0) };
+}
+
+impl ShareStore {
+    /// Shares of this many boxes, `width` bytes each: all zero, and all boxes live.
+    pub fn open(alloc: Global, boxes: u32, width: u32) -> Result<ShareStore, NoMemory>
+        ensures { IfOk result (λ s. s ≡ shares_of width (replicate boxes (empty_share width))) }
+    {
+        let class = Class {
+            size: width,
+            count: boxes,
+        };
+        let mut region = Region::open(alloc, &[class])?;
+        let blocks = take_all(alloc, &mut region, boxes, width)?;
+        let Ok(live) = vec![in alloc; true; boxes as usize] else {
+            return Err(NoMemory);
+        };
+        Ok(ShareStore {
+            region,
+            blocks,
+            live,
+        })
+    }
+
+    /// XORs the write bytes of each leaf into the share of its box, for the first `count` boxes. A retired box keeps its share.
+    pub fn add_write(&mut self, count: u32, part: &PublicPart, leaves: &[u128])
+        requires width { length (last_of part.now) ≡ self.old.width }
+        requires boxes { count ≤ length self.old.boxes }
+        requires leaves { count ≤ length leaves.now }
+        ensures { self.new ≡ shares_of self.old.width (shares_with part.now (take count leaves.now) self.old.boxes) }
+    {
+        add_leaves(
+            &mut self.region,
+            &self.blocks,
+            &self.live,
+            part,
+            &leaves[..count as usize],
+        );
+    }
+
+    /// XORs a share into `out` and clears it.
+    pub fn take(&mut self, box_number: u32, out: &mut [u8])
+        requires there { box_number < length self.old.boxes }
+        requires width { length out.old ≡ self.old.width }
+        ensures given { out.new ≡ xor_bytes out.old (share_at self.old.boxes box_number).bytes }
+        ensures cleared { self.new ≡ with_cleared self.old box_number (share_at self.old.boxes box_number).live }
+    {
+        let block = &self.blocks[box_number as usize];
+        xor_into(out, self.region.bytes(block));
+        clear(&mut self.region, block);
+    }
+
+    /// XORs a share into `out`, clears it, and retires the box.
+    pub fn retire(&mut self, box_number: u32, out: &mut [u8])
+        requires there { box_number < length self.old.boxes }
+        requires width { length out.old ≡ self.old.width }
+        ensures given { out.new ≡ xor_bytes out.old (share_at self.old.boxes box_number).bytes }
+        ensures retired { self.new ≡ with_cleared self.old box_number false }
+    {
+        self.take(box_number, out);
+        self.live[box_number as usize] = false;
+    }
+
+    /// The share of a box.
+    pub fn share(&self, box_number: u32) -> &[u8]
+        requires { box_number < length self.now.boxes }
+        ensures { result.now ≡ (share_at self.now.boxes box_number).bytes }
+    {
+        self.region.bytes(&self.blocks[box_number as usize])
+    }
+
+    /// Whether a box is retired.
+    pub fn retired(&self, box_number: u32) -> bool
+        requires { box_number < length self.now.boxes }
+        ensures { result ≡ not (share_at self.now.boxes box_number).live }
+    {
+        !self.live[box_number as usize]
+    }
+}
