@@ -5,6 +5,7 @@ mod audit;
 pub mod limits;
 mod lists;
 mod memory;
+pub mod outside;
 mod refusal;
 mod settings;
 

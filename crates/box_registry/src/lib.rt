@@ -1,0 +1,13 @@
+//! The boxes of a server: their addresses and keys, by number.
+#![tactic(auto)]
+
+mod fault;
+mod plain;
+mod registry;
+
+pub use fault::RegFault;
+pub use plain::PlainRegistry;
+pub use registry::Registry;
+
+#[cfg(test)]
+mod tests;

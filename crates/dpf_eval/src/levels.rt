@@ -1,0 +1,110 @@
+//! One level of the tree, for all entries at once.
+//!
+//! An entry is an address on its way down, with the state that its walk has reached. Entries stand by rising
+//! address, so those that share a prefix are neighbours: a group, which stands at one node of the tree.
+ghost use Rattle.std.specs.Prelude.{◌≡◌, ℕ, ◌+◌, ◌-◌, ◌<◌, ◌≤◌, length, slice_index, slice_index_or, ◌^◌, nat_le, if◌then◌else◌};
+ghost use Rattle.dpf_rules.specs.Expansion.{with_bit};
+ghost use Rattle.dpf_rules.specs.Keys.{raw_pair};
+ghost use Rattle.dpf_rules.specs.Walk.{word_of, right_of, side_at};
+ghost use Rattle.dpf_eval.specs.Groups.{groups_of, stepped};
+
+use dpf_keys::PublicPart;
+
+/// Puts the state of each group's first entry into `nodes`, and gives the number of groups.
+pub(crate) fn gather(states: &[u128], splits: &[u8], level: u8, nodes: &mut [u128]) -> usize
+    requires splits { length splits.now ≡ length states.now }
+    requires room { length nodes.old ≡ length states.now }
+    requires first { slice_index splits.now 0 ≤ level }
+    requires grouped { (k : ℕ) → k + 1 < length states.now → level < slice_index splits.now (k + 1)
+        → slice_index states.now (k + 1) ≡ slice_index states.now k }
+    ensures count { result ≡ groups_of splits.now level (length states.now) }
+    ensures within { result ≤ length states.now }
+    ensures nodes { (k : ℕ) → k < length states.now
+        → slice_index nodes.new (groups_of splits.now level (k + 1) - 1) ≡ slice_index states.now k }
+{
+    let mut groups = 0usize;
+    for k in 0..states.len() {
+        if splits[k] <= level {
+            nodes[groups] = states[k];
+            groups += 1;
+        }
+    }
+    groups
+}
+
+/// What a level adds to the raw children of a node whose control bit is 1.
+#[derive(Drop)]
+pub(crate) struct Correction {
+    pub(crate) left: u128,
+    pub(crate) right: u128,
+}
+
+/// The correction of a level: its word on the left, the word with the right bit on the right.
+pub(crate) fn correction_at(part: &PublicPart, level: u8) -> Correction
+    requires { level < 128 }
+    ensures { result ≡ record {
+      left = word_of part.now level;
+      right = with_bit (word_of part.now level) (right_of part.now level);
+    } }
+{
+    let word = part.word(level);
+    Correction {
+        left: word,
+        right: word / 2 * 2 + u128::from(part.right(level)),
+    }
+}
+
+/// The number of groups, one entry on.
+fn groups_after(groups: usize, split: u8, level: u8) -> usize
+    requires { groups < 2 ^ 32 }
+    ensures { result ≡ groups + (if nat_le split level then 1 else 0) }
+{
+    if split <= level { groups + 1 } else { groups }
+}
+
+/// The next state of an entry, from the raw children of its state.
+fn step(address: u128, level: u8, pair: (u128, u128), correction: &Correction, state: u128) -> u128
+    requires level { level < 128 }
+    requires pair { pair ≡ raw_pair state }
+    ensures { result ≡ stepped correction.now.left correction.now.right (side_at address level) state }
+{
+    let (raw, added) = if (address >> (127 - level)) % 2 == 0 {
+        (pair.0, correction.left)
+    } else {
+        (pair.1, correction.right)
+    };
+    if state % 2 == 1 { raw ^ added } else { raw }
+}
+
+/// Takes each entry to the child of its group's node on the side of its address.
+pub(crate) fn descend(
+    addresses: &[u128],
+    splits: &[u8],
+    level: u8,
+    correction: &Correction,
+    pairs: &[(u128, u128)],
+    states: &mut [u128],
+)
+    requires level { level < 128 }
+    requires size { length states.old < 2 ^ 32 }
+    requires addresses { length addresses.now ≡ length states.old }
+    requires splits { length splits.now ≡ length states.old }
+    requires room { length pairs.now ≡ length states.old }
+    requires first { slice_index splits.now 0 ≤ level }
+    requires pairs { (k : ℕ) → k < length states.old
+        → slice_index_or pairs.now (groups_of splits.now level (k + 1) - 1) (0, 0) ≡ raw_pair (slice_index states.old k) }
+    ensures { (k : ℕ) → k < length states.old → slice_index states.new k
+        ≡ stepped correction.now.left correction.now.right (side_at (slice_index addresses.now k) level) (slice_index states.old k) }
+{
+    let mut groups = 0usize;
+    for k in 0..states.len() {
+        groups = groups_after(groups, splits[k], level);
+        states[k] = step(
+            addresses[k],
+            level,
+            pairs[groups - 1],
+            correction,
+            states[k],
+        );
+    }
+}

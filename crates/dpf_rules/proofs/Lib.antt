@@ -1,0 +1,7 @@
+pub mod ByteLemmas
+pub mod PointLemmas
+pub mod KeysLemmas
+pub mod WriteLemmas
+pub mod StandardFacts
+pub mod IdealLemmas
+pub mod DifferenceLemmas

@@ -1,0 +1,32 @@
+-- Numbers as lists of digits with the lowest first, and the sum of two lists of bytes.
+use Rattle.std.specs.Prelude.{ℕ, zero, suc, ◌+◌, ◌*◌, ◌/◌, ◌%◌, ◌^◌, List, [], ◌∷◌, ◌++◌, bit_xor}
+
+-- the number that digits spell in a base, the lowest digit first
+unfoldable pub value_in : ℕ → List ℕ → ℕ
+value_in base [] = 0
+value_in base (d ∷ ds) = d + base * value_in base ds
+
+-- the number that bytes spell, the lowest byte first
+abbrev pub number_of : List ℕ → ℕ
+number_of bytes = value_in 256 bytes
+
+-- the n lowest bytes of a number, the lowest first
+unfoldable pub bytes_of : ℕ → ℕ → List ℕ
+bytes_of zero x = []
+bytes_of (suc n) x = x % 256 ∷ bytes_of n (x / 256)
+
+-- the sum of two lists of bytes, as long as the shorter
+unfoldable pub xor_bytes : List ℕ → List ℕ → List ℕ
+xor_bytes [] ys = []
+xor_bytes (x ∷ xs) [] = []
+xor_bytes (x ∷ xs) (y ∷ ys) = bit_xor x y ∷ xor_bytes xs ys
+
+-- n numbers, each as 16 bytes
+unfoldable pub words_bytes : (ℕ → ℕ) → ℕ → List ℕ
+words_bytes word zero = []
+words_bytes word (suc n) = words_bytes word n ++ bytes_of 16 (word n)
+
+-- the number whose n lowest bits are these
+unfoldable pub bits_number : (ℕ → ℕ) → ℕ → ℕ
+bits_number bit zero = 0
+bits_number bit (suc n) = bits_number bit n + bit n * 2 ^ n

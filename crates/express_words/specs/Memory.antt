@@ -1,0 +1,111 @@
+-- What the outside in memory does at each call.
+use Rattle.std.specs.Prelude.{◌≡◌, ℕ, ◌+◌, ◌-◌, ◌^◌, ◌<◌, ◌≤◌, ◌⊎◌, ◌==◌, min, Bool, true, false, List, [], ◌∷◌, ◌++◌, take, drop, length, Contains, Option, Some, None}
+use Rattle.express_words.specs.Streams.{Stream}
+use Rattle.express_words.specs.Calls.{Call, Closed}
+
+-- one more, up to the last value of a 64-bit counter
+abbrev pub next : ℕ → ℕ
+next n = min (n + 1) (2 ^ 64 - 1)
+
+-- how many calls were made, the numbers of the calls that are to fail, from 1, and how many failed
+pub record Tally : Type 0 where
+  pub made : ℕ
+  pub failing : List ℕ
+  pub faults : ℕ
+
+abbrev pub started : List ℕ → Tally
+started failing = record { made = 0; failing = failing; faults = 0 }
+
+-- the call that is made now is to fail
+abbrev pub IsListed : Tally → Type 0
+IsListed t = Contains t.failing (next t.made)
+
+-- after a call that didn't fail
+abbrev pub passed : Tally → Tally
+passed t = record { made = next t.made; failing = t.failing; faults = t.faults }
+
+-- after a call that failed
+abbrev pub failed : Tally → Tally
+failed t = record { made = next t.made; failing = t.failing; faults = next t.faults }
+
+-- a source that gave some more of its bytes
+abbrev pub advanced : ℕ → Stream → Stream
+advanced n s = record { given = s.given ++ take n s.left; left = drop n s.left }
+
+pub record SourceState : Type 0 where
+  pub content : Stream
+  pub tally : Tally
+
+-- the bytes written, and how many more have room
+pub record SinkState : Type 0 where
+  pub written : List ℕ
+  pub room : ℕ
+  pub tally : Tally
+
+pub record ConnState : Type 0 where
+  pub content : Stream
+  pub written : List ℕ
+  pub room : ℕ
+  pub tally : Tally
+
+-- The calls so far that were noted and whether that is all of them, how many more calls and bytes of
+-- their texts have room, how many connections were given and not closed, and the closed ones.
+pub record Ledger : Type 0 where
+  pub calls : List Call
+  pub whole : Bool
+  pub room : ℕ
+  pub text_room : ℕ
+  pub lent : ℕ
+  pub closed : List ConnState
+
+-- the room left is too small for these calls with this many bytes of text
+abbrev pub LacksRoom : Ledger → ℕ → ℕ → Type 0
+LacksRoom l calls bytes = (l.room < calls) ⊎ (l.text_room < bytes)
+
+abbrev pub told_if : Bool → List Call → Option (List Call)
+told_if true calls = Some calls
+told_if false calls = None
+
+-- the calls, where all of them were noted
+abbrev pub told : Ledger → Option (List Call)
+told l = told_if l.whole l.calls
+
+-- one more call was noted, with this many bytes of text
+abbrev pub noted : Call → ℕ → Ledger → Ledger
+noted call bytes l = record { calls = l.calls ++ call ∷ []; whole = l.whole; room = l.room - 1; text_room = l.text_room - bytes; lent = l.lent; closed = l.closed }
+
+-- a call was made that wasn't noted
+abbrev pub unnoted : Ledger → Ledger
+unnoted l = record { calls = l.calls; whole = false; room = l.room; text_room = l.text_room; lent = l.lent; closed = l.closed }
+
+-- a call was noted if there was room for it
+pub record NotesIfRoom (call : Call) (bytes : ℕ) (old new : Ledger) : Type 0 where
+  pub fits : 1 ≤ old.room → bytes ≤ old.text_room → new ≡ noted call bytes old
+  pub lacks : LacksRoom old 1 bytes → new ≡ unnoted old
+
+-- a connection was given, and room kept for its close
+abbrev pub lending : Ledger → Ledger
+lending l = record { calls = l.calls; whole = l.whole; room = l.room - 1; text_room = l.text_room; lent = l.lent + 1; closed = l.closed }
+
+abbrev pub close_of : ConnState → Call
+close_of conn = Closed conn.content.given conn.written (conn.tally.faults == 0)
+
+-- a connection was closed and its close noted, with the room that was kept for it
+abbrev pub closing : ConnState → Ledger → Ledger
+closing conn l = record { calls = l.calls ++ close_of conn ∷ []; whole = l.whole; room = l.room; text_room = l.text_room; lent = l.lent - 1; closed = l.closed ++ conn ∷ [] }
+
+-- the connections still to be given, the calls so far, and how many of them failed, at the doors too
+pub record NetState : Type 0 where
+  pub waiting : List ConnState
+  pub ledger : Ledger
+  pub tally : Tally
+  pub doors : ℕ
+
+-- a connection as it is given: at its first byte, with nothing written and no call made
+abbrev pub fresh : ConnState → ConnState
+fresh c = record { content = record { given = []; left = c.content.given ++ c.content.left }; written = []; room = length c.written + c.room; tally = started c.tally.failing }
+
+-- the first waiting connection was given
+abbrev pub GivesFirst : List ConnState → List ConnState → ConnState → Type 0
+GivesFirst [] now given = ⊥
+GivesFirst (first ∷ others) now given = (now ≡ others) × (given ≡ fresh first)

@@ -1,0 +1,75 @@
+//! The replies to the commands that were carried out last.
+ghost use Rattle.std.specs.Prelude.{◌≡◌, ℕ, ◌+◌, ◌-◌, ◌<◌, ◌≤◌, ◌^◌, ◌↔◌, IfOk, Some, [], ◌∷◌, ◌++◌, length, slice_get};
+ghost use Rattle.link_order.specs.Link.{Carried, last};
+
+use crate::frame_ring::FrameRing;
+use express_words::NoMemory;
+use std::alloc::Global;
+use std::marker::Model;
+
+/// Where the number of a command that arrived stands.
+#[derive(Clone, Copy, Debug, PartialEq, Eq)]
+pub enum Arrival<'a> {
+    /// It is the next one to be carried out.
+    Next,
+    /// It was carried out, and this is its reply.
+    Kept(&'a [u8]),
+    /// It is neither.
+    Passed,
+}
+
+/// Commands that were carried out in the order of their numbers from 1 upwards, with the replies to the last ones.
+#[derive(Drop)]
+pub struct Incoming {
+    ring: FrameRing,
+}
+
+impl Model for Incoming {
+    ghost use Rattle.link_order.specs.Link.{Carried};
+
+    ghost Value = { Carried };
+
+    ghost view = { λ i. record { carried = i.ring.pushed; window = i.ring.window; size = i.ring.size; replies = i.ring.frames } };
+}
+
+impl Incoming {
+    ghost use Rattle.link_order.specs.Arrivals.{IsArrival};
+
+    /// A link with no command carried out, that keeps the last `window` replies of at most `size` bytes each.
+    pub fn open(alloc: Global, window: u8, size: u32) -> Result<Incoming, NoMemory>
+        requires window { (1 ≤ window) × (window ≤ 32) }
+        ensures { IfOk result (λ link. link ≡ record { carried = 0; window = window; size = size; replies = [] }) }
+    {
+        Ok(Incoming {
+            ring: FrameRing::open(alloc, window, size)?,
+        })
+    }
+
+    /// Whether a command of this number is to be carried out now, was carried out and its reply is kept, or neither.
+    pub fn arrival(&self, number: u64) -> Arrival<'_>
+        ensures { IsArrival self.now number result }
+    {
+        let carried = self.ring.pushed();
+        let oldest = carried - self.ring.len() as u64;
+        if number > carried {
+            return if number - carried == 1 {
+                Arrival::Next
+            } else {
+                Arrival::Passed
+            };
+        }
+        if number <= oldest {
+            return Arrival::Passed;
+        }
+        Arrival::Kept(self.ring.get((number - oldest - 1) as usize))
+    }
+
+    /// Makes the next number carried, with this reply.
+    pub fn carry(&mut self, reply: &[u8])
+        requires fits { length reply.now ≤ self.old.size }
+        requires countable { self.old.carried < 2 ^ 64 - 1 }
+        ensures { self.new ≡ record { carried = self.old.carried + 1; window = self.old.window; size = self.old.size; replies = last self.old.window (self.old.replies ++ reply.now ∷ []) } }
+    {
+        self.ring.push(reply);
+    }
+}

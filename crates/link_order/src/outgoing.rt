@@ -1,0 +1,96 @@
+//! The commands that wait for their replies.
+ghost use Rattle.std.specs.Prelude.{◌≡◌, ◌+◌, ◌-◌, ◌<◌, ◌≤◌, ◌^◌, ◌↔◌, IfOk, OnOk, OnErr, IfErr, IsErr, IsNone, IsTrue, IfSome, Some, [], ◌∷◌, ◌++◌, length, drop, slice_get};
+ghost use Rattle.std.specs.Bool.{OnTrue, OnFalse};
+ghost use Rattle.link_order.specs.Link.{Outstanding, IsOldest};
+
+use crate::frame_ring::FrameRing;
+use express_words::NoMemory;
+use std::alloc::Global;
+use std::marker::Model;
+
+/// Commands with numbers from 1 upwards, each kept until it is acknowledged.
+#[derive(Drop)]
+pub struct Outgoing {
+    ring: FrameRing,
+}
+
+impl Model for Outgoing {
+    ghost use Rattle.std.specs.Prelude.{◌+◌, ◌<◌, ◌^◌};
+    ghost use Rattle.std.specs.Bool.{OnTrue, OnFalse};
+    ghost use Rattle.link_order.specs.Link.{Outstanding};
+
+    ghost Value = { Outstanding };
+
+    ghost view = { λ o. record { next = o.ring.pushed + 1; window = o.ring.window; size = o.ring.size; frames = o.ring.frames } };
+
+    ghost invariant = { λ o. o.ring.pushed + 1 < 2 ^ 64 };
+}
+
+impl Outgoing {
+    /// A link with no command issued, of which at most `window` may be outstanding, each of at most `size` bytes.
+    pub fn open(alloc: Global, window: u8, size: u32) -> Result<Outgoing, NoMemory>
+        requires window { (1 ≤ window) × (window ≤ 32) }
+        ensures { IfOk result (λ link. link ≡ record { next = 1; window = window; size = size; frames = [] }) }
+    {
+        Ok(Outgoing {
+            ring: FrameRing::open(alloc, window, size)?,
+        })
+    }
+
+    /// The number that the next command gets.
+    pub fn next(&self) -> u64
+        ensures { result ≡ self.now.next }
+    {
+        self.ring.pushed() + 1
+    }
+
+    /// Issues a command and gives its number; or, exactly where `window` commands are outstanding, changes nothing
+    /// and gives the oldest one's number.
+    pub fn issue(&mut self, frame: &[u8]) -> Result<u64, u64>
+        requires fits { length frame.now ≤ self.old.size }
+        requires countable { self.old.next < 2 ^ 64 - 1 }
+        ensures full { IsErr result ↔ (length self.old.frames ≡ self.old.window) }
+        ensures oldest { IfErr result (IsOldest self.old) }
+        ensures stays { OnErr result (self.new ≡ self.old) }
+        ensures number { IfOk result (λ number. number ≡ self.old.next) }
+        ensures issued { OnOk result (self.new ≡ record { next = self.old.next + 1; window = self.old.window; size = self.old.size; frames = self.old.frames ++ frame.now ∷ [] }) }
+    {
+        if self.ring.is_full() {
+            return Err(self.oldest_number());
+        }
+        let number = self.next();
+        self.ring.push(frame);
+        Ok(number)
+    }
+
+    /// The oldest outstanding command with its number, or None exactly where none is outstanding.
+    pub fn oldest(&self) -> Option<(u64, &[u8])>
+        ensures none { IsNone result ↔ (self.now.frames ≡ []) }
+        ensures number { IfSome result (λ command. IsOldest self.now command.0) }
+        ensures frame { IfSome result (λ command. slice_get self.now.frames 0 ≡ Some command.1.now) }
+    {
+        if self.ring.len() == 0 {
+            return None;
+        }
+        Some((self.oldest_number(), self.ring.get(0)))
+    }
+
+    /// Removes the oldest outstanding command if this is its number, and says whether it is.
+    pub fn acknowledge(&mut self, number: u64) -> bool
+        ensures oldest { IsTrue result ↔ IsOldest self.old number }
+        ensures removed { OnTrue result (self.new ≡ record { next = self.old.next; window = self.old.window; size = self.old.size; frames = drop 1 self.old.frames }) }
+        ensures stays { OnFalse result (self.new ≡ self.old) }
+    {
+        if self.ring.len() == 0 || number != self.oldest_number() {
+            return false;
+        }
+        self.ring.pop();
+        true
+    }
+
+    fn oldest_number(&self) -> u64
+        ensures { result + length self.now.frames ≡ self.now.next }
+    {
+        self.ring.pushed() + 1 - self.ring.len() as u64
+    }
+}

@@ -1,0 +1,164 @@
+-- The table of boxes, changed by the lines of a journal in order, and the result of each line.
+-- One fold serves the plain table and both servers' shares: they differ in what a write adds to a box.
+use Rattle.std.specs.Prelude.{ℕ, zero, suc, nat_le, nat_eq, ◌==◌, if◌then◌else◌, Bool, true, false, List, [], ◌∷◌, ◌++◌, length, map, position, replicate, Option, Some, None, slice_get, bit_xor}
+use Rattle.mailbox_rules.specs.Requests.{Request, Write, request_at, Line, Place, Own, Numbered, Operation, AddBox, BeginWrite, AuditWrite, SettleWrite, ReadBox, RetireBox, Refuse}
+
+-- A box is live until it is retired.
+pub record Mailbox : Type 0 where
+  pub address : ℕ
+  pub bytes : List ℕ
+  pub live : Bool
+
+-- The boxes by number, the boxes that each lane got, and the number of boxes when each lane's last write began: that write's count.
+pub record Table : Type 0 where
+  pub boxes : List Mailbox
+  pub got : ℕ → List ℕ
+  pub count : ℕ → ℕ
+
+-- Which writes are accepted, by lane and serial, and the bytes that they add to a box, by lane, serial and the box's address.
+pub record Writes : Type 0 where
+  pub accepts : ℕ → ℕ → Bool
+  pub adds : ℕ → ℕ → ℕ → List ℕ
+
+-- The result of a line. A box that was read gave its bytes.
+pub data Result : Type 0 where
+  Registered : (box : ℕ) → Result
+  Taken : (box : ℕ) → Result
+  Full : (limit : ℕ) → Result
+  Began : (count : ℕ) → Result
+  WasAudited : Result
+  Settled : (accepted : Bool) → Result
+  Gave : (box : ℕ) → (bytes : List ℕ) → Result
+  NoBox : (box : ℕ) → Result
+  Refused : Result
+
+abbrev pub empty_table : Table
+empty_table = record { boxes = []; got = λ lane. []; count = λ lane. 0 }
+
+-- the sum of two lists of bytes, byte by byte; the shorter one is taken to go on with zeros
+unfoldable pub xor_bytes : List ℕ → List ℕ → List ℕ
+xor_bytes [] ys = ys
+xor_bytes (x ∷ xs) [] = x ∷ xs
+xor_bytes (x ∷ xs) (y ∷ ys) = bit_xor x y ∷ xor_bytes xs ys
+
+abbrev pub addresses : List Mailbox → List ℕ
+addresses boxes = map (λ box. box.address) boxes
+
+-- the box at which an address stands
+abbrev pub box_of : ℕ → List Mailbox → Option ℕ
+box_of address boxes = position (λ other. other == address) (addresses boxes)
+
+abbrev pub new_box : ℕ → ℕ → Mailbox
+new_box width address = record { address = address; bytes = replicate width 0; live = true }
+
+-- a retired box gets nothing
+abbrev pub box_with : List ℕ → Mailbox → Mailbox
+box_with bytes box = record { address = box.address; bytes = if box.live then xor_bytes box.bytes bytes else box.bytes; live = box.live }
+
+-- the first boxes, as many as the count, get the bytes of their addresses
+unfoldable pub boxes_with : (ℕ → List ℕ) → ℕ → List Mailbox → List Mailbox
+boxes_with adds zero boxes = boxes
+boxes_with adds (suc count) [] = []
+boxes_with adds (suc count) (box ∷ boxes) = box_with (adds box.address) box ∷ boxes_with adds count boxes
+
+-- a live box gives its bytes, and stays live or is retired
+abbrev pub box_cleared : ℕ → Bool → Mailbox → Mailbox
+box_cleared width stays box = if box.live then record { address = box.address; bytes = replicate width 0; live = stays } else box
+
+unfoldable pub boxes_cleared : ℕ → Bool → List Mailbox → ℕ → List Mailbox
+boxes_cleared width stays [] n = []
+boxes_cleared width stays (box ∷ boxes) zero = box_cleared width stays box ∷ boxes
+boxes_cleared width stays (box ∷ boxes) (suc n) = box ∷ boxes_cleared width stays boxes n
+
+abbrev pub number_of : Table → ℕ → Place → Option ℕ
+number_of t lane (Own index) = slice_get (t.got lane) index
+number_of t lane (Numbered box) = Some box
+
+-- a new box, where its address stands at none and there is room
+unfoldable pub after_register : ℕ → ℕ → Table → ℕ → ℕ → Option ℕ → Table
+after_register limit width t lane address (Some box) = t
+after_register limit width t lane address None =
+    if nat_le limit (length t.boxes) then t else
+    record {
+      boxes = t.boxes ++ new_box width address ∷ [];
+      got = λ d. if nat_eq d lane then t.got lane ++ length t.boxes ∷ [] else t.got d;
+      count = t.count;
+    }
+
+abbrev pub register_result : ℕ → Table → Option ℕ → Result
+register_result limit t (Some box) = Taken box
+register_result limit t None = if nat_le limit (length t.boxes) then Full limit else Registered (length t.boxes)
+
+unfoldable pub after_clearing : ℕ → Bool → Table → Option ℕ → Table
+after_clearing width stays t None = t
+after_clearing width stays t (Some n) = record t { boxes = boxes_cleared width stays t.boxes n }
+
+abbrev pub given : ℕ → Option Mailbox → Result
+given n None = NoBox n
+given n (Some box) = if box.live then Gave n box.bytes else NoBox n
+
+abbrev pub clearing_result : Table → Option ℕ → Result
+clearing_result t None = Refused
+clearing_result t (Some n) = given n (slice_get t.boxes n)
+
+-- the table after a line that does this
+unfoldable pub after_line : ℕ → ℕ → Writes → Table → Line → Operation → Table
+after_line limit width writes t line (AddBox address) = after_register limit width t line.lane address (box_of address t.boxes)
+after_line limit width writes t line BeginWrite = record t { count = λ d. if nat_eq d line.lane then length t.boxes else t.count d }
+after_line limit width writes t line AuditWrite = t
+after_line limit width writes t line SettleWrite =
+    if writes.accepts line.lane line.serial
+    then record t { boxes = boxes_with (writes.adds line.lane line.serial) (t.count line.lane) t.boxes }
+    else t
+after_line limit width writes t line (ReadBox place) = after_clearing width true t (number_of t line.lane place)
+after_line limit width writes t line (RetireBox place) = after_clearing width false t (number_of t line.lane place)
+after_line limit width writes t line Refuse = t
+
+-- the result of a line that does this
+unfoldable pub result_of : ℕ → Writes → Table → Line → Operation → Result
+result_of limit writes t line (AddBox address) = register_result limit t (box_of address t.boxes)
+result_of limit writes t line BeginWrite = Began (length t.boxes)
+result_of limit writes t line AuditWrite = WasAudited
+result_of limit writes t line SettleWrite = Settled (writes.accepts line.lane line.serial)
+result_of limit writes t line (ReadBox place) = clearing_result t (number_of t line.lane place)
+result_of limit writes t line (RetireBox place) = clearing_result t (number_of t line.lane place)
+result_of limit writes t line Refuse = Refused
+
+-- What each line does is a function of the line. For clients it comes from the requests that they sent, for other lanes from their frames.
+unfoldable pub table_from : ℕ → ℕ → Writes → (Line → Operation) → Table → List Line → Table
+table_from limit width writes does t [] = t
+table_from limit width writes does t (line ∷ lines) = table_from limit width writes does (after_line limit width writes t line (does line)) lines
+
+unfoldable pub results_from : ℕ → ℕ → Writes → (Line → Operation) → Table → List Line → List Result
+results_from limit width writes does t [] = []
+results_from limit width writes does t (line ∷ lines) =
+    result_of limit writes t line (does line) ∷ results_from limit width writes does (after_line limit width writes t line (does line)) lines
+
+-- the table after a whole journal, and the results of its lines
+unfoldable pub table_after : ℕ → ℕ → Writes → (Line → Operation) → List Line → Table
+table_after limit width writes does lines = table_from limit width writes does empty_table lines
+
+unfoldable pub results_after : ℕ → ℕ → Writes → (Line → Operation) → List Line → List Result
+results_after limit width writes does lines = results_from limit width writes does empty_table lines
+
+-- a run without writes
+abbrev pub no_writes : Writes
+no_writes = record { accepts = λ lane serial. false; adds = λ lane serial address. [] }
+
+-- In the plain table a client's write adds its message to the box of its target, and nothing to the others.
+abbrev pub message_at : Option Request → ℕ → List ℕ
+message_at (Some (Write target message)) address = if target == address then message else []
+message_at request address = []
+
+-- two servers' shares: what the writes add to each box is split in two
+abbrev pub sum_of : Writes → Writes → Writes
+sum_of one two = record { accepts = one.accepts; adds = λ lane serial address. xor_bytes (one.adds lane serial address) (two.adds lane serial address) }
+
+-- the result at the plain table, from the results at two servers' shares
+abbrev pub result_sum : Result → Result → Result
+result_sum (Gave box bytes) (Gave other more) = Gave box (xor_bytes bytes more)
+result_sum one two = one
+
+-- the plain table's writes, where all lanes are clients', who sent these requests
+abbrev pub plain_writes : (ℕ → List Request) → (ℕ → ℕ → Bool) → Writes
+plain_writes sent accepts = record { accepts = accepts; adds = λ lane serial address. message_at (request_at sent lane serial) address }

@@ -1,0 +1,12 @@
+pub mod ByteLemmas
+pub mod ShelfLemmas
+pub mod GrowthLemmas
+pub mod RegisterLemmas
+pub mod SharesLemmas
+pub mod JournalLemmas
+pub mod RegisterStep
+pub mod ReadStep
+pub mod RefuseStep
+pub mod EventSteps
+pub mod Counts
+pub mod SharesText

@@ -1,0 +1,8 @@
+use Rattle.std.proofs.Common.{◌≡◌, ◌++◌, drop}
+use Rattle.std.specs.Prelude.{string_bytes}
+use Rattle.replay_world.specs.Output.{share_lines}
+use Rattle.replay_world.proofs.texts.add_shares.Given as goal
+
+abbrev pub invariant-loop-box_number : goal.invariant-loop-box_number
+invariant-loop-box_number l =
+    string_bytes l.text ++ share_lines l.box_number (drop l.box_number l.leader.boxes) (drop l.box_number l.helper.boxes) ≡ string_bytes l.fn.text ++ share_lines 0 l.leader.boxes l.helper.boxes

@@ -1,0 +1,9 @@
+pub mod Requests
+pub mod Lines
+pub mod Run
+pub mod Schedules
+pub mod Output
+pub mod Shelf
+pub mod Answers
+pub mod View
+pub mod WorldView

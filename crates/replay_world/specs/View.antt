@@ -1,0 +1,58 @@
+-- Where in a run the code's state stands.
+use Rattle.std.specs.Prelude.{◌≡◌, ℕ, ◌≤◌, ◌<◌, length, List, [], ◌∷◌}
+use Rattle.express_words.specs.declared.settings.Settings.{Settings}
+use Rattle.mailbox_rules.specs.Requests.{Request, Register, Write, Read, Retire, Line}
+use Rattle.mailbox_rules.specs.Tables.{Table}
+use Rattle.dpf_rules.specs.Expansion.{draw32}
+use Rattle.schedule_text.specs.declared.schedule.Header.{Header}
+use Rattle.replay_world.specs.declared.state.State.{State}
+use Rattle.replay_world.specs.Shelf.{Shelf}
+use Rattle.replay_world.specs.Lines.{journal_of}
+use Rattle.replay_world.specs.Run.{Run, table_of, shares_of, results_of}
+
+abbrev pub shelf_of : Settings → Table → Shelf
+shelf_of settings t = record { limit = settings.boxes; width = settings.width; boxes = t.boxes }
+
+-- each line is for one of so many requests
+abbrev pub AreNumbered : ℕ → List Line → Type 0
+AreNumbered count [] = Unit {0}
+AreNumbered count (line ∷ lines) = ((1 ≤ line.serial) × (line.serial ≤ count)) × AreNumbered count lines
+
+-- no request writes yet
+abbrev pub IsFit : ℕ → Request → Type 0
+IsFit width (Register address) = Unit {0}
+IsFit width (Write target message) = ⊥
+IsFit width (Read own) = Unit {0}
+IsFit width (Retire own) = Unit {0}
+
+abbrev pub AreFit : ℕ → List Request → Type 0
+AreFit width [] = Unit {0}
+AreFit width (request ∷ requests) = IsFit width request × AreFit width requests
+
+abbrev pub AllBelow : ℕ → List ℕ → Type 0
+AllBelow n [] = Unit {0}
+AllBelow n (x ∷ xs) = (x < n) × AllBelow n xs
+
+-- The state is where this run stands: both servers have its shares, and what was told and noted is what it has.
+pub record IsAt (header : Header) (s : State) (r : Run) : Type 0 where
+  pub seed : s.client.seed ≡ draw32 header.seed 1
+  pub waiting : s.client.waiting.items ≡ r.waiting
+  pub sent : s.client.sent ≡ length r.sent
+  pub owned : s.client.owned.items ≡ (table_of header.settings r).got 0
+  pub owned_zero : s.client.owned.items ≡ (shares_of header 0 r).got 0
+  pub owned_one : s.client.owned.items ≡ (shares_of header 1 r).got 0
+  pub own_boxes : AllBelow (length s.helper.boxes) s.client.owned.items
+  pub leader : s.leader ≡ shelf_of header.settings (shares_of header 0 r)
+  pub helper : s.helper ≡ shelf_of header.settings (shares_of header 1 r)
+  pub outcomes : s.outcomes.items ≡ r.outcomes
+  pub journal : s.journal.items ≡ journal_of r.lines (results_of header.settings r)
+  pub numbered : AreNumbered (length r.sent) r.lines
+  pub few : length r.sent ≤ length r.outcomes
+  pub fit : AreFit header.settings.width r.sent
+
+abbrev pub IsInRun : State → Type 0
+IsInRun s = (header : Header) × (r : Run) × IsAt header s r
+
+-- From old to new the state follows a step of the run.
+abbrev pub Follows : (Header → Run → Run) → State → State → Type 0
+Follows step old new = (header : Header) (r : Run) → IsAt header old r → IsAt header new (step header r)

@@ -1,0 +1,3 @@
+pub mod View
+pub mod Boxes
+pub mod Worlds
