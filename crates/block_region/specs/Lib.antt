@@ -1,3 +1,4 @@
+pub mod Classes
 pub mod Lending
 pub mod Region
 pub mod Slots
