@@ -1,7 +1,8 @@
 -- A region of one class whose blocks are all out, as an array of blocks.
-use Rattle.std.proofs.Common.{◌≡◌, ℕ, ◌+◌, ◌-◌, ◌<◌, ◌≤◌, Bool, true, false, not, cond, List, [], ◌∷◌, ◌++◌, length, map, take, drop, get_or, set, replicate, Option, Some, None, IsSome, is_none, unwrap_or, position, count_by, suc, zero, refl, sym, ap, ◌∙◌, subst, arith, append-nil, length-append, below_more}
+use Rattle.std.proofs.Common.{◌≡◌, ℕ, ◌+◌, ◌-◌, ◌<◌, Bool, true, false, not, cond, List, [], ◌∷◌, ◌++◌, length, map, drop, get_or, set, replicate, Option, Some, None, is_none, unwrap_or, position, count_by, suc, zero, refl, sym, ap, ◌∙◌, subst, arith, append-nil, length-append, below_more}
 use Rattle.std.specs.List.{refill, length_refill, prefix_len}
 use Rattle.std.proofs.Math.ListN.{length-set}
+use Rattle.std.proofs.Math.Seq.{take-append_seam}
 use Rattle.std.proofs.lemmas.List.{map-set, get_or-map, length-replicate, get_or_push, get_or_append_left}
 use Rattle.std.proofs.lemmas.List.Elements.{All-set, All-replicate}
 use Rattle.std.proofs.lemmas.List.Sums.{sum_by-append}
@@ -15,7 +16,7 @@ contents-some : (xs : List (List ℕ)) → map (λ block. unwrap_or block []) (m
 contents-some [] = refl
 contents-some (x ∷ xs) = ap (λ ys. x ∷ ys) (contents-some xs)
 
-abbrev blocks : ℕ → List (List ℕ) → Blocks
+abbrev pub blocks : ℕ → List (List ℕ) → Blocks
 blocks size xs = record { size = size; blocks = xs }
 
 pub blocks_in-full : (b : Blocks) → blocks_in (full b) ≡ b
@@ -157,3 +158,10 @@ each-step places place i count at each k d lt =
     (λ k lt d. let lt' : k < length places = omega arith in get_or_append_left places (place ∷ []) d k lt' ∙ each k d lt')
     (λ d. get_or_push places place d i count ∙ at)
     k (omega (arith, simp length-append at lt)) d
+
+-- bytes of a block's own length take the place of its bytes
+pub refill-whole : (xs bytes : List ℕ) → length bytes ≡ length xs → refill (length xs) xs bytes ≡ bytes
+refill-whole xs bytes e = rw (← e) (take-append_seam bytes (drop (length bytes) xs))
+
+abbrev pub with_bytes : Blocks → ℕ → List ℕ → Blocks
+with_bytes b index bytes = blocks b.size (set b.blocks index bytes)

@@ -1,10 +1,12 @@
 -- What a change of one slot does to the blocks of a shelf.
-use Rattle.std.proofs.Common.{◌≡◌, ℕ, ◌+◌, ◌<◌, ◌≤◌, Bool, true, false, not, cond, List, [], ◌∷◌, ◌++◌, length, map, take, drop, get_or, Some, None, IsNone, IsSome, is_none, position, count_by, vec_len, ltb, suc, zero, refl, sym, ap, ◌∙◌, arith}
+use Rattle.std.proofs.Common.{◌*◌, replicate, ◌≡◌, ℕ, ◌+◌, ◌<◌, ◌≤◌, Bool, true, false, not, cond, List, [], ◌∷◌, ◌++◌, length, map, take, drop, get_or, Some, None, IsNone, IsSome, is_none, position, count_by, ltb, suc, zero, refl, sym, ap, ◌∙◌, arith}
 use Rattle.std.specs.List.{prefix_len}
-use Rattle.std.proofs.lemmas.List.{length-map, get_or-map, get_or_default}
+use Rattle.std.proofs.lemmas.List.{length-drop, length-map, map-append, get_or-map, get_or_default}
+use Rattle.std.proofs.lemmas.List.Elements.{All-append}
 use Rattle.std.proofs.lemmas.List.Sums.{sum_by-cons, prefix_len-le-length}
 use Rattle.std.proofs.lemmas.Bool.Decides.{nat_tests}
-use Rattle.std.specs.Vec.{with_items}
+use Rattle.std.proofs.Math.Nat.{mul-le-mul_left}
+use Rattle.bytes.specs.Filled.{with_items}
 use Rattle.block_region.specs.Region.{Shelf, block_of, class_of, no_shelf}
 use Rattle.block_region.specs.Lending.{rewritten}
 use Rattle.block_region.specs.Slots.{content, content_if, HaveSize}
@@ -22,21 +24,21 @@ pub position-content : (slots : List Slot) → position is_none (map content slo
 position-content slots = rw (prefix_len-content slots) (simp length-map)
 
 -- a slot that stands in its shelf has the shelf's size
-pub size-of : (size : ℕ) (slots : List Slot) (i : ℕ) (slot : Slot) → HaveSize size slots → i < length slots → slot ≡ get_or slots i slot → vec_len slot.bytes ≡ size
-size-of size slots i slot sized lt e = slot.bytes.ok.0 ∙ (ap (λ s. length s.bytes.items) e ∙ sized i slot lt)
+pub size-of : (size : ℕ) (slots : List Slot) (i : ℕ) (slot : Slot) → HaveSize size slots → i < length slots → slot ≡ get_or slots i slot → length slot.bytes.items ≡ size
+size-of size slots i slot sized lt e = ap (λ s. length s.bytes.items) e ∙ sized i slot lt
 
 pub block-content : (slots : List Slot) (i : ℕ) (slot : Slot) → i < length slots → slot ≡ get_or slots i slot → block_of (map content slots) i ≡ content slot
 block-content slots i slot lt e = get_or-map content slots i slot None lt ∙ sym (ap content e)
 
-rewritten-if : (out : Bool) (items bytes : List ℕ) (n : ℕ) → n ≡ length items → IsSome (content_if out items) →
-    content_if out (take n (bytes ++ drop (length bytes) items)) ≡ rewritten (content_if out items) bytes
-rewritten-if true items bytes n e h = rw e
-rewritten-if false items bytes n e h = absurd (cc h)
+rewritten-if : (out : Bool) (items bytes : List ℕ) → IsSome (content_if out items) →
+    content_if out (take (length items) (bytes ++ drop (length bytes) items)) ≡ rewritten (content_if out items) bytes
+rewritten-if true items bytes h = refl
+rewritten-if false items bytes h = absurd (cc h)
 
 -- bytes written over a block that is out
 pub content-rewritten : (slot : Slot) (bytes : List ℕ) → IsSome (content slot) →
     content (record { bytes = with_items slot.bytes bytes; out = slot.out }) ≡ rewritten (content slot) bytes
-content-rewritten slot bytes h = rewritten-if slot.out slot.bytes.items bytes slot.bytes.len slot.bytes.ok.0 h
+content-rewritten slot bytes h = rewritten-if slot.out slot.bytes.items bytes h
 
 content-if-some : (out : Bool) (items : List ℕ) → IsSome (content_if out items) → content_if out items ≡ Some items
 content-if-some true items h = refl
@@ -87,3 +89,28 @@ none-position p xs e = below-none _ _ (omega (arith, uncounted-length p xs e))
 -- a class that stands in the region, whichever way it was read
 pub class-at : (region : List Shelf) (class i : ℕ) (shelf : Shelf) → i ≡ class → class < length region → shelf ≡ get_or region i shelf → class_of region class ≡ shelf
 class-at region class i shelf same lt e = get_or_default region class no_shelf shelf lt ∙ sym (rw same at e)
+
+replicate-last : {X : Type 0} (n : ℕ) (x : X) → replicate n x ++ x ∷ [] ≡ replicate (suc n) x
+replicate-last zero x = refl
+replicate-last (suc n) x = ap (λ xs. x ∷ xs) (replicate-last n x)
+
+-- one more free block behind free ones
+pub free-push : (slots : List Slot) (slot : Slot) (n : ℕ) → map content slots ≡ replicate n None → content slot ≡ None → map content (slots ++ slot ∷ []) ≡ replicate (n + 1) None
+free-push slots slot n all none =
+    let more : suc n ≡ n + 1 = omega arith in
+    map-append content slots (slot ∷ []) ∙ (ap (λ blocks. blocks ++ content slot ∷ []) all ∙ (ap (λ block. replicate n None ++ block ∷ []) none ∙ (replicate-last n None ∙ ap (λ k. replicate k None) more)))
+
+sized-one : (size : ℕ) (slot : Slot) → length slot.bytes.items ≡ size → HaveSize size (slot ∷ [])
+sized-one size slot here zero d h = here
+sized-one size slot here (suc k) d h = absurd (omega arith)
+
+pub sized-push : (size : ℕ) (slots : List Slot) (slot : Slot) → HaveSize size slots → length slot.bytes.items ≡ size → HaveSize size (slots ++ slot ∷ [])
+sized-push size slots slot all here = All-append (λ s. length s.bytes.items ≡ size) slots (slot ∷ []) all (sized-one size slot here)
+
+-- what is left of a class's bytes after one more block
+pub left-over : (size taken count : ℕ) (rest : List ℕ) (total : ℕ) → size * taken + length rest ≡ total → taken < count → size * count ≤ total →
+    (size ≤ length rest) × (size * (taken + 1) + length (drop size rest) ≡ total)
+left-over size taken count rest total is lt fits =
+    let within : size * (taken + 1) ≤ size * count = mul-le-mul_left size (omega arith) in
+    let room : size ≤ length rest = omega arith in
+    (room, omega (arith, length-drop size rest))

@@ -1,4 +1,5 @@
 pub mod ArrayLending
+pub mod Classes
 pub mod Lending
 pub mod Region
 pub mod Slots

@@ -1,5 +1,5 @@
 //! Equal blocks, all of them out.
-ghost use Rattle.std.specs.Prelude.{◌≡◌, ◌<◌, IfOk, length, replicate, slice_index_or, []};
+ghost use Rattle.std.specs.Prelude.{◌≡◌, ◌<◌, ◌≤◌, IfOk, length, drop, replicate, slice_index_or, slice_set, [], ◌++◌};
 ghost use Rattle.std.specs.Borrow.{sem};
 ghost use Rattle.block_region.specs.Region.{Blocks, zeros};
 
@@ -64,4 +64,20 @@ impl BlockArray {
     {
         self.region.bytes_mut(&self.blocks[index])
     }
+
+    /// Writes bytes to the front of a block. The rest of it and all other blocks stay.
+    pub fn write(&mut self, index: usize, bytes: &[u8])
+        requires block { index < length self.old.blocks }
+        requires fits { length bytes.now ≤ self.old.size }
+        ensures { self.new ≡ record { size = self.old.size; blocks = slice_set self.old.blocks index (bytes.now ++ drop (length bytes.now) (slice_index_or self.old.blocks index [])) } }
+    {
+        write_front(self.get_mut(index), bytes);
+    }
+}
+
+fn write_front(block: &mut [u8], bytes: &[u8])
+    requires { length bytes.now ≤ length block.old }
+    ensures { block.new ≡ bytes.now ++ drop (length bytes.now) block.old }
+{
+    block[..bytes.len()].copy_from_slice(bytes);
 }

@@ -1,16 +1,17 @@
 //! The blocks of one class.
-ghost use Rattle.std.specs.Prelude.{◌≡◌, ◌<◌, IfOk, IfSome, IsSome, MatchOption, Some, None, is_none, length, map, not, position, count_by, replicate, slice_set};
+ghost use Rattle.std.specs.Prelude.{◌≡◌, ◌<◌, ◌≤◌, ◌+◌, ◌*◌, IfOk, OnOk, IfSome, IsSome, MatchOption, Some, None, is_none, length, map, not, position, count_by, replicate, slice_set};
 ghost use Rattle.std.specs.Borrow.{sem};
 ghost use Rattle.block_region.specs.Region.{Shelf, shelf_of, unused, block_of};
 
+use bytes::BytesMut;
 use express_words::NoMemory;
 use std::alloc::Global;
 use std::marker::Model;
 
-/// The bytes of a block, and whether it is out.
+/// The range of a block in the region's bytes, and whether the block is out.
 #[derive(Drop)]
 pub(crate) struct Slot {
-    bytes: Vec<u8>,
+    bytes: BytesMut,
     out: bool,
 }
 
@@ -35,12 +36,20 @@ impl Model for BlockShelf {
 impl BlockShelf {
     ghost use Rattle.block_region.specs.Lending.{LendsOnShelf};
 
-    pub(crate) fn open(alloc: Global, size: u32, count: u32) -> Result<BlockShelf, NoMemory>
-        ensures { IfOk result (λ s. s ≡ unused size count) }
+    /// A class whose blocks lie at the front of `rest`, which keeps what lies behind them.
+    pub(crate) fn open(
+        alloc: Global,
+        rest: &mut BytesMut,
+        size: u32,
+        count: u32,
+    ) -> Result<BlockShelf, NoMemory>
+        requires { size * count ≤ length rest.old.items }
+        ensures unused { IfOk result (λ s. s ≡ unused size count) }
+        ensures rest { OnOk result (size * count + length rest.new.items ≡ length rest.old.items) }
     {
         Ok(BlockShelf {
             size: size as usize,
-            slots: free_slots(alloc, size as usize, count)?,
+            slots: free_slots(alloc, rest, size as usize, count)?,
         })
     }
 
@@ -51,7 +60,7 @@ impl BlockShelf {
     {
         let index = first_free(&self.slots)?;
         let slot = &mut self.slots[index];
-        slot.bytes.fill(0);
+        clear(&mut slot.bytes);
         slot.out = true;
         Some(index)
     }
@@ -60,7 +69,7 @@ impl BlockShelf {
         requires { IsSome (block_of self.now.blocks index) }
         ensures { block_of self.now.blocks index ≡ Some result.now }
     {
-        &self.slots[index].bytes
+        self.slots[index].bytes.as_slice()
     }
 
     pub(crate) fn bytes_mut(&mut self, index: usize) -> &mut [u8]
@@ -96,16 +105,29 @@ fn first_free(slots: &[Slot]) -> Option<usize>
     slots.iter().position(|slot| !slot.out)
 }
 
-fn free_slots(alloc: Global, size: usize, count: u32) -> Result<Vec<Slot>, NoMemory>
+fn clear(bytes: &mut BytesMut)
+    ensures { bytes.new.items ≡ replicate (length bytes.old.items) 0 }
+{
+    bytes.as_mut_slice().fill(0);
+}
+
+fn free_slots(
+    alloc: Global,
+    rest: &mut BytesMut,
+    size: usize,
+    count: u32,
+) -> Result<Vec<Slot>, NoMemory>
+    requires { size * count ≤ length rest.old.items }
     ensures free { IfOk result (λ slots. map content slots.items ≡ replicate count None) }
     ensures sized { IfOk result (λ slots. HaveSize size slots.items) }
     ensures count { IfOk result (λ slots. length slots.items ≡ count) }
+    ensures rest { OnOk result (size * count + length rest.new.items ≡ length rest.old.items) }
 {
     let Ok(mut slots) = Vec::with_capacity(alloc, count as usize) else {
         return Err(NoMemory);
     };
     for _ in 0..count {
-        let Ok(bytes) = vec![in alloc; 0u8; size] else {
+        let Ok(bytes) = rest.split_to(size) else {
             return Err(NoMemory);
         };
         if slots.push(Slot { bytes, out: false }).is_err() {

@@ -3,6 +3,7 @@
 #![tactic(auto)]
 
 mod nodes;
+mod products;
 mod work;
 
 use std::process::ExitCode;

@@ -1,5 +1,5 @@
 //! The pieces of work.
-use crate::nodes;
+use crate::{nodes, products};
 
 /// A piece of work.
 #[derive(Clone, Copy)]
@@ -8,6 +8,12 @@ pub enum Work {
     Children,
     /// Eight nodes of the tree expanded at once.
     Children8,
+    /// Plain products of the field.
+    Product,
+    /// Products of the field by tables.
+    MulFast,
+    /// Products of the field, each by new tables.
+    Tables,
 }
 
 impl Work {
@@ -15,6 +21,9 @@ impl Work {
         match name {
             "children" => Some(Work::Children),
             "children8" => Some(Work::Children8),
+            "product" => Some(Work::Product),
+            "mul_fast" => Some(Work::MulFast),
+            "tables" => Some(Work::Tables),
             _ => None,
         }
     }
@@ -23,6 +32,9 @@ impl Work {
         match self {
             Work::Children => "children",
             Work::Children8 => "children8",
+            Work::Product => "product",
+            Work::MulFast => "mul_fast",
+            Work::Tables => "tables",
         }
     }
 
@@ -31,6 +43,9 @@ impl Work {
         match self {
             Work::Children => nodes::one_by_one(times),
             Work::Children8 => nodes::eight_at_once(times),
+            Work::Product => products::plain(times),
+            Work::MulFast => products::by_tables(times),
+            Work::Tables => products::by_new_tables(times),
         }
     }
 }

@@ -4,10 +4,9 @@ use Rattle.clap.specs.Words.{Text}
 use Rattle.express_words.specs.Causes.{Rose}
 use Rattle.express_words.specs.Streams.{Stream, Took, TookPrefix}
 use Rattle.express_cli.specs.CommandLine.{Asks, AskNothing}
-use Rattle.express_cli.specs.Reading.{GaveSome, GaveMore}
+use Rattle.express_cli.specs.Reading.{GaveSome, GaveMore, most_bytes}
 use Rattle.express_cli.specs.Ends.{Writes, RunMay, status_of, usage_text, read_fault_text, out_of_memory_text, too_long_text}
 use Rattle.express_cli.specs.Headline.{Replayed, Refused}
-use Rattle.express_cli.specs.declared.reading.TheConstants.{LONGEST}
 use Rattle.express_cli.specs.declared.words.Command.TheVariants.{Replay}
 use Rattle.express_cli.specs.declared.ends.End.{End}
 use Rattle.express_cli.specs.declared.ends.End.TheVariants as ends
@@ -54,7 +53,7 @@ bad_line words from to c d old new before now _ h e = cc
 
 pub read_fault : (words : List Text) (from to : Option Stream) (c d : ℕ) (old new : Option (List ℕ)) (before now : ℕ) (end : End)
     → Writes (RunMay words from to c d) old new before now end → status_of end ≡ 4
-    → Asks words Replay × Rose c d × GaveSome from to (λ n. n ≤ LONGEST) × Took old new read_fault_text
+    → Asks words Replay × Rose c d × GaveSome from to (λ n. n ≤ most_bytes) × Took old new read_fault_text
 read_fault words from to c d old new before now ends.ReadFault h e = (h.1.0, h.1.1, h.1.2, took_as old new _ _ h.1.3 h.2)
 read_fault words from to c d old new before now _ h e = cc
 
@@ -71,7 +70,7 @@ out_of_memory words from to c d old new before now _ h e = cc
 
 pub too_long : (words : List Text) (from to : Option Stream) (c d : ℕ) (old new : Option (List ℕ)) (before now : ℕ) (end : End)
     → Writes (RunMay words from to c d) old new before now end → status_of end ≡ 8
-    → Asks words Replay × GaveSome from to (λ n. n ≡ LONGEST + 1) × Took old new too_long_text
+    → Asks words Replay × GaveSome from to (λ n. n ≡ most_bytes + 1) × Took old new too_long_text
 too_long words from to c d old new before now ends.TooLong h e = (h.1.0, h.1.1, took_as old new _ _ h.1.2 h.2)
 too_long words from to c d old new before now _ h e = cc
 

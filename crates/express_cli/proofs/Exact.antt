@@ -7,9 +7,9 @@ use Rattle.schedule_text.specs.Spelling.{SpellsSchedule, IsFirstBadLine}
 use Rattle.schedule_text.specs.declared.schedule.Schedule.{Schedule}
 use Rattle.replay_world.specs.Output.{output_of}
 use Rattle.express_cli.specs.CommandLine.{Asks}
+use Rattle.express_cli.specs.Reading.{most_bytes}
 use Rattle.express_cli.specs.Ends.{Writes, RunMay, status_of, bad_line, too_long_text}
 use Rattle.express_cli.specs.Headline.{RanWell}
-use Rattle.express_cli.specs.declared.reading.TheConstants.{LONGEST}
 use Rattle.express_cli.specs.declared.words.Command.TheVariants.{Replay}
 use Rattle.express_cli.specs.declared.ends.End.{End}
 use Rattle.express_cli.specs.declared.ends.End.TheVariants as ends
@@ -38,7 +38,7 @@ bad_left s t n same bad = let P : List ℕ → Type 0 = λ text. IsFirstBadLine 
 
 replays : Reads → (words : List Text) (s : Stream) (to : Option Stream) (c d : ℕ) (old new : Option (List ℕ)) (before now : ℕ) (end : End)
     → Writes (RunMay words (Some s) to c d) old new before now end → Asks words Replay → RanWell c d before now (status_of end)
-    → (schedule : Schedule) → SpellsSchedule schedule s.left → length s.left ≤ LONGEST → (status_of end ≡ 0) × Took old new (output_of schedule)
+    → (schedule : Schedule) → SpellsSchedule schedule s.left → length s.left ≤ most_bytes → (status_of end ≡ 0) × Took old new (output_of schedule)
 replays law words s to c d old new before now ends.Done h asks well schedule spells short =
     let given = spells_left _ _ _ (gave_left s to h.1.1.0 h.1.1.1) h.1.1.2.1 in
     let same = same_schedule (schedule_of s.left) _ _ (law.schedule s.left _ given) (law.schedule s.left _ spells) in
@@ -55,7 +55,7 @@ replays law words s to c d old new before now ends.TooLong h asks well schedule 
 
 names_bad : Reads → (words : List Text) (s : Stream) (to : Option Stream) (c d : ℕ) (old new : Option (List ℕ)) (before now : ℕ) (end : End)
     → Writes (RunMay words (Some s) to c d) old new before now end → Asks words Replay → RanWell c d before now (status_of end)
-    → (n : ℕ) → IsFirstBadLine n s.left → length s.left ≤ LONGEST → (status_of end ≡ 3) × Took old new (bad_line n)
+    → (n : ℕ) → IsFirstBadLine n s.left → length s.left ≤ most_bytes → (status_of end ≡ 3) × Took old new (bad_line n)
 names_bad law words s to c d old new before now ends.Done h asks well n bad short =
     let given = spells_left _ _ _ (gave_left s to h.1.1.0 h.1.1.1) h.1.1.2.1 in
     absurd (not_both (schedule_of s.left) _ _ (law.schedule s.left _ given) (law.bad s.left n bad))
@@ -71,12 +71,12 @@ names_bad law words s to c d old new before now ends.TooLong h asks well n bad s
     absurd (omega (arith, gave_within s to h.1.1.0 h.1.1.1, h.1.1.2, short))
 
 -- what was given to the end isn't too long
-not_long : (s : Stream) (bytes : List ℕ) → bytes ≡ s.left → length bytes ≤ LONGEST → LONGEST < length s.left → ⊥
+not_long : (s : Stream) (bytes : List ℕ) → bytes ≡ s.left → length bytes ≤ most_bytes → most_bytes < length s.left → ⊥
 not_long s bytes same short long = omega (arith, ap length same, short, long)
 
 refuses : (words : List Text) (s : Stream) (to : Option Stream) (c d : ℕ) (old new : Option (List ℕ)) (before now : ℕ) (end : End)
     → Writes (RunMay words (Some s) to c d) old new before now end → Asks words Replay → RanWell c d before now (status_of end)
-    → LONGEST < length s.left → (status_of end ≡ 8) × Took old new too_long_text
+    → most_bytes < length s.left → (status_of end ≡ 8) × Took old new too_long_text
 refuses words s to c d old new before now ends.Done h asks well long =
     absurd (not_long s h.1.1.0 (gave_left s to h.1.1.0 h.1.1.1) h.1.1.1.short long)
 refuses words s to c d old new before now ends.Usage h asks well long = absurd (h.1.0 Replay asks)
@@ -90,18 +90,18 @@ refuses words s to c d old new before now ends.TooLong h asks well long = (refl,
 -- each where the source tells its bytes
 pub headline : Reads → (words : List Text) (from to : Option Stream) (c d : ℕ) (old new : Option (List ℕ)) (before now : ℕ) (end : End)
     → Writes (RunMay words from to c d) old new before now end → Asks words Replay → RanWell c d before now (status_of end)
-    → IfSome from (λ s. (schedule : Schedule) → SpellsSchedule schedule s.left → length s.left ≤ LONGEST → (status_of end ≡ 0) × Took old new (output_of schedule))
+    → IfSome from (λ s. (schedule : Schedule) → SpellsSchedule schedule s.left → length s.left ≤ most_bytes → (status_of end ≡ 0) × Took old new (output_of schedule))
 headline law words None to c d old new before now end h asks well = tt
 headline law words (Some s) to c d old new before now end h asks well = replays law words s to c d old new before now end h asks well
 
 pub names_bad_line : Reads → (words : List Text) (from to : Option Stream) (c d : ℕ) (old new : Option (List ℕ)) (before now : ℕ) (end : End)
     → Writes (RunMay words from to c d) old new before now end → Asks words Replay → RanWell c d before now (status_of end)
-    → IfSome from (λ s. (n : ℕ) → IsFirstBadLine n s.left → length s.left ≤ LONGEST → (status_of end ≡ 3) × Took old new (bad_line n))
+    → IfSome from (λ s. (n : ℕ) → IsFirstBadLine n s.left → length s.left ≤ most_bytes → (status_of end ≡ 3) × Took old new (bad_line n))
 names_bad_line law words None to c d old new before now end h asks well = tt
 names_bad_line law words (Some s) to c d old new before now end h asks well = names_bad law words s to c d old new before now end h asks well
 
 pub refuses_too_long : (words : List Text) (from to : Option Stream) (c d : ℕ) (old new : Option (List ℕ)) (before now : ℕ) (end : End)
     → Writes (RunMay words from to c d) old new before now end → Asks words Replay → RanWell c d before now (status_of end)
-    → IfSome from (λ s. LONGEST < length s.left → (status_of end ≡ 8) × Took old new too_long_text)
+    → IfSome from (λ s. most_bytes < length s.left → (status_of end ≡ 8) × Took old new too_long_text)
 refuses_too_long words None to c d old new before now end h asks well = tt
 refuses_too_long words (Some s) to c d old new before now end h asks well = refuses words s to c d old new before now end h asks well

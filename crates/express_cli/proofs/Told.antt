@@ -2,10 +2,9 @@
 use Rattle.std.proofs.Common.{◌≡◌, ℕ, ◌+◌, ◌≤◌, List, ◌++◌, length, Option, Some, None, arith, sym, subst, ◌∙◌, ap, append-nil, length-append}
 use Rattle.express_words.specs.Causes.{Rose}
 use Rattle.express_words.specs.Streams.{Stream, Gave}
-use Rattle.express_cli.specs.Reading.{GaveAll, GaveSome, GaveMore, Stopped}
+use Rattle.express_cli.specs.Reading.{GaveAll, GaveSome, GaveMore, Stopped, most_bytes}
 use Rattle.express_cli.specs.declared.reading.InputFault.{InputFault}
 use Rattle.express_cli.specs.declared.reading.InputFault.TheVariants.{Failed, TooLong}
-use Rattle.express_cli.specs.declared.reading.TheConstants.{LONGEST}
 
 -- a source that gave all its bytes gave those that it had left
 pub gave_left : (s : Stream) (to : Option Stream) (bytes : List ℕ) → GaveAll (Some s) to bytes → bytes ≡ s.left
@@ -20,7 +19,7 @@ gave_within s (Some t) bytes gave =
     omega (arith, longer)
 
 -- bytes that aren't too many aren't more than are read
-pub not_more : (from to : Option Stream) (bytes : List ℕ) → Gave from to bytes → length bytes ≤ LONGEST → GaveMore from to → ⊥
+pub not_more : (from to : Option Stream) (bytes : List ℕ) → Gave from to bytes → length bytes ≤ most_bytes → GaveMore from to → ⊥
 not_more None to bytes gave short more = more
 not_more (Some s) None bytes gave short more = more
 not_more (Some s) (Some t) bytes gave short more =
@@ -33,8 +32,8 @@ not_moved (Some s) None same more = more
 not_moved (Some s) (Some t) same more = let given : t.given ≡ s.given = cc in omega (arith, ap length given, more)
 
 -- what reading that failed came to
-pub failed : (from to : Option Stream) (c d : ℕ) (fault : InputFault) → fault ≡ Failed → Stopped from to c d fault → Rose c d × GaveSome from to (λ n. n ≤ LONGEST)
+pub failed : (from to : Option Stream) (c d : ℕ) (fault : InputFault) → fault ≡ Failed → Stopped from to c d fault → Rose c d × GaveSome from to (λ n. n ≤ most_bytes)
 failed from to c d fault same h = let Came : InputFault → Type 0 = λ f. Stopped from to c d f in subst Came same h
 
-pub too_long : (from to : Option Stream) (c d : ℕ) (fault : InputFault) → fault ≡ TooLong → Stopped from to c d fault → GaveSome from to (λ n. n ≡ LONGEST + 1)
+pub too_long : (from to : Option Stream) (c d : ℕ) (fault : InputFault) → fault ≡ TooLong → Stopped from to c d fault → GaveSome from to (λ n. n ≡ most_bytes + 1)
 too_long from to c d fault same h = let Came : InputFault → Type 0 = λ f. Stopped from to c d f in subst Came same h

@@ -8,8 +8,7 @@ use Rattle.schedule_text.specs.declared.schedule.Schedule.{Schedule}
 use Rattle.replay_world.specs.Output.{output_of}
 use Rattle.clap.specs.Words.{Text}
 use Rattle.express_cli.specs.CommandLine.{Asks, AskNothing}
-use Rattle.express_cli.specs.Reading.{GaveAll, GaveSome}
-use Rattle.express_cli.specs.declared.reading.TheConstants.{LONGEST}
+use Rattle.express_cli.specs.Reading.{GaveAll, GaveSome, most_bytes}
 use Rattle.express_cli.specs.declared.words.Command.TheVariants.{Replay}
 use Rattle.express_cli.specs.declared.ends.End.{End}
 use Rattle.express_cli.specs.declared.ends.End.TheVariants.{Done, Usage, BadLine, ReadFault, WriteFault, OutOfMemory, TooLong}
@@ -76,8 +75,8 @@ ReplayMay bytes TooLong text = ⊥
 -- What a run comes to, by its words, what its source gave, and its count of faults before and after.
 abbrev pub RunMay : List Text → Option Stream → Option Stream → ℕ → ℕ → End → List ℕ → Type 0
 RunMay words from to before now Usage text = AskNothing words × (to ≡ from) × (text ≡ usage_text)
-RunMay words from to before now ReadFault text = Asks words Replay × Rose before now × GaveSome from to (λ n. n ≤ LONGEST) × (text ≡ read_fault_text)
-RunMay words from to before now TooLong text = Asks words Replay × GaveSome from to (λ n. n ≡ LONGEST + 1) × (text ≡ too_long_text)
+RunMay words from to before now ReadFault text = Asks words Replay × Rose before now × GaveSome from to (λ n. n ≤ most_bytes) × (text ≡ read_fault_text)
+RunMay words from to before now TooLong text = Asks words Replay × GaveSome from to (λ n. n ≡ most_bytes + 1) × (text ≡ too_long_text)
 RunMay words from to before now (BadLine n) text = Asks words Replay × ((bytes : List ℕ) × GaveAll from to bytes × ReplayMay bytes (BadLine n) text)
 RunMay words from to before now Done text = Asks words Replay × ((bytes : List ℕ) × GaveAll from to bytes × ReplayMay bytes Done text)
 RunMay words from to before now OutOfMemory text = text ≡ out_of_memory_text

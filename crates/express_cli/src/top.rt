@@ -6,14 +6,14 @@ ghost use Rattle.schedule_text.specs.Spelling.{SpellsSchedule, IsFirstBadLine};
 ghost use Rattle.schedule_text.specs.declared.schedule.Schedule.{Schedule};
 ghost use Rattle.replay_world.specs.Output.{output_of};
 ghost use Rattle.express_cli.specs.CommandLine.{Asks, AskNothing};
-ghost use Rattle.express_cli.specs.Reading.{GaveSome, GaveMore};
+ghost use Rattle.express_cli.specs.Reading.{most_bytes, GaveSome, GaveMore};
 ghost use Rattle.express_cli.specs.Ends.{Writes, RunMay, bad_line, usage_text, read_fault_text, out_of_memory_text, too_long_text};
 ghost use Rattle.express_cli.specs.Headline.{RanWell, Replayed, Refused};
 ghost use Rattle.express_cli.specs.declared.words.Command.TheVariants.{Replay};
 
 use crate::End;
 use crate::ends::status_of;
-use crate::reading::{InputFault, LONGEST, read_all};
+use crate::reading::{InputFault, read_all};
 use crate::replay::replay;
 use crate::texts::{OUT_OF_MEMORY, READ_FAULT, TOO_LONG, USAGE, say};
 use crate::words::{Command, command_of};
@@ -57,16 +57,16 @@ pub fn run<S: Source, K: Sink, N: Net>(
     // status is 0 and the output of the schedule that the bytes read spell is written.
     ensures headline { Asks (map string_bytes words.now.items) Replay
         → RanWell (S.count input.old) (S.count input.new) (K.count out.old) (K.count out.new) result
-        → IfSome (S.content input.old) (λ s. (schedule : Schedule) → SpellsSchedule schedule s.left → length s.left ≤ LONGEST
+        → IfSome (S.content input.old) (λ s. (schedule : Schedule) → SpellsSchedule schedule s.left → length s.left ≤ most_bytes
         → (result ≡ 0) × Took (K.written out.old) (K.written out.new) (output_of schedule)) }
     // Likewise the first bad line of another text is named, and an input that is too long is refused.
     ensures names_bad_line { Asks (map string_bytes words.now.items) Replay
         → RanWell (S.count input.old) (S.count input.new) (K.count out.old) (K.count out.new) result
-        → IfSome (S.content input.old) (λ s. (n : ℕ) → IsFirstBadLine n s.left → length s.left ≤ LONGEST
+        → IfSome (S.content input.old) (λ s. (n : ℕ) → IsFirstBadLine n s.left → length s.left ≤ most_bytes
         → (result ≡ 3) × Took (K.written out.old) (K.written out.new) (bad_line n)) }
     ensures refuses_too_long { Asks (map string_bytes words.now.items) Replay
         → RanWell (S.count input.old) (S.count input.new) (K.count out.old) (K.count out.new) result
-        → IfSome (S.content input.old) (λ s. LONGEST < length s.left
+        → IfSome (S.content input.old) (λ s. most_bytes < length s.left
         → (result ≡ 8) × Took (K.written out.old) (K.written out.new) too_long_text) }
 
     ensures statuses { Contains (0 ∷ 2 ∷ 3 ∷ 4 ∷ 5 ∷ 7 ∷ 8 ∷ []) result }
@@ -79,14 +79,14 @@ pub fn run<S: Source, K: Sink, N: Net>(
     ensures bad_line { result ≡ 3 → Asks (map string_bytes words.now.items) Replay
         × Refused (S.content input.old) (S.content input.new) (K.written out.old) (K.written out.new) }
     ensures read_fault { result ≡ 4 → Asks (map string_bytes words.now.items) Replay × Rose (S.count input.old) (S.count input.new)
-        × GaveSome (S.content input.old) (S.content input.new) (λ n. n ≤ LONGEST) × Took (K.written out.old) (K.written out.new) read_fault_text }
+        × GaveSome (S.content input.old) (S.content input.new) (λ n. n ≤ most_bytes) × Took (K.written out.old) (K.written out.new) read_fault_text }
     // What went out is a part of a text that could have ended the run.
     ensures write_fault { result ≡ 5 → Rose (K.count out.old) (K.count out.new)
         × ((end : End) × (text : List ℕ) × RunMay (map string_bytes words.now.items) (S.content input.old) (S.content input.new) (S.count input.old) (S.count input.new) end text
         × TookPrefix (K.written out.old) (K.written out.new) text) }
     ensures out_of_memory { result ≡ 7 → Took (K.written out.old) (K.written out.new) out_of_memory_text }
     ensures too_long { result ≡ 8 → Asks (map string_bytes words.now.items) Replay
-        × GaveSome (S.content input.old) (S.content input.new) (λ n. n ≡ LONGEST + 1) × Took (K.written out.old) (K.written out.new) too_long_text }
+        × GaveSome (S.content input.old) (S.content input.new) (λ n. n ≡ most_bytes + 1) × Took (K.written out.old) (K.written out.new) too_long_text }
     ensures net_rests { _net.new ≡ _net.old }
     ensures too_long_only { GaveMore (S.content input.old) (S.content input.new) → Contains (8 ∷ 5 ∷ 7 ∷ []) result }
 {

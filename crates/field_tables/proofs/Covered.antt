@@ -2,6 +2,7 @@
 use Rattle.std.specs.Prelude.{◌≡◌, ℕ, List, [], ◌∷◌, Bool, true, false, cond, ◌&&◌, ◌==◌, not, refl}
 use Rattle.std.proofs.Common.{zero, suc}
 use Rattle.tower_field.specs.Levels.{product_at, twist_at}
+use Rattle.field_tables.specs.Powers.{power_of}
 
 -- n powers, from x on
 unfoldable pub powers : ℕ → ℕ → List ℕ
@@ -32,3 +33,7 @@ differ = refl
 pub no_zero : has 0 (powers 255 1) ≡ false
 unfolding powers has product_at twist_at
 no_zero = refl
+
+pub log_of_twist : power_of 120 ≡ twist_at 3
+unfolding power_of product_at twist_at
+log_of_twist = refl

@@ -1,14 +1,14 @@
 -- Each number from 1 to 255 is one power of 128 below the 255th, and a product adds the exponents.
-use Rattle.std.specs.Prelude.{◌≡◌, ◌≢◌, ℕ, ◌+◌, ◌<◌, ◌≤◌, ◌==◌, List, [], ◌∷◌, length, Bool, true, false, cond, ◌&&◌, not, replicate, ◌⊎◌, refl}
-use Rattle.std.proofs.Common.{zero, suc, sym, ◌∙◌, ap, subst, get_or, arith}
+use Rattle.std.specs.Prelude.{◌≡◌, ◌≢◌, ℕ, ◌+◌, ◌*◌, ◌/◌, ◌%◌, ◌^◌, bit_xor, ◌<◌, ◌≤◌, ◌==◌, List, [], ◌∷◌, length, Bool, true, false, cond, ◌&&◌, not, replicate, ◌⊎◌, refl}
+use Rattle.std.proofs.Common.{zero, suc, sym, ◌∙◌, ap, subst, get_or, arith, lit<}
 use Rattle.std.proofs.Common.{set, inl, inr, get_or-set_same, get_or-set_other}
 use Rattle.std.proofs.lemmas.Bool.{cases_eq}
 use borrow.Author.Tests.{eqb-true, eq-eqb, eqb_apart}
-use Rattle.tower_field.specs.Levels.{product_at}
+use Rattle.tower_field.specs.Levels.{product_at, twist_at}
 use Rattle.tower_field.specs.Elements.{product_below}
-use Rattle.tower_field.specs.Products.{product_assoc, product_comm, zero_times, times_one}
+use Rattle.tower_field.specs.Products.{product_assoc, product_comm, zero_times, one_times, times_one}
 use Rattle.field_tables.specs.Powers.{power_of}
-use Rattle.field_tables.proofs.Covered.{powers, has, covers, all_differ, covered, differ, no_zero}
+use Rattle.field_tables.proofs.Covered.{powers, has, covers, all_differ, covered, differ, no_zero, log_of_twist}
 
 pub power_below : (i : ℕ) → power_of i < 256
 unfolding power_of
@@ -107,43 +107,75 @@ zeros_alone (suc n) (suc i) = zeros_alone n i
 
 -- what the tables hold
 pub record AreTables (power log : List ℕ) : Type 0 where
-  pub powers : (i : ℕ) → i < 510 → get_or power i 0 ≡ power_of i
-  pub zeros : (i : ℕ) → 510 ≤ i → get_or power i 0 ≡ 0
+  pub powers : (i : ℕ) → i < 629 → get_or power i 0 ≡ power_of i
+  pub zeros : (i : ℕ) → 629 ≤ i → get_or power i 0 ≡ 0
   pub logs : (i : ℕ) → i < 255 → get_or log (power_of i) 0 ≡ i
-  pub log_of_zero : get_or log 0 0 ≡ 510
+  pub log_of_zero : get_or log 0 0 ≡ 629
 
--- a logarithm is 510 for zero, and below 255 for all others
-log_cases : (power log : List ℕ) → AreTables power log → (a : ℕ) → a < 256 → ((a ≡ 0) × (get_or log a 0 ≡ 510)) ⊎ ((i : ℕ) × (i < 255) × (power_of i ≡ a) × (get_or log a 0 ≡ i))
+-- a logarithm is 629 for zero, and below 255 for all others
+log_cases : (power log : List ℕ) → AreTables power log → (a : ℕ) → a < 256 → ((a ≡ 0) × (get_or log a 0 ≡ 629)) ⊎ ((i : ℕ) × (i < 255) × (power_of i ≡ a) × (get_or log a 0 ≡ i))
 log_cases power log are zero h = inl (refl, are.log_of_zero)
 log_cases power log are (suc a) h =
     let i = log_of (suc a) (omega arith) h in
     inr (i.0, i.1, i.2, ap (λ n. get_or log n 0) (sym i.2) ∙ are.logs i.0 i.1)
 
--- a product by the tables, wherever both factors are numbers of level 3
-pub tables_give : (power log : List ℕ) → AreTables power log → (a b : ℕ) → a < 256 → b < 256 →
-    (get_or log a 0 + get_or log b 0 < 1021) × (get_or power (get_or log a 0 + get_or log b 0) 0 ≡ product_at 3 a b)
-tables_give power log are a b m k =
+log_small : (power log : List ℕ) → AreTables power log → (a : ℕ) → a < 256 → get_or log a 0 ≤ 629
+log_small power log are a h =
+    elim (log_cases power log are a h) [
+      | inl p ↦ let e : get_or log a 0 ≡ 629 = p.1 in omega arith
+      | inr p ↦ let e : get_or log a 0 ≡ p.0 = p.3 in let l : p.0 < 255 = p.1 in omega arith
+    ]
+
+-- a product with zero is zero, also where it's multiplied on
+nothing : (a b k : ℕ) → a < 256 → b < 256 → k ≤ 120 → (a ≡ 0) ⊎ (b ≡ 0) → product_at 3 (power_of k) (product_at 3 a b) ≡ 0
+nothing a b k m n l either =
+    let times_zero : product_at 3 (power_of k) 0 ≡ 0 = product_comm 3 (power_of k) 0 (power_below k) (lit< tt) ∙ zero_times 3 (power_of k) (power_below k) in
+    elim either [
+      | inl e ↦ ap (product_at 3 (power_of k)) (ap (λ x. product_at 3 x b) e ∙ zero_times 3 b n) ∙ times_zero
+      | inr e ↦ ap (product_at 3 (power_of k)) (product_comm 3 a b m n ∙ ap (λ x. product_at 3 x a) e ∙ zero_times 3 a m) ∙ times_zero
+    ]
+
+-- a product of two numbers of level 3 and a power, by the tables
+pub tables_give : (power log : List ℕ) → AreTables power log → (a b k : ℕ) → a < 256 → b < 256 → k ≤ 120 →
+    (get_or log a 0 + get_or log b 0 + k < 1379) × (get_or power (get_or log a 0 + get_or log b 0 + k) 0 ≡ product_at 3 (power_of k) (product_at 3 a b))
+tables_give power log are a b k m n l =
+    let small_a = log_small power log are a m in
+    let small_b = log_small power log are b n in
+    let within : get_or log a 0 + get_or log b 0 + k < 1379 = omega arith in
     elim (log_cases power log are a m) [
-      | inl p ↦
-          let log_a : get_or log a 0 ≡ 510 = p.1 in
-          let small : get_or log b 0 ≤ 510 = elim (log_cases power log are b k) [ inl q ↦ let e : get_or log b 0 ≡ 510 = q.1 in omega arith | inr q ↦ let e : get_or log b 0 ≡ q.0 = q.3 in let l : q.0 < 255 = q.1 in omega arith ] in
-          (omega arith, are.zeros _ (omega arith) ∙ sym (ap (λ n. product_at 3 n b) p.0 ∙ zero_times 3 b k))
+      | inl p ↦ let log_a : get_or log a 0 ≡ 629 = p.1 in (within, are.zeros _ (omega arith) ∙ sym (nothing a b k m n l (inl p.0)))
       | inr p ↦
-          elim (log_cases power log are b k) [
-            | inl q ↦
-                let log_b : get_or log b 0 ≡ 510 = q.1 in
-                let log_a : get_or log a 0 ≡ p.0 = p.3 in
-                let low : p.0 < 255 = p.1 in
-                (omega arith, are.zeros _ (omega arith) ∙ sym (product_comm 3 a b m k ∙ ap (λ n. product_at 3 n a) q.0 ∙ zero_times 3 a m))
+          elim (log_cases power log are b n) [
+            | inl q ↦ let log_b : get_or log b 0 ≡ 629 = q.1 in (within, are.zeros _ (omega arith) ∙ sym (nothing a b k m n l (inr q.0)))
             | inr q ↦
                 let log_a : get_or log a 0 ≡ p.0 = p.3 in
                 let log_b : get_or log b 0 ≡ q.0 = q.3 in
                 let low_a : p.0 < 255 = p.1 in
                 let low_b : q.0 < 255 = q.1 in
-                let within : p.0 + q.0 < 510 = omega arith in
-                (omega arith, rw (log_a, log_b) (are.powers (p.0 + q.0) within ∙ power_add p.0 q.0 ∙ ap (λ n. product_at 3 n (power_of q.0)) p.2 ∙ ap (product_at 3 a) q.2))
+                let inside : p.0 + q.0 + k < 629 = omega arith in (
+                  within,
+                  rw (log_a, log_b)
+                      (are.powers (p.0 + q.0 + k) inside ∙ power_add (p.0 + q.0) k ∙ product_comm 3 (power_of (p.0 + q.0)) (power_of k) (power_below (p.0 + q.0)) (power_below k)
+                      ∙ ap (product_at 3 (power_of k)) (power_add p.0 q.0 ∙ ap (λ x. product_at 3 x (power_of q.0)) p.2 ∙ ap (product_at 3 a) q.2)),
+                )
           ]
     ]
+
+pub product_given : (power log : List ℕ) → AreTables power log → (a b : ℕ) → a < 256 → b < 256 →
+    (get_or log a 0 + get_or log b 0 < 1379) × (get_or power (get_or log a 0 + get_or log b 0) 0 ≡ product_at 3 a b)
+unfolding power_of
+product_given power log are a b m n =
+    let given = tables_give power log are a b 0 m n (omega arith) in
+    let e : get_or log a 0 + get_or log b 0 + 0 ≡ get_or log a 0 + get_or log b 0 = omega arith in
+    let h : 3 < 8 = lit< tt in
+    (omega arith, ap (λ i. get_or power i 0) (sym e) ∙ given.1 ∙ one_times 3 (product_at 3 a b) (product_below 3 a b m n))
+
+-- the twist of level 3 is the power 120
+pub twisted_given : (power log : List ℕ) → AreTables power log → (a b : ℕ) → a < 256 → b < 256 →
+    (get_or log a 0 + get_or log b 0 + 120 < 1379) × (get_or power (get_or log a 0 + get_or log b 0 + 120) 0 ≡ product_at 3 (twist_at 3) (product_at 3 a b))
+twisted_given power log are a b m n =
+    let given = tables_give power log are a b 120 m n (omega arith) in
+    (given.0, given.1 ∙ ap (λ x. product_at 3 x (product_at 3 a b)) log_of_twist)
 
 -- a step of the loop that fills the tables
 pub power_filled : (power : List ℕ) (i : ℕ) → i < length power → ((j : ℕ) → j < i → get_or power j 0 ≡ power_of j) → (j : ℕ) → j < i + 1 → get_or (set power i (power_of i)) j 0 ≡ power_of j
@@ -161,3 +193,12 @@ log_filled log i below size h j k l =
           subst (λ n. get_or (set log (power_of i) i) (power_of n) 0 ≡ n) (sym e) (get_or-set_same log (power_of i) i 0 within)
       | inr n ↦ let lower : j < i = omega arith in get_or-set_other log (power_of i) (power_of j) i 0 (powers_apart j i lower below) ∙ h j lower l
     ]
+
+-- a product by its definition: of two numbers by their halves
+pub by_halves : (k a b : ℕ) →
+    let half = 2 ^ (2 ^ k) in
+    product_at (suc k) a b ≡
+    bit_xor (bit_xor (product_at k (a % half) (b / half)) (product_at k (a / half) (b % half))) (product_at k (twist_at k) (product_at k (a / half) (b / half))) * half
+    + bit_xor (product_at k (a % half) (b % half)) (product_at k (a / half) (b / half))
+unfolding product_at
+by_halves k a b = refl

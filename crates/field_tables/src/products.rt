@@ -25,16 +25,15 @@ fn twisted_16(tables: &Tables, a: u16) -> u16
     above as u16 * 256 + high as u16
 }
 
+// The product by its definition, since all four products come from the same four logarithms.
 fn product_16(tables: &Tables, a: u16, b: u16) -> u16
     ensures { result ≡ product_at 4 a b }
 {
     let (a0, a1) = halves_16(a);
     let (b0, b1) = halves_16(b);
-    let lows = tables.product(a0, b0);
-    let highs = tables.product(a1, b1);
-    let whole = tables.product(a0 ^ a1, b0 ^ b1);
-    let high = whole ^ lows ^ highs ^ twisted_8(tables, highs);
-    let low = lows ^ highs;
+    let low = tables.product(a0, b0) ^ tables.product(a1, b1);
+    let crossed = tables.product(a0, b1) ^ tables.product(a1, b0);
+    let high = crossed ^ tables.twisted_product(a1, b1);
     high as u16 * 256 + low as u16
 }
 

@@ -1,13 +1,13 @@
 -- The fields of each body.
-use Rattle.std.proofs.Common.{◌≡◌, ℕ, zero, suc, ◌+◌, ◌-◌, ◌*◌, ◌/◌, ◌%◌, ◌^◌, ◌<◌, ◌≤◌, Bool, true, false, List, [], ◌∷◌, ◌++◌, length, take, drop, refl, sym, ap, ◌∙◌, subst, arith}
-use Rattle.std.specs.Int.{w8, w16, w32, w64, w128, to_be_bytes, from_be_bytes}
+use Rattle.std.proofs.Common.{◌≡◌, ℕ, zero, suc, ◌-◌, ◌*◌, ◌/◌, ◌%◌, ◌^◌, ◌<◌, ◌≤◌, List, [], ◌∷◌, ◌++◌, length, take, drop, refl, sym, ap, ◌∙◌, subst, arith}
+use Rattle.std.specs.Int.{w32, w128, to_be_bytes, from_be_bytes}
 use Rattle.std.specs.List.{flat_map, AllByRecursion}
 use Rattle.express_words.specs.Limits.{IsWidth}
 use Rattle.express_words.specs.declared.audit.ProofShare.{ProofShare}
 use Rattle.express_words.specs.declared.audit.Openings.{Openings}
 use Rattle.express_words.specs.declared.audit.Closing.{Closing}
 use Rattle.frame_rules.specs.Spelling.{word, address, openings, closing, proof_share, IsWord, IsKey, IsPart, AreOpenings, IsClosing, IsProofShare}
-use Rattle.frame_rules.specs.Forms.{word_of, has_size, Exactly, Wide}
+use Rattle.frame_rules.specs.Forms.{word_of}
 use Rattle.frame_rules.specs.Bodies.{openings_of, closing_of, words_of, proof_share_of}
 use Rattle.std.proofs.lemmas.List.{take_at, drop_at, take-append-drop, length-append, length-take, length-drop, nil_from_length}
 use Rattle.std.proofs.lemmas.List.Concat.{flat_map-cons}

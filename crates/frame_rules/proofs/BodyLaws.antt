@@ -1,7 +1,7 @@
 -- Bodies: what is read is what was written, and the other way round.
-use Rattle.std.proofs.Common.{◌≡◌, ℕ, zero, suc, ◌+◌, ◌-◌, ◌*◌, ◌/◌, ◌%◌, ◌^◌, ◌<◌, ◌≤◌, Bool, true, false, cond, eqb, leb, ltb, List, [], ◌∷◌, ◌++◌, length, get_or, take, drop, Option, Some, Result, Ok, Err, refl, sym, ap, ◌∙◌, subst, arith}
+use Rattle.std.proofs.Common.{◌≡◌, ℕ, suc, ◌-◌, ◌/◌, ◌%◌, ◌^◌, ◌<◌, ◌≤◌, Bool, true, false, cond, eqb, leb, ltb, List, [], ◌∷◌, ◌++◌, length, get_or, take, Some, Result, Ok, Err, refl, sym, ap, ◌∙◌, subst, arith}
 use Rattle.std.specs.Prelude.{◌&&◌, ◌||◌, ◌==◌}
-use Rattle.std.specs.Int.{w8, w16, w32, w64, w128, to_be_bytes, from_be_bytes}
+use Rattle.std.specs.Int.{w16, w32, w64, to_be_bytes}
 use Rattle.std.specs.List.{AllByRecursion}
 use Rattle.std.proofs.lemmas.Bool.Decides.{nat_tests}
 use Rattle.std.proofs.lemmas.Bool.{eqb-true, eq-eqb, le-ltb}
@@ -18,12 +18,12 @@ use Rattle.frame_rules.specs.Frames.{PlainBody, PlainReply, Deposit, Register, W
 use Rattle.frame_rules.specs.Kinds.{is_refused}
 use Rattle.frame_rules.specs.Spelling as spell
 use Rattle.frame_rules.specs.Spelling.{kind_of, word, IsWord, IsKey, IsBody, IsRefusal, IsReplyRefusal, IsReply, IsAddressed}
-use Rattle.frame_rules.specs.Forms.{◌>>=◌, first_of, word_of, Size, Exactly, Wide, has_size, Form, form_of, sized, filled, chosen, tagged, nothing, number, key}
-use Rattle.frame_rules.specs.Bodies.{register, write, boxed, proof, link_register, link_begin, link_audit, link_settle, link_begun, deposits, helds, message, dones, refusals, rejected_of, audited, replies, addressed, refused, reply_refused, replied, body_in}
+use Rattle.frame_rules.specs.Forms.{◌>>=◌, first_of, Size, Exactly, Wide, has_size, Form, form_of, sized, filled, chosen, tagged, nothing, number}
+use Rattle.frame_rules.specs.Bodies.{deposits, helds, dones, refusals, replies, addressed, refused, reply_refused, replied, body_in}
 use Rattle.frame_rules.proofs.Digits.{IsBytes, IsBytes-rest}
 use Rattle.frame_rules.proofs.Fields.{IsField, Is, u8_field, u16_field, u32_field, u64_field, address_field, word_field, raw_field}
 use Rattle.frame_rules.proofs.BodyFields.{words4, closing_field, proof_field, address_key, box_word, count_key, word_openings, openings_closing, WideLength, word_part, key_part, halves}
-use Rattle.frame_rules.proofs.FormLaws.{bind_ok, test_ok, guard_ok, ok_is, IsRead, Means, means, IsTaken, filled_takes, take_first, tagged_takes, filled_again, tagged_again}
+use Rattle.frame_rules.proofs.FormLaws.{bind_ok, test_ok, guard_ok, ok_is, Means, means, IsTaken, filled_takes, take_first, tagged_takes, filled_again, tagged_again}
 
 -- a body of this kind, right under this lane and serial
 pub record Fitted (kind : Kind) (lane serial : ℕ) (b : PlainBody) : Type 0 where

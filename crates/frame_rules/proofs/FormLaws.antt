@@ -1,13 +1,13 @@
 -- Forms: what is read is what was written, and the other way round.
-use Rattle.std.proofs.Common.{◌≡◌, ℕ, zero, suc, ◌+◌, ◌-◌, ◌*◌, ◌<◌, ◌≤◌, Bool, true, false, cond, ltb, eqb, List, [], ◌∷◌, ◌++◌, length, take, drop, Option, Some, None, Result, Ok, Err, refl, sym, ap, subst, ◌∙◌, arith}
+use Rattle.std.proofs.Common.{◌≡◌, ℕ, zero, suc, ◌-◌, ◌≤◌, Bool, true, false, cond, ltb, eqb, List, [], ◌∷◌, ◌++◌, length, take, Option, Some, None, Result, Ok, Err, refl, sym, ap, subst, ◌∙◌, arith}
 use Rattle.std.specs.List.{AllByRecursion}
-use Rattle.std.proofs.lemmas.Bool.{ltb-false, le-ltb, eqb-true, eq-eqb}
+use Rattle.std.proofs.lemmas.Bool.{ltb-false, le-ltb, eqb-true}
 use Rattle.std.proofs.lemmas.List.{take_at, length-append, length-take}
 use Rattle.frame_rules.specs.declared.fault.FrameFault.{FrameFault}
 use Rattle.frame_rules.specs.declared.fault.FrameFault.TheVariants.{Short, Malformed}
-use Rattle.frame_rules.specs.Forms.{◌>>=◌, first_of, Size, Exactly, Wide, has_size, sized, Form, filled, form_of, known, chosen, tagged}
+use Rattle.frame_rules.specs.Forms.{◌>>=◌, Size, has_size, sized, Form, filled, form_of, known, chosen, tagged}
 use Rattle.frame_rules.proofs.Digits.{IsBytes, IsBytes-rest}
-use Rattle.frame_rules.proofs.Fields.{IsField, Is, IsBytes-take}
+use Rattle.frame_rules.proofs.Fields.{IsField, IsBytes-take}
 
 -- the value of a step that did not fail
 pub bind_ok : {A B : Type 0} (r : Result A FrameFault) (f : A → Result B FrameFault) (y : B) → (r >>= f) ≡ Ok y → (x : A) × (r ≡ Ok x) × (f x ≡ Ok y)

@@ -1,16 +1,17 @@
 -- Gathering the bytes of one frame.
-use Rattle.std.proofs.Common.{◌≡◌, ◌≢◌, ℕ, zero, suc, ◌+◌, ◌-◌, ◌<◌, ◌≤◌, Bool, true, false, cond, List, [], ◌∷◌, ◌++◌, length, take, drop, Result, Ok, Err, refl, sym, ap, ◌∙◌, subst, append_assoc, arith, inl, inr}
-use Rattle.std.specs.Prelude.{◌⊎◌}
-use Rattle.std.proofs.lemmas.Bool.{cases_lt}
-use Rattle.std.proofs.lemmas.List.{append-nil, nil_from_length, take_all, take_at, take-append-le, length-append}
+use Rattle.std.proofs.Common.{◌≡◌, ◌≢◌, ℕ, suc, ◌+◌, ◌-◌, ◌<◌, ◌≤◌, Bool, true, false, cond, ltb, List, [], ◌∷◌, ◌++◌, length, take, drop, Result, Ok, Err, refl, sym, ap, ◌∙◌, subst, append_assoc, arith, inl, inr}
+use Rattle.std.specs.Prelude.{◌⊎◌, IfOk}
+use Rattle.std.proofs.lemmas.Bool.{cases_lt, ltb-true}
+use Rattle.std.proofs.lemmas.List.{append-nil, take_all, take_at, take-append-le, length-append, length-take}
 use Rattle.frame_rules.specs.declared.fault.FrameFault.{FrameFault}
 use Rattle.frame_rules.specs.declared.fault.FrameFault.TheVariants.{Short, Malformed, Version}
 use Rattle.frame_rules.specs.Frames.{PlainFrame}
 use Rattle.frame_rules.specs.Spelling.{Spells}
+use Rattle.std.specs.Int.{w32, from_be_bytes}
+use Rattle.frame_rules.specs.Forms.{number_at}
 use Rattle.frame_rules.specs.Reading.{decoded}
-use Rattle.frame_rules.specs.Gathering.{is_short, gathered, IsHeld, Gathers}
-use Rattle.frame_rules.proofs.Digits.{IsBytes}
-use Rattle.frame_rules.proofs.GrammarLaws.{decoded_takes, spells_again}
+use Rattle.frame_rules.specs.Gathering.{is_short, gathered, IsHeld, Gathers, fed, missing_from, missing}
+use Rattle.frame_rules.proofs.GrammarLaws.{spells_again}
 
 pub short_is : {A : Type 0} (r : Result A FrameFault) → is_short r ≡ true → r ≡ Err Short
 short_is (Ok x) h = absurd cc
@@ -76,10 +77,10 @@ not_shorter stream a b g h =
     elim (cases_lt (length a) (length b)) [
       | inr le ↦ le
       | inl lt ↦
-      let front : take (length a) b ≡ a
+          let front : take (length a) b ≡ a
           = sym (take-append-le (length a) b h.rest (omega arith)) ∙ ap (take (length a)) (sym h.front ∙ g.front) ∙ take_at a g.rest (length a) refl in
-      let short : decoded a ≡ Err Short = ap decoded (sym front) ∙ h.shortest (length a) lt in
-      absurd (ends g.stops short lt)
+          let short : decoded a ≡ Err Short = ap decoded (sym front) ∙ h.shortest (length a) lt in
+          absurd (ends g.stops short lt)
     ]
   where
     ends : (g.rest ≡ []) ⊎ (decoded a ≢ Err Short) → decoded a ≡ Err Short → length a < length b → ⊥
@@ -93,16 +94,73 @@ one_held stream a b g h =
     let same : length a ≡ length b = omega (arith, not_shorter stream a b g h, not_shorter stream b a h g) in
     sym (take_at a g.rest (length a) refl) ∙ ap (take (length a)) (sym g.front ∙ h.front) ∙ take_at b h.rest (length a) (sym same)
 
--- what is held and is a frame is no more than the frame
-pub held_frame : (held : List ℕ) (f : PlainFrame) (len : ℕ) → IsBytes held → IsHeld held → decoded held ≡ Ok (f, len) → (len ≡ length held) × Spells f held
-held_frame held f len fits h e =
-    let d = decoded_takes held f len fits e in
+-- what is held and begins with a frame is the frame
+pub held_frame : (held : List ℕ) (f : PlainFrame) (len : ℕ) → IsHeld held → len ≤ length held → Spells f (take len held) → Spells f held
+held_frame held f len h le s =
     elim (cases_lt len (length held)) [
-      | inr le ↦ let same : len ≡ length held = omega (arith, d.whole) in (same, subst (Spells f) (ap (λ n. take n held) same ∙ take_all (length held) held (omega arith)) d.spells)
+      | inr more ↦ subst (Spells f) (take_all len held more) s
       | inl lt ↦
-      let again : decoded (take len held) ≡ Ok (f, length (take len held)) = ap decoded (sym (append-nil (take len held))) ∙ spells_again f (take len held) [] d.spells in
-      absurd (clash _ (sym again ∙ h len lt))
+          let again : decoded (take len held) ≡ Ok (f, length (take len held)) = ap decoded (sym (append-nil (take len held))) ∙ spells_again f (take len held) [] s in
+          absurd (clash _ (sym again ∙ h len lt))
     ]
   where
     clash : (x : PlainFrame × ℕ) → (let r : Result (PlainFrame × ℕ) FrameFault = Ok x in r) ≡ Err Short → ⊥
     clash x e = cc
+
+-- ---- what is missing
+
+pub missing_none : (held : List ℕ) → is_short (decoded held) ≡ false → missing held ≡ 0
+unfolding missing
+missing_none held h = ap (λ t. cond t (missing_from (number_at w32 0 held) (length held)) 0) h
+
+pub missing_is : (held : List ℕ) → is_short (decoded held) ≡ true → missing held ≡ missing_from (number_at w32 0 held) (length held)
+unfolding missing
+missing_is held h = ap (λ t. cond t (missing_from (number_at w32 0 held) (length held)) 0) h
+
+pub length_missing : (held : List ℕ) (d : FrameFault) → number_at w32 0 held ≡ Err d → length held < 4
+unfolding number_at
+length_missing held d e = pick (ltb (length held) (0 + 4)) refl e where
+  clash : (n : ℕ) → (let r : Result ℕ FrameFault = Ok n in r) ≡ Err d → ⊥
+  clash n e = cc
+
+  pick : (b : Bool) → ltb (length held) (0 + 4) ≡ b → cond b (Err Short) (Ok (from_be_bytes w32 (take 4 (drop 0 held)))) ≡ Err d → length held < 4
+  pick true t e = omega (arith, ltb-true _ _ t)
+  pick false t e = absurd (clash _ e)
+
+-- ---- what is taken
+
+pub gathered_front : (held bytes : List ℕ) → (n : ℕ) × (n ≤ length bytes) × (gathered held bytes ≡ held ++ take n bytes)
+gathered_front held [] = (0, omega arith, gathered_none held ∙ sym (append-nil held))
+gathered_front held (b ∷ bytes) = pick (is_short (decoded held)) refl (gathered_front (held ++ b ∷ []) bytes) where
+  pick : (t : Bool) → is_short (decoded held) ≡ t → (n : ℕ) × (n ≤ length bytes) × (gathered (held ++ b ∷ []) bytes ≡ (held ++ b ∷ []) ++ take n bytes) → (n : ℕ) × (n ≤ suc (length bytes)) × (gathered held (b ∷ bytes) ≡ held ++ take n (b ∷ bytes))
+  pick true t more = (suc more.0, omega (arith, more.1), gathered_more held b bytes t ∙ more.2 ∙ append_assoc held (b ∷ []) (take more.0 bytes))
+  pick false t more = (0, omega arith, gathered_stays held (b ∷ bytes) t ∙ sym (append-nil held))
+
+pub gathered_taken : (held bytes new : List ℕ) → new ≡ gathered held bytes → (length held ≤ length new) × (length new - length held ≤ length bytes) × (new ≡ held ++ take (length new - length held) bytes)
+gathered_taken held bytes new e =
+    let f = gathered_front held bytes in
+    let is : new ≡ held ++ take f.0 bytes = e ∙ f.2 in
+    let count : length new ≡ length held + f.0 = ap length is ∙ omega (arith, length-append held (take f.0 bytes), length-take f.0 bytes, f.1) in
+    let n : f.0 ≡ length new - length held = omega arith in
+    (omega arith, omega (arith, f.1), is ∙ ap (λ k. held ++ take k bytes) n)
+
+pub held_gathered : (held bytes : List ℕ) → IsHeld held → IsHeld (gathered held bytes)
+held_gathered held bytes h = (gathers_from held bytes h).shortest
+
+pub fed_taken : (r : Result (PlainFrame × ℕ) FrameFault) (taken : ℕ) (P : ℕ → Type 0) → P taken → IfOk (fed r taken) P
+fed_taken (Ok f) taken P h = h
+fed_taken (Err Short) taken P h = h
+fed_taken (Err (Malformed place)) taken P h = tt
+fed_taken (Err (Version v)) taken P h = tt
+
+pub fed_not_short : (r : Result (PlainFrame × ℕ) FrameFault) (taken : ℕ) → fed r taken ≡ Err Short → ⊥
+fed_not_short (Ok f) taken e = cc
+fed_not_short (Err Short) taken e = cc
+fed_not_short (Err (Malformed place)) taken e = cc
+fed_not_short (Err (Version v)) taken e = cc
+
+-- a fault stays, and is answered
+pub fault_again : (held bytes : List ℕ) (d : FrameFault) → d ≢ Short → decoded held ≡ Err d → (gathered held bytes ≡ held) × ((taken : ℕ) → fed (decoded held) taken ≡ Err d)
+fault_again held bytes Short n e = absurd (n refl)
+fault_again held bytes (Malformed place) n e = (gathered_stays held bytes (ap is_short e), λ taken. ap (λ r. fed r taken) e)
+fault_again held bytes (Version v) n e = (gathered_stays held bytes (ap is_short e), λ taken. ap (λ r. fed r taken) e)

@@ -1,30 +1,29 @@
 -- The laws of the grammar: what is read is spelled so, what is spelled so is read, and no spelling begins another.
-use Rattle.std.proofs.Common.{◌≡◌, ℕ, zero, suc, ◌+◌, ◌-◌, ◌*◌, ◌^◌, ◌<◌, ◌≤◌, Bool, true, false, cond, eqb, leb, ltb, not, List, [], ◌∷◌, ◌++◌, length, take, drop, Option, Some, None, Result, Ok, Err, refl, sym, ap, ◌∙◌, subst, append_assoc, arith, inl, inr, All}
-use Rattle.std.specs.Prelude.{◌&&◌, ◌||◌, ◌≢◌, MatchBool}
-use Rattle.std.specs.Int.{Width, w8, w16, w32, w64, byte_len, to_be_bytes, from_be_bytes}
+use Rattle.std.proofs.Common.{◌≡◌, ℕ, ◌+◌, ◌-◌, ◌<◌, ◌≤◌, true, false, cond, leb, List, [], ◌++◌, length, take, drop, Result, Ok, Err, refl, sym, ap, ◌∙◌, subst, append_assoc, arith, inl, inr, All}
+use Rattle.std.specs.Prelude.{◌&&◌, ◌≢◌, MatchBool}
+use Rattle.std.specs.Int.{w16, w32}
 use Rattle.std.proofs.lemmas.Bool.Decides.{nat_tests}
-use Rattle.std.proofs.lemmas.Bool.{le-ltb, eq-eqb, cases_lt}
-use Rattle.std.proofs.lemmas.List.{get_or_past, take_at, drop_at, append-nil, nil_from_length, take-append-drop, length-append, length-take, length-drop}
+use Rattle.std.proofs.lemmas.Bool.{cases_lt}
+use Rattle.std.proofs.lemmas.List.{get_or_past, drop_at, append-nil, nil_from_length, take-append-drop, length-append, length-take, length-drop}
 use Rattle.frame_rules.specs.declared.fault.FrameFault.{FrameFault}
-use Rattle.frame_rules.specs.declared.fault.FrameFault.TheVariants.{Short, Malformed, Version}
+use Rattle.frame_rules.specs.declared.fault.FrameFault.TheVariants.{Short, Malformed}
 use Rattle.frame_rules.specs.declared.kind.Kind.{Kind}
-use Rattle.frame_rules.specs.declared.kind.Kind.TheVariants as kind
 use Rattle.frame_rules.specs.declared.frame.DepositBody.{DepositBody}
 use Rattle.frame_rules.specs.declared.frame.DepositBody.TheVariants as deposit
 use Rattle.express_words.specs.declared.refusal.Refusal.{Refusal}
 use Rattle.express_words.specs.declared.refusal.Refusal.TheVariants as refusal
 use Rattle.frame_rules.specs.Frames.{PlainFrame, PlainBody, PlainReply, Deposit, Register, Write, Read, Proof, Held, Challenge, Registered, Accepted, Message, Refused, LinkRegister, LinkBegin, LinkAudit, LinkSettle, LinkRead, LinkReply, Retire, LinkRetire, LinkBegun, ReplyRegistered, ReplyBegun, ReplyAudited, ReplyAccepted, ReplyRejected, ReplyMasked, ReplyRefused}
-use Rattle.frame_rules.specs.Kinds.{number_of, version_of, is_linked, is_refused, first_numbered, kind_numbered}
+use Rattle.frame_rules.specs.Kinds.{is_linked, is_refused}
 use Rattle.frame_rules.specs.Spelling as spell
 use Rattle.frame_rules.specs.Spelling.{kind_of, IsFrame, Spells, spelling, IsAddressed, IsBody, IsRefusal, IsDeposit, IsReply}
 use Rattle.frame_rules.specs.Forms.{◌>>=◌, number_at}
 use Rattle.frame_rules.specs.Bodies.{body_in}
-use Rattle.frame_rules.specs.Reading.{Header, length_in, version_in, kind_with, kind_in, serial_in, link_in, header_in, decoded}
+use Rattle.frame_rules.specs.Reading.{Header, length_in, version_in, kind_in, serial_in, link_in, header_in, decoded}
 use Rattle.frame_rules.proofs.Digits.{IsBytes}
-use Rattle.frame_rules.proofs.Fields.{IsField, Is, IsBytes-drop, u8_field, u16_field, u32_field, u64_field}
+use Rattle.frame_rules.proofs.Fields.{IsBytes-drop}
 use Rattle.frame_rules.proofs.FormLaws.{bind_ok, test_ok, ok_is}
 use Rattle.frame_rules.proofs.BodyLaws.{answer_fits, body_takes, body_again}
-use Rattle.frame_rules.proofs.HeaderLaws.{cut, IsHeader, header_takes, header_again}
+use Rattle.frame_rules.proofs.HeaderLaws.{cut, header_takes, header_again}
 use Rattle.frame_rules.proofs.BodyFields.{word_len, address_len, words4, closing_field, proof_field, address_key, box_word, count_key, word_openings, openings_closing, word_part, key_part, halves}
 use Rattle.frame_rules.proofs.Growing.{Settles, header_whole, body_whole, decoded_grows}
 
@@ -46,8 +45,8 @@ decoded_takes bytes f len fits e =
     let P : PlainFrame × ℕ → Type 0 = λ p. IsDecoded bytes p.0 p.1 in
     let kind_is = t.fits.kind_is in
     let text : take (20 + a.0.left) bytes ≡ spell.header (kind_of b.0) a.0.lane a.0.serial a.0.link (length (spell.body b.0)) ++ spell.body b.0
-        = cut 20 a.0.left bytes ∙ ap (λ (x : List ℕ). x ++ take a.0.left (drop 20 bytes)) (h.spelled ∙ ap (λ k. spell.header k a.0.lane a.0.serial a.0.link a.0.left) (sym kind_is) ∙ ap (λ n. spell.header (kind_of b.0) a.0.lane a.0.serial a.0.link n) (sym left))
-        ∙ ap (λ (x : List ℕ). spell.header (kind_of b.0) a.0.lane a.0.serial a.0.link (length (spell.body b.0)) ++ x) (sym t.spelled) in
+    = cut 20 a.0.left bytes ∙ ap (λ (x : List ℕ). x ++ take a.0.left (drop 20 bytes)) (h.spelled ∙ ap (λ k. spell.header k a.0.lane a.0.serial a.0.link a.0.left) (sym kind_is) ∙ ap (λ n. spell.header (kind_of b.0) a.0.lane a.0.serial a.0.link n) (sym left))
+    ∙ ap (λ (x : List ℕ). spell.header (kind_of b.0) a.0.lane a.0.serial a.0.link (length (spell.body b.0)) ++ x) (sym t.spelled) in
     subst P (ok_is _ _ b.2)
     (record {
       spells = record {
@@ -221,6 +220,7 @@ unfolding Settles
 prefix_short f bytes n s lt = pick (decoded_grows (take n bytes) (drop n bytes)) where
   whole : decoded (take n bytes ++ drop n bytes) ≡ Ok (f, length bytes)
   whole = ap decoded (take-append-drop n bytes ∙ sym (append-nil bytes)) ∙ spells_again f bytes [] s
+
   pick : Settles (decoded (take n bytes)) (decoded (take n bytes ++ drop n bytes)) → decoded (take n bytes) ≡ Err Short
   pick (inl e) = e
   pick (inr e) =

@@ -1,5 +1,5 @@
 -- What more bytes change: a frame and a fault stay, and only Short can give way.
-use Rattle.std.proofs.Common.{◌≡◌, ℕ, zero, suc, ◌+◌, ◌-◌, ◌<◌, ◌≤◌, Bool, true, false, cond, eqb, leb, ltb, List, [], ◌∷◌, ◌++◌, length, take, drop, Result, Ok, Err, refl, sym, ap, ◌∙◌, subst, arith, inl, inr}
+use Rattle.std.proofs.Common.{◌≡◌, ℕ, suc, ◌+◌, ◌-◌, ◌≤◌, Bool, true, false, cond, eqb, leb, ltb, List, [], ◌∷◌, ◌++◌, length, take, drop, Result, Ok, Err, refl, sym, ap, ◌∙◌, subst, arith, inl, inr}
 use Rattle.std.specs.Prelude.{◌⊎◌, ◌&&◌, ◌||◌}
 use Rattle.std.specs.Int.{Width, w16, w64, byte_len, from_be_bytes}
 use Rattle.std.proofs.lemmas.Bool.{cases_lt, ltb-false, le-ltb, lt-ltb}
@@ -8,8 +8,8 @@ use Rattle.frame_rules.specs.declared.fault.FrameFault.{FrameFault}
 use Rattle.frame_rules.specs.declared.fault.FrameFault.TheVariants.{Short, Malformed}
 use Rattle.frame_rules.specs.declared.kind.Kind.{Kind}
 use Rattle.frame_rules.specs.declared.kind.Kind.TheVariants as kinds
-use Rattle.frame_rules.specs.Frames.{PlainFrame, PlainBody, Refused, LinkReply, ReplyRefused}
-use Rattle.frame_rules.specs.Forms.{◌>>=◌, number_at, first_of, Size, Form, has_size, sized, filled, chosen, tagged}
+use Rattle.frame_rules.specs.Frames.{PlainBody, Refused, LinkReply, ReplyRefused}
+use Rattle.frame_rules.specs.Forms.{◌>>=◌, number_at, Size, Form, has_size, sized, filled, chosen, tagged}
 use Rattle.frame_rules.specs.Bodies.{addressed, refusals, replies, refused, reply_refused, replied, body_in}
 use Rattle.frame_rules.specs.Reading.{Header, length_in, version_in, kind_in, serial_in, link_in, header_in, decoded}
 use Rattle.frame_rules.proofs.FormLaws.{bind_ok, test_ok, guard_ok, sized_ok}
@@ -54,10 +54,10 @@ number_grows w place a b =
     elim (cases_lt (length a) (place + byte_len w)) [
       | inl lt ↦ inl (rw (lt-ltb _ _ lt) refl)
       | inr le ↦
-      let more : ltb (length (a ++ b)) (place + byte_len w) ≡ false = le-ltb _ _ (omega (arith, length-append a b)) in
-      let same : take (byte_len w) (drop place (a ++ b)) ≡ take (byte_len w) (drop place a)
+          let more : ltb (length (a ++ b)) (place + byte_len w) ≡ false = le-ltb _ _ (omega (arith, length-append a b)) in
+          let same : take (byte_len w) (drop place (a ++ b)) ≡ take (byte_len w) (drop place a)
           = ap (take (byte_len w)) (drop-append-le place a b (omega arith)) ∙ take-append-le (byte_len w) (drop place a) b (omega (arith, length-drop place a)) in
-      inr (rw (more, same, le-ltb (length a) (place + byte_len w) le) refl)
+          inr (rw (more, same, le-ltb (length a) (place + byte_len w) le) refl)
     ]
 
 sized_grows : (size : Size) (left : ℕ) (a b : List ℕ) → Settles (sized size left a) (sized size left (a ++ b))
@@ -66,12 +66,12 @@ sized_grows size left a b =
     elim (has_size size left) as (λ t. Settles (cond t (cond (ltb (length a) left) (Err Short) (Ok (take left a))) (Err (Malformed 0))) (cond t (cond (ltb (length (a ++ b)) left) (Err Short) (Ok (take left (a ++ b)))) (Err (Malformed 0)))) [
       | false ↦ inr refl
       | true ↦
-      elim (cases_lt (length a) left) [
-        | inl lt ↦ inl (rw (lt-ltb _ _ lt) refl)
-        | inr le ↦
-        let more : ltb (length (a ++ b)) left ≡ false = le-ltb _ _ (omega (arith, length-append a b)) in
-        inr (rw (more, take-append-le left a b le, le-ltb (length a) left le) refl)
-      ]
+          elim (cases_lt (length a) left) [
+            | inl lt ↦ inl (rw (lt-ltb _ _ lt) refl)
+            | inr le ↦
+                let more : ltb (length (a ++ b)) left ≡ false = le-ltb _ _ (omega (arith, length-append a b)) in
+                inr (rw (more, take-append-le left a b le, le-ltb (length a) left le) refl)
+          ]
     ]
 
 filled_grows : {A : Type 0} (form : Form A) (left : ℕ) (a b : List ℕ) → Settles (filled form left a) (filled form left (a ++ b))

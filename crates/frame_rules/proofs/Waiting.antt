@@ -1,5 +1,5 @@
 -- Where reading is short, the frame's end hasn't come.
-use Rattle.std.proofs.Common.{◌≡◌, ℕ, zero, suc, ◌+◌, ◌-◌, ◌<◌, ◌≤◌, Bool, true, false, cond, eqb, leb, ltb, not, List, [], ◌∷◌, ◌++◌, length, take, drop, Option, Some, None, Result, Ok, Err, refl, sym, ap, ◌∙◌, subst, arith, inl, inr}
+use Rattle.std.proofs.Common.{◌≡◌, ℕ, suc, ◌+◌, ◌-◌, ◌<◌, ◌≤◌, Bool, true, false, cond, eqb, leb, ltb, not, List, [], ◌∷◌, length, take, drop, Option, Some, None, Result, Ok, Err, refl, sym, ap, ◌∙◌, arith, inl, inr}
 use Rattle.std.specs.Prelude.{◌⊎◌, ◌&&◌, ◌||◌}
 use Rattle.std.specs.Int.{Width, w8, w16, w32, w64, byte_len, from_be_bytes}
 use Rattle.std.proofs.lemmas.Bool.Decides.{nat_tests}
@@ -11,7 +11,7 @@ use Rattle.frame_rules.specs.declared.kind.Kind.{Kind}
 use Rattle.frame_rules.specs.declared.kind.Kind.TheVariants as kinds
 use Rattle.frame_rules.specs.Frames.{PlainFrame, PlainBody, Refused, LinkReply, ReplyRefused}
 use Rattle.frame_rules.specs.Kinds.{kind_numbered, version_of, is_linked, is_refused}
-use Rattle.frame_rules.specs.Forms.{◌>>=◌, number_at, first_of, Size, Form, has_size, sized, filled, form_of, known, chosen, tagged}
+use Rattle.frame_rules.specs.Forms.{◌>>=◌, number_at, Size, Form, has_size, sized, filled, form_of, known, chosen, tagged}
 use Rattle.frame_rules.specs.Bodies.{addressed, refusals, replies, refused, reply_refused, replied, body_in}
 use Rattle.frame_rules.specs.Reading.{Header, length_in, version_in, kind_with, kind_in, serial_in, link_in, header_in, decoded}
 use Rattle.frame_rules.proofs.FormLaws.{bind_ok, test_ok, ok_is}
@@ -49,6 +49,7 @@ sized_short size left rest e = outer (has_size size left) e where
   inner : (b : Bool) → ltb (length rest) left ≡ b → cond b (Err Short) (Ok (take left rest)) ≡ Err Short → length rest < left
   inner true t e = ltb-true _ _ t
   inner false t e = absurd (ok_not_short _ e)
+
   outer : (b : Bool) → cond b (cond (ltb (length rest) left) (Err Short) (Ok (take left rest))) (Err (Malformed 0)) ≡ Err Short → length rest < left
   outer true e = inner (ltb (length rest) left) refl e
   outer false e = absurd (malformed_not_short 0 e)
@@ -97,8 +98,10 @@ refused_short lane serial left [] one e = omega arith
 refused_short lane serial left (n ∷ rest) one e = pick (bind_err check after Short e) where
   check : Result (Unit {0}) FrameFault
   check = cond (leb 1 n && leb n 14) (addressed n lane serial) (Err (Malformed 20))
+
   after : Unit {0} → Result PlainBody FrameFault
   after right = tagged 20 refusals left (n ∷ rest) >>= λ r. Ok (Refused r)
+
   pick : (check ≡ Err Short) ⊎ ((x : Unit {0}) × (check ≡ Ok x) × (after x ≡ Err Short)) → suc (length rest) < left
   pick (inl h) = absurd (cond_short (leb 1 n && leb n 14) (addressed n lane serial) (Err (Malformed 20)) ⊥ (λ e. addressed_not_short n lane serial e) (λ e. malformed_not_short 20 e) h)
   pick (inr h) = tagged_short 20 refusals left (n ∷ rest) one (wrapped_short (tagged 20 refusals left (n ∷ rest)) (λ r. Refused r) h.2)
@@ -112,6 +115,7 @@ reply_refused_short left [] e = pick (eqb left 0) refl e where
 reply_refused_short left (n ∷ rest) e = pick (eqb left 0) refl e where
   read : Result PlainBody FrameFault
   read = tagged 21 refusals left (n ∷ rest) >>= λ r. Ok (LinkReply (ReplyRefused r))
+
   pick : (b : Bool) → eqb left 0 ≡ b → cond b (Err (Malformed 0)) (cond (eqb n 3 || (leb 6 n && leb n 11)) read (Err (Malformed 21))) ≡ Err Short → suc (length rest) < left
   pick true t e = absurd (malformed_not_short 0 e)
   pick false t e =
@@ -240,8 +244,10 @@ unfolding length_in
 length_or_short bytes n e right = pick (leb 17 n && leb n 8209) refl where
   limited : (n : ℕ) → leb 17 n && leb n 8209 ≡ true → (17 ≤ n) × (n ≤ 8209)
   limited n h = grind (arith, nat_tests)
+
   not_short : Malformed 0 ≡ Short → ⊥
   not_short e = cc
+
   pick : (b : Bool) → leb 17 n && leb n 8209 ≡ b → (17 ≤ n) × (n ≤ 8209)
   pick true t = limited n t
   pick false t = absurd (not_short (right (Malformed 0) (rw (e, t) refl)))
@@ -263,14 +269,15 @@ unfolding decoded
 decoded_short bytes e = pick (bind_err (header_in bytes) after Short e) where
   after : Header → Result (PlainFrame × ℕ) FrameFault
   after h = body_in h.kind h.lane h.serial h.left (drop 20 bytes) >>= λ b. Ok (record { lane = h.lane; serial = h.serial; link = h.link; body = b }, 20 + h.left)
+
   pick : (header_in bytes ≡ Err Short) ⊎ ((h : Header) × (header_in bytes ≡ Ok h) × (after h ≡ Err Short)) → IsWaiting bytes
   pick (inl h) =
       let few = header_short bytes h in
       record {
         most = omega (arith, few);
         length_right = λ n e.
-          let l = length_or_short bytes n e (λ d f. fault_is bytes d f h) in
-          (l.0, l.1, omega (arith, l.0, few));
+            let l = length_or_short bytes n e (λ d f. fault_is bytes d f h) in
+            (l.0, l.1, omega (arith, l.0, few));
       }
   pick (inr h) =
       let l = header_length bytes h.0 h.1 in
@@ -279,6 +286,6 @@ decoded_short bytes e = pick (bind_err (header_in bytes) after Short e) where
       record {
         most = omega (arith, few, length-drop 20 bytes, l.2, limits.2);
         length_right = λ n e.
-          let same = same_number l.0 n (sym limits.0 ∙ e) in
-          (omega (arith, same, limits.1), omega (arith, same, limits.2), omega (arith, few, length-drop 20 bytes, l.2, limits.1, same));
+            let same = same_number l.0 n (sym limits.0 ∙ e) in
+            (omega (arith, same, limits.1), omega (arith, same, limits.2), omega (arith, few, length-drop 20 bytes, l.2, limits.1, same));
       }

@@ -1,5 +1,5 @@
 -- The forms of each kind's body.
-use Rattle.std.specs.Prelude.{ℕ, zero, suc, ◌-◌, ◌/◌, Bool, ◌&&◌, ◌||◌, true, false, List, [], ◌∷◌, length, take, drop, Result, Ok, Err, ◌==◌, nat_le, if◌then◌else◌}
+use Rattle.std.specs.Prelude.{ℕ, zero, suc, ◌-◌, ◌/◌, ◌&&◌, ◌||◌, true, false, List, [], ◌∷◌, length, take, drop, Result, Ok, Err, ◌==◌, nat_le, if◌then◌else◌}
 use Rattle.std.specs.Int.{w8, w16, w32, w64, w128, from_be_bytes}
 use Rattle.express_words.specs.declared.audit.ProofShare.{ProofShare}
 use Rattle.express_words.specs.declared.audit.Openings.{Openings}
@@ -12,7 +12,7 @@ use Rattle.frame_rules.specs.declared.fault.FrameFault.TheVariants.{Malformed}
 use Rattle.frame_rules.specs.declared.kind.Kind.{Kind}
 use Rattle.frame_rules.specs.declared.kind.Kind.TheVariants as kinds
 use Rattle.frame_rules.specs.Frames.{PlainBody, Deposit, Register, Write, Read, Proof, Held, Challenge, Registered, Accepted, Message, Refused, LinkRegister, LinkBegin, LinkAudit, LinkSettle, LinkRead, LinkReply, Retire, LinkRetire, LinkBegun, ReplyRegistered, ReplyBegun, ReplyAudited, ReplyAccepted, ReplyRejected, ReplyMasked, ReplyRefused}
-use Rattle.frame_rules.specs.Forms.{◌>>=◌, first_of, word_of, Form, Exactly, Wide, filled, chosen, tagged, nothing, number, word, key}
+use Rattle.frame_rules.specs.Forms.{◌>>=◌, first_of, word_of, Form, Exactly, Wide, filled, tagged, nothing, number, word, key}
 
 -- ---- what a few fields mean
 

@@ -1,6 +1,6 @@
 -- Fields that are judged as they come, and forms of a body.
 use Rattle.std.specs.Prelude.{◌≡◌, ℕ, ◌+◌, ◌-◌, ◌*◌, ◌%◌, Bool, ◌&&◌, List, [], ◌∷◌, length, take, drop, Option, Some, None, Result, Ok, Err, nat_lt, nat_le, ◌==◌, if◌then◌else◌}
-use Rattle.std.specs.Int.{Width, w32, w64, w128, byte_len, from_be_bytes, from_le_bytes}
+use Rattle.std.specs.Int.{Width, w128, byte_len, from_be_bytes, from_le_bytes}
 use Rattle.frame_rules.specs.declared.fault.FrameFault.{FrameFault}
 use Rattle.frame_rules.specs.declared.fault.FrameFault.TheVariants.{Short, Malformed}
 

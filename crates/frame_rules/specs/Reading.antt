@@ -1,12 +1,13 @@
 -- Reading a frame from the front of bytes, field by field in the order of judging, up to the first wrong one.
-use Rattle.std.specs.Prelude.{ℕ, ◌+◌, ◌-◌, ◌*◌, Bool, true, false, ◌&&◌, ◌||◌, List, [], ◌∷◌, length, drop, Option, Some, None, Result, Ok, Err, nat_lt, nat_le, ◌==◌, not, if◌then◌else◌}
+use Rattle.std.specs.Prelude.{ℕ, ◌+◌, ◌-◌, ◌&&◌, ◌||◌, List, length, drop, Option, Some, None, Result, Ok, Err, nat_le, ◌==◌, not, if◌then◌else◌}
 use Rattle.std.specs.Int.{w8, w16, w32, w64}
 use Rattle.frame_rules.specs.declared.fault.FrameFault.{FrameFault}
-use Rattle.frame_rules.specs.declared.fault.FrameFault.TheVariants.{Short, Malformed, Version}
+use Rattle.frame_rules.specs.declared.fault.FrameFault.TheVariants.{Malformed, Version}
 use Rattle.frame_rules.specs.declared.kind.Kind.{Kind}
-use Rattle.frame_rules.specs.Frames.{PlainFrame, PlainBody}
+use Rattle.frame_rules.specs.declared.frame.Frame.{Frame}
+use Rattle.frame_rules.specs.Frames.{PlainFrame, plain}
 use Rattle.frame_rules.specs.Kinds.{kind_numbered, version_of, is_linked, is_refused}
-use Rattle.frame_rules.specs.Forms.{◌>>=◌, number_at}
+use Rattle.frame_rules.specs.Forms.{◌>>=◌, Gives, number_at}
 use Rattle.frame_rules.specs.Bodies.{body_in}
 
 -- the bytes after the length: 17 to 8,209
@@ -67,3 +68,7 @@ decoded bytes = do
   h ← header_in bytes
   body ← body_in h.kind h.lane h.serial h.left (drop 20 bytes)
   Ok (record { lane = h.lane; serial = h.serial; link = h.link; body = body }, 20 + h.left)
+
+-- what decoding answered is what reading gives
+abbrev pub Reads : Result (Frame × ℕ) FrameFault → Result (PlainFrame × ℕ) FrameFault → Type 0
+Reads result read = Gives (λ x. (plain x.0, x.1)) result read

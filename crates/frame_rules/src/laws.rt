@@ -3,6 +3,7 @@ ghost use Rattle.std.specs.Prelude.{◌≡◌, ◌≢◌, ℕ, ◌+◌, ◌<◌,
 ghost use Rattle.frame_rules.specs.Frames.{PlainFrame};
 ghost use Rattle.frame_rules.specs.Spelling.{Spells};
 ghost use Rattle.frame_rules.specs.Reading.{decoded};
+ghost use Rattle.frame_rules.specs.Gathering.{gathered, Gathers};
 ghost use Rattle.frame_rules.specs.declared.fault.FrameFault.{FrameFault as Fault};
 
 use crate::fault::FrameFault;
@@ -11,20 +12,24 @@ use crate::fault::FrameFault;
 pub fn one_spelling()
     ensures one { (f : PlainFrame) (a b : List ℕ) → Spells f a → Spells f b → a ≡ b }
     ensures no_prefix { (f g : PlainFrame) (a more : List ℕ) → Spells f a → Spells g (a ++ more) → (f ≡ g) × (more ≡ []) }
-{
-}
+{}
 
 /// What is read is spelled so, and what is spelled so is read, whatever follows it.
 pub fn read_as_spelled()
     ensures read { (bytes : List ℕ) (f : PlainFrame) (len : ℕ) → All (λ b. b < 256) bytes → decoded bytes ≡ Ok (f, len) → Spells f (take len bytes) × (len ≤ length bytes) }
     ensures again { (f : PlainFrame) (bytes rest : List ℕ) → Spells f bytes → decoded (bytes ++ rest) ≡ Ok (f, length bytes) }
-{
-}
+{}
 
 /// Bytes that end before the frame does are short, and a frame or another fault stays, whatever follows it.
 pub fn judged_once()
     ensures short { (f : PlainFrame) (bytes : List ℕ) (n : ℕ) → Spells f bytes → n < length bytes → decoded (take n bytes) ≡ Err FrameFault.Short }
     ensures frame { (a more : List ℕ) (x : PlainFrame × ℕ) → decoded a ≡ Ok x → decoded (a ++ more) ≡ Ok x }
     ensures fault { (a more : List ℕ) (fault : Fault) → fault ≢ FrameFault.Short → decoded a ≡ Err fault → decoded (a ++ more) ≡ Err fault }
-{
-}
+{}
+
+/// What is held of a stream depends on its bytes alone, and not on the pieces in which they came.
+pub fn gathered_in_any_pieces()
+    ensures pieces { (held a b : List ℕ) → gathered (gathered held a) b ≡ gathered held (a ++ b) }
+    ensures held { (stream : List ℕ) → Gathers stream (gathered [] stream) }
+    ensures only { (stream a b : List ℕ) → Gathers stream a → Gathers stream b → a ≡ b }
+{}

@@ -4,10 +4,8 @@ use Rattle.std.specs.Prelude.{slice_get}
 use Rattle.std.proofs.lemmas.List.{get_or-set_same, get_or-set_other}
 use Rattle.std.proofs.lemmas.Nat.{div-add-mod', mod-mul-add, mod_below}
 use Rattle.std.proofs.lemmas.Bool.{cases_lt}
-use Rattle.std.specs.List.{refill}
 use Rattle.std.proofs.Math.Seq.{take-append_seam}
 use Rattle.circular_buffer.specs.Buffer.{keep_last}
-use Rattle.block_region.specs.Region.{Blocks}
 use Rattle.link_order.specs.Link.{last}
 use Rattle.link_order.specs.Ring.{frames_from}
 
@@ -63,10 +61,6 @@ keep_last-all n xs le = let none : length xs - n ≡ 0 = omega arith in rw none
 pub last-all : (n : ℕ) (xs : List (List ℕ)) → length xs ≤ n → last n xs ≡ xs
 last-all n xs le = let none : length xs - n ≡ 0 = omega arith in rw none
 
--- bytes of a block's own length take the place of its bytes
-pub refill-whole : (xs bytes : List ℕ) → length bytes ≡ length xs → refill (length xs) xs bytes ≡ bytes
-refill-whole xs bytes e = rw (← e) (take-append_seam bytes (drop (length bytes) xs))
-
 -- a frame that is read at a place: its number is the newest one's less the newer ones
 pub frame-read : (blocks : List (List ℕ)) (w pushed : ℕ) (ls : List ℕ) (k length_read number : ℕ) (block : List ℕ) → k < length ls → length ls ≤ pushed →
     number ≡ pushed - (length ls - 1 - k) → length_read ≡ get_or ls k 0 → block ≡ get_or blocks (number % w) [] →
@@ -113,6 +107,3 @@ length-kept n xs = omega (arith, length-drop (length xs - n) xs)
 
 pub length-kept-le : (n : ℕ) (xs : List ℕ) → length (keep_last n xs) ≤ length xs
 length-kept-le n xs = omega (arith, length-drop (length xs - n) xs)
-
-abbrev pub with_bytes : Blocks → ℕ → List ℕ → Blocks
-with_bytes b index bytes = record { size = b.size; blocks = set b.blocks index bytes }

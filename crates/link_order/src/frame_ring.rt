@@ -75,7 +75,7 @@ impl FrameRing {
     {
         self.pushed += 1;
         let index = (self.pushed % self.window) as usize;
-        store(&mut self.blocks, index, frame);
+        self.blocks.write(index, frame);
         self.lengths.push_back(frame.len());
     }
 
@@ -103,20 +103,4 @@ fn length_at(lengths: &HeapCircularBuffer<usize>, place: usize) -> usize
     ensures { result ≡ slice_index lengths.now.items place }
 {
     lengths.get(place).copied().unwrap_or(0)
-}
-
-// Writes a frame to the front of a block.
-fn store(blocks: &mut BlockArray, index: usize, frame: &[u8])
-    requires block { index < length blocks.old.blocks }
-    requires fits { length frame.now ≤ blocks.old.size }
-    ensures { blocks.new ≡ record { size = blocks.old.size; blocks = slice_set blocks.old.blocks index (frame.now ++ drop (length frame.now) (slice_index_or blocks.old.blocks index [])) } }
-{
-    write_front(blocks.get_mut(index), frame);
-}
-
-fn write_front(block: &mut [u8], frame: &[u8])
-    requires { length frame.now ≤ length block.old }
-    ensures { block.new ≡ frame.now ++ drop (length frame.now) block.old }
-{
-    block[..frame.len()].copy_from_slice(frame);
 }

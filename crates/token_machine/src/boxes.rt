@@ -52,10 +52,15 @@ impl Table {
     /// A new box for the lane.
     fn grow(&mut self, lane: usize, address: u128) -> Result<(), Fault>
         requires { lane < length self.old.owners.items }
-        ensures boxes { OnOk result ((table_of self.new).boxes ≡ (table_of self.old).boxes ++ new_box self.old.width address ∷ []) }
-        ensures got { OnOk result ((table_of self.new).got ≡ (λ d. if nat_eq d lane then (table_of self.old).got lane ++ length (table_of self.old).boxes ∷ [] else (table_of self.old).got d)) }
+        ensures boxes { OnOk result ((table_of self.new).boxes
+            ≡ (table_of self.old).boxes ++ new_box self.old.width address ∷ []) }
+        ensures got { OnOk result ((table_of self.new).got
+            ≡ (λ d. if nat_eq d lane
+            then (table_of self.old).got lane ++ length (table_of self.old).boxes ∷ []
+            else (table_of self.old).got d)) }
         ensures count { OnOk result ((table_of self.new).count ≡ (table_of self.old).count) }
-        ensures settings { OnOk result ((self.new.width ≡ self.old.width) × (self.new.limit ≡ self.old.limit)) }
+        ensures settings { OnOk result (
+            (self.new.width ≡ self.old.width) × (self.new.limit ≡ self.old.limit)) }
     {
         let number = self.boxes.len();
         push(
@@ -71,8 +76,11 @@ impl Table {
     /// A new box for the lane, where its address stands at none and there is room.
     pub fn add_box(&mut self, lane: usize, address: u128) -> Result<(), Fault>
         requires { lane < length self.old.owners.items }
-        ensures table { OnOk result (table_of self.new ≡ after_register self.old.limit self.old.width (table_of self.old) lane address (box_of address (table_of self.old).boxes)) }
-        ensures settings { OnOk result ((self.new.width ≡ self.old.width) × (self.new.limit ≡ self.old.limit)) }
+        ensures table { OnOk result (table_of self.new
+            ≡ after_register self.old.limit self.old.width (table_of self.old) lane address
+            (box_of address (table_of self.old).boxes)) }
+        ensures settings { OnOk result (
+            (self.new.width ≡ self.old.width) × (self.new.limit ≡ self.old.limit)) }
     {
         if self.box_of(address).is_some() {
             return Ok(());
@@ -95,7 +103,9 @@ impl Table {
     /// The lane's own box is retired.
     pub fn retire_box(&mut self, lane: usize, own: usize)
         requires { lane < length self.old.owners.items }
-        ensures table { table_of self.new ≡ after_clearing self.old.width false (table_of self.old) (number_of (table_of self.old) lane (Own own)) }
+        ensures table { table_of self.new
+            ≡ after_clearing self.old.width false (table_of self.old) (number_of
+            (table_of self.old) lane (Own own)) }
         ensures settings { (self.new.width ≡ self.old.width) × (self.new.limit ≡ self.old.limit) }
     {
         if let Some(number) = self.own_box(lane, own) {
@@ -109,8 +119,11 @@ impl Table {
     #[tactic(auto, unfolding(mailbox_rules::specs::Tables::after_line))]
     pub fn carry_out(&mut self, line: Line, operation: Operation) -> Result<(), Fault>
         requires { line.lane < length self.old.owners.items }
-        ensures table { OnOk result (table_of self.new ≡ after_line self.old.limit self.old.width no_writes (table_of self.old) (line_of line) (operation_of operation)) }
-        ensures settings { OnOk result ((self.new.width ≡ self.old.width) × (self.new.limit ≡ self.old.limit)) }
+        ensures table { OnOk result (table_of self.new
+            ≡ after_line self.old.limit self.old.width no_writes (table_of self.old)
+            (line_of line) (operation_of operation)) }
+        ensures settings { OnOk result (
+            (self.new.width ≡ self.old.width) × (self.new.limit ≡ self.old.limit)) }
     {
         match operation {
             Operation::AddBox { address } => self.add_box(line.lane, address),

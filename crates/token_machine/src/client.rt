@@ -49,7 +49,11 @@ impl Machine {
     /// The client's step is this one.
     pub fn set_step(&mut self, client: usize, step: Step)
         requires { client < length self.old.clients.items }
-        ensures step { world self.new ≡ record (world self.old) { lanes = put (world self.old).lanes client (record ((world self.old).lanes client) { step = step_of step }) } }
+        ensures step { world self.new
+            ≡ record (world self.old) {
+              lanes = put (world self.old).lanes client (record
+                  ((world self.old).lanes client) { step = step_of step });
+            } }
         ensures clients { length self.new.clients.items ≡ length self.old.clients.items }
     {
         self.clients[client].step = step;
@@ -58,8 +62,11 @@ impl Machine {
     /// One more request of the client waits.
     pub fn wait(&mut self, client: usize, request: Request) -> Result<(), Fault>
         requires { client < length self.old.clients.items }
-        ensures waiting { OnOk result (world self.new ≡ waits (world self.old) client (((world self.old).requests client).waiting ++ request_of request ∷ [])) }
-        ensures clients { OnOk result (length self.new.clients.items ≡ length self.old.clients.items) }
+        ensures waiting { OnOk result (world self.new
+            ≡ waits (world self.old) client (((world self.old).requests client).waiting
+            ++ request_of request ∷ [])) }
+        ensures clients { OnOk result (length self.new.clients.items
+            ≡ length self.old.clients.items) }
     {
         push(&mut self.clients[client].waiting, request)?;
         Ok(())
@@ -68,8 +75,10 @@ impl Machine {
     /// The client's next request, which no longer waits.
     pub fn next_waiting(&mut self, client: usize) -> Option<Request>
         requires { client < length self.old.clients.items }
-        ensures none { IfNone result ((world self.new ≡ world self.old) × (((world self.old).requests client).waiting ≡ [])) }
-        ensures some { IfSome result (λ request. IsNext (world self.old) (world self.new) client (request_of request)) }
+        ensures none { IfNone result ((world self.new
+            ≡ world self.old) × (((world self.old).requests client).waiting ≡ [])) }
+        ensures some { IfSome result (λ request. IsNext (world self.old) (world self.new) client
+            (request_of request)) }
         ensures clients { length self.new.clients.items ≡ length self.old.clients.items }
         ensures table { self.new.table ≡ self.old.table }
     {
@@ -83,8 +92,10 @@ impl Machine {
     /// The client's request has its outcome, and it has no current request.
     pub fn note(&mut self, client: usize, told: Told) -> Result<(), Fault>
         requires { client < length self.old.clients.items }
-        ensures noted { OnOk result (world self.new ≡ notes (world self.old) client (told_of told)) }
-        ensures clients { OnOk result (length self.new.clients.items ≡ length self.old.clients.items) }
+        ensures noted { OnOk result (world self.new
+            ≡ notes (world self.old) client (told_of told)) }
+        ensures clients { OnOk result (length self.new.clients.items
+            ≡ length self.old.clients.items) }
         ensures table { OnOk result (self.new.table ≡ self.old.table) }
     {
         let current = &mut self.clients[client];
@@ -127,7 +138,9 @@ impl Machine {
     /// The request is its client's current one.
     pub fn take(&mut self, client: usize, request: Request) -> Result<(), Fault>
         requires { client < length self.old.clients.items }
-        ensures taken { OnOk result (world self.new ≡ takes (world self.old) client (request_of request) ((world self.old).requests client).waiting) }
+        ensures taken { OnOk result (world self.new
+            ≡ takes (world self.old) client (request_of request)
+            ((world self.old).requests client).waiting) }
     {
         let current = &mut self.clients[client];
         let serial = current.serial.checked_add(1).ok_or(Fault::TooLarge)?;
@@ -141,7 +154,8 @@ impl Machine {
     /// The client goes on to the next request that waits and isn't refused at once.
     pub fn go_on(&mut self, client: usize) -> Result<(), Fault>
         requires { client < length self.old.clients.items }
-        ensures moved { OnOk result (world self.new ≡ goes_on (world self.old) client ((world self.old).requests client).waiting) }
+        ensures moved { OnOk result (world self.new
+            ≡ goes_on (world self.old) client ((world self.old).requests client).waiting) }
     {
         owned(self, client)?;
         for _taken in 0..self.count_waiting(client) {
@@ -184,7 +198,8 @@ impl Machine {
     /// The client's current request is finished, and the client goes on to the next.
     pub fn finish_request(&mut self, client: usize, serial: usize) -> Result<(), Fault>
         requires { client < length self.old.clients.items }
-        ensures moved { OnOk result (world self.new ≡ client_moves (world self.old) client serial Finishes) }
+        ensures moved { OnOk result (world self.new
+            ≡ client_moves (world self.old) client serial Finishes) }
     {
         let opening = self.opening(client);
         self.note(client, Told::Answered { serial, opening })?;
@@ -195,7 +210,8 @@ impl Machine {
     /// What the client hears comes to it.
     pub fn hear(&mut self, client: usize, serial: usize, heard: Heard) -> Result<(), Fault>
         requires { client < length self.old.clients.items }
-        ensures moved { OnOk result (world self.new ≡ client_hears (world self.old) client serial (heard_kind heard)) }
+        ensures moved { OnOk result (world self.new
+            ≡ client_hears (world self.old) client serial (heard_kind heard)) }
     {
         if serial != self.serial(client) {
             return Ok(());
@@ -221,7 +237,8 @@ impl Machine {
 
     /// The client is asked.
     pub fn ask(&mut self, client: usize, request: Request) -> Result<(), Fault>
-        ensures moved { OnOk result (world self.new ≡ asks (world self.old) client (request_of request)) }
+        ensures moved { OnOk result (world self.new
+            ≡ asks (world self.old) client (request_of request)) }
     {
         known(self, client)?;
         let rests = self.rests(client);
@@ -236,7 +253,8 @@ impl Machine {
     #[tactic(auto, unfolding(token_rules::specs::Run::frame_of))]
     pub fn frame(&self, client: usize) -> Option<Token>
         requires { client < length self.now.clients.items }
-        ensures frame { let lane = (world self.now).lanes client in frames_of result ≡ frame_of lane.step client lane.serial lane.opening }
+        ensures frame { let lane = (world self.now).lanes client in frames_of result
+            ≡ frame_of lane.step client lane.serial lane.opening }
     {
         let current = &self.clients[client];
         let lane = client;

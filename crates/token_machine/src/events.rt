@@ -28,7 +28,8 @@ pub enum Event {
 impl Machine {
     /// A deposit comes to the helper.
     pub fn deposit_comes(&mut self, lane: usize, serial: usize) -> Result<(), Fault>
-        ensures moved { let w = world self.old in OnOk result (world self.new ≡ at_helper w lane serial (deposit_step serial (w.lanes lane).helper)) }
+        ensures moved { let w = world self.old in OnOk result (world self.new
+            ≡ at_helper w lane serial (deposit_step serial (w.lanes lane).helper)) }
     {
         known(self, lane)?;
         let row = self.helper_row(lane);
@@ -38,7 +39,8 @@ impl Machine {
 
     /// A proof comes to the helper.
     pub fn helper_proof_comes(&mut self, lane: usize, serial: usize) -> Result<(), Fault>
-        ensures moved { let w = world self.old in OnOk result (world self.new ≡ at_helper w lane serial (helper_proof_step serial (w.lanes lane).helper)) }
+        ensures moved { let w = world self.old in OnOk result (world self.new
+            ≡ at_helper w lane serial (helper_proof_step serial (w.lanes lane).helper)) }
     {
         known(self, lane)?;
         let row = self.helper_row(lane);
@@ -53,7 +55,9 @@ impl Machine {
         serial: usize,
         command: Command,
     ) -> Result<(), Fault>
-        ensures moved { let w = world self.old in OnOk result (world self.new ≡ at_leader w lane serial (submission_step (is_full w) serial (command_of command) (w.lanes lane).leader)) }
+        ensures moved { let w = world self.old in OnOk result (world self.new
+            ≡ at_leader w lane serial (submission_step (is_full w) serial (command_of command)
+            (w.lanes lane).leader)) }
     {
         known(self, lane)?;
         let row = self.leader_row(lane);
@@ -64,7 +68,9 @@ impl Machine {
 
     /// A proof comes to the leader.
     pub fn leader_proof_comes(&mut self, lane: usize, serial: usize) -> Result<(), Fault>
-        ensures moved { let w = world self.old in OnOk result (world self.new ≡ at_leader w lane serial (leader_proof_step (is_full w) serial (w.lanes lane).leader)) }
+        ensures moved { let w = world self.old in OnOk result (world self.new
+            ≡ at_leader w lane serial (leader_proof_step (is_full w) serial
+            (w.lanes lane).leader)) }
     {
         known(self, lane)?;
         let row = self.leader_row(lane);
@@ -75,7 +81,8 @@ impl Machine {
 
     /// What a client hears comes to it, where there is such a client.
     pub fn heard(&mut self, client: usize, serial: usize, heard: Heard) -> Result<(), Fault>
-        ensures moved { OnOk result (world self.new ≡ client_hears (world self.old) client serial (heard_kind heard)) }
+        ensures moved { OnOk result (world self.new
+            ≡ client_hears (world self.old) client serial (heard_kind heard)) }
     {
         known(self, client)?;
         self.hear(client, serial, heard)?;
@@ -85,7 +92,8 @@ impl Machine {
     /// A token comes to its addressee.
     #[tactic(auto, unfolding(token_rules::specs::Run::comes))]
     pub fn comes(&mut self, token: Token) -> Result<(), Fault>
-        ensures moved { (o : Oracle) → OnOk result (world self.new ≡ comes o (world self.old) (token_of token)) }
+        ensures moved { (o : Oracle) → OnOk result (world self.new
+            ≡ comes o (world self.old) (token_of token)) }
     {
         match token {
             Token::Deposit { lane, serial } => self.deposit_comes(lane, serial)?,
@@ -110,7 +118,8 @@ impl Machine {
     /// A token of the pool is delivered, if there is one of that number.
     #[tactic(auto, unfolding(token_rules::specs::Run::delivers_at, token_rules::specs::Run::delivers))]
     pub fn deliver_at(&mut self, number: usize) -> Result<(), Fault>
-        ensures moved { (o : Oracle) → OnOk result (world self.new ≡ delivers_at o (world self.old) number) }
+        ensures moved { (o : Oracle) → OnOk result (world self.new
+            ≡ delivers_at o (world self.old) number) }
     {
         if let Some(token) = self.pool.get(number).copied() {
             self.comes(token)?;
@@ -121,7 +130,8 @@ impl Machine {
     /// The oldest outstanding command goes to the helper once more, and the helper's reply to the leader.
     #[tactic(auto, unfolding(token_rules::specs::Run::drain_round))]
     pub fn drain_round(&mut self) -> Result<(), Fault>
-        ensures moved { (o : Oracle) → OnOk result (world self.new ≡ drain_round o (world self.old)) }
+        ensures moved { (o : Oracle) → OnOk result (world self.new
+            ≡ drain_round o (world self.old)) }
     {
         let command = self.pool.len();
         let answer = command.checked_add(1).ok_or(Fault::TooLarge)?;
@@ -133,7 +143,8 @@ impl Machine {
 
     /// Tells whether a command is outstanding.
     pub fn is_outstanding(&self) -> bool
-        ensures outstanding { result ≡ nat_lt (world self.now).acknowledged (length (world self.now).commands) }
+        ensures outstanding { result
+            ≡ nat_lt (world self.now).acknowledged (length (world self.now).commands) }
     {
         self.acknowledged < self.commands.len()
     }
@@ -165,7 +176,8 @@ impl Machine {
     /// The last token for the client since that place of the pool is delivered.
     #[tactic(auto, unfolding(token_rules::specs::Run::handed_last, token_rules::specs::Run::delivers))]
     pub fn hand_last(&mut self, client: usize, before: usize) -> Result<(), Fault>
-        ensures moved { (o : Oracle) → OnOk result (world self.new ≡ handed_last o (world self.old) client before) }
+        ensures moved { (o : Oracle) → OnOk result (world self.new
+            ≡ handed_last o (world self.old) client before) }
     {
         if let Some(token) = last_for(&self.pool, client, before) {
             self.comes(token)?;
@@ -176,7 +188,8 @@ impl Machine {
     /// The client's present frame is sent and delivered, and the link drained.
     #[tactic(auto, unfolding(token_rules::specs::Run::sent_and_drained))]
     pub fn send_and_drain(&mut self, client: usize) -> Result<(), Fault>
-        ensures moved { (o : Oracle) → OnOk result (world self.new ≡ sent_and_drained o (world self.old) client) }
+        ensures moved { (o : Oracle) → OnOk result (world self.new
+            ≡ sent_and_drained o (world self.old) client) }
     {
         let frame = self.pool.len();
         self.send_frame(client)?;
@@ -188,7 +201,8 @@ impl Machine {
     /// A round of `finish`.
     #[tactic(auto, unfolding(token_rules::specs::Run::finish_round))]
     pub fn finish_round(&mut self, client: usize) -> Result<(), Fault>
-        ensures moved { (o : Oracle) → OnOk result (world self.new ≡ finish_round o (world self.old) client) }
+        ensures moved { (o : Oracle) → OnOk result (world self.new
+            ≡ finish_round o (world self.old) client) }
     {
         self.drain()?;
         let before = self.pool.len();
@@ -199,7 +213,8 @@ impl Machine {
 
     /// All requests of the client are finished.
     pub fn finish(&mut self, client: usize) -> Result<(), Fault>
-        ensures moved { (o : Oracle) → OnOk result (world self.new ≡ finished o (world self.old) client) }
+        ensures moved { (o : Oracle) → OnOk result (world self.new
+            ≡ finished o (world self.old) client) }
     {
         known(self, client)?;
         let waiting = self.count_waiting(client);
@@ -218,7 +233,8 @@ impl Machine {
     /// An event of the schedule.
     #[tactic(auto, unfolding(token_rules::specs::Run::happens))]
     pub fn happens(&mut self, event: Event) -> Result<(), Fault>
-        ensures moved { (o : Oracle) → OnOk result (world self.new ≡ happens o (world self.old) (event_of event)) }
+        ensures moved { (o : Oracle) → OnOk result (world self.new
+            ≡ happens o (world self.old) (event_of event)) }
     {
         match event {
             Event::Ask { client, request } => self.ask(client, request)?,
@@ -247,7 +263,8 @@ pub fn is_for(client: usize, token: Token) -> bool
 
 /// The last token for a client, from this place of the pool on.
 pub fn last_for(pool: &[Token], client: usize, before: usize) -> Option<Token>
-    ensures last { option_map token_of result ≡ last_for client None (drop before (map token_of pool.now)) }
+    ensures last { option_map token_of result
+        ≡ last_for client None (drop before (map token_of pool.now)) }
 {
     let mut found = None;
     for number in before..pool.len() {

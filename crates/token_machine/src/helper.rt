@@ -19,7 +19,8 @@ use crate::tokens::Token;
 impl Machine {
     /// The helper answers a frame of the lane.
     pub fn helper_says(&mut self, lane: usize, serial: usize, says: HelperSays) -> Result<(), Fault>
-        ensures said { OnOk result (world self.new ≡ sends_all (world self.old) (helper_tokens lane serial (helper_says_of says))) }
+        ensures said { OnOk result (world self.new
+            ≡ sends_all (world self.old) (helper_tokens lane serial (helper_says_of says))) }
     {
         match says {
             HelperSays::Nothing => {}
@@ -33,7 +34,8 @@ impl Machine {
     /// The lane's row goes on at the helper, which answers.
     pub fn at_helper(&mut self, lane: usize, serial: usize, step: HelperStep) -> Result<(), Fault>
         requires { lane < length self.old.clients.items }
-        ensures moved { OnOk result (world self.new ≡ at_helper (world self.old) lane serial (helper_step_of step)) }
+        ensures moved { OnOk result (world self.new
+            ≡ at_helper (world self.old) lane serial (helper_step_of step)) }
     {
         self.set_helper(lane, step.row);
         self.helper_says(lane, serial, step.says)?;
@@ -43,7 +45,8 @@ impl Machine {
     /// What a line does: what its client asked.
     pub fn operation(&self, line: Line) -> Operation
         requires { line.lane < length self.now.clients.items }
-        ensures asked { operation_of result ≡ operation_by (sent_of (world self.now)) (line_of line) }
+        ensures asked { operation_of result
+            ≡ operation_by (sent_of (world self.now)) (line_of line) }
     {
         let request = self.clients[line.lane]
             .sent
@@ -64,7 +67,12 @@ impl Machine {
 
     /// The table of boxes goes on by a line that does this.
     pub fn note_line(&mut self, line: Line, operation: Operation) -> Result<(), Fault>
-        ensures table { OnOk result (world self.new ≡ record (world self.old) { table = after_line (world self.old).limit (world self.old).width no_writes (world self.old).table (line_of line) (operation_of operation) }) }
+        ensures table { OnOk result (world self.new
+            ≡ record (world self.old) {
+              table = after_line (world self.old).limit
+                  (world self.old).width no_writes (world self.old).table (line_of line)
+                  (operation_of operation);
+            }) }
         ensures clients { OnOk result (self.new.clients ≡ self.old.clients) }
     {
         owned(self, line.lane)?;
@@ -74,7 +82,11 @@ impl Machine {
 
     /// The journal has one more line, and what it did.
     pub fn log(&mut self, line: Line, operation: Operation) -> Result<(), Fault>
-        ensures logged { OnOk result (world self.new ≡ record (world self.old) { journal = (world self.old).journal ++ line_of line ∷ []; operations = (world self.old).operations ++ operation_of operation ∷ [] }) }
+        ensures logged { OnOk result (world self.new
+            ≡ record (world self.old) {
+              journal = (world self.old).journal ++ line_of line ∷ [];
+              operations = (world self.old).operations ++ operation_of operation ∷ [];
+            }) }
     {
         push(&mut self.journal, line)?;
         push(&mut self.operations, operation)?;
@@ -83,7 +95,8 @@ impl Machine {
 
     /// One more command was carried out.
     pub fn count_carried(&mut self) -> Result<usize, Fault>
-        ensures counted { OnOk result (world self.new ≡ record (world self.old) { carried = (world self.old).carried + 1 }) }
+        ensures counted { OnOk result (world self.new
+            ≡ record (world self.old) { carried = (world self.old).carried + 1 }) }
         ensures number { IfOk result (λ number. number ≡ (world self.old).carried + 1) }
     {
         let number = self.carried.checked_add(1).ok_or(Fault::TooLarge)?;
@@ -93,7 +106,9 @@ impl Machine {
 
     /// The helper carries out its next command.
     pub fn carry(&mut self, line: Line) -> Result<(), Fault>
-        ensures carried { OnOk result (world self.new ≡ carries (world self.old) (line_of line) (carried_row (line_of line)) (operation_by (sent_of (world self.old)) (line_of line)) (world self.old).contents) }
+        ensures carried { OnOk result (world self.new
+            ≡ carries (world self.old) (line_of line) (carried_row (line_of line)) (operation_by
+            (sent_of (world self.old)) (line_of line)) (world self.old).contents) }
     {
         known(self, line.lane)?;
         let operation = self.operation(line);
@@ -108,7 +123,9 @@ impl Machine {
     /// A command comes to the helper.
     #[tactic(auto, unfolding(token_rules::specs::Run::command_comes, token_rules::specs::Run::carries_next))]
     pub fn command_comes(&mut self, number: usize, line: Line) -> Result<(), Fault>
-        ensures moved { (o : Oracle) → OnOk result (world self.new ≡ command_comes o (world self.old) number (line_of line) (arrival_of self.old.window self.old.carried number)) }
+        ensures moved { (o : Oracle) → OnOk result (world self.new
+            ≡ command_comes o (world self.old) number (line_of line)
+            (arrival_of self.old.window self.old.carried number)) }
     {
         match arrival_at(self.window, self.carried, number) {
             Arrival::Next => self.carry(line)?,

@@ -27,7 +27,8 @@ impl Machine {
 
     /// The leader sends the reply that it keeps in a row, if there is one.
     pub fn send_kept(&mut self, lane: usize, serial: usize, phase: Phase) -> Result<(), Fault>
-        ensures sent { OnOk result (world self.new ≡ sends_all (world self.old) (kept lane serial (phase_of phase))) }
+        ensures sent { OnOk result (world self.new
+            ≡ sends_all (world self.old) (kept lane serial (phase_of phase))) }
     {
         match phase {
             Phase::Challenged => self.send(Token::Challenge { lane, serial })?,
@@ -46,7 +47,8 @@ impl Machine {
         phase: Phase,
         says: LeaderSays,
     ) -> Result<(), Fault>
-        ensures said { OnOk result (world self.new ≡ leader_says (world self.old) lane serial (phase_of phase) (leader_says_of says)) }
+        ensures said { OnOk result (world self.new
+            ≡ leader_says (world self.old) lane serial (phase_of phase) (leader_says_of says)) }
     {
         match says {
             LeaderSays::Nothing => {}
@@ -64,7 +66,8 @@ impl Machine {
     /// The lane's row goes on at the leader, which answers.
     pub fn at_leader(&mut self, lane: usize, serial: usize, step: LeaderStep) -> Result<(), Fault>
         requires { lane < length self.old.clients.items }
-        ensures moved { OnOk result (world self.new ≡ at_leader (world self.old) lane serial (leader_step_of step)) }
+        ensures moved { OnOk result (world self.new
+            ≡ at_leader (world self.old) lane serial (leader_step_of step)) }
     {
         self.set_leader(lane, step.row);
         self.leader_says(lane, serial, step.row.phase, step.says)?;
@@ -82,7 +85,9 @@ impl Machine {
 
     /// Tells whether a reply is to the oldest outstanding command.
     pub fn is_oldest(&self, number: usize) -> bool
-        ensures oldest { result ≡ (nat_eq number (self.now.acknowledged + 1) && nat_lt self.now.acknowledged (length self.now.commands.items)) }
+        ensures oldest { result
+            ≡ (nat_eq number (self.now.acknowledged + 1)
+            && nat_lt self.now.acknowledged (length self.now.commands.items)) }
     {
         number > self.acknowledged
             && number - self.acknowledged == 1
@@ -91,7 +96,9 @@ impl Machine {
 
     /// The reply to the oldest outstanding command is applied.
     pub fn apply(&mut self, line: Line) -> Result<(), Fault>
-        ensures applied { OnOk result (world self.new ≡ at_leader (acknowledges (world self.old)) line.lane line.serial (reply_step line.serial (command_of line.command))) }
+        ensures applied { OnOk result (world self.new
+            ≡ at_leader (acknowledges (world self.old)) line.lane line.serial
+            (reply_step line.serial (command_of line.command))) }
     {
         known(self, line.lane)?;
         self.acknowledge()?;
@@ -102,7 +109,8 @@ impl Machine {
     /// A reply comes to the leader.
     #[tactic(auto, unfolding(token_rules::specs::Run::reply_comes, token_rules::specs::Run::reply_applied))]
     pub fn reply_comes(&mut self, number: usize, line: Line) -> Result<(), Fault>
-        ensures moved { (o : Oracle) → OnOk result (world self.new ≡ reply_comes o (world self.old) number (line_of line)) }
+        ensures moved { (o : Oracle) → OnOk result (world self.new
+            ≡ reply_comes o (world self.old) number (line_of line)) }
     {
         if self.is_oldest(number) {
             self.apply(line)?;

@@ -23,7 +23,8 @@ pub struct LeaderStep {
 
 /// A frame of the row's serial comes to the leader once more.
 fn repeated(row: Row) -> LeaderStep
-    ensures step { leader_step_of result ≡ leader_step (row_of row) (repeat_says (row_of row).phase) }
+    ensures step { leader_step_of result
+        ≡ leader_step (row_of row) (repeat_says (row_of row).phase) }
 {
     let says = match row.phase {
         Phase::Challenged | Phase::Done => LeaderSays::Kept,
@@ -35,7 +36,8 @@ fn repeated(row: Row) -> LeaderStep
 /// A submission comes to the leader's row.
 #[tactic(auto, unfolding(token_rules::specs::Rows::submission_step))]
 pub fn submission(full: bool, row: Row, serial: usize, command: Command) -> LeaderStep
-    ensures step { leader_step_of result ≡ submission_step full serial (command_of command) (row_of row) }
+    ensures step { leader_step_of result
+        ≡ submission_step full serial (command_of command) (row_of row) }
 {
     if serial < row.serial {
         LeaderStep {

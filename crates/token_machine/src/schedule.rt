@@ -95,7 +95,8 @@ impl Machine {
         window: usize,
         clients: usize,
     ) -> Result<Machine, Fault>
-        ensures start { IfOk result (λ machine. world machine ≡ start width limit window (λ c. false)) }
+        ensures start { IfOk result (λ machine. world machine
+            ≡ start width limit window (λ c. false)) }
     {
         let mut machine = Machine::new(alloc, width, limit, window);
         for _client in 0..clients {
@@ -106,7 +107,8 @@ impl Machine {
 
     /// Plays a schedule's events.
     pub fn play(&mut self, events: &[Event]) -> Result<(), Fault>
-        ensures played { (o : Oracle) → OnOk result (world self.new ≡ run o (world self.old) (map event_of events.now)) }
+        ensures played { (o : Oracle) → OnOk result (world self.new
+            ≡ run o (world self.old) (map event_of events.now)) }
     {
         for event in events {
             self.happens(*event)?;

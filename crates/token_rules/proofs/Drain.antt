@@ -5,12 +5,12 @@ use Rattle.std.proofs.lemmas.Option.{slice_get_within}
 use Rattle.mailbox_rules.specs.Requests.{Audits, Begins, Command, Line, Operation, Reads, Registers, Retires, Settles}
 use Rattle.token_rules.specs.Tokens.{Act, Answer, Auditing, Challenge, Challenged, Content, Contents, Done, Foreign, HeldDeposit, HeldProof, Lane, Later, Oracle, Ordered, Replied, Row, Token, World, put, row}
 use Rattle.token_rules.specs.Rows.{Arrival, arrival_of}
-use Rattle.token_rules.specs.Run.{acknowledges, carries, carries_next, comes, command_comes, delivers, delivers_at, drain_round, drained, drains, foreign_at_leader, foreign_reply_comes, foreign_tokens, is_for, reply_applied, reply_comes, resends, sends, ticks, with_contents}
+use Rattle.token_rules.specs.Run.{acknowledges, carries, carries_next, comes, command_comes, delivers, delivers_at, drain_round, drained, drains, foreign_at_leader, foreign_reply_comes, foreign_tokens, is_for, line_of, reply_applied, reply_comes, resends, sends, ticks, with_contents}
 use Rattle.token_rules.specs.Laws.{IsBusy, IsFitting}
+use Rattle.token_rules.specs.Stages.{Fits, Opened, Settled, Stage}
+use Rattle.token_rules.specs.Invariant.{Coherent, Each}
 use Rattle.token_rules.proofs.Cases.{acks, acks_is, answers, issues_for}
-use Rattle.token_rules.proofs.Lists.{Each, each_append, each_none, each_one, get_end, get_left}
-use Rattle.token_rules.proofs.Stages.{Fits, Opened, Settled, Stage}
-use Rattle.token_rules.proofs.Coherent.{Coherent, line_of}
+use Rattle.token_rules.proofs.Lists.{each_append, each_none, each_one, get_end, get_left}
 use Rattle.token_rules.proofs.Handlers.{Steady}
 use Rattle.token_rules.proofs.Events.{delivers_at_kept, drain_round_kept, ticks_kept}
 

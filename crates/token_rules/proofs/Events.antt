@@ -4,9 +4,9 @@ use Rattle.std.proofs.lemmas.Bool.{eqb-true, cond_both}
 use Rattle.mailbox_rules.specs.Requests.{Line, Request}
 use Rattle.token_rules.specs.Tokens.{Injected, Oracle, Token, World, start}
 use Rattle.token_rules.specs.Run.{Ask, Deliver, Event, Finish, Inject, Send, Tick, asks, client_sends, delivers, delivers_at, drain_round, drained, drains, finish_round, finished, finishes, frame_of, handed_last, happens, is_for, last_for, resends, run, sent_and_drained, ticks}
-use Rattle.token_rules.proofs.Lists.{Each, each_none, each_one}
-use Rattle.token_rules.proofs.Stages.{Rested, Stage}
-use Rattle.token_rules.proofs.Coherent.{Claims, Coherent, state}
+use Rattle.token_rules.specs.Stages.{Rested, Stage}
+use Rattle.token_rules.specs.Invariant.{Claims, Coherent, Each, state}
+use Rattle.token_rules.proofs.Lists.{each_none, each_one}
 use Rattle.token_rules.proofs.Moves.{add_tokens}
 use Rattle.token_rules.proofs.Fitting.{heard_at, numbered_at, proving_at, rested, trusted_at}
 use Rattle.token_rules.proofs.Handlers.{Steady, add_token, comes_kept, goes_on_kept, waits_kept}

@@ -7,10 +7,10 @@ use Rattle.mailbox_rules.specs.Requests.{Audits, Begins, Command, Request}
 use Rattle.token_rules.specs.Tokens.{Answer, Answered, Auditing, Begun, Challenge, Challenged, Deposit, Deposited, Done, Foreign, HeldDeposit, HeldProof, Lane, Later, NoOwnBox, Oracle, Ordered, Phase, ProofToHelper, ProofToLeader, Proved, Submission, Token, Waiting, World, put, row, start}
 use Rattle.token_rules.specs.Run.{Event, Finish, client_sends, comes, delivers, delivers_at, drained, finish_round, finished, finishes, frame_of, goes_on, handed_last, happens, is_for, is_full, is_refused, last_for, notes, run, sends, sent_and_drained}
 use Rattle.token_rules.specs.Laws.{IsBusy, IsFitting}
+use Rattle.token_rules.specs.Stages.{Asked, Fits, Heard, Invited, Noted, Opened, Opening, Proving, Rested, Served, Shown, Stage, last_step}
+use Rattle.token_rules.specs.Invariant.{Coherent, Each}
 use Rattle.token_rules.proofs.Cases.{answer_comes, comes_by, comes_is, deposit_comes, helper_proof_comes, issues_for, leader_proof_comes, proof_at_helper, proof_at_leader, repeats, steps_on, submission_comes}
-use Rattle.token_rules.proofs.Lists.{Each, each_none, each_one, get_end}
-use Rattle.token_rules.proofs.Stages.{Asked, Fits, Heard, Invited, Noted, Opened, Opening, Proving, Rested, Served, Shown, Stage, last_step}
-use Rattle.token_rules.proofs.Coherent.{Coherent}
+use Rattle.token_rules.proofs.Lists.{each_none, each_one, get_end}
 use Rattle.token_rules.proofs.Events.{always_coherent, client_sends_kept, delivers_at_kept, drained_kept, finish_round_kept}
 use Rattle.token_rules.proofs.Laws.{coherent_tells}
 use Rattle.token_rules.proofs.Drain.{Found, Goes, Useful, delivers_is, drained_goes, found_left, found_right, goes_then, ordered_useful, put_here, put_keeps}

@@ -3,7 +3,8 @@ use Rattle.std.proofs.Common.{◌≡◌, ℕ, zero, suc, ◌+◌, ◌-◌, ◌*�
 use Rattle.mailbox_rules.specs.Requests.{Audits, Begins, Command, Read, Reads, Register, Registers, Request, Retire, Retires, Settles, Write, opening_of}
 use Rattle.token_rules.specs.Tokens.{Auditing, Begun, Challenged, Deposited, Done, Lane, Proved, Waiting, row}
 use Rattle.token_rules.specs.Rows.{carried_phase}
-use Rattle.token_rules.proofs.Stages.{Asked, Checked, Checking, Fits, Heard, Invited, IsOpening, Noted, Opened, Opening, Proving, Rested, Served, Settled, Settling, Shown, Stage, Trusted, done, far, issued, last_step, opens_with, rank_small, rest}
+use Rattle.token_rules.specs.Stages.{Asked, Checked, Checking, Fits, Heard, Invited, IsOpening, Noted, Opened, Opening, Proving, Rested, Served, Settled, Settling, Shown, Stage, Trusted, done, far, issued, last_step, opens_with, rest}
+use Rattle.token_rules.proofs.Stages.{rank_small}
 
 -- at B
 

@@ -6,11 +6,13 @@ use Rattle.mailbox_rules.specs.Requests.{Audits, Begins, Command, Line, Operatio
 use Rattle.mailbox_rules.specs.Tables.{Table}
 use Rattle.token_rules.specs.Tokens.{Act, Answer, Answered, Audited, Auditing, Begun, Challenge, Challenged, Content, Contents, Deposit, Deposited, Done, Foreign, HeldDeposit, HeldProof, Injected, Lane, Later, NoOwnBox, Oracle, Ordered, Outcome, Phase, ProofToHelper, ProofToLeader, Proved, Replied, Requests, Row, Submission, Token, Told, Waiting, World, put, row}
 use Rattle.token_rules.specs.Rows.{Arrival, arrival_of, carried_phase, carried_row}
-use Rattle.token_rules.specs.Run.{acknowledges, carries, carries_next, comes, command_comes, foreign_at_leader, foreign_frame_comes, foreign_reply_comes, foreign_tokens, goes_on, injected_comes, is_full, is_refused, issues, kept, notes, reply_applied, reply_comes, sends, sent_of, waits, with_contents, with_helper, with_lane, with_leader}
+use Rattle.token_rules.specs.Run.{acknowledges, carries, carries_next, comes, command_comes, foreign_at_leader, foreign_frame_comes, foreign_reply_comes, foreign_tokens, goes_on, injected_comes, is_full, is_refused, issues, kept, line_of, notes, reply_applied, reply_comes, sends, sent_of, waits, with_contents, with_helper, with_lane, with_leader}
+use Rattle.token_rules.specs.Stages.{Asked, Checked, Checking, Fits, Heard, Invited, Noted, Opened, Opening, Proving, Rested, Served, Settled, Settling, Shown, Stage, Trusted, done, far, issued, last_step, opens_with, past, rank}
+use Rattle.token_rules.specs.Invariant.{Backed, Claims, Coherent, Each, Has, HasAll, IsFrom, Made, Says, State, state}
 use Rattle.token_rules.proofs.Cases.{acks, acks_is, answer_comes, answers, comes_by, comes_is, deposit_comes, helper_proof_comes, issues_for, leader_proof_comes, proof_at_helper, proof_at_leader, repeats, steps_on, submission_comes}
-use Rattle.token_rules.proofs.Lists.{Each, each_none, each_one, get_end, get_left, get_more, same_at, take_more_same, take_next}
-use Rattle.token_rules.proofs.Stages.{Asked, Checked, Checking, Fits, Heard, Invited, IsFree, Noted, Opened, Opening, Proving, Rested, Served, Settled, Settling, Shown, Stage, Trusted, done, far, issued, last_step, opens_with, past, rank}
-use Rattle.token_rules.proofs.Coherent.{Backed, Claims, Coherent, Has, HasAll, IsFrom, Made, Says, State, has_grows, line_of, state}
+use Rattle.token_rules.proofs.Lists.{each_none, each_one, get_end, get_left, get_more, same_at, take_more_same, take_next}
+use Rattle.token_rules.proofs.Stages.{IsFree}
+use Rattle.token_rules.proofs.Coherent.{has_grows}
 use Rattle.token_rules.proofs.Moves.{acks_at, add_outcome, add_tokens, at_here, carries_at, goes, issues_at, leaves, placed, put_changes, settles_at}
 use Rattle.token_rules.proofs.Fitting.{invited, kept_challenged, kept_done, not_noted, noted, noted_at, opening_issued, proving, served, shown, shown_at, to_accepted, to_asked, to_checking, to_done, to_heard, to_invited, to_noted, to_opening, to_proving, to_rest, to_rested, to_served, to_settling, to_shown, to_trusted, trusted, unheard}
 

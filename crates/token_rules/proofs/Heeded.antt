@@ -2,8 +2,8 @@
 use Rattle.std.proofs.Common.{◌≡◌, ℕ, zero, suc, ◌+◌, ◌*◌, ◌<◌, ◌≤◌, arith, sym, ◌∙◌, ap, false}
 use Rattle.token_rules.specs.Tokens.{Deposit, Lane, ProofToHelper, ProofToLeader, Submission, Token, World}
 use Rattle.token_rules.specs.Laws.{Always, FramesAreHeeded, HelperTakesProof, IsBusy, IsFrame, IsHeeded, LeaderTakesProof}
-use Rattle.token_rules.proofs.Stages.{Asked, Checked, Checking, Fits, Heard, Noted, Proving, Rested, Served, Settled, Settling, Shown, Stage, Trusted, far, rest}
-use Rattle.token_rules.proofs.Coherent.{Claims, Coherent, state}
+use Rattle.token_rules.specs.Stages.{Asked, Checked, Checking, Fits, Heard, Noted, Proving, Rested, Served, Settled, Settling, Shown, Stage, Trusted, far, rest}
+use Rattle.token_rules.specs.Invariant.{Claims, Coherent, state}
 use Rattle.token_rules.proofs.Events.{always_coherent}
 
 deposit_heeded : (lane : Lane) (x : Stage) → Fits lane x → lane.helper.serial ≤ lane.serial

@@ -8,9 +8,9 @@ use Rattle.token_rules.specs.Tokens.{Answer, Answered, Challenge, Content, Conte
 use Rattle.token_rules.specs.Rows.{Arrival, ClientDoes, ClientHears, Finishes, GoesOn, HeardAnswer, HeardChallenge, HeardHeldDeposit, HeardHeldProof, LeaderIssues, LeaderKept, LeaderLater, LeaderNothing, LeaderSays, LeaderStep, Stays, arrival_of, carried_row}
 use Rattle.token_rules.specs.Run.{Ask, Event, acknowledges, asks, at_leader, carries, carries_next, client_hears, client_moves, comes, command_comes, foreign_at_leader, foreign_frame_comes, foreign_reply_comes, goes_on, happens, injected_comes, is_full, is_refused, leader_says, notes, reply_applied, reply_comes, run, sends_all, sent_of, with_leader}
 use Rattle.token_rules.specs.Laws.{Always, AreSent, OperationsAreAsked, TableIsJournals, asked}
+use Rattle.token_rules.specs.Stages.{Fits, Rested, Stage, issued}
+use Rattle.token_rules.specs.Invariant.{Claims, Coherent, Says, state}
 use Rattle.token_rules.proofs.Lists.{get_end, get_left, get_more, taken_get}
-use Rattle.token_rules.proofs.Stages.{Fits, Rested, Stage, issued}
-use Rattle.token_rules.proofs.Coherent.{Claims, Coherent, Says, state}
 use Rattle.token_rules.proofs.Events.{always_coherent, happens_kept, start_coherent}
 use Rattle.token_rules.proofs.Finish.{put_at}
 use Rattle.token_rules.proofs.Rounds.{quiet_happens}

@@ -4,11 +4,11 @@ use Rattle.std.proofs.lemmas.Bool.{cases_lt, cases_order, ne_eqb, le-leb, lt-ltb
 use Rattle.mailbox_rules.specs.Requests.{Audits, Begins, Command, Line, Reads, Registers, Retires, Settles}
 use Rattle.token_rules.specs.Tokens.{Answered, Auditing, Lane, NoOwnBox, Ordered, Phase, Replied, Told, Waiting, World, start}
 use Rattle.token_rules.specs.Rows.{Kept, arrival_of}
-use Rattle.token_rules.specs.Run.{run}
+use Rattle.token_rules.specs.Run.{line_of, run}
 use Rattle.token_rules.specs.Laws.{Always, HasLine, HasLines, InNumbers, InOrder, IsBusy, IsJournaled, IsPrefix, IsReady, KeepsReplies, LinkIsOne, Once, OutcomesStand, Outstanding, RowsTell, awaits, turn}
+use Rattle.token_rules.specs.Stages.{Asked, Checked, Checking, Fits, Heard, Noted, Opened, Opening, Rested, Settled, Settling, Stage, done, issued, past, rank, rest}
+use Rattle.token_rules.specs.Invariant.{Backed, Coherent, Has, HasAll, Link, Linked, state}
 use Rattle.token_rules.proofs.Lists.{get_taken, same_at, taken_get}
-use Rattle.token_rules.proofs.Stages.{Asked, Checked, Checking, Fits, Heard, Noted, Opened, Opening, Rested, Settled, Settling, Stage, done, issued, past, rank, rest}
-use Rattle.token_rules.proofs.Coherent.{Backed, Coherent, Has, HasAll, Link, Linked, line_of, state}
 use Rattle.token_rules.proofs.Moves.{alone}
 use Rattle.token_rules.proofs.Events.{always_coherent}
 

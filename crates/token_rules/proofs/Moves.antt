@@ -4,9 +4,12 @@ use Rattle.std.proofs.lemmas.Bool.{eq-eqb, ne_eqb, cases_eq, cases_lt}
 use Rattle.std.proofs.lemmas.Option.{slice_get_within}
 use Rattle.mailbox_rules.specs.Requests.{Audits, Begins, Command, Line, Reads, Registers, Retires, Settles}
 use Rattle.token_rules.specs.Tokens.{Lane, Outcome, Token, World, put}
-use Rattle.token_rules.proofs.Lists.{Each, each_append, each_one, get_end, get_left, get_more, same_at, take_more_same, take_next}
-use Rattle.token_rules.proofs.Stages.{Checked, Checking, Fits, IsFree, Opened, Opening, Settled, Settling, Stage, done, done_busy, done_not_issued, far, issued, issued_busy, opens_with, past, rank, rank_issued}
-use Rattle.token_rules.proofs.Coherent.{Backed, Claims, Coherent, Grows, Has, Link, Linked, Made, Now, State, at, has_grows, kept_grows, line_of, made_grows, says_grows, state}
+use Rattle.token_rules.specs.Run.{line_of}
+use Rattle.token_rules.specs.Stages.{Checked, Checking, Fits, Opened, Opening, Settled, Settling, Stage, done, far, issued, opens_with, past, rank}
+use Rattle.token_rules.specs.Invariant.{Backed, Claims, Coherent, Each, Has, Link, Linked, Made, Now, State, at, state}
+use Rattle.token_rules.proofs.Lists.{each_append, each_one, get_end, get_left, get_more, same_at, take_more_same, take_next}
+use Rattle.token_rules.proofs.Stages.{IsFree, done_busy, done_not_issued, issued_busy, rank_issued}
+use Rattle.token_rules.proofs.Coherent.{Grows, has_grows, kept_grows, made_grows, says_grows}
 
 -- stages, with one changed
 unfoldable pub placed : (ℕ → Stage) → ℕ → Stage → ℕ → Stage

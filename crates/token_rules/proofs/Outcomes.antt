@@ -7,9 +7,9 @@ use Rattle.token_rules.specs.Tokens.{Answer, Answered, Challenge, HeldDeposit, H
 use Rattle.token_rules.specs.Rows.{ClientDoes, ClientHears, Finishes, GoesOn, HeardAnswer, HeardChallenge, HeardHeldDeposit, HeardHeldProof, Stays}
 use Rattle.token_rules.specs.Run.{Ask, Event, asks, client_hears, client_moves, comes, goes_on, happens, is_refused, notes, run, sends_all}
 use Rattle.token_rules.specs.Laws.{Always, AreNumbered, OutcomesNumbered, outcomes_of}
+use Rattle.token_rules.specs.Stages.{Rested, Stage}
+use Rattle.token_rules.specs.Invariant.{Coherent}
 use Rattle.token_rules.proofs.Lists.{get_more}
-use Rattle.token_rules.proofs.Stages.{Rested, Stage}
-use Rattle.token_rules.proofs.Coherent.{Coherent}
 use Rattle.token_rules.proofs.Events.{happens_kept, start_coherent}
 use Rattle.token_rules.proofs.Finish.{put_at}
 use Rattle.token_rules.proofs.Rounds.{quiet_happens}

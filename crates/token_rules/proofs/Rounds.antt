@@ -4,8 +4,8 @@ use Rattle.std.proofs.lemmas.Bool.{cond_both}
 use Rattle.mailbox_rules.specs.Requests.{Line}
 use Rattle.token_rules.specs.Tokens.{Injected, Oracle, Ordered, Token, World}
 use Rattle.token_rules.specs.Run.{Ask, Deliver, Event, Finish, Inject, Send, Tick, client_sends, comes, delivers, delivers_at, drain_round, drained, drains, finish_round, finished, finishes, frame_of, handed_last, happens, resends, sends_all, sent_and_drained, ticks}
-use Rattle.token_rules.proofs.Stages.{Stage}
-use Rattle.token_rules.proofs.Coherent.{Claims, Coherent, state}
+use Rattle.token_rules.specs.Stages.{Stage}
+use Rattle.token_rules.specs.Invariant.{Claims, Coherent, state}
 use Rattle.token_rules.proofs.Events.{client_sends_kept, delivers_at_kept, drain_round_kept, drained_kept, each_drop, finish_round_kept, last_says, sent_kept, ticks_kept}
 
 abbrev pub IsQuiet : Event → Type 0

@@ -5,9 +5,10 @@ use Rattle.mailbox_rules.specs.Requests.{Line, Request, opening_of}
 use Rattle.token_rules.specs.Tokens.{Answer, Answered, Challenge, HeldDeposit, HeldProof, Lane, NoOwnBox, Oracle, Requests, Token, Told, World, put, start}
 use Rattle.token_rules.specs.Run.{Ask, Event, Finish, asks, comes, goes_on, happens, is_refused, notes, run, sends_all}
 use Rattle.token_rules.specs.Laws.{FinishRests, asked, asks_of}
+use Rattle.token_rules.specs.Stages.{Rested, Stage}
+use Rattle.token_rules.specs.Invariant.{Coherent}
 use Rattle.token_rules.proofs.Cases.{answer_comes, comes_by, comes_is, steps_on}
-use Rattle.token_rules.proofs.Stages.{Rested, Stage, rank_small}
-use Rattle.token_rules.proofs.Coherent.{Coherent}
+use Rattle.token_rules.proofs.Stages.{rank_small}
 use Rattle.token_rules.proofs.Events.{always_coherent, happens_kept, start_coherent}
 use Rattle.token_rules.proofs.Drain.{put_keeps}
 use Rattle.token_rules.proofs.Finish.{always_rests, answer_stays, goes_on_stays, put_at, steps_stays}

@@ -1,4 +1,6 @@
 pub mod Tokens
 pub mod Rows
 pub mod Run
+pub mod Stages
+pub mod Invariant
 pub mod Laws

@@ -4,6 +4,7 @@
 //! `Run` the events. Each function here is empty: its contract is a law of them.
 #![tactic(auto)]
 
+ghost use Rattle.token_rules.specs.Invariant.{StartIsCoherent, EventsKeep};
 ghost use Rattle.token_rules.specs.Laws.{Always, AreSent, FinishRests, FramesAreHeeded, InNumbers, InOrder, IsPrefix, IsReady, KeepsReplies, LinkIsOne, Once, OperationsAreAsked, OutcomesNumbered, OutcomesStand, RowsTell, TableIsJournals};
 
 /// What is acknowledged was carried out, what is carried out was issued, and no more is outstanding than the window.
@@ -52,4 +53,10 @@ pub fn journal_records()
     ensures sent { Always AreSent }
     ensures operations { Always OperationsAreAsked }
     ensures table { Always TableIsJournals }
+{}
+
+/// The invariant of a run, on which these laws stand: each event keeps it.
+pub fn invariant_kept()
+    ensures start { StartIsCoherent }
+    ensures events { EventsKeep }
 {}

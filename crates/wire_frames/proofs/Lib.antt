@@ -1,2 +1,3 @@
 pub mod TaggedForms
 pub mod Writes
+pub mod Spelled

@@ -1,5 +1,5 @@
 -- A tag that is known, and what stands behind it.
-use Rattle.std.proofs.Common.{◌≡◌, ℕ, ◌-◌, List, ◌∷◌, Option, Some, Ok, refl}
+use Rattle.std.proofs.Common.{◌≡◌, ℕ, ◌-◌, List, Some, Ok, refl}
 use Rattle.frame_rules.specs.Forms.{Form, form_of, chosen, filled, tagged, first_of, sized}
 
 pub tagged_is : {A : Type 0} (place : ℕ) (forms : List (ℕ × Form A)) (left : ℕ) (rest : List ℕ) (tag : ℕ) (after : List ℕ) (form : Form A) (bytes : List ℕ)

@@ -1,10 +1,12 @@
 //! Reading the frame that begins some bytes.
-ghost use Rattle.std.specs.Prelude.{◌≤◌, ◌≡◌, ◌+◌, length, IfOk};
-ghost use Rattle.frame_rules.specs.Frames.{plain, plain_body};
+ghost use Rattle.std.specs.Prelude.{◌≤◌, ◌<◌, ◌≡◌, ℕ, List, length, take, IfOk, Ok, Err};
+ghost use Rattle.frame_rules.specs.Frames.{PlainFrame, plain, plain_body};
+ghost use Rattle.frame_rules.specs.Spelling.{Spells, spelling};
 ghost use Rattle.frame_rules.specs.Forms.{Gives};
 ghost use Rattle.frame_rules.specs.Bodies.{body_in};
-ghost use Rattle.frame_rules.specs.Reading.{decoded};
+ghost use Rattle.frame_rules.specs.Reading.{decoded, Reads};
 
+use crate::FRAME_MAX;
 use crate::bodies::{
     challenge_in, link_audit_in, link_begin_in, link_begun_in, link_read_in, link_register_in,
     link_retire_in, link_settle_in, proof_in, read_in, register_in, retire_in, write_in,
@@ -41,10 +43,9 @@ fn body_in<'a>(header: &Header, rest: &'a [u8]) -> Result<Body<'a>, FrameFault>
     }
 }
 
-/// The frame that begins the bytes, and its length in bytes. More bytes may follow it.
 #[tactic(auto, unfolding(frame_rules::specs::Reading::decoded))]
-pub fn decode(bytes: &[u8]) -> Result<(Frame<'_>, usize), FrameFault>
-    ensures exact { Gives (λ x. (plain x.0, x.1)) result (decoded bytes.now) }
+fn frame_in(bytes: &[u8]) -> Result<(Frame<'_>, usize), FrameFault>
+    ensures { Reads result (decoded bytes.now) }
 {
     let header = Header::of(bytes)?;
     let body = body_in(&header, &bytes[20..])?;
@@ -55,4 +56,20 @@ pub fn decode(bytes: &[u8]) -> Result<(Frame<'_>, usize), FrameFault>
         body,
     };
     Ok((frame, 20 + header.left))
+}
+
+/// The frame that begins the bytes, and its length in bytes. More bytes may follow it.
+pub fn decode(bytes: &[u8]) -> Result<(Frame<'_>, usize), FrameFault>
+    // The fields are judged in the order of the format, and a fault is the first wrong one.
+    ensures exact { Reads result (decoded bytes.now) }
+    // What is read is spelled so.
+    ensures found { IfOk result (λ x. Spells (plain x.0) (take x.1 bytes.now)) }
+    ensures within { IfOk result (λ x. (x.1 ≤ length bytes.now) × (x.1 ≤ FRAME_MAX)) }
+    ensures length { IfOk result (λ x. x.1 ≡ length (spelling (plain x.0))) }
+    // What is spelled so is read.
+    ensures only { (f : PlainFrame) (len : ℕ) → len ≤ length bytes.now → Spells f (take len bytes.now) → Reads result (Ok (f, len)) }
+    // A front of a frame is short.
+    ensures short { (f : PlainFrame) (whole : List ℕ) → Spells f whole → length bytes.now < length whole → bytes.now ≡ take (length bytes.now) whole → result ≡ Err FrameFault.Short }
+{
+    frame_in(bytes)
 }

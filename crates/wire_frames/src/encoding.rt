@@ -7,8 +7,13 @@ ghost use Rattle.frame_rules.specs.Reading.{decoded};
 ghost use Rattle.wire_frames.specs.Writing.{Writes};
 
 use crate::kinds::{kind_of, number_of, version_of};
-use crate::tags::{put_tag, put_tag_bytes, put_tag_u16, put_tag_u32, put_tag_u64, put_tag_u8, put_tag_word};
-use crate::writing::{put, put_address, put_closing, put_openings, put_proof_share, put_u16, put_u32, put_u64, put_word};
+use crate::tags::{
+    put_tag, put_tag_bytes, put_tag_u8, put_tag_u16, put_tag_u32, put_tag_u64, put_tag_word,
+};
+use crate::writing::{
+    put, put_address, put_closing, put_openings, put_proof_share, put_u16, put_u32, put_u64,
+    put_word,
+};
 use express_words::{Closing, Openings, Refusal};
 use frame_rules::{Body, DepositBody, Frame, Kind, ReplyBody};
 
@@ -185,14 +190,7 @@ fn put_body(out: &mut [u8], place: usize, says: &Body<'_>) -> usize
     }
 }
 
-fn put_header(
-    out: &mut [u8],
-    kind: Kind,
-    lane: u16,
-    serial: u32,
-    link: u64,
-    left: usize,
-) -> usize
+fn put_header(out: &mut [u8], kind: Kind, lane: u16, serial: u32, link: u64, left: usize) -> usize
     requires left { left ≤ 8193 }
     requires room { 20 ≤ length out.old }
     ensures { Writes out.old 0 (header kind lane serial link left) out.new result }

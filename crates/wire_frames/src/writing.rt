@@ -62,7 +62,6 @@ pub fn put_word(out: &mut [u8], place: usize, number: u128) -> usize
     put(out, place, &number.to_le_bytes())
 }
 
-
 pub fn put_openings(out: &mut [u8], place: usize, opened: &Openings) -> usize
     requires { place + 32 ≤ length out.old }
     ensures written { Writes out.old place (openings opened.now) out.new result }
@@ -71,7 +70,6 @@ pub fn put_openings(out: &mut [u8], place: usize, opened: &Openings) -> usize
     let place = put_word(out, place, opened.d);
     put_word(out, place, opened.e)
 }
-
 
 pub fn put_closing(out: &mut [u8], place: usize, closed: &Closing) -> usize
     requires { place + 32 ≤ length out.old }

@@ -1,5 +1,5 @@
 -- What each part requires follows from the room for the whole body.
-use Rattle.std.proofs.Common.{◌+◌, ◌≤◌, List, ◌++◌, length, subst, arith, length-append}
+use Rattle.std.proofs.Common.{◌+◌, ◌≤◌, length, subst, arith, length-append}
 use Rattle.frame_rules.specs.declared.frame.Body.{Body}
 use Rattle.frame_rules.specs.Frames.{plain_body}
 use Rattle.frame_rules.specs.Spelling.{word, address, openings, body, IsBody}

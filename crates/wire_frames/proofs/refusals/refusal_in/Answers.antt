@@ -1,4 +1,4 @@
-use Rattle.std.proofs.Common.{rules, ◌≡◌, ◌∙◌, ap, refl, Some, Ok}
+use Rattle.std.proofs.Common.{rules, ◌∙◌, ap, Ok}
 use Rattle.frame_rules.specs.Forms.{form_of}
 use Rattle.frame_rules.specs.Bodies.{refusals}
 use Rattle.express_words.specs.declared.refusal.Refusal.TheVariants.{BadToken}

@@ -1,4 +1,4 @@
-use Rattle.std.proofs.Common.{Some, sym, ap, ◌∙◌, length}
+use Rattle.std.proofs.Common.{ap, ◌∙◌, length}
 use Rattle.block_region.proofs.ArrayLaws.{array-bytes, array-size, same-some}
 use Rattle.block_region.proofs.block_array.BlockArray.get.Goals as goal
 

@@ -1,4 +1,4 @@
-use Rattle.std.proofs.Common.{sym, ap, length, ◌∙◌, refl}
+use Rattle.std.proofs.Common.{ap, length, ◌∙◌, refl}
 use Rattle.block_region.specs.Region.{blocks_in}
 use Rattle.block_region.specs.ArrayLending.{with_block}
 use Rattle.block_region.proofs.ArrayLaws.{array-bytes, array-size, array-rewritten, array-stays, same-some, blocks_in-full}

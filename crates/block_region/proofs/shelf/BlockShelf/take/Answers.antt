@@ -17,4 +17,4 @@ returns-clause-taken c =
     let size = size-of c.self.inside.size c.self.inside.slots.items c.in_ok-index.index c.index_mut-slot.result.now c.self.invariant.0 bound c.index_mut-slot.ensures.value in
     rw (← c.self.view_is) (simp map-set
     (ap (λ bytes. shelf_of c.self.inside.size (set (map content c.self.inside.slots.items) c.in_ok-index.index (Some bytes)))
-    (c.fill.ensures.items (λ y e. e) ∙ ap (λ n. replicate n 0) size)))
+    (c.clear.ensures ∙ ap (λ n. replicate n 0) size)))

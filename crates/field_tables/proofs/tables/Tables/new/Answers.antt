@@ -12,7 +12,7 @@ loop-i-init c = record {
   log_length = refl;
   present = refl;
   powers = λ j h. absurd (omega arith);
-  zeros = λ j h. zeros_alone 1021 j;
+  zeros = λ j h. zeros_alone 1379 j;
   log_of_zero = refl;
   logs = λ j h k. absurd (omega arith);
 }

@@ -10,7 +10,7 @@ invariant_of-self c =
     let fits = rw (← c.self.view_is) at c.requires.fits in
     let more = c.self.inside.lengths.items ++ length c.args.frame.now ∷ [] in
     let short : length more ≤ c.self.inside.pushed + 1 = simp length-append (omega (arith, c.self.invariant.4)) in
-    rw (c.push_back.ensures.items, c.store.ensures, c.self.invariant.1) (
+    rw (c.push_back.ensures.items, c.write.ensures, c.self.invariant.1) (
       c.self.invariant.0,
       refl,
       length-set c.self.inside.blocks.blocks _ _ ∙ c.self.invariant.2,
@@ -21,6 +21,6 @@ invariant_of-self c =
 
 pub returns : goal.returns
 returns c =
-    rw (← c.self.view_is, c.push_back.ensures.items, c.store.ensures, c.self.invariant.1)
+    rw (← c.self.view_is, c.push_back.ensures.items, c.write.ensures, c.self.invariant.1)
     (ap (λ (frames : List (List ℕ)). let h : Held = record { pushed = c.self.inside.pushed + 1; window = c.self.inside.window; size = c.self.inside.blocks.size; frames = frames } in h)
     (ring-pushed c.self.inside.blocks.blocks c.self.inside.window c.self.inside.pushed c.self.inside.lengths.items c.args.frame.now _ c.self.invariant.0 c.self.invariant.2 c.self.invariant.3 c.self.invariant.4))

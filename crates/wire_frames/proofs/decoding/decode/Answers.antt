@@ -1,0 +1,21 @@
+use Rattle.std.proofs.Common.{ap, ◌∙◌, subst, length, arith}
+use Rattle.frame_rules.specs.Reading.{decoded, Reads}
+use Rattle.frame_rules.proofs.GrammarLaws.{prefix_short}
+use Rattle.wire_frames.proofs.Spelled.{is_found, is_within, is_long, is_only, is_short}
+use Rattle.wire_frames.proofs.decoding.decode.Goals as goal
+
+pub returns-clause-found : goal.returns-clause-found
+returns-clause-found c = is_found c.args.bytes.now c.frame_in.result (λ i. omega (arith, c.type_inv.bytes i)) c.frame_in.ensures
+
+pub returns-clause-within : goal.returns-clause-within
+returns-clause-within c = is_within c.args.bytes.now c.frame_in.result (λ i. omega (arith, c.type_inv.bytes i)) c.frame_in.ensures
+
+pub returns-clause-only : goal.returns-clause-only
+returns-clause-only c f len le s = is_only c.args.bytes.now c.frame_in.result f len le s c.frame_in.ensures
+
+pub returns-clause-short : goal.returns-clause-short
+returns-clause-short c f whole s lt front =
+    is_short c.frame_in.result (subst (Reads c.frame_in.result) (ap decoded front ∙ prefix_short f whole (length c.args.bytes.now) s lt) c.frame_in.ensures)
+
+pub returns-clause-length : goal.returns-clause-length
+returns-clause-length c = is_long c.args.bytes.now c.frame_in.result (λ i. omega (arith, c.type_inv.bytes i)) c.frame_in.ensures
