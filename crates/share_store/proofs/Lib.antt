@@ -1,4 +1,1 @@
-pub mod OpeningLemmas
 pub mod ShareLemmas
-pub mod HeldLemmas
-pub mod AddLemmas

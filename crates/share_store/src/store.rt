@@ -3,10 +3,10 @@ ghost use Rattle.std.specs.Prelude.{◌≡◌, ◌<◌, ◌≤◌, IfOk, false, 
 ghost use Rattle.dpf_rules.specs.Bytes.{xor_bytes};
 ghost use Rattle.dpf_rules.specs.Walk.{last_of};
 ghost use Rattle.share_store.specs.Shares.{empty_share, share_at, shares_of, shares_with, with_cleared};
+ghost use Rattle.share_store.specs.Rows.{shares_in};
 
-use crate::blocks::{add_leaves, clear, take_all};
-use block_region::{Block, Class, Region};
-use dpf_keys::PublicPart;
+use block_region::BlockArray;
+use dpf_keys::{PublicPart, output_into};
 use dpf_rules::xor_into;
 use express_words::NoMemory;
 use std::alloc::Global;
@@ -15,22 +15,20 @@ use std::marker::Model;
 /// One server's share of each box, and whether the box is live. All memory is taken at opening.
 #[derive(Drop)]
 pub struct ShareStore {
-    region: Region,
-    blocks: Vec<Block>,
+    shares: BlockArray,
     live: Vec<bool>,
 }
 
 impl Model for ShareStore {
-    ghost use Rattle.std.specs.Prelude.{◌≡◌, length};
-    ghost use Rattle.block_region.specs.Region.{class_of};
     ghost use Rattle.share_store.specs.Shares.{Shares, shares_of};
-    ghost use Rattle.share_store.specs.Blocks.{AreHeld, shares_in};
+    ghost use Rattle.share_store.specs.Rows.{shares_in};
+    ghost use Rattle.std.specs.Prelude.{◌≡◌, length};
 
     ghost Value = { Shares };
 
-    ghost view = { λ s. shares_of (class_of s.region 0).size (shares_in s.live.items (class_of s.region 0).blocks) };
+    ghost view = { λ s. shares_of s.shares.size (shares_in s.live.items s.shares.blocks) };
 
-    ghost invariant = { λ s. (length s.region ≡ 1) × AreHeld s.live.items s.blocks.items (class_of s.region 0) };
+    ghost invariant = { λ s. length s.live.items ≡ length s.shares.blocks };
 }
 
 impl ShareStore {
@@ -38,20 +36,11 @@ impl ShareStore {
     pub fn open(alloc: Global, boxes: u32, width: u32) -> Result<ShareStore, NoMemory>
         ensures { IfOk result (λ s. s ≡ shares_of width (replicate boxes (empty_share width))) }
     {
-        let class = Class {
-            size: width,
-            count: boxes,
-        };
-        let mut region = Region::open(alloc, &[class])?;
-        let blocks = take_all(alloc, &mut region, boxes, width)?;
-        let Ok(live) = vec![in alloc; true; boxes as usize] else {
-            return Err(NoMemory);
-        };
-        Ok(ShareStore {
-            region,
-            blocks,
-            live,
-        })
+        let shares = BlockArray::open(alloc, width, boxes)?;
+        match vec![in alloc; true; boxes as usize] {
+            Ok(live) => Ok(ShareStore { shares, live }),
+            Err(_) => Err(NoMemory),
+        }
     }
 
     /// XORs the write bytes of each leaf into the share of its box, for the first `count` boxes. A retired box keeps its share.
@@ -62,8 +51,7 @@ impl ShareStore {
         ensures { self.new ≡ shares_of self.old.width (shares_with part.now (take count leaves.now) self.old.boxes) }
     {
         add_leaves(
-            &mut self.region,
-            &self.blocks,
+            &mut self.shares,
             &self.live,
             part,
             &leaves[..count as usize],
@@ -77,9 +65,9 @@ impl ShareStore {
         ensures given { out.new ≡ xor_bytes out.old (share_at self.old.boxes box_number).bytes }
         ensures cleared { self.new ≡ with_cleared self.old box_number (share_at self.old.boxes box_number).live }
     {
-        let block = &self.blocks[box_number as usize];
-        xor_into(out, self.region.bytes(block));
-        clear(&mut self.region, block);
+        let place = box_number as usize;
+        xor_into(out, self.shares.get(place));
+        clear(self.shares.get_mut(place));
     }
 
     /// XORs a share into `out`, clears it, and retires the box.
@@ -98,7 +86,7 @@ impl ShareStore {
         requires { box_number < length self.now.boxes }
         ensures { result.now ≡ (share_at self.now.boxes box_number).bytes }
     {
-        self.region.bytes(&self.blocks[box_number as usize])
+        self.shares.get(box_number as usize)
     }
 
     /// Whether a box is retired.
@@ -108,4 +96,26 @@ impl ShareStore {
     {
         !self.live[box_number as usize]
     }
+}
+
+// XORs the write bytes of each leaf into the share of its box, where that is live.
+fn add_leaves(shares: &mut BlockArray, live: &[bool], part: &PublicPart, leaves: &[u128])
+    requires marks { length live.now ≡ length shares.old.blocks }
+    requires width { length (last_of part.now) ≡ shares.old.size }
+    requires count { length leaves.now ≤ length live.now }
+    ensures size { shares.new.size ≡ shares.old.size }
+    ensures marks { length live.now ≡ length shares.new.blocks }
+    ensures added { shares_in live.now shares.new.blocks ≡ shares_with part.now leaves.now (shares_in live.now shares.old.blocks) }
+{
+    for k in 0..leaves.len() {
+        if live[k] {
+            output_into(part, leaves[k], shares.get_mut(k));
+        }
+    }
+}
+
+fn clear(bytes: &mut [u8])
+    ensures { bytes.new ≡ replicate (length bytes.old) 0 }
+{
+    bytes.fill(0);
 }
