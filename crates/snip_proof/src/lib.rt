@@ -1,5 +1,5 @@
-//! A client's proof for its write, in two shares, and what two servers open, close and judge of it. In the manner of Prio
-//! (Corrigan-Gibbs and Boneh, NSDI 2017, section 4), with two multiplication gates and one multiplication triple.
+//! A client's proof for its write, in two shares, and what two servers open, close and judge of it. In the manner of
+//! Prio (Corrigan-Gibbs and Boneh, NSDI 2017, section 4), with two multiplication gates and one multiplication triple.
 #![tactic(auto)]
 
 mod client;
