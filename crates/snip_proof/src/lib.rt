@@ -3,11 +3,13 @@
 #![tactic(auto)]
 
 mod client;
+mod keys;
 mod laws;
 mod polynomials;
 mod servers;
 
 pub use client::prove;
+pub use keys::{bad_keys_are_caught, honest_keys_are_accepted};
 pub use laws::{accepted_points_are_few, honest_writes_are_accepted, servers_accept};
 pub use servers::{close_share, judge, open_share};
 
