@@ -3,6 +3,7 @@
 #![tactic(auto)]
 
 mod nodes;
+mod passes;
 mod products;
 mod work;
 
@@ -11,6 +12,8 @@ use std::{env, io};
 use work::Work;
 
 const USAGE: u8 = 2;
+
+const NO_MEMORY: u8 = 7;
 
 fn usage(rt: &impl Print) -> io::Result<ExitCode> {
     println!(rt; "usage: express_bench (WORK TIMES)..")?;
@@ -32,7 +35,11 @@ fn main(rt: HostRuntime) -> io::Result<ExitCode> {
                 let Ok(times) = word.parse::<u32>() else {
                     return usage(&rt);
                 };
-                println!(rt; "{} {times} {:032x}", work.name(), work.checksum(times))?;
+                let Ok(checksum) = work.checksum(rt.alloc(), times) else {
+                    println!(rt; "no memory")?;
+                    return Ok(ExitCode::from(NO_MEMORY));
+                };
+                println!(rt; "{work} {times} {checksum:032x}")?;
                 None
             }
         };

@@ -1,5 +1,8 @@
 //! The pieces of work.
-use crate::{nodes, products};
+use crate::{nodes, passes, products};
+use express_words::NoMemory;
+use std::alloc::Global;
+use std::fmt;
 
 /// A piece of work.
 #[derive(Clone, Copy)]
@@ -14,6 +17,12 @@ pub enum Work {
     MulFast,
     /// Products of the field, each by new tables.
     Tables,
+    /// The leaves at the addresses of so many boxes, by one pass.
+    Pass(u32),
+    /// The same leaves, by a walk for each address.
+    Walks(u32),
+    /// The number of nodes that such a pass expands.
+    Nodes(u32),
 }
 
 impl Work {
@@ -24,28 +33,45 @@ impl Work {
             "product" => Some(Work::Product),
             "mul_fast" => Some(Work::MulFast),
             "tables" => Some(Work::Tables),
-            _ => None,
-        }
-    }
-
-    pub fn name(self) -> &'static str {
-        match self {
-            Work::Children => "children",
-            Work::Children8 => "children8",
-            Work::Product => "product",
-            Work::MulFast => "mul_fast",
-            Work::Tables => "tables",
+            _ => {
+                let (kind, boxes) = name.split_once('_')?;
+                let boxes = boxes.parse::<u32>().ok()?;
+                match kind {
+                    "pass" => Some(Work::Pass(boxes)),
+                    "walks" => Some(Work::Walks(boxes)),
+                    "nodes" => Some(Work::Nodes(boxes)),
+                    _ => None,
+                }
+            }
         }
     }
 
     /// Does the work and gives its checksum.
-    pub fn checksum(self, times: u32) -> u128 {
+    pub fn checksum(self, alloc: Global, times: u32) -> Result<u128, NoMemory> {
         match self {
-            Work::Children => nodes::one_by_one(times),
-            Work::Children8 => nodes::eight_at_once(times),
-            Work::Product => products::plain(times),
-            Work::MulFast => products::by_tables(times),
-            Work::Tables => products::by_new_tables(times),
+            Work::Children => Ok(nodes::one_by_one(times)),
+            Work::Children8 => Ok(nodes::eight_at_once(times)),
+            Work::Product => Ok(products::plain(times)),
+            Work::MulFast => Ok(products::by_tables(times)),
+            Work::Tables => Ok(products::by_new_tables(times)),
+            Work::Pass(boxes) => passes::by_passes(alloc, boxes, times),
+            Work::Walks(boxes) => passes::by_walks(alloc, boxes, times),
+            Work::Nodes(boxes) => passes::nodes(alloc, boxes),
+        }
+    }
+}
+
+impl fmt::Display for Work {
+    fn fmt<W: fmt::Write>(&self, f: &mut fmt::Formatter<W>) -> fmt::Result {
+        match self {
+            Work::Children => write!(f, "children"),
+            Work::Children8 => write!(f, "children8"),
+            Work::Product => write!(f, "product"),
+            Work::MulFast => write!(f, "mul_fast"),
+            Work::Tables => write!(f, "tables"),
+            Work::Pass(boxes) => write!(f, "pass_{boxes}"),
+            Work::Walks(boxes) => write!(f, "walks_{boxes}"),
+            Work::Nodes(boxes) => write!(f, "nodes_{boxes}"),
         }
     }
 }
