@@ -1,5 +1,5 @@
-//! The audit of a write, as definitions and laws over them: the sketch of a difference vector with two challenge vectors,
-//! the values of a challenge that hide a bad vector, and a client's proof with one multiplication triple.
+//! The audit of a write, as definitions and laws over them: the sketch of a difference vector with two challenge
+//! vectors, the values of a challenge that hide a bad vector, and a client's proof with one multiplication triple.
 #![tactic(auto)]
 
 mod laws;

@@ -6,20 +6,30 @@ mod adapters;
 use adapters::{ReaderSource, WriterSink};
 use express_cli::run;
 use express_words::outside::MemoryNet;
+use std::io::ErrorKind;
 use std::process::ExitCode;
 use std::{env, io};
 
-/// The status where no memory is found before the top call.
+/// The status where memory is wanting before the top call.
 const OUT_OF_MEMORY: u8 = 7;
 
-/// The status where the words can't be had.
+/// The status where the words can't be had for another cause.
 const NO_WORDS: u8 = 14;
+
+// The status where the words can't be had for this reason.
+fn status_without_words(error: &io::Error) -> u8 {
+    if error.kind() == ErrorKind::OutOfMemory {
+        OUT_OF_MEMORY
+    } else {
+        NO_WORDS
+    }
+}
 
 fn main(rt: HostRuntime) -> ExitCode {
     let alloc = rt.alloc();
     let mut words = Vec::new(alloc);
     match env::args(&rt) {
-        Err(_) => return ExitCode::from(NO_WORDS),
+        Err(error) => return ExitCode::from(status_without_words(&error)),
         Ok(all) => {
             for word in all.skip(1) {
                 if words.push(word).is_err() {

@@ -1,5 +1,5 @@
 -- The coefficients that `through3` makes step by step, and their values at 0, 1 and 2.
-use Rattle.std.specs.Prelude.{◌≡◌, ℕ, ◌%◌, ◌^◌, ◌<◌, List, [], ◌∷◌, bit_xor}
+use Rattle.std.specs.Prelude.{◌≡◌, ℕ, ◌^◌, ◌<◌, List, [], ◌∷◌, bit_xor}
 use Rattle.std.proofs.Common.{ap, ◌∙◌}
 use Rattle.tower_field.specs.Levels.{product_at}
 use Rattle.tower_field.specs.Elements.{Element, element_add, element_mul, level_laws}

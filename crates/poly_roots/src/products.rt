@@ -29,7 +29,8 @@ pub fn times<F: Field>(p: &[F], q: &[F], out: &mut [F])
     requires q { 0 < length q.now }
     requires room { length out.old + 1 ≡ length p.now + length q.now }
     ensures product { out.new ≡ times_of F.neutral F.sum F.product p.now q.now }
-    ensures values { (x : F) → value_at F.neutral F.sum F.product out.new x ≡ F.product (value_at F.neutral F.sum F.product p.now x) (value_at F.neutral F.sum F.product q.now x) }
+    ensures values { let value = value_at F.neutral F.sum F.product in
+        (x : F) → value out.new x ≡ F.product (value p.now x) (value q.now x) }
 {
     let last = p.len() - 1;
     put_scaled(p[last], q, &mut out[last..]);

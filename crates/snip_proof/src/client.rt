@@ -33,8 +33,9 @@ fn whole_h(tables: &Tables, m: u128, r: u128, s: u128, choices: &[u128; 16]) -> 
     times(tables, &f, &g)
 }
 
-/// The two servers' shares of the proof that a write changes one box alone: `m` is the sum of both leaves at the write's
-/// target, `r` and `s` are the challenge there, and `choices` are the sixteen words that the client drew for the write.
+/// The two servers' shares of the proof that a write changes one box alone: `m` is the sum of both leaves at the
+/// write's target, `r` and `s` are the challenge there, and `choices` are the sixteen words that the client drew for
+/// the write.
 pub fn prove(m: u128, r: u128, s: u128, choices: &[u128; 16]) -> (ProofShare, ProofShare)
     ensures zero { result.0 ≡ zero_share choices.now }
     ensures one { result.1 ≡ one_share m r s choices.now }

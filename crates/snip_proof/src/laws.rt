@@ -1,5 +1,5 @@
-//! Both servers' audit of a write as one call, and the two laws on what they accept. The laws' functions only read their
-//! arguments: their contracts are the laws.
+//! Both servers' audit of a write as one call, and the two laws on what they accept. The laws' functions only read
+//! their arguments: their contracts are the laws.
 ghost use Rattle.std.specs.Prelude.{◌≡◌, ◌≢◌, ℕ, ◌<◌, ◌≤◌, ◌↔◌, ◌⊎◌, length, All, AllPairs, IsTrue, slice_index, bit_xor};
 ghost use Rattle.dpf_rules.specs.Expansion.{challenge_r, challenge_s};
 ghost use Rattle.audit_rules.specs.Audit.{bad_r, bad_s, difference, whole_proof, zero_share, one_share, PassesAt, ServersAccept};
@@ -11,8 +11,9 @@ use audit_rules::{read_share, read_words, servers_accept_what_passes};
 use express_words::{Openings, ProofShare};
 use write_sketch::sums;
 
-/// Whether both servers accept at the point `sigma` a write with these leaves at the registered addresses, `zero` at server 0
-/// and `one` at server 1: exactly where the whole proof passes for the sums of the difference of their leaves.
+/// Whether both servers accept at the point `sigma` a write with these leaves at the registered addresses, `zero` at
+/// server 0 and `one` at server 1: exactly where the whole proof passes for the sums of the difference of their
+/// leaves.
 pub fn servers_accept(
     zero: &[u128],
     one: &[u128],
@@ -24,8 +25,11 @@ pub fn servers_accept(
 ) -> bool
     requires zero { length zero.now ≡ length addresses.now }
     requires one { length one.now ≡ length addresses.now }
-    ensures accept { IsTrue result ↔ ServersAccept (sums_under ckey.now addresses.now zero.now) (sums_under ckey.now addresses.now one.now) share0.now share1.now sigma }
-    ensures passes { IsTrue result ↔ PassesAt (sums_under ckey.now addresses.now (difference zero.now one.now)) (whole_proof share0.now share1.now) sigma }
+    ensures accept { let sums = sums_under ckey.now addresses.now in
+        IsTrue result ↔ ServersAccept (sums zero.now) (sums one.now) share0.now share1.now sigma }
+    ensures passes { let sums = sums_under ckey.now addresses.now in
+        IsTrue result
+        ↔ PassesAt (sums (difference zero.now one.now)) (whole_proof share0.now share1.now) sigma }
 {
     read_words(zero);
     read_words(one);
@@ -43,9 +47,9 @@ pub fn servers_accept(
     judge(&closing0, &closing1)
 }
 
-/// The soundness law on what the servers accept. Where the difference of both servers' leaves has two places or more that aren't
-/// zero, `a` the first and `b` the last of them, a proof is accepted at five points at most, unless r at a or s at b is the one
-/// bad value.
+/// The soundness law on what the servers accept. Where the difference of both servers' leaves has two places or more
+/// that aren't zero, `a` the first and `b` the last of them, a proof is accepted at five points at most, unless r at a
+/// or s at b is the one bad value.
 pub fn accepted_points_are_few(
     zero: &[u128],
     one: &[u128],
@@ -63,11 +67,14 @@ pub fn accepted_points_are_few(
     requires last { IsLast (difference zero.now one.now) b }
     requires two { a < b }
     requires distinct { AllPairs (λ p q. p ≢ q) points.now }
-    requires accepted { All (ServersAccept (sums_under ckey.now addresses.now zero.now) (sums_under ckey.now addresses.now one.now) share0.now share1.now) points.now }
+    requires accepted { let sums = sums_under ckey.now addresses.now in
+        All (ServersAccept (sums zero.now) (sums one.now) share0.now share1.now) points.now }
     ensures caught { let w = difference zero.now one.now in
         let r = challenge_rs ckey.now addresses.now in
         let s = challenge_ss ckey.now addresses.now in
-        (slice_index r a ≡ bad_r w r s a) ⊎ (slice_index s b ≡ bad_s w s a b) ⊎ (length points.now ≤ 5) }
+        (slice_index r a ≡ bad_r w r s a)
+        ⊎ (slice_index s b ≡ bad_s w s a b)
+        ⊎ (length points.now ≤ 5) }
 {
     read_words(zero);
     read_words(one);
@@ -76,8 +83,8 @@ pub fn accepted_points_are_few(
     read_words(points);
 }
 
-/// Honest writes are accepted. Where both servers' leaves are equal at every address but the target's, which stands at `place` of
-/// distinct addresses, the client's proof is accepted at every point.
+/// Honest writes are accepted. Where both servers' leaves are equal at every address but the target's, which stands at
+/// `place` of distinct addresses, the client's proof is accepted at every point.
 pub fn honest_writes_are_accepted(
     zero: &[u128],
     one: &[u128],
@@ -91,11 +98,15 @@ pub fn honest_writes_are_accepted(
     requires one { length one.now ≡ length addresses.now }
     requires place { place < length addresses.now }
     requires distinct { AllPairs (λ p q. p ≢ q) addresses.now }
-    requires equal { (i : ℕ) → i < length addresses.now → slice_index addresses.now i ≢ slice_index addresses.now place → slice_index zero.now i ≡ slice_index one.now i }
+    requires equal { (i : ℕ) → i < length addresses.now
+        → slice_index addresses.now i ≢ slice_index addresses.now place
+        → slice_index zero.now i ≡ slice_index one.now i }
     ensures accepted { let m = bit_xor (slice_index zero.now place) (slice_index one.now place) in
         let target = slice_index addresses.now place in
-        let share1 = one_share m (challenge_r ckey.now target) (challenge_s ckey.now target) choices.now in
-        ServersAccept (sums_under ckey.now addresses.now zero.now) (sums_under ckey.now addresses.now one.now) (zero_share choices.now) share1 sigma }
+        let r = challenge_r ckey.now target in
+        let s = challenge_s ckey.now target in
+        let sums = sums_under ckey.now addresses.now in
+        ServersAccept (sums zero.now) (sums one.now) (zero_share choices.now) (one_share m r s choices.now) sigma }
 {
     read_words(zero);
     read_words(one);

@@ -1,5 +1,5 @@
-//! What two servers work out of a proof at a point. Neither learns more than its own share, and the other's openings and
-//! closing.
+//! What two servers work out of a proof at a point. Neither learns more than its own share, and the other's openings
+//! and closing.
 ghost use Rattle.std.specs.Prelude.{◌≡◌, ◌≤◌, ◌↔◌, IsTrue};
 ghost use Rattle.audit_rules.specs.Audit.{opening_of, closing_of, IsAccepted};
 
@@ -22,8 +22,8 @@ pub fn open_share(sums: &Sums, share: &ProofShare, sigma: u128) -> Openings
     }
 }
 
-/// A server's share of the verdict at the point `sigma`, where `opened` is the sum of both servers' openings. Server 0 adds the
-/// product of what was opened. The sums went into the openings, and no more of them is needed.
+/// A server's share of the verdict at the point `sigma`, where `opened` is the sum of both servers' openings. Server 0
+/// adds the product of what was opened. The sums went into the openings, and no more of them is needed.
 pub fn close_share(
     server: u8,
     _sums: &Sums,

@@ -1,4 +1,5 @@
-//! Proofs of an independent program written from the protocol's description, worked verdicts, and both servers together.
+//! Proofs of an independent program written from the protocol's description, worked verdicts, and both servers
+//! together.
 use crate::{close_share, judge, open_share, prove, servers_accept};
 use chacha_expand::challenge;
 use express_words::{Closing, Openings, ProofShare};
@@ -348,8 +349,8 @@ fn rows_of_another_program(rt: HostRuntime) {
     }
 }
 
-/// The proof of m = 1 with r = 2 and s = 3 whose f is 2t² and whose g is 3t, at the point 4: as it is, with another constant
-/// of h, and with a triple's error that hides this at the point.
+/// The proof of m = 1 with r = 2 and s = 3 whose f is 2t² and whose g is 3t, at the point 4: as it is, with another
+/// constant of h, and with a triple's error that hides this at the point.
 #[test]
 fn worked_verdicts(rt: HostRuntime) {
     let sums = Sums {

@@ -27,11 +27,11 @@ unfolding value_in stream_byte
 stream_number_lt key stream a zero = omega arith
 stream_number_lt key stream a (suc n) = rw (pow-suc 256 n) (omega (arith, stream_number_lt key stream (a + 1) n))
 
-stream_word_lt : (key : List ℕ) (stream a : ℕ) → stream_number key stream a < 2 ^ 128
+pub stream_word_lt : (key : List ℕ) (stream a : ℕ) → stream_number key stream a < 2 ^ 128
 unfolding stream_bytes
 stream_word_lt key stream a = stream_number_lt key stream a 16
 
-all_map : (f : ℕ → ℕ) (n : ℕ) → ((x : ℕ) → f x < n) → (xs : List ℕ) → All (λ y. y < n) (map f xs)
+pub all_map : (f : ℕ → ℕ) (n : ℕ) → ((x : ℕ) → f x < n) → (xs : List ℕ) → All (λ y. y < n) (map f xs)
 all_map f n h [] = All-nil (λ y. y < n)
 all_map f n h (x ∷ xs) = All-cons (λ y. y < n) (f x) (map f xs) (h x) (all_map f n h xs)
 

@@ -1,1 +1,2 @@
 pub mod Challenges
+pub mod Leaves

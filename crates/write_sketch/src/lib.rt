@@ -27,8 +27,8 @@ fn with_box(tables: &Tables, sums: Sums, w: u128, r: u128, s: u128) -> Sums
     }
 }
 
-/// The four sums of a server's leaves `states` at `addresses`, under the challenge that `ckey` draws at each address. Empty
-/// lists give four zeros.
+/// The four sums of a server's leaves `states` at `addresses`, under the challenge that `ckey` draws at each address.
+/// Empty lists give four zeros.
 pub fn sums(states: &[u128], addresses: &[u128], ckey: &[u8; 32]) -> Sums
     requires { length states.now ≡ length addresses.now }
     ensures sums { result ≡ sums_under ckey.now addresses.now states.now }
