@@ -5,6 +5,7 @@
 mod nodes;
 mod passes;
 mod products;
+mod stores;
 mod work;
 
 use std::process::ExitCode;

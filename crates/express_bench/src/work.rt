@@ -1,5 +1,5 @@
 //! The pieces of work.
-use crate::{nodes, passes, products};
+use crate::{nodes, passes, products, stores};
 use express_words::NoMemory;
 use std::alloc::Global;
 use std::fmt;
@@ -23,6 +23,10 @@ pub enum Work {
     Walks(u32),
     /// The number of nodes that such a pass expands.
     Nodes(u32),
+    /// The shares of the largest settings, opened and cleared once, however often that is asked.
+    Shares,
+    /// The kept replies of the largest settings, likewise.
+    Replies,
 }
 
 impl Work {
@@ -33,6 +37,8 @@ impl Work {
             "product" => Some(Work::Product),
             "mul_fast" => Some(Work::MulFast),
             "tables" => Some(Work::Tables),
+            "shares" => Some(Work::Shares),
+            "replies" => Some(Work::Replies),
             _ => {
                 let (kind, boxes) = name.split_once('_')?;
                 let boxes = boxes.parse::<u32>().ok()?;
@@ -57,6 +63,8 @@ impl Work {
             Work::Pass(boxes) => passes::by_passes(alloc, boxes, times),
             Work::Walks(boxes) => passes::by_walks(alloc, boxes, times),
             Work::Nodes(boxes) => passes::nodes(alloc, boxes),
+            Work::Shares => stores::shares(alloc),
+            Work::Replies => stores::replies(alloc),
         }
     }
 }
@@ -72,6 +80,8 @@ impl fmt::Display for Work {
             Work::Pass(boxes) => write!(f, "pass_{boxes}"),
             Work::Walks(boxes) => write!(f, "walks_{boxes}"),
             Work::Nodes(boxes) => write!(f, "nodes_{boxes}"),
+            Work::Shares => write!(f, "shares"),
+            Work::Replies => write!(f, "replies"),
         }
     }
 }
