@@ -1,0 +1,8 @@
+//! The boxes of a server: their addresses and keys, by number.
+#![tactic(auto)]
+
+mod fault;
+mod plain;
+
+pub use fault::RegFault;
+pub use plain::PlainRegistry;

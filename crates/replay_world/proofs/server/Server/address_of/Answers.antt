@@ -1,0 +1,18 @@
+use Rattle.std.proofs.Common.{◌≡◌, ◌<◌, ◌≤◌, ◌++◌, ◌∷◌, [], length, List, ℕ, Ok, Err, None, slice_get, slice_set, replicate, arith, sym, ◌∙◌, ap, refl}
+use Rattle.mailbox_rules.specs.Tables.{Mailbox, addresses, box_of, xor_bytes, new_box, boxes_cleared}
+use Rattle.mailbox_rules.specs.Laws.{bytes_of}
+use Rattle.box_registry.specs.Boxes.{Boxes, place_of}
+use Rattle.replay_world.specs.Shelf.{Shelf, mailboxes, Registers}
+use Rattle.replay_world.proofs.ShelfLemmas.{length-mailboxes, addresses-mailboxes, box_of-mailboxes, address-there, mailboxes-push, bytes-mailboxes, cleared-mailboxes, width-at, width-set, width-push, registers-refused, added-next}
+use Rattle.replay_world.proofs.server.Server.address_of.Goals as goal
+
+pub address_of-requires : goal.address_of-requires
+address_of-requires c =
+    let count : length c.args.self.now.boxes ≡ length c.self.inside.registry.boxes = ap (λ (s : Shelf). length s.boxes) (sym c.self.view_is) ∙ length-mailboxes _ _ c.self.invariant.0 in
+    omega (arith, count)
+
+pub returns : goal.returns
+returns c =
+    ap (λ (s : Shelf). slice_get (addresses s.boxes) c.args.box_number) (sym c.self.view_is)
+    ∙ ap (λ xs. slice_get xs c.args.box_number) (addresses-mailboxes _ _ c.self.invariant.0)
+    ∙ address-there c.self.inside.registry.boxes c.args.box_number _ c.address_of.ensures

@@ -1,0 +1,119 @@
+-- The run of a schedule of one client: its requests are worked off one after another, by the rules of the mailboxes.
+use Rattle.std.specs.Prelude.{ℕ, ◌+◌, nat_le, ◌&&◌, if◌then◌else◌, Bool, true, false, List, [], ◌∷◌, ◌++◌, length, slice_index_or}
+use Rattle.express_words.specs.declared.settings.Settings.{Settings}
+use Rattle.mailbox_rules.specs.Requests.{Request, Line, Operation, operation_by}
+use Rattle.mailbox_rules.specs.Tables.{Table, Writes, Result, Refused, table_after, results_after, no_writes, plain_writes}
+use Rattle.schedule_text.specs.declared.schedule.Asked.{Asked}
+use Rattle.schedule_text.specs.declared.schedule.Asked.TheVariants as asked
+use Rattle.schedule_text.specs.declared.schedule.Event.{Event}
+use Rattle.schedule_text.specs.declared.schedule.Event.TheVariants.{Ask, Finish}
+use Rattle.schedule_text.specs.declared.schedule.Header.{Header}
+use Rattle.schedule_text.specs.declared.schedule.Schedule.{Schedule}
+use Rattle.replay_world.specs.declared.lines.Told.{Told}
+use Rattle.replay_world.specs.declared.lines.Told.TheVariants.{NoOwn}
+use Rattle.replay_world.specs.declared.lines.OutcomeLine.{OutcomeLine}
+use Rattle.replay_world.specs.Requests.{request_of, lines_of}
+use Rattle.replay_world.specs.Lines.{told_of, message_of}
+
+-- A run so far.
+pub record Run : Type 0 where
+  -- the requests that wait at the client, of which the first is its current one
+  pub waiting : List Asked
+  -- those that it sent, the one of serial 1 first
+  pub sent : List Request
+  -- the journal: the commands that were carried out
+  pub lines : List Line
+  pub outcomes : List OutcomeLine
+
+abbrev pub start : Run
+start = record { waiting = []; sent = []; lines = []; outcomes = [] }
+
+-- what each line of the journal does, where these requests were sent
+abbrev pub does : List Request → Line → Operation
+does sent = operation_by (λ lane. sent)
+
+-- In the plain table each write, and each is accepted, adds its message to the box of its target.
+abbrev pub plain : List Request → Writes
+plain sent = plain_writes (λ lane. sent) (λ lane serial. true)
+
+-- What the requests add to a server's shares. No request writes yet.
+abbrev pub shared : Header → ℕ → List Request → Writes
+shared header server sent = record { accepts = λ lane serial. true; adds = λ lane serial address. [] }
+
+abbrev pub table_by : Settings → (List Request → Writes) → List Request → List Line → Table
+table_by settings writes sent lines = table_after settings.boxes settings.width (writes sent) (does sent) lines
+
+-- the plain table of mailboxes after the journal so far, and the results of its lines
+abbrev pub table_of : Settings → Run → Table
+table_of settings r = table_by settings plain r.sent r.lines
+
+abbrev pub results_of : Settings → Run → List Result
+results_of settings r = results_after settings.boxes settings.width (plain r.sent) (does r.sent) r.lines
+
+-- a server's shares after the journal so far
+abbrev pub shares_of : Header → ℕ → Run → Table
+shares_of header server r = table_by header.settings (shared header server) r.sent r.lines
+
+-- one more request is sent, and its commands are carried out
+abbrev pub sent_on : Run → Request → Run
+sent_on r request = record r { sent = r.sent ++ request ∷ []; lines = r.lines ++ lines_of (length r.sent + 1) request }
+
+abbrev pub last_result : List Result → Result
+last_result [] = Refused
+last_result (result ∷ []) = result
+last_result (result ∷ next ∷ results) = last_result (next ∷ results)
+
+-- the client is told what became of its next request
+abbrev pub outcome_at : List OutcomeLine → Told → List ℕ → OutcomeLine
+outcome_at outcomes told message = record { client = 0; request = length outcomes; outcome = told; message = message }
+
+abbrev pub told_on : Run → Told → List ℕ → Run
+told_on r told message = record r { outcomes = r.outcomes ++ outcome_at r.outcomes told message ∷ [] }
+
+-- A request is sent, carried out, and its client is told the result of its last command.
+unfoldable pub carried_out : Settings → Run → Request → Run
+carried_out settings r request =
+    let result = last_result (results_of settings (sent_on r request)) in
+    told_on (sent_on r request) (told_of result) (message_of result)
+
+-- A client refuses a read of a box that it never got, and sends nothing.
+abbrev pub is_refused : Settings → Run → Asked → Bool
+is_refused settings r (asked.Register address) = false
+is_refused settings r (asked.Read own) = nat_le (length ((table_of settings r).got 0)) own
+
+abbrev pub refused_on : Run → Asked → Run
+refused_on r (asked.Register address) = r
+refused_on r (asked.Read own) = told_on r (NoOwn own) []
+
+-- one request is worked off
+unfoldable pub worked_off : Settings → Run → Asked → Run
+worked_off settings r one = if is_refused settings r one then refused_on r one else carried_out settings r (request_of one)
+
+unfoldable pub all_worked_off : Settings → List Asked → Run → Run
+all_worked_off settings [] r = r
+all_worked_off settings (one ∷ more) r = all_worked_off settings more (worked_off settings r one)
+
+abbrev pub is_idle : List Asked → Bool
+is_idle [] = true
+is_idle (one ∷ more) = false
+
+-- A request is asked: a client that has no other refuses it at once or takes it, else it waits.
+unfoldable pub asked_on : Settings → Run → Asked → Run
+asked_on settings r one =
+    if is_idle r.waiting && is_refused settings r one then refused_on r one else record r { waiting = r.waiting ++ one ∷ [] }
+
+-- all that wait are worked off
+abbrev pub finished : Settings → Run → Run
+finished settings r = all_worked_off settings r.waiting (record r { waiting = [] })
+
+abbrev pub happens : Settings → Run → Event → Run
+happens settings r (Ask client one) = asked_on settings r one
+happens settings r (Finish client) = finished settings r
+
+unfoldable pub run_on : Settings → Run → List Event → Run
+run_on settings r [] = r
+run_on settings r (event ∷ events) = run_on settings (happens settings r event) events
+
+-- the run of a whole schedule
+abbrev pub run_of : Schedule → Run
+run_of schedule = run_on schedule.header.settings start schedule.events

@@ -1,0 +1,30 @@
+-- The boxes of one server, each with the server's share of its bytes.
+use Rattle.std.specs.Prelude.{◌≡◌, ℕ, ◌≤◌, ◌<◌, true, List, [], ◌∷◌, ◌++◌, length, Option, Some, None, Result, Ok, Err}
+use Rattle.mailbox_rules.specs.Tables.{Mailbox, box_of, new_box}
+use Rattle.box_registry.specs.Boxes.{Box}
+use Rattle.box_registry.specs.declared.fault.RegFault.{RegFault}
+use Rattle.box_registry.specs.declared.fault.RegFault.TheVariants.{Taken, Full}
+
+-- at most so many boxes, their width in bytes, and those that stand
+pub record Shelf : Type 0 where
+  pub limit : ℕ
+  pub width : ℕ
+  pub boxes : List Mailbox
+
+-- Boxes of a registry, each with its share. No box is retired here.
+abbrev pub mailboxes : List Box → List (List ℕ) → List Mailbox
+mailboxes [] shares = []
+mailboxes (box ∷ boxes) [] = []
+mailboxes (box ∷ boxes) (share ∷ shares) = record { address = box.address; bytes = share; live = true } ∷ mailboxes boxes shares
+
+-- all shares have this width
+abbrev pub HaveWidth : ℕ → List (List ℕ) → Type 0
+HaveWidth width [] = Unit {0}
+HaveWidth width (share ∷ shares) = (length share ≡ width) × HaveWidth width shares
+
+-- From old to new an address was registered with this answer.
+abbrev pub Registers : Shelf → Shelf → ℕ → Result ℕ RegFault → Type 0
+Registers old new address (Ok n) = (box_of address old.boxes ≡ None) × (length old.boxes < old.limit) × (n ≡ length old.boxes)
+    × (new ≡ record old { boxes = old.boxes ++ new_box old.width address ∷ [] })
+Registers old new address (Err (Taken n)) = (box_of address old.boxes ≡ Some n) × (new ≡ old)
+Registers old new address (Err (Full limit)) = (box_of address old.boxes ≡ None) × (old.limit ≤ length old.boxes) × (limit ≡ old.limit) × (new ≡ old)

@@ -1,0 +1,34 @@
+//! The first line of a schedule.
+ghost use Rattle.std.specs.Prelude.{◌≡◌};
+ghost use Rattle.schedule_text.specs.Grammar.{header_of};
+
+use crate::fields::{after, number_at, seed_of};
+use crate::schedule::Header;
+use express_words::Settings;
+
+/// The header that a line spells.
+#[tactic(auto, unfolding(crate::specs::Grammar::header_of))]
+pub fn header_of(line: &[u8]) -> Option<Header>
+    ensures { result ≡ header_of line.now }
+{
+    let rest = after(b"express 1 ", line)?;
+    let (width, rest) = number_at(16, 4096, rest)?;
+    if width % 16 != 0 {
+        return None;
+    }
+    let rest = after(b" ", rest)?;
+    let (boxes, rest) = number_at(1, 4096, rest)?;
+    let rest = after(b" ", rest)?;
+    let (lanes, rest) = number_at(1, 1, rest)?;
+    let rest = after(b" ", rest)?;
+    let (window, rest) = number_at(1, 1, rest)?;
+    let rest = after(b" ", rest)?;
+    let seed = seed_of(rest)?;
+    let settings = Settings {
+        width: width as u32,
+        boxes: boxes as u32,
+        lanes: lanes as u16,
+        window: window as u8,
+    };
+    Some(Header { settings, seed })
+}
