@@ -3,10 +3,16 @@
 #![tactic(auto)]
 
 mod draws;
+mod eight;
+mod lanes;
 mod reads;
 mod stream;
 mod tree;
 
 pub use draws::{challenge, choices, draw32, owner_keys};
+pub use eight::children8;
 pub use reads::{mask_into, token};
 pub use tree::{block_into, children};
+
+#[cfg(test)]
+mod tests;

@@ -1,0 +1,9 @@
+use Rattle.audit_rules.specs.Whole.{servers_pass}
+use Rattle.audit_rules.proofs.laws.servers_accept_what_passes.Goals as goal
+
+pub returns : goal.returns
+returns c = record {
+  passes =
+      servers_pass c.args.sums0.now c.args.sums1.now c.args.share0.now c.args.share1.now c.args.sigma
+      c.read_sums.ensures.in_range c.read_sums-2.ensures.in_range c.read_share.ensures.in_range c.read_share-2.ensures.in_range c.ranges.sigma.fits;
+}

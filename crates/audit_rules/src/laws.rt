@@ -1,0 +1,89 @@
+//! Laws over the definitions. The functions only read their arguments, from which a proof learns that they are in range: their
+//! contracts are the laws.
+ghost use Rattle.std.specs.Prelude.{◌≡◌, ◌≢◌, ℕ, ◌<◌, ◌≤◌, ◌↔◌, ◌⊎◌, length, All, AllPairs, slice_index, slice_set};
+ghost use Rattle.audit_rules.specs.Audit.{sums_of, bad_r, bad_s, PassesAt, ServersAccept, whole_sums, whole_proof, difference, zero_share, one_share};
+ghost use Rattle.audit_rules.specs.Soundness.{IsFirst, IsLast};
+ghost use Rattle.audit_rules.specs.Accepted.{IsAlone, sums_alone};
+
+use crate::ranges::{read_share, read_sums, read_words};
+use crate::sums::Sums;
+use express_words::ProofShare;
+
+/// The soundness law. Where `w` has two places or more that aren't zero, `a` the first and `b` the last of them, a proof passes
+/// at five points at most, unless r at a or s at b is the one bad value, which doesn't depend on that place of r or s.
+pub fn bad_writes_are_caught(
+    w: &[u128],
+    r: &[u128],
+    s: &[u128],
+    a: usize,
+    b: usize,
+    proof: &ProofShare,
+    points: &[u128],
+)
+    requires r { length r.now ≡ length w.now }
+    requires s { length s.now ≡ length w.now }
+    requires first { IsFirst w.now a }
+    requires last { IsLast w.now b }
+    requires two { a < b }
+    requires distinct { AllPairs (λ p q. p ≢ q) points.now }
+    requires passes { All (PassesAt (sums_of w.now r.now s.now) proof.now) points.now }
+    ensures caught { (slice_index r.now a ≡ bad_r w.now r.now s.now a) ⊎ (slice_index s.now b ≡ bad_s w.now s.now a b) ⊎ (length points.now ≤ 5) }
+    ensures bad_r_is_fixed { (v : ℕ) → bad_r w.now (slice_set r.now a v) s.now a ≡ bad_r w.now r.now s.now a }
+    ensures bad_s_is_fixed { (v : ℕ) → bad_s w.now (slice_set s.now b v) a b ≡ bad_s w.now s.now a b }
+{
+    read_words(w);
+    read_words(r);
+    read_words(s);
+    read_share(proof);
+    read_words(points);
+}
+
+/// What two servers accept at a point: both closings add up to zero exactly where the whole proof passes for the whole sums.
+pub fn servers_accept_what_passes(
+    sums0: &Sums,
+    sums1: &Sums,
+    share0: &ProofShare,
+    share1: &ProofShare,
+    sigma: u128,
+)
+    ensures passes { ServersAccept sums0.now sums1.now share0.now share1.now sigma ↔ PassesAt (whole_sums sums0.now sums1.now) (whole_proof share0.now share1.now) sigma }
+{
+    read_sums(sums0);
+    read_sums(sums1);
+    read_share(share0);
+    read_share(share1);
+}
+
+/// The sums of both servers' vectors add up to those of the difference vector.
+pub fn sums_add_up(zero: &[u128], one: &[u128], r: &[u128], s: &[u128])
+    requires { length zero.now ≡ length one.now }
+    ensures { whole_sums (sums_of zero.now r.now s.now) (sums_of one.now r.now s.now) ≡ sums_of (difference zero.now one.now) r.now s.now }
+{
+    read_words(zero);
+    read_words(one);
+    read_words(r);
+    read_words(s);
+}
+
+/// A client's proof passes at every point: for a vector that is zero everywhere but at `place`, with the client's value and
+/// challenge of that place.
+pub fn honest_proofs_pass(
+    w: &[u128],
+    r: &[u128],
+    s: &[u128],
+    place: usize,
+    words: &[u128; 16],
+    sigma: u128,
+)
+    requires r { length r.now ≡ length w.now }
+    requires s { length s.now ≡ length w.now }
+    requires place { place < length w.now }
+    requires alone { IsAlone w.now place }
+    ensures passes { let share1 = one_share (slice_index w.now place) (slice_index r.now place) (slice_index s.now place) words.now in
+        PassesAt (sums_of w.now r.now s.now) (whole_proof (zero_share words.now) share1) sigma }
+{
+    read_words(w);
+    read_words(r);
+    read_words(s);
+    read_words(words);
+}

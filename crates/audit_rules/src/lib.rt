@@ -1,0 +1,12 @@
+//! The audit of a write, as definitions and laws over them: the sketch of a difference vector with two challenge vectors,
+//! the values of a challenge that hide a bad vector, and a client's proof with one multiplication triple.
+#![tactic(auto)]
+
+mod laws;
+mod ranges;
+mod sums;
+
+pub use laws::{
+    bad_writes_are_caught, honest_proofs_pass, servers_accept_what_passes, sums_add_up,
+};
+pub use sums::Sums;

@@ -1,0 +1,30 @@
+//! That words are numbers of the field, which a proof learns where they are read.
+ghost use Rattle.std.specs.Prelude.{ℕ, ◌<◌, ◌^◌, All};
+ghost use Rattle.audit_rules.specs.Ranges.{IsProofShare, IsSums};
+
+use crate::sums::Sums;
+use express_words::ProofShare;
+
+pub fn read_words(words: &[u128])
+    ensures in_range { All (λ n. n < 2 ^ 128) words.now }
+{}
+
+pub fn read_share(share: &ProofShare)
+    ensures in_range { IsProofShare share.now }
+{
+    read_words(&share.h);
+    let _u = share.u;
+    let _v = share.v;
+    let _a = share.a;
+    let _b = share.b;
+    let _c = share.c;
+}
+
+pub fn read_sums(sums: &Sums)
+    ensures in_range { IsSums sums.now }
+{
+    let _x = sums.x;
+    let _y = sums.y;
+    let _m = sums.m;
+    let _z = sums.z;
+}

@@ -1,0 +1,4 @@
+pub mod Listing
+pub mod Order
+pub mod Groups
+pub mod Room

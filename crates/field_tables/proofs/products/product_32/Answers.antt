@@ -1,0 +1,10 @@
+use Rattle.std.proofs.Common.{◌<◌, ◌^◌}
+use Rattle.tower_field.specs.Products.{by_three}
+use Rattle.field_tables.proofs.products.product_32.Goals as goal
+
+pub returns : goal.returns
+returns c =
+    let h : c.args.a < 2 ^ 32 = c.ranges.a.fits in
+    let i : c.args.b < 2 ^ 32 = c.ranges.b.fits in
+    let step = by_three 4 c.args.a c.args.b h i in
+    cc

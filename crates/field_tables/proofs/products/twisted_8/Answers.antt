@@ -1,0 +1,6 @@
+use Rattle.tower_field.specs.Levels.{twist_at}
+use Rattle.field_tables.proofs.products.twisted_8.Goals as goal
+
+pub returns : goal.returns
+unfolding twist_at
+returns c = c.product.ensures

@@ -1,0 +1,6 @@
+pub mod Frames
+pub mod Kinds
+pub mod Spelling
+pub mod Forms
+pub mod Bodies
+pub mod Reading

@@ -1,0 +1,11 @@
+//! Frames, what spells one, and in which order one is judged. `docs/FRAMES.md` tells the format.
+#![tactic(auto)]
+
+mod fault;
+mod frame;
+mod kind;
+pub mod laws;
+
+pub use fault::FrameFault;
+pub use frame::{Body, DepositBody, Frame, ReplyBody};
+pub use kind::Kind;

@@ -1,0 +1,19 @@
+ghost use Rattle.std.specs.Prelude.{◌≡◌, bit_xor};
+ghost use Rattle.tower_field.specs.Levels.{product_at};
+ghost use Rattle.poly_roots.specs.Polynomials.{value_at};
+
+use tower_field::{Field, Gf128};
+
+/// The coefficients, from the constant upwards, of the polynomial of degree at most 2 over the field of 2^128 elements
+/// that has the value `u` at 0, `x` at 1 and `m` at 2.
+pub fn through3(u: u128, x: u128, m: u128) -> [u128; 3]
+    ensures at_zero { value_at 0 bit_xor (product_at 7) result 0 ≡ u }
+    ensures at_one { value_at 0 bit_xor (product_at 7) result 1 ≡ x }
+    ensures at_two { value_at 0 bit_xor (product_at 7) result 2 ≡ m }
+{
+    let start = Gf128(u);
+    let change = start.add(Gf128(x));
+    let square = start.add(Gf128(m)).add(Gf128(2).mul(change));
+    let slope = square.add(change);
+    [start.value(), slope.value(), square.value()]
+}

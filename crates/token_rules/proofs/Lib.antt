@@ -1,0 +1,17 @@
+mod Cases
+mod Lists
+mod Stages
+mod Coherent
+mod Moves
+mod Fitting
+mod Handlers
+mod Events
+mod Drain
+mod Laws
+mod Finish
+mod Rounds
+mod Still
+mod Tallies
+mod Journal
+mod Heeded
+mod Outcomes

@@ -1,0 +1,4 @@
+pub mod Tokens
+pub mod Rows
+pub mod Run
+pub mod Laws

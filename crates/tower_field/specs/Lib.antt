@@ -1,0 +1,10 @@
+pub mod Laws
+pub mod Rings
+pub mod Bits
+pub mod Quads
+pub mod Pulled
+pub mod Levels
+pub mod Elements
+pub mod Products
+pub mod Gf
+pub mod Rows
