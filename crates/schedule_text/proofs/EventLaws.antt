@@ -1,5 +1,5 @@
 -- A line is an event exactly where it spells one.
-use Rattle.std.proofs.Common.{◌≡◌, ℕ, zero, suc, ◌+◌, ◌-◌, ◌<◌, ◌≤◌, ◌^◌, ◌⊎◌, inl, inr, List, [], ◌∷◌, ◌++◌, Option, Some, None, option_map, Result, Ok, Err, codes, length, take, drop, arith, refl, sym, ◌∙◌, ap, ap₂, subst}
+use Rattle.std.proofs.Common.{◌≡◌, ℕ, zero, suc, ◌-◌, ◌<◌, ◌≤◌, ◌^◌, ◌⊎◌, inl, inr, List, [], ◌∷◌, ◌++◌, Some, option_map, Result, Ok, Err, codes, length, take, drop, arith, refl, sym, ◌∙◌, ap, subst}
 use Rattle.std.specs.Fmt.{decimal}
 use Rattle.std.proofs.lemmas.List.{take-append-drop}
 use Rattle.std.specs.Result.{result_ok}
@@ -10,7 +10,7 @@ use Rattle.schedule_text.specs.declared.schedule.Asked.{Asked}
 use Rattle.schedule_text.specs.declared.schedule.Asked.TheVariants.{Register, Write, Read}
 use Rattle.schedule_text.specs.declared.schedule.Event.{Event}
 use Rattle.schedule_text.specs.declared.schedule.Event.TheVariants.{Ask, Finish}
-use Rattle.schedule_text.specs.Fields.{◌>>=◌, or_else, after, number_at, last_number, address_of, address_at, message_of}
+use Rattle.schedule_text.specs.Fields.{or_else, after, number_at, last_number, address_of, address_at, message_of}
 use Rattle.schedule_text.specs.Grammar.{register_of, read_of, target_of, write_of, asked_of, client_of, ask_of, finish_of, event_of}
 use Rattle.schedule_text.specs.Spelling.{SpellsAddress, SpellsAsked, SpellsEvent}
 use Rattle.schedule_text.proofs.FieldLaws.{bind_some, map_some, or_else_some, after_found, after_only, number_found, number_only, last_found, last_only, address_found, address_only}
@@ -64,12 +64,11 @@ target_found text found k =
     let target : m.0 ≡ b.0.0 = ap (λ (r : ℕ × List ℕ). r.0) m.2 in
     let rest : drop 32 a.0 ≡ b.0.1 = ap (λ (r : ℕ × List ℕ). r.1) m.2 in
     let is : (b.0.0, d.0) ≡ found = some_is _ _ d.2 in
-    let spelled : SpellsAddress found.0 (take 32 a.0) = subst (λ (x : ℕ). SpellsAddress x (take 32 a.0)) (target ∙ ap (λ (r : ℕ × List ℕ). r.0) is) (address_found (take 32 a.0) m.0 m.1) in
-    (
+    let spelled : SpellsAddress found.0 (take 32 a.0) = subst (λ (x : ℕ). SpellsAddress x (take 32 a.0)) (target ∙ ap (λ (r : ℕ × List ℕ). r.0) is) (address_found (take 32 a.0) m.0 m.1) in (
       take 32 a.0,
       spelled,
       after_found (codes "write ") text a.0 a.1
-      ∙ ap (λ r. codes "write " ++ r) (halves 32 a.0 ∙ ap (λ r. take 32 a.0 ++ r) (rest ∙ after_found (codes " ") b.0.1 d.0 d.1 ∙ ap (λ r. codes " " ++ r) (ap (λ (r : ℕ × List ℕ). r.1) is))),
+          ∙ ap (λ r. codes "write " ++ r) (halves 32 a.0 ∙ ap (λ r. take 32 a.0 ++ r) (rest ∙ after_found (codes " ") b.0.1 d.0 d.1 ∙ ap (λ r. codes " " ++ r) (ap (λ (r : ℕ × List ℕ). r.1) is))),
     )
   where
     some_is : (x y : ℕ × List ℕ) → Some x ≡ Some y → x ≡ y
@@ -95,6 +94,7 @@ asked_found settings text asked h = either (or_else_some (register_of text) (or_
     others : (write_of settings text ≡ Some asked) ⊎ (read_of text ≡ Some asked) → SpellsAsked settings asked text
     others (inl k) = write_found settings text asked k
     others (inr k) = read_found settings text asked k
+
     either : (register_of text ≡ Some asked) ⊎ (or_else (write_of settings text) (read_of text) ≡ Some asked) → SpellsAsked settings asked text
     either (inl k) = register_found settings text asked k
     either (inr k) = others (or_else_some (write_of settings text) (read_of text) asked k)

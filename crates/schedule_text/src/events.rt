@@ -95,11 +95,7 @@ fn finish_of(settings: &Settings, line: &[u8]) -> Option<Event>
 }
 
 /// The event that a line spells under these settings.
-pub fn event_of(
-    alloc: Global,
-    settings: &Settings,
-    line: &[u8],
-) -> Result<Option<Event>, NoMemory>
+pub fn event_of(alloc: Global, settings: &Settings, line: &[u8]) -> Result<Option<Event>, NoMemory>
     ensures { IfOk result (λ found. found ≡ event_of settings.now line.now) }
 {
     match ask_of(alloc, settings, line)? {

@@ -1,4 +1,4 @@
-use Rattle.std.proofs.Common.{◌≡◌, ◌≤◌, ◌<◌, ℕ, zero, suc, List, [], ◌∷◌, length, take, drop, min, option_map, None, Some, arith, refl, sym, ◌∙◌, ap, ap₂}
+use Rattle.std.proofs.Common.{◌≡◌, ℕ, zero, suc, List, [], ◌∷◌, length, take, drop, min, option_map, Some, arith, refl, sym, ◌∙◌, ap}
 use Rattle.schedule_text.specs.Fields.{address_of, address_at}
 use Rattle.schedule_text.proofs.fields.address_at.Goals as goal
 
