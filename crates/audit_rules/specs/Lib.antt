@@ -10,4 +10,5 @@ pub mod Soundness
 pub mod Ranges
 pub mod Whole
 pub mod Accepted
+pub mod InRange
 pub mod Rows

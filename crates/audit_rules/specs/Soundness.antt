@@ -86,7 +86,7 @@ caught w r s a b ha hb lr ls na nb u v alpha h points five apart passes =
           ]
     ]
 
-sums-values : (w r s : List E) →
+pub sums-values : (w r s : List E) →
     sums_of (values w) (values r) (values s) ≡ record { x = (sketch.dot z add mul w r).value; y = (sketch.dot z add mul w s).value; m = (sketch.total z add w).value; z = (sketch.dot3 z add mul w r s).value }
 unfolding sums_of
 sums-values w r s = let x = dot-values w r in let y = dot-values w s in let m = total-values w in let k = dot3-values w r s in cc

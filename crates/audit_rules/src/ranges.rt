@@ -5,10 +5,12 @@ ghost use Rattle.audit_rules.specs.Ranges.{IsProofShare, IsSums};
 use crate::sums::Sums;
 use express_words::ProofShare;
 
+/// Every word is a number of the field.
 pub fn read_words(words: &[u128])
     ensures in_range { All (λ n. n < 2 ^ 128) words.now }
 {}
 
+/// Every word of a share is a number of the field.
 pub fn read_share(share: &ProofShare)
     ensures in_range { IsProofShare share.now }
 {
@@ -20,6 +22,7 @@ pub fn read_share(share: &ProofShare)
     let _c = share.c;
 }
 
+/// The four sums are numbers of the field.
 pub fn read_sums(sums: &Sums)
     ensures in_range { IsSums sums.now }
 {

@@ -3,6 +3,11 @@
 
 mod fault;
 mod plain;
+mod registry;
 
 pub use fault::RegFault;
 pub use plain::PlainRegistry;
+pub use registry::Registry;
+
+#[cfg(test)]
+mod tests;

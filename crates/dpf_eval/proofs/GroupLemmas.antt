@@ -1,8 +1,8 @@
 -- Groups of entries, one entry on.
-use Rattle.std.proofs.Common.{◌≡◌, ◌≢◌, ℕ, zero, suc, ◌+◌, ◌-◌, ◌<◌, ◌≤◌, List, length, take, slice_index, set, ◌∙◌, ap, arith, inl, inr, get_or-set_other, get_or-set_same}
+use Rattle.std.proofs.Common.{◌≡◌, ◌≢◌, ℕ, zero, suc, ◌+◌, ◌-◌, ◌<◌, ◌≤◌, List, length, map, take, get_or, slice_index, slice_index_or, set, sym, ◌∙◌, ap, arith, inl, inr, get_or-set_other, get_or-set_same}
 use Rattle.std.proofs.lemmas.List.Sums.{count_by_more_yes, count_by_more_no, count_by-le-length, sum_by_more}
-use Rattle.std.proofs.lemmas.List.{length-take, length-take-le, get_or-take}
-use Rattle.dpf_rules.specs.Expansion.{child}
+use Rattle.std.proofs.lemmas.List.{length-take, length-take-le, get_or-take, get_or-map}
+use Rattle.dpf_rules.specs.Keys.{raw_pair}
 use Rattle.std.proofs.lemmas.Bool.{cases_lt}
 use Rattle.std.proofs.lemmas.Bool.Decides.{nat_tests}
 use Rattle.std.specs.Prelude.{nat_le, if◌then◌else◌}
@@ -91,17 +91,22 @@ module _ (splits : List ℕ) (level : ℕ) where
           rw (is, after, place, state) (before m (omega arith))
     ]
 
--- each entry reads the raw child of its own state among those of the groups
-pub group_child : (splits states nodes raw : List ℕ) (level side groups : ℕ) → length splits ≡ length states
+-- each entry reads the raw children of its own state among those of the groups
+pub group_pair : (splits states nodes : List ℕ) (pairs : List (ℕ × ℕ)) (level groups : ℕ) → length splits ≡ length states
     → slice_index splits 0 ≤ level → groups ≡ groups_of splits level (length states) → groups ≤ length nodes
     → ((k : ℕ) → k < length states → slice_index nodes (groups_of splits level (k + 1) - 1) ≡ slice_index states k)
-    → ((k : ℕ) → k < length (take groups nodes) → slice_index raw k ≡ child (slice_index (take groups nodes) k) side)
-    → (k : ℕ) → k < length states → slice_index raw (groups_of splits level (k + 1) - 1) ≡ child (slice_index states k) side
-group_child splits states nodes raw level side groups same first count room gathered expanded k inside =
+    → take (length (take groups nodes)) pairs ≡ map raw_pair (take groups nodes)
+    → (k : ℕ) → k < length states
+    → slice_index_or pairs (groups_of splits level (k + 1) - 1) (0, 0) ≡ raw_pair (slice_index states k)
+group_pair splits states nodes pairs level groups same first count room gathered expanded k inside =
     let low : groups_of splits level (k + 1) ≤ groups_of splits level (length states) =
     groups_le splits level (k + 1) (length states) (omega arith) (omega arith) in
     let some : 0 < groups_of splits level (k + 1) = groups_some splits level first k (omega arith) in
     let place = groups_of splits level (k + 1) - 1 in
     let below : place < groups = omega arith in
-    expanded place (omega (arith, length-take-le groups nodes room))
-    ∙ ap (λ (state : ℕ). child state side) (get_or-take groups nodes place 0 below ∙ gathered k inside)
+    let long : length (take groups nodes) ≡ groups = length-take-le groups nodes room in
+    let taken : take groups pairs ≡ map raw_pair (take groups nodes) = rw long at expanded in
+    sym (get_or-take groups pairs place (0, 0) below)
+    ∙ ap (λ (ps : List (ℕ × ℕ)). get_or ps place (0, 0)) taken
+    ∙ get_or-map raw_pair (take groups nodes) place 0 (0, 0) (omega arith)
+    ∙ ap raw_pair (get_or-take groups nodes place 0 below ∙ gathered k inside)

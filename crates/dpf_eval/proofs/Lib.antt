@@ -6,3 +6,4 @@ pub mod OrderLemmas
 pub mod MemberLemmas
 pub mod ChosenLemmas
 pub mod InsertLemmas
+pub mod ExpansionLemmas

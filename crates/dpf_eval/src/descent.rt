@@ -6,7 +6,8 @@ ghost use Rattle.dpf_rules.specs.Walk.{word_of, right_of, side_at, step, leaf_of
 ghost use Rattle.dpf_rules.specs.Evaluation.{prefix, prefix_count};
 ghost use Rattle.dpf_eval.specs.Groups.{IsSplit};
 
-use crate::levels::{correction_at, descend, expand, gather};
+use crate::expansion::expand;
+use crate::levels::{correction_at, descend, gather};
 use crate::steps::Steps;
 use dpf_keys::PublicPart;
 use std::sync::ledger::Ledger;
@@ -19,17 +20,15 @@ fn descend_level<L: Ledger>(
     level: u8,
     states: &mut [u128],
     nodes: &mut [u128],
-    lefts: &mut [u128],
-    rights: &mut [u128],
+    pairs: &mut [(u128, u128)],
     steps: &mut Steps<L>,
 )
     requires level { level < 128 }
     requires size { length states.old < 2 ^ 32 }
     requires addresses { length addresses.now ≡ length states.old }
     requires splits { length splits.now ≡ length states.old }
-    requires room { length nodes.old ≡ length states.old }
-    requires room_left { length lefts.old ≡ length states.old }
-    requires room_right { length rights.old ≡ length states.old }
+    requires nodes { length nodes.old ≡ length states.old }
+    requires pairs { length pairs.old ≡ length states.old }
     requires split { IsSplit addresses.now splits.now }
     requires rising { IsStrictlyIncreasing addresses.now }
     requires grouped { (k : ℕ) → k + 1 < length states.old
@@ -41,9 +40,9 @@ fn descend_level<L: Ledger>(
     ensures steps { steps.new ≡ steps.old + distinct_count ◌==◌ (map (prefix level) addresses.now) }
 {
     let groups = gather(states, splits, level, nodes);
-    expand(&nodes[..groups], lefts, rights, steps);
+    expand(&nodes[..groups], pairs, steps);
     let correction = correction_at(part, level);
-    descend(addresses, splits, level, &correction, lefts, rights, states);
+    descend(addresses, splits, level, &correction, pairs, states);
 }
 
 /// Takes every entry from the root to its leaf, with one step for each different proper prefix.
@@ -55,17 +54,15 @@ pub(crate) fn descend_all<L: Ledger>(
     splits: &[u8],
     states: &mut [u128],
     nodes: &mut [u128],
-    lefts: &mut [u128],
-    rights: &mut [u128],
+    pairs: &mut [(u128, u128)],
     steps: &mut Steps<L>,
 )
     requires server { server < 2 }
     requires size { length states.old < 2 ^ 32 }
     requires addresses { length addresses.now ≡ length states.old }
     requires splits { length splits.now ≡ length states.old }
-    requires room { length nodes.old ≡ length states.old }
-    requires room_left { length lefts.old ≡ length states.old }
-    requires room_right { length rights.old ≡ length states.old }
+    requires nodes { length nodes.old ≡ length states.old }
+    requires pairs { length pairs.old ≡ length states.old }
     requires split { IsSplit addresses.now splits.now }
     requires rising { IsStrictlyIncreasing addresses.now }
     ensures states { (k : ℕ) → k < length states.old
@@ -77,8 +74,6 @@ pub(crate) fn descend_all<L: Ledger>(
         *state = start;
     }
     for level in 0..128u8 {
-        descend_level(
-            part, addresses, splits, level, states, nodes, lefts, rights, steps,
-        );
+        descend_level(part, addresses, splits, level, states, nodes, pairs, steps);
     }
 }

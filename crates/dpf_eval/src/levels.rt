@@ -2,15 +2,13 @@
 //!
 //! An entry is an address on its way down, with the state that its walk has reached. Entries stand by rising
 //! address, so those that share a prefix are neighbours: a group, which stands at one node of the tree.
-ghost use Rattle.std.specs.Prelude.{◌≡◌, ℕ, ◌+◌, ◌-◌, ◌<◌, ◌≤◌, length, slice_index, ◌^◌, nat_le, if◌then◌else◌};
-ghost use Rattle.dpf_rules.specs.Expansion.{child, with_bit};
+ghost use Rattle.std.specs.Prelude.{◌≡◌, ℕ, ◌+◌, ◌-◌, ◌<◌, ◌≤◌, length, slice_index, slice_index_or, ◌^◌, nat_le, if◌then◌else◌};
+ghost use Rattle.dpf_rules.specs.Expansion.{with_bit};
+ghost use Rattle.dpf_rules.specs.Keys.{raw_pair};
 ghost use Rattle.dpf_rules.specs.Walk.{word_of, right_of, side_at};
 ghost use Rattle.dpf_eval.specs.Groups.{groups_of, stepped};
 
-use crate::steps::Steps;
-use chacha_expand::children;
 use dpf_keys::PublicPart;
-use std::sync::ledger::Ledger;
 
 /// Puts the state of each group's first entry into `nodes`, and gives the number of groups.
 pub(crate) fn gather(states: &[u128], splits: &[u8], level: u8, nodes: &mut [u128]) -> usize
@@ -32,36 +30,6 @@ pub(crate) fn gather(states: &[u128], splits: &[u8], level: u8, nodes: &mut [u12
         }
     }
     groups
-}
-
-/// Expands one node, which is one step.
-fn expand_one<L: Ledger>(node: u128, steps: &mut Steps<L>) -> (u128, u128)
-    ensures left { result.0 ≡ child node 0 }
-    ensures right { result.1 ≡ child node 1 }
-    ensures step { steps.new ≡ steps.old + 1 }
-{
-    steps.tick();
-    children(node)
-}
-
-/// Expands each node once.
-pub(crate) fn expand<L: Ledger>(
-    nodes: &[u128],
-    lefts: &mut [u128],
-    rights: &mut [u128],
-    steps: &mut Steps<L>,
-)
-    requires room_left { length nodes.now ≤ length lefts.old }
-    requires room_right { length nodes.now ≤ length rights.old }
-    ensures lefts { (k : ℕ) → k < length nodes.now → slice_index lefts.new k ≡ child (slice_index nodes.now k) 0 }
-    ensures rights { (k : ℕ) → k < length nodes.now → slice_index rights.new k ≡ child (slice_index nodes.now k) 1 }
-    ensures steps { steps.new ≡ steps.old + length nodes.now }
-{
-    for k in 0..nodes.len() {
-        let (left, right) = expand_one(nodes[k], steps);
-        lefts[k] = left;
-        rights[k] = right;
-    }
 }
 
 /// What a level adds to the raw children of a node whose control bit is 1.
@@ -95,22 +63,15 @@ fn groups_after(groups: usize, split: u8, level: u8) -> usize
 }
 
 /// The next state of an entry, from the raw children of its state.
-fn step(
-    address: u128,
-    level: u8,
-    children: (u128, u128),
-    correction: &Correction,
-    state: u128,
-) -> u128
+fn step(address: u128, level: u8, pair: (u128, u128), correction: &Correction, state: u128) -> u128
     requires level { level < 128 }
-    requires left { children.0 ≡ child state 0 }
-    requires right { children.1 ≡ child state 1 }
+    requires pair { pair ≡ raw_pair state }
     ensures { result ≡ stepped correction.now.left correction.now.right (side_at address level) state }
 {
     let (raw, added) = if (address >> (127 - level)) % 2 == 0 {
-        (children.0, correction.left)
+        (pair.0, correction.left)
     } else {
-        (children.1, correction.right)
+        (pair.1, correction.right)
     };
     if state % 2 == 1 { raw ^ added } else { raw }
 }
@@ -121,28 +82,29 @@ pub(crate) fn descend(
     splits: &[u8],
     level: u8,
     correction: &Correction,
-    lefts: &[u128],
-    rights: &[u128],
+    pairs: &[(u128, u128)],
     states: &mut [u128],
 )
     requires level { level < 128 }
     requires size { length states.old < 2 ^ 32 }
     requires addresses { length addresses.now ≡ length states.old }
     requires splits { length splits.now ≡ length states.old }
-    requires room_left { length lefts.now ≡ length states.old }
-    requires room_right { length rights.now ≡ length states.old }
+    requires room { length pairs.now ≡ length states.old }
     requires first { slice_index splits.now 0 ≤ level }
-    requires lefts { (k : ℕ) → k < length states.old
-        → slice_index lefts.now (groups_of splits.now level (k + 1) - 1) ≡ child (slice_index states.old k) 0 }
-    requires rights { (k : ℕ) → k < length states.old
-        → slice_index rights.now (groups_of splits.now level (k + 1) - 1) ≡ child (slice_index states.old k) 1 }
+    requires pairs { (k : ℕ) → k < length states.old
+        → slice_index_or pairs.now (groups_of splits.now level (k + 1) - 1) (0, 0) ≡ raw_pair (slice_index states.old k) }
     ensures { (k : ℕ) → k < length states.old → slice_index states.new k
         ≡ stepped correction.now.left correction.now.right (side_at (slice_index addresses.now k) level) (slice_index states.old k) }
 {
     let mut groups = 0usize;
     for k in 0..states.len() {
         groups = groups_after(groups, splits[k], level);
-        let pair = (lefts[groups - 1], rights[groups - 1]);
-        states[k] = step(addresses[k], level, pair, correction, states[k]);
+        states[k] = step(
+            addresses[k],
+            level,
+            pairs[groups - 1],
+            correction,
+            states[k],
+        );
     }
 }

@@ -1,7 +1,9 @@
 //! Evaluation of one server's key at many addresses, in one pass down the tree.
 #![tactic(auto)]
 
+mod counts;
 mod descent;
+mod expansion;
 mod levels;
 mod order;
 mod scratch;
@@ -9,5 +11,9 @@ mod splits;
 mod steps;
 mod stream;
 
+pub use counts::worked_counts;
 pub use steps::Steps;
 pub use stream::Frontier;
+
+#[cfg(test)]
+mod tests;

@@ -23,8 +23,7 @@ pub(crate) struct Scratch {
     splits: Vec<u8>,
     states: Vec<u128>,
     nodes: Vec<u128>,
-    lefts: Vec<u128>,
-    rights: Vec<u128>,
+    pairs: Vec<(u128, u128)>,
 }
 
 impl Model for Scratch {
@@ -36,7 +35,7 @@ impl Model for Scratch {
     ghost view = { λ s. vec_len s.boxes };
 
     ghost invariant = { λ s. IsRoom (vec_len s.boxes) (vec_len s.addresses) (vec_len s.splits) (vec_len s.states)
-        (vec_len s.nodes) (vec_len s.lefts) (vec_len s.rights) };
+        (vec_len s.nodes) (vec_len s.pairs) };
 }
 
 impl Scratch {
@@ -51,8 +50,7 @@ impl Scratch {
             splits: vec![in alloc; 0u8; size]?,
             states: vec![in alloc; 0u128; size]?,
             nodes: vec![in alloc; 0u128; size]?,
-            lefts: vec![in alloc; 0u128; size]?,
-            rights: vec![in alloc; 0u128; size]?,
+            pairs: vec![in alloc; (0u128, 0u128); size]?,
         })
     }
 
@@ -90,8 +88,7 @@ impl Scratch {
             &mut self.splits,
             &mut self.states,
             &mut self.nodes,
-            &mut self.lefts,
-            &mut self.rights,
+            &mut self.pairs,
             out,
             steps,
         );
@@ -109,8 +106,7 @@ fn evaluate<L: Ledger>(
     splits: &mut Vec<u8>,
     states: &mut Vec<u128>,
     nodes: &mut Vec<u128>,
-    lefts: &mut Vec<u128>,
-    rights: &mut Vec<u128>,
+    pairs: &mut Vec<(u128, u128)>,
     out: &mut [u128],
     steps: &mut Steps<L>,
 )
@@ -123,8 +119,7 @@ fn evaluate<L: Ledger>(
     requires splits { length boxes.now ≤ vec_len splits.old }
     requires states { length boxes.now ≤ vec_len states.old }
     requires nodes { length boxes.now ≤ vec_len nodes.old }
-    requires lefts { length boxes.now ≤ vec_len lefts.old }
-    requires rights { length boxes.now ≤ vec_len rights.old }
+    requires pairs { length boxes.now ≤ vec_len pairs.old }
     ensures leaves { (b : ℕ) → IsTrue (has_box boxes.now b)
         → slice_index out.new b ≡ leaf_of part.now server root (slice_index addresses.now b) }
     ensures others { (b : ℕ) → has_box boxes.now b ≡ false → slice_index out.new b ≡ slice_index out.old b }
@@ -132,8 +127,7 @@ fn evaluate<L: Ledger>(
     ensures splits_kept { vec_len splits.new ≡ vec_len splits.old }
     ensures states_kept { vec_len states.new ≡ vec_len states.old }
     ensures nodes_kept { vec_len nodes.new ≡ vec_len nodes.old }
-    ensures lefts_kept { vec_len lefts.new ≡ vec_len lefts.old }
-    ensures rights_kept { vec_len rights.new ≡ vec_len rights.old }
+    ensures pairs_kept { vec_len pairs.new ≡ vec_len pairs.old }
     ensures steps { steps.new ≡ steps.old + prefix_count (map (slice_index addresses.now) boxes.now) }
 {
     let n = boxes.len();
@@ -141,12 +135,11 @@ fn evaluate<L: Ledger>(
     let splits = &mut splits[..n];
     let states = &mut states[..n];
     let nodes = &mut nodes[..n];
-    let lefts = &mut lefts[..n];
-    let rights = &mut rights[..n];
+    let pairs = &mut pairs[..n];
     addresses_into(addresses, boxes, sorted);
     split_into(sorted, splits);
     descend_all(
-        part, server, root, sorted, splits, states, nodes, lefts, rights, steps,
+        part, server, root, sorted, splits, states, nodes, pairs, steps,
     );
     write_at(boxes, states, out);
 }

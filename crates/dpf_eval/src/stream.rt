@@ -1,5 +1,5 @@
 //! Addresses ready for evaluation.
-ghost use Rattle.std.specs.Prelude.{◌≡◌, ◌==◌, ◌<◌, ◌≤◌, ◌+◌, ◌++◌, ◌∷◌, [], IfOk, IfSome, IfNone, Contains, map, take, drop, length, position};
+ghost use Rattle.std.specs.Prelude.{◌≡◌, ◌==◌, ◌<◌, ◌≤◌, ◌+◌, ◌++◌, ◌∷◌, [], IfOk, IfSome, IfNone, IsTrue, ◌↔◌, Contains, map, take, drop, length, position};
 ghost use Rattle.dpf_rules.specs.Evaluation.{prefix_count};
 ghost use Rattle.dpf_rules.specs.Walk.{leaf_of};
 
@@ -73,6 +73,13 @@ impl Frontier {
         ensures within { result ≤ self.now.limit }
     {
         self.addresses.len() as u32
+    }
+
+    /// Whether there is no room for another address.
+    pub fn is_full(&self) -> bool
+        ensures { IsTrue result ↔ (self.now.limit ≤ length self.now.addresses) }
+    {
+        self.count() >= self.limit
     }
 
     /// The box of an address.

@@ -6,7 +6,7 @@ use Rattle.express_words.specs.Limits.{IsWidth}
 use Rattle.express_words.specs.declared.audit.ProofShare.{ProofShare}
 use Rattle.express_words.specs.declared.audit.Openings.{Openings}
 use Rattle.express_words.specs.declared.audit.Closing.{Closing}
-use Rattle.frame_rules.specs.Spelling.{word, openings, closing, proof_share, IsWord, IsKey, IsPart, AreOpenings, IsClosing, IsProofShare}
+use Rattle.frame_rules.specs.Spelling.{word, address, openings, closing, proof_share, IsWord, IsKey, IsPart, AreOpenings, IsClosing, IsProofShare}
 use Rattle.frame_rules.specs.Forms.{word_of, has_size, Exactly, Wide}
 use Rattle.frame_rules.specs.Bodies.{openings_of, closing_of, words_of, proof_share_of}
 use Rattle.std.proofs.lemmas.List.{take_at, drop_at, take-append-drop, length-append, length-take, length-drop, nil_from_length}
@@ -40,13 +40,21 @@ closing_field = record {
   again = λ x h. ap (λ (p : ℕ × ℕ). let c : Closing = record { o = p.0; tau = p.1 } in c) (words2.again (x.o, x.tau) h);
 }
 
+pub word_len : (n : ℕ) → length (word n) ≡ 16
+unfolding word
+word_len n = refl
+
+pub address_len : (n : ℕ) → length (address n) ≡ 16
+unfolding address
+address_len n = refl
+
 -- so many words
 abbrev AreWords : ℕ → List ℕ → Type 0
 AreWords n xs = (length xs ≡ n) × AllByRecursion IsWord xs
 
 words_len : (n : ℕ) (xs : List ℕ) → length xs ≡ n → length (flat_map word xs) ≡ n * 16
 words_len n [] h = omega arith
-words_len n (x ∷ xs) h = ap length (flat_map-cons word x xs) ∙ omega (arith, length-append (word x) (flat_map word xs), words_len (n - 1) xs (omega arith))
+words_len n (x ∷ xs) h = ap length (flat_map-cons word x xs) ∙ omega (arith, length-append (word x) (flat_map word xs), word_len x, words_len (n - 1) xs (omega arith))
 
 words_back : (n : ℕ) (bytes : List ℕ) → IsBytes bytes → length bytes ≡ n * 16 → flat_map word (words_of n bytes) ≡ bytes
 words_back zero bytes h len = sym (nil_from_length bytes (omega arith))
@@ -119,8 +127,8 @@ proof_field = record {
 }
 
 -- a key behind an address, a word behind a box number, a key behind a count
-pub address_key : IsField (λ (p : ℕ × List ℕ). to_be_bytes w128 p.0 ++ p.1) (λ bytes. (from_be_bytes w128 (take 16 bytes), drop 16 bytes)) (Is 48) (λ p. IsWord p.0 × IsKey p.1)
-address_key = pair (to_be_bytes w128) (from_be_bytes w128) 16 IsWord (λ bytes. bytes) (λ bytes. bytes) 32 IsKey address_field (raw_field (Is 32))
+pub address_key : IsField (λ (p : ℕ × List ℕ). address p.0 ++ p.1) (λ bytes. (from_be_bytes w128 (take 16 bytes), drop 16 bytes)) (Is 48) (λ p. IsWord p.0 × IsKey p.1)
+address_key = pair address (from_be_bytes w128) 16 IsWord (λ bytes. bytes) (λ bytes. bytes) 32 IsKey address_field (raw_field (Is 32))
 
 pub box_word : IsField (λ (p : ℕ × ℕ). to_be_bytes w32 p.0 ++ word p.1) (λ bytes. (from_be_bytes w32 (take 4 bytes), word_of (drop 4 bytes))) (Is 20) (λ p. (p.0 < 2 ^ 32) × IsWord p.1)
 box_word = pair (to_be_bytes w32) (from_be_bytes w32) 4 (λ n. n < 2 ^ 32) word word_of 16 IsWord u32_field word_field
@@ -170,3 +178,29 @@ halves = record {
       ap (λ (k : ℕ). (take k (p.0 ++ p.1), drop k (p.0 ++ p.1))) half
       ∙ ap (λ (t : List ℕ). (t, drop (length p.0) (p.0 ++ p.1))) (take_at p.0 p.1 (length p.0) refl) ∙ ap (λ (t : List ℕ). (p.0, t)) (drop_at p.0 p.1 (length p.0) refl);
 }
+
+-- ---- lengths of several words
+
+pub openings_len : (o : Openings) → length (openings o) ≡ 32
+openings_len o = omega (arith, length-append (word o.d) (word o.e), word_len o.d, word_len o.e)
+
+pub closing_len : (c : Closing) → length (closing c) ≡ 32
+closing_len c = omega (arith, length-append (word c.o) (word c.tau), word_len c.o, word_len c.tau)
+
+pub rejected_len : (a b c d : ℕ) → length (word a ++ (word b ++ (word c ++ word d))) ≡ 64
+rejected_len a b c d = omega (
+  arith,
+  length-append (word a) (word b ++ (word c ++ word d)),
+  length-append (word b) (word c ++ word d),
+  length-append (word c) (word d),
+  word_len a,
+  word_len b,
+  word_len c,
+  word_len d,
+)
+
+pub audited_len : (o : Openings) (c : Closing) → length (openings o ++ closing c) ≡ 64
+audited_len o c = omega (arith, length-append (openings o) (closing c), openings_len o, closing_len c)
+
+pub proof_len : (p : ProofShare) → IsProofShare p → length (proof_share p) ≡ 160
+proof_len p h = proof_field.len p h

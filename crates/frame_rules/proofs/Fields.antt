@@ -6,7 +6,7 @@ use Rattle.std.proofs.lemmas.Bool.{cases_lt}
 use Rattle.std.proofs.lemmas.List.{take_at, drop_at, take_all, take-append-drop, length-append, length-take, length-drop, get_or-drop, get_or-take, get_or_past}
 use Rattle.std.proofs.lemmas.Nat.{be_bytes_2, be_bytes_4, be_bytes_8, from_be_bytes-to_be_bytes_2, from_be_bytes-to_be_bytes_4, from_be_bytes-to_be_bytes_8}
 use Rattle.frame_rules.specs.Forms.{word_of}
-use Rattle.frame_rules.specs.Spelling.{word, IsWord, IsKey}
+use Rattle.frame_rules.specs.Spelling.{word, address, IsWord, IsKey}
 use Rattle.frame_rules.proofs.Digits.{IsBytes, le_back, le_again, le_below, be_back, be_again, be_below}
 
 pub IsBytes-drop : (n : ℕ) (bytes : List ℕ) → IsBytes bytes → IsBytes (drop n bytes)
@@ -67,7 +67,8 @@ u64_field = record {
   again = λ x h. from_be_bytes-to_be_bytes_8 x h;
 }
 
-pub address_field : IsField (to_be_bytes w128) (from_be_bytes w128) (Is 16) IsWord
+pub address_field : IsField address (from_be_bytes w128) (Is 16) IsWord
+unfolding address
 address_field = record {
   len = λ x h. refl;
   back = λ bytes h len. be_back bytes len h;
@@ -76,7 +77,7 @@ address_field = record {
 }
 
 pub word_field : IsField word word_of (Is 16) IsWord
-unfolding word_of
+unfolding word word_of
 word_field = record {
   len = λ x h. refl;
   back = λ bytes h len. le_back bytes len h;

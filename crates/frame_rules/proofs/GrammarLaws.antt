@@ -25,7 +25,7 @@ use Rattle.frame_rules.proofs.Fields.{IsField, Is, IsBytes-drop, u8_field, u16_f
 use Rattle.frame_rules.proofs.FormLaws.{bind_ok, test_ok, ok_is}
 use Rattle.frame_rules.proofs.BodyLaws.{answer_fits, body_takes, body_again}
 use Rattle.frame_rules.proofs.HeaderLaws.{cut, IsHeader, header_takes, header_again}
-use Rattle.frame_rules.proofs.BodyFields.{words4, closing_field, proof_field, address_key, box_word, count_key, word_openings, openings_closing, word_part, key_part, halves}
+use Rattle.frame_rules.proofs.BodyFields.{word_len, address_len, words4, closing_field, proof_field, address_key, box_word, count_key, word_openings, openings_closing, word_part, key_part, halves}
 use Rattle.frame_rules.proofs.Growing.{Settles, header_whole, body_whole, decoded_grows}
 
 pub record IsDecoded (bytes : List ℕ) (f : PlainFrame) (len : ℕ) : Type 0 where
@@ -101,8 +101,8 @@ refusal_length (refusal.LinkDown x) h = (omega arith, omega arith)
 
 deposit_length : (d : DepositBody) → IsDeposit d → (1 ≤ length (spell.deposit d)) × (length (spell.deposit d) ≤ 33)
 deposit_length (deposit.Register k) h = (omega (arith, h), omega (arith, h))
-deposit_length (deposit.Write x) h = (omega arith, omega arith)
-deposit_length (deposit.Read x) h = (omega arith, omega arith)
+deposit_length (deposit.Write x) h = (omega (arith, word_len x), omega (arith, word_len x))
+deposit_length (deposit.Read x) h = (omega (arith, word_len x), omega (arith, word_len x))
 
 reply_length : (r : PlainReply) → IsReply r → (1 ≤ length (spell.reply r)) × (length (spell.reply r) ≤ 4097)
 reply_length (ReplyRegistered x) h = (omega arith, omega arith)
@@ -126,7 +126,7 @@ body_length (Registered n) h = (omega arith, omega arith)
 body_length Accepted h = (omega arith, omega arith)
 body_length (Message z o) h = let l = halves.len (z, o) h in (omega (arith, l), omega (arith, l))
 body_length (Refused r) h = let l = refusal_length r h in (omega (arith, l), omega (arith, l))
-body_length (LinkRegister a) h = (omega arith, omega arith)
+body_length (LinkRegister a) h = (omega (arith, address_len a), omega (arith, address_len a))
 body_length (LinkBegin k p) h = let l = key_part.len (k, p) h in (omega (arith, l), omega (arith, l))
 body_length (LinkAudit s o) h = let l = word_openings.len (s, o) h in (omega (arith, l), omega (arith, l))
 body_length (LinkSettle c) h = let l = closing_field.len c h in (omega (arith, l), omega (arith, l))

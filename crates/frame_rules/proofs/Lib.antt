@@ -5,4 +5,6 @@ pub mod BodyFields
 pub mod BodyLaws
 pub mod HeaderLaws
 pub mod Growing
+pub mod Waiting
 pub mod GrammarLaws
+pub mod GatheringLaws

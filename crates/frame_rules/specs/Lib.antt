@@ -4,3 +4,4 @@ pub mod Spelling
 pub mod Forms
 pub mod Bodies
 pub mod Reading
+pub mod Gathering

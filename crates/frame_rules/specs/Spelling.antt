@@ -39,11 +39,12 @@ kind_of (LinkBegun count draw) = kinds.LinkBegun
 
 -- ---- the bytes of each part
 
--- numbers of the wire are big-endian; words, which are addresses, roots, tokens and field values, are little-endian but for addresses
-abbrev pub word : ℕ → List ℕ
+-- roots, tokens and field values: 16 bytes, the lowest first
+unfoldable pub word : ℕ → List ℕ
 word n = to_le_bytes w128 n
 
-abbrev pub address : ℕ → List ℕ
+-- addresses: 16 bytes, the highest first
+unfoldable pub address : ℕ → List ℕ
 address n = to_be_bytes w128 n
 
 abbrev pub openings : Openings → List ℕ

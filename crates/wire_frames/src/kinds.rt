@@ -1,8 +1,10 @@
 //! The numbers, versions and links of the kinds.
-ghost use Rattle.std.specs.Prelude.{◌≡◌, ◌↔◌, IsTrue};
+ghost use Rattle.std.specs.Prelude.{◌≡◌};
+ghost use Rattle.frame_rules.specs.Frames.{plain_body};
+ghost use Rattle.frame_rules.specs.Spelling.{kind_of};
 ghost use Rattle.frame_rules.specs.Kinds.{kind_numbered, number_of, version_of, is_linked};
 
-use frame_rules::Kind;
+use frame_rules::{Body, Kind};
 
 /// The kind with this number.
 #[tactic(auto, unfolding(frame_rules::specs::Kinds::kind_numbered))]
@@ -82,5 +84,33 @@ pub fn is_linked(kind: Kind) -> bool
         | Kind::LinkRetire
         | Kind::LinkBegun => true,
         _ => false,
+    }
+}
+
+/// The kind of a body.
+pub fn kind_of(body: &Body<'_>) -> Kind
+    ensures { result ≡ kind_of (plain_body body.now) }
+{
+    match *body {
+        Body::Deposit(_) => Kind::Deposit,
+        Body::Register { .. } => Kind::Register,
+        Body::Write { .. } => Kind::Write,
+        Body::Read { .. } => Kind::Read,
+        Body::Proof(_) => Kind::Proof,
+        Body::Held { .. } => Kind::Held,
+        Body::Challenge { .. } => Kind::Challenge,
+        Body::Registered { .. } => Kind::Done,
+        Body::Accepted => Kind::Done,
+        Body::Message { .. } => Kind::Done,
+        Body::Refused(_) => Kind::Refused,
+        Body::LinkRegister { .. } => Kind::LinkRegister,
+        Body::LinkBegin { .. } => Kind::LinkBegin,
+        Body::LinkAudit { .. } => Kind::LinkAudit,
+        Body::LinkSettle(_) => Kind::LinkSettle,
+        Body::LinkRead { .. } => Kind::LinkRead,
+        Body::LinkReply(_) => Kind::LinkReply,
+        Body::Retire { .. } => Kind::Retire,
+        Body::LinkRetire { .. } => Kind::LinkRetire,
+        Body::LinkBegun { .. } => Kind::LinkBegun,
     }
 }

@@ -7,7 +7,9 @@ mod fields;
 mod header;
 mod kinds;
 mod refusals;
+mod encoding;
 mod tagged;
+mod tags;
 mod writing;
 
 pub use decoding::decode;

@@ -1,19 +1,14 @@
 use Rattle.std.proofs.Common.{◌≡◌, ◌≤◌, ◌∙◌, refl, length, take, arith}
 use Rattle.std.proofs.lemmas.List.{length-take-le}
 use Rattle.dpf_rules.specs.Walk.{step}
-use Rattle.dpf_eval.proofs.GroupLemmas.{group_child}
+use Rattle.dpf_eval.proofs.GroupLemmas.{group_pair}
 use Rattle.dpf_eval.proofs.LevelLemmas.{groups-prefixes}
 use Rattle.dpf_eval.proofs.descent.descend_level.Goals as goal
 
-pub descend-requires-clause-lefts : goal.descend-requires-clause-lefts
-descend-requires-clause-lefts g c =
-    group_child c.args.splits.now c.args.states.now c.gather-groups.new.nodes c.expand.new.lefts c.args.level 0 c.gather-groups.result
-    c.requires.splits (omega (arith, c.requires.split.first)) c.gather-groups.ensures.count (omega arith) c.gather-groups.ensures.nodes c.expand.ensures.lefts
-
-pub descend-requires-clause-rights : goal.descend-requires-clause-rights
-descend-requires-clause-rights g c =
-    group_child c.args.splits.now c.args.states.now c.gather-groups.new.nodes c.expand.new.rights c.args.level 1 c.gather-groups.result
-    c.requires.splits (omega (arith, c.requires.split.first)) c.gather-groups.ensures.count (omega arith) c.gather-groups.ensures.nodes c.expand.ensures.rights
+pub descend-requires-clause-pairs : goal.descend-requires-clause-pairs
+descend-requires-clause-pairs g c =
+    group_pair c.args.splits.now c.args.states.now c.gather-groups.new.nodes c.expand.new.pairs c.args.level c.gather-groups.result
+    c.requires.splits (omega (arith, c.requires.split.first)) c.gather-groups.ensures.count (omega arith) c.gather-groups.ensures.nodes c.expand.ensures.pairs
 
 pub returns-clause-states : goal.returns-clause-states
 unfolding step

@@ -2,7 +2,7 @@ use Rattle.std.proofs.Common.{rules, ◌≡◌, ◌∙◌, ap, refl, Some, Ok}
 use Rattle.frame_rules.specs.Forms.{form_of}
 use Rattle.frame_rules.specs.Bodies.{refusals}
 use Rattle.express_words.specs.declared.refusal.Refusal.TheVariants.{BadToken}
-use Rattle.wire_frames.proofs.Tags.{tagged_is}
+use Rattle.wire_frames.proofs.TaggedForms.{tagged_is}
 use Rattle.wire_frames.proofs.refusals.refusal_in.Goals as goal
 
 pub returns-in_ok-exactly-in-9 : goal.returns-in_ok-exactly-in-9

@@ -1,0 +1,4 @@
+pub mod ArrayLending
+pub mod Lending
+pub mod Region
+pub mod Slots

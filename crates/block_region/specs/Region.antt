@@ -1,0 +1,75 @@
+-- A region as a caller sees it: for each class its blocks, each with its bytes while it is out.
+use Rattle.std.specs.Prelude.{◌≡◌, ℕ, ◌<◌, List, [], ◌∷◌, Option, Some, None, is_none, position, count_by, replicate, slice_index_or, slice_set, length, map, unwrap_or, All}
+
+-- a block by its class and its number there
+pub record Place : Type 0 where
+  pub class : ℕ
+  pub index : ℕ
+
+-- the blocks of a class, all of one size; the bytes of those that are out
+pub record Shelf : Type 0 where
+  pub size : ℕ
+  pub blocks : List (Option (List ℕ))
+
+abbrev pub shelf_of : ℕ → List (Option (List ℕ)) → Shelf
+shelf_of size blocks = record { size = size; blocks = blocks }
+
+-- a class of which every block is free
+abbrev pub unused : ℕ → ℕ → Shelf
+unused size count = shelf_of size (replicate count None)
+
+abbrev pub no_shelf : Shelf
+no_shelf = shelf_of 0 []
+
+-- the class in the region
+abbrev pub class_of : List Shelf → ℕ → Shelf
+class_of region class = slice_index_or region class no_shelf
+
+abbrev pub block_of : List (Option (List ℕ)) → ℕ → Option (List ℕ)
+block_of blocks index = slice_index_or blocks index None
+
+-- the bytes of a block that is out
+abbrev pub bytes_at : List Shelf → Place → Option (List ℕ)
+bytes_at region place = block_of (class_of region place.class).blocks place.index
+
+-- the region with this content at one place, and the same elsewhere
+abbrev pub with_content : List Shelf → Place → Option (List ℕ) → List Shelf
+with_content region place content =
+    slice_set region place.class (shelf_of (class_of region place.class).size (slice_set (class_of region place.class).blocks place.index content))
+
+-- how many blocks of the class are free
+abbrev pub free_blocks : List Shelf → ℕ → ℕ
+free_blocks region class = count_by is_none (class_of region class).blocks
+
+-- the first free block of the class
+abbrev pub first_free : List Shelf → ℕ → Option ℕ
+first_free region class = position is_none (class_of region class).blocks
+
+-- the block was taken: it was the first free one of its class, and has zeros now
+pub record TakesBlock (old new : List Shelf) (class : ℕ) (place : Place) : Type 0 where
+  pub in_class : place.class ≡ class
+  pub free : first_free old class ≡ Some place.index
+  pub zeros : new ≡ with_content old place (Some (replicate (class_of old class).size 0))
+
+abbrev pub zeros : ℕ → List ℕ
+zeros size = replicate size 0
+
+-- equal blocks, each with its bytes
+pub record Blocks : Type 0 where
+  pub size : ℕ
+  pub blocks : List (List ℕ)
+
+-- the blocks of a region's first class, while all of them are out
+abbrev pub blocks_in : List Shelf → Blocks
+blocks_in region = record { size = (class_of region 0).size; blocks = map (λ block. unwrap_or block []) (class_of region 0).blocks }
+
+-- a region of one class with these blocks, all of them out
+abbrev pub full : Blocks → List Shelf
+full b = shelf_of b.size (map Some b.blocks) ∷ []
+
+-- the region has one class, all of its blocks are out, and these are the rights to them, in order
+pub record IsArray (region : List Shelf) (places : List Place) : Type 0 where
+  pub whole : region ≡ full (blocks_in region)
+  pub sized : All (λ bytes. length bytes ≡ (blocks_in region).size) (blocks_in region).blocks
+  pub count : length places ≡ length (blocks_in region).blocks
+  pub each : (k : ℕ) (d : Place) → k < length places → slice_index_or places k d ≡ record { class = 0; index = k }

@@ -1,0 +1,14 @@
+//! A region of memory of its own: blocks of fixed classes, all taken at opening and lent one by one.
+#![tactic(auto)]
+
+mod block;
+mod block_array;
+mod region;
+mod shelf;
+
+pub use block::Block;
+pub use block_array::BlockArray;
+pub use region::{Class, Region};
+
+#[cfg(test)]
+mod tests;

@@ -1,0 +1,96 @@
+//! Classes of blocks.
+ghost use Rattle.std.specs.Prelude.{◌≡◌, ◌<◌, ◌↔◌, IfOk, IfSome, IfNone, IsNone, IsSome, Some, None, length, map};
+ghost use Rattle.std.specs.Borrow.{sem};
+ghost use Rattle.block_region.specs.Region.{unused, bytes_at, with_content, free_blocks, TakesBlock};
+
+use crate::Block;
+use crate::shelf::BlockShelf;
+use express_words::NoMemory;
+use std::alloc::{AllocError, Global};
+use std::marker::Model;
+
+/// Blocks of `size` bytes each, and how many of them there are.
+#[derive(Clone, Copy, Debug, PartialEq, Eq)]
+pub struct Class {
+    pub size: u32,
+    pub count: u32,
+}
+
+/// Blocks in classes, named by numbers from 0. All of its memory is taken when it is opened.
+#[derive(Drop)]
+pub struct Region {
+    shelves: Vec<BlockShelf>,
+}
+
+impl Model for Region {
+    ghost use Rattle.std.specs.Prelude.{List};
+    ghost use Rattle.block_region.specs.Region.{Shelf};
+
+    ghost Value = { List Shelf };
+
+    ghost view = { λ r. r.shelves.items };
+}
+
+impl Region {
+    ghost use Rattle.block_region.specs.Lending.{LendsBlock};
+
+    /// A region of these classes, every block of which is free.
+    pub fn open(alloc: Global, classes: &[Class]) -> Result<Region, NoMemory>
+        ensures { IfOk result (λ r. r ≡ map (λ c. unused c.size c.count) classes.now) }
+    {
+        let mut shelves = Vec::new(alloc);
+        for class in classes {
+            let shelf = BlockShelf::open(alloc, class.size, class.count)?;
+            if shelves.push(shelf).is_err() {
+                return Err(NoMemory);
+            }
+        }
+        Ok(Region { shelves })
+    }
+
+    /// The first free block of the class, with zeros, or None exactly where every block of it is out.
+    pub fn take(&mut self, class: u8) -> Option<Block>
+        requires { class < length self.old }
+        ensures none { IsNone result ↔ (free_blocks self.old class ≡ 0) }
+        ensures stays { IfNone result (self.new ≡ self.old) }
+        ensures taken { IfSome result (TakesBlock self.old self.new class) }
+    {
+        let shelf = &mut self.shelves[usize::from(class)];
+        let index = shelf.take()?;
+        Some(Block::new(class, index))
+    }
+
+    pub fn bytes(&self, block: &Block) -> &[u8]
+        requires { IsSome (bytes_at self.now block.now) }
+        ensures { bytes_at self.now block.now ≡ Some result.now }
+    {
+        self.shelves[block.class()].bytes(block.index())
+    }
+
+    /// The bytes of the block, to be written. All other blocks stay.
+    pub fn bytes_mut(&mut self, block: &Block) -> &mut [u8]
+        requires { IsSome (bytes_at self.old block.now) }
+        ensures* writes_back { sem 𝓛 (LendsBlock self.entry block.now result) }
+        ensures value { bytes_at self.old block.now ≡ Some result.now }
+    {
+        let shelf = &mut self.shelves[block.class()];
+        shelf.bytes_mut(block.index())
+    }
+
+    /// Gives the block back. All other blocks stay.
+    pub fn give(&mut self, block: Block)
+        requires { IsSome (bytes_at self.old block) }
+        ensures { self.new ≡ with_content self.old block None }
+    {
+        let shelf = &mut self.shelves[block.class()];
+        shelf.give(block.index());
+    }
+
+    /// How many blocks of the class are free.
+    pub fn free(&self, class: u8) -> u32
+        requires { class < length self.now }
+        ensures { result ≡ free_blocks self.now class }
+    {
+        self.shelves[usize::from(class)].free()
+    }
+}

@@ -1,0 +1,17 @@
+-- The boxes that two arrays hold, one of addresses and one of keys.
+use Rattle.std.specs.Prelude.{◌≡◌, ℕ, ◌≤◌, List, [], ◌∷◌, length}
+use Rattle.dpf_eval.specs.Listing.{Listing}
+use Rattle.box_registry.specs.Boxes.{Box}
+
+-- box by box, as far as both go
+abbrev pub boxes_of_rows : List ℕ → List (List ℕ) → List Box
+boxes_of_rows [] keys = []
+boxes_of_rows (address ∷ addresses) [] = []
+boxes_of_rows (address ∷ addresses) (key ∷ keys) = record { address = address; key = key } ∷ boxes_of_rows addresses keys
+
+-- a key for each address, and room for every key to come
+pub record AreRows (limit : ℕ) (frontier : Listing) (keys : List (List ℕ)) (keys_room : ℕ) : Type 0 where
+  pub limit_same : frontier.limit ≡ limit
+  pub as_many : length keys ≡ length frontier.addresses
+  pub within : length frontier.addresses ≤ limit
+  pub keys_fit : limit ≤ keys_room

@@ -1,0 +1,4 @@
+pub mod Writing
+pub mod Told
+pub mod Causes
+pub mod Exact

@@ -1,0 +1,22 @@
+use Rattle.std.proofs.Common.{refl, sym}
+use Rattle.express_cli.specs.Ends.{RunMay}
+use Rattle.express_cli.specs.declared.ends.End.TheVariants.{ReadFault, TooLong, OutOfMemory}
+use Rattle.express_cli.proofs.Told.{failed, too_long}
+use Rattle.express_cli.proofs.Writing.{said, replayed_all, asks_replay}
+use Rattle.express_cli.proofs.top.finish.Goals as goal
+
+pub returns-in-Err-Failed : goal.returns-in-Err-Failed
+returns-in-Err-Failed g c =
+    let came = failed _ _ _ _ _ c.in-Err-Failed.field-0-is c.in-Err-Failed.ensures.stopped in
+    said (RunMay _ _ _ _ _) _ _ _ _ ReadFault _ _ ((asks_replay _ _ _ c.in-Ok-Some-Replay.field-0-is c.in-Ok-Some-Replay.ensures), came.0, came.1, refl) c.say-in-Err-Failed.ensures.says
+
+pub returns-in-Err-TooLong : goal.returns-in-Err-TooLong
+returns-in-Err-TooLong g c =
+    said (RunMay _ _ _ _ _) _ _ _ _ TooLong _ _ ((asks_replay _ _ _ c.in-Ok-Some-Replay.field-0-is c.in-Ok-Some-Replay.ensures), too_long _ _ _ _ _ c.in-Err-TooLong.field-0-is c.in-Err-TooLong.ensures.stopped, refl) c.say-in-Err-TooLong.ensures.says
+
+pub returns-in-Err-NoMemory : goal.returns-in-Err-NoMemory
+returns-in-Err-NoMemory g c = said (RunMay _ _ _ _ _) _ _ _ _ OutOfMemory _ _ refl c.say-in-Err-NoMemory.ensures.says
+
+pub returns-in-Ok : goal.returns-in-Ok
+returns-in-Ok g c =
+    replayed_all _ _ _ _ _ _ _ _ _ _ _ c.as_slice.result.now (asks_replay _ _ _ c.in-Ok-Some-Replay.field-0-is c.in-Ok-Some-Replay.ensures) c.in-Ok.ensures.read (sym c.as_slice.ensures.value) c.replay.ensures.ends

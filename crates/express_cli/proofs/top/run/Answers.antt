@@ -1,0 +1,23 @@
+use Rattle.express_cli.proofs.Causes.{statuses, usage_only, too_long_only}
+use Rattle.express_cli.proofs.Exact.{headline, names_bad_line, refuses_too_long}
+use Rattle.express_cli.proofs.top.run.Goals as goal
+
+pub returns-clause-headline : goal.returns-clause-headline
+returns-clause-headline g c =
+    rw c.status_of.ensures (headline (record { schedule = c.read_exactly.ensures.only; bad = c.read_exactly.ensures.only_bad }) _ _ _ _ _ _ _ _ _ _ c.finish.ensures)
+
+pub returns-clause-names_bad_line : goal.returns-clause-names_bad_line
+returns-clause-names_bad_line g c =
+    rw c.status_of.ensures (names_bad_line (record { schedule = c.read_exactly.ensures.only; bad = c.read_exactly.ensures.only_bad }) _ _ _ _ _ _ _ _ _ _ c.finish.ensures)
+
+pub returns-clause-refuses_too_long : goal.returns-clause-refuses_too_long
+returns-clause-refuses_too_long g c = rw c.status_of.ensures (refuses_too_long _ _ _ _ _ _ _ _ _ _ c.finish.ensures)
+
+pub returns-clause-statuses : goal.returns-clause-statuses
+returns-clause-statuses g c = rw c.status_of.ensures (statuses c.finish.result)
+
+pub returns-clause-usage_only : goal.returns-clause-usage_only
+returns-clause-usage_only g c = rw c.status_of.ensures (usage_only _ _ _ _ _ _ _ _ _ _ c.finish.ensures)
+
+pub returns-clause-too_long_only : goal.returns-clause-too_long_only
+returns-clause-too_long_only g c = rw c.status_of.ensures (too_long_only _ _ _ _ _ _ _ _ _ _ c.finish.ensures)

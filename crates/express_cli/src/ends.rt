@@ -1,0 +1,34 @@
+//! How a run ends.
+ghost use Rattle.std.specs.Prelude.{◌≡◌};
+ghost use Rattle.express_cli.specs.Ends.{status_of};
+
+/// How a run ends.
+#[derive(Clone, Copy, Debug, PartialEq, Eq)]
+pub enum End {
+    /// All is done and written.
+    Done,
+    /// The words ask for nothing that the program does.
+    Usage,
+    /// This line of the input, counted from 1, is the first bad one.
+    BadLine(u32),
+    ReadFault,
+    WriteFault,
+    OutOfMemory,
+    /// The input has more than 67,108,864 bytes.
+    TooLong,
+}
+
+/// The status that the program ends with.
+pub fn status_of(end: End) -> u8
+    ensures { result ≡ status_of end }
+{
+    match end {
+        End::Done => 0,
+        End::Usage => 2,
+        End::BadLine(_) => 3,
+        End::ReadFault => 4,
+        End::WriteFault => 5,
+        End::OutOfMemory => 7,
+        End::TooLong => 8,
+    }
+}

@@ -1,0 +1,17 @@
+//! The program's top call: what its words ask for, from the bytes of an input to bytes written and a status.
+#![tactic(auto)]
+
+mod ends;
+mod reading;
+mod replay;
+mod texts;
+mod top;
+mod words;
+
+pub use ends::End;
+pub use reading::{InputFault, LONGEST, read_all};
+pub use top::run;
+pub use words::Command;
+
+#[cfg(test)]
+mod tests;

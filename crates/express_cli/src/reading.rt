@@ -1,0 +1,41 @@
+//! Reads an input to its end.
+ghost use Rattle.std.specs.Prelude.{◌≤◌, IfOk, IfErr};
+ghost use Rattle.express_cli.specs.Reading.{GaveAll, Stopped};
+
+use express_words::outside::Source;
+use std::alloc::Global;
+
+/// An input has at most so many bytes.
+pub const LONGEST: usize = 67_108_864;
+
+/// Why an input isn't read to its end.
+#[derive(Clone, Copy, Debug, PartialEq, Eq)]
+pub enum InputFault {
+    Failed,
+    /// It gave byte 67,108,865.
+    TooLong,
+    NoMemory,
+}
+
+/// The bytes of the input up to its end. Reading stops at the first fault, and at byte 67,108,865.
+pub fn read_all<S: Source>(alloc: Global, input: &mut S) -> Result<Vec<u8>, InputFault>
+    ensures read { IfOk result (λ text. GaveAll (S.content input.old) (S.content input.new) text.items) }
+    ensures stopped { IfErr result (Stopped (S.content input.old) (S.content input.new) (S.count input.old) (S.count input.new)) }
+    ensures later { S.count input.old ≤ S.count input.new }
+{
+    let mut text = Vec::new(alloc);
+    let mut buffer = [0u8; 4096];
+    'reading: while text.len() <= LONGEST {
+        let room = (LONGEST + 1 - text.len()).min(4096);
+        match input.take(&mut buffer[..room]) {
+            Err(_) => return Err(InputFault::Failed),
+            Ok(0) => return Ok(text),
+            Ok(count) => {
+                if text.extend_from_slice(&buffer[..count]).is_err() {
+                    return Err(InputFault::NoMemory);
+                }
+            }
+        }
+    }
+    Err(InputFault::TooLong)
+}

@@ -1,0 +1,47 @@
+//! Replays a schedule.
+ghost use Rattle.std.specs.Prelude.{◌≡◌, ◌≤◌, IfOk, length};
+ghost use Rattle.schedule_text.specs.declared.schedule.TheConstants.{MOST_EVENTS};
+ghost use Rattle.replay_world.specs.WorldView.{played, IsWhole};
+ghost use Rattle.express_cli.specs.Ends.{Writes, ReplayMay};
+
+use crate::End;
+use crate::texts::{OUT_OF_MEMORY, say, say_bad_line};
+use express_words::NoMemory;
+use express_words::outside::Sink;
+use replay_world::{PutFault, World};
+use schedule_text::{ReadFault, Schedule, read};
+use std::alloc::Global;
+
+// The world after all events of a schedule.
+fn world_after(alloc: Global, schedule: &Schedule) -> Result<World, NoMemory>
+    requires { length schedule.now.events ≤ MOST_EVENTS }
+    ensures whole { IfOk result (λ world. IsWhole world) }
+    ensures played { IfOk result (λ world. played world ≡ schedule.now) }
+{
+    let mut world = World::open(alloc, &schedule.header)?;
+    for event in schedule.events.as_slice() {
+        world.event(alloc, event)?;
+    }
+    Ok(world)
+}
+
+/// Replays the schedule that the text spells.
+pub fn replay<K: Sink>(alloc: Global, text: &[u8], out: &mut K) -> End
+    ensures ends { Writes (ReplayMay text.now) (K.written out.old) (K.written out.new) (K.count out.old) (K.count out.new) result }
+    ensures later { K.count out.old ≤ K.count out.new }
+{
+    let schedule = match read(alloc, text) {
+        Ok(schedule) => schedule,
+        Err(ReadFault::BadLine(line)) => return say_bad_line(alloc, out, line),
+        Err(ReadFault::NoMemory) => return say(out, OUT_OF_MEMORY, End::OutOfMemory),
+    };
+    let world = match world_after(alloc, &schedule) {
+        Ok(world) => world,
+        Err(_) => return say(out, OUT_OF_MEMORY, End::OutOfMemory),
+    };
+    match world.put(alloc, out) {
+        Ok(()) => End::Done,
+        Err(PutFault::Failed) => End::WriteFault,
+        Err(PutFault::NoMemory) => say(out, OUT_OF_MEMORY, End::OutOfMemory),
+    }
+}

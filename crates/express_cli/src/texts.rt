@@ -1,0 +1,45 @@
+//! Writes the texts with which a run ends.
+ghost use Rattle.std.specs.Prelude.{◌≡◌, ◌≢◌, ◌≤◌, IfOk, string_bytes};
+ghost use Rattle.express_cli.specs.Ends.{Writes, Said, BadLineMay, bad_line};
+
+use crate::End;
+use express_words::outside::Sink;
+use std::alloc::{AllocError, Global};
+
+pub const USAGE: &str =
+    "usage: express replay, serve, client, cloak, carry, batch or mill NUMBER\n";
+
+pub const READ_FAULT: &str = "read fault\n";
+
+pub const OUT_OF_MEMORY: &str = "out of memory\n";
+
+pub const TOO_LONG: &str = "input too long\n";
+
+/// Writes a text and comes to this end, or to a fault of the sink.
+pub fn say<K: Sink>(out: &mut K, text: &str, end: End) -> End
+    requires { end ≢ End.WriteFault }
+    ensures says { Writes (Said end text.now) (K.written out.old) (K.written out.new) (K.count out.old) (K.count out.new) result }
+    ensures later { K.count out.old ≤ K.count out.new }
+{
+    match out.put(text.as_bytes()) {
+        Ok(()) => end,
+        Err(_) => End::WriteFault,
+    }
+}
+
+fn bad_line(alloc: Global, line: u32) -> Result<String, AllocError>
+    ensures { IfOk result (λ text. string_bytes text ≡ bad_line line) }
+{
+    format!(in alloc; "bad line {line}\n")
+}
+
+/// Says that this line is the first bad one, unless memory is wanting.
+pub fn say_bad_line<K: Sink>(alloc: Global, out: &mut K, line: u32) -> End
+    ensures says { Writes (BadLineMay line) (K.written out.old) (K.written out.new) (K.count out.old) (K.count out.new) result }
+    ensures later { K.count out.old ≤ K.count out.new }
+{
+    match bad_line(alloc, line) {
+        Err(_) => say(out, OUT_OF_MEMORY, End::OutOfMemory),
+        Ok(text) => say(out, text.as_str(), End::BadLine(line)),
+    }
+}

@@ -1,0 +1,73 @@
+//! The words of the command line.
+ghost use Rattle.std.specs.Prelude.{◌≡◌, ◌≢◌, [], IfOk, IfErr, Some, option_map, map, string_bytes, codes};
+ghost use Rattle.clap.specs.Words.{app_of, fault_of, kind_of};
+ghost use Rattle.express_cli.specs.CommandLine.{express_app, value_of, IsNamed, IsAsked};
+
+use clap::error::ErrorKind;
+use clap::{Arg, Error};
+use express_words::NoMemory;
+use std::alloc::{AllocError, Global};
+
+/// What the program does.
+#[derive(Clone, Copy, Debug, PartialEq, Eq)]
+pub enum Command {
+    /// Replays a schedule.
+    Replay,
+}
+
+// A required COMMAND and an optional NUMBER.
+fn parser<'a>(alloc: Global) -> Result<clap::Command<'a>, AllocError>
+    ensures { IfOk result (λ c. app_of c ≡ express_app) }
+{
+    let command_arg = Arg::new(alloc, "COMMAND").required(true);
+    let number_arg = Arg::new(alloc, "NUMBER");
+    let bare = clap::Command::new(alloc, "express")
+        .no_binary_name(true)
+        .disable_help_flag(true)
+        .disable_version_flag(true);
+    let with_command = bare.arg(command_arg)?;
+    let whole = with_command.arg(number_arg)?;
+    Ok(whole)
+}
+
+// The values of COMMAND and NUMBER.
+fn values_of<'a>(
+    alloc: Global,
+    words: &'a Vec<String>,
+) -> Result<(Option<&'a str>, Option<&'a str>), Error>
+    ensures command { IfOk result (λ r. option_map (λ s. s.now) r.0 ≡ value_of (codes "COMMAND") (map string_bytes words.entry.now.items)) }
+    ensures number { IfOk result (λ r. option_map (λ s. s.now) r.1 ≡ value_of (codes "NUMBER") (map string_bytes words.entry.now.items)) }
+    ensures taken { IfOk result (λ r. fault_of express_app (map string_bytes words.entry.now.items) ≡ []) }
+    ensures refused { IfErr result (λ e. kind_of e ≢ ErrorKind.OutOfMemory → fault_of express_app (map string_bytes words.entry.now.items) ≢ []) }
+{
+    let command = parser(alloc)?;
+    match command.try_get_matches_from(words.as_slice()) {
+        Err(fault) => Err(fault),
+        Ok(matches) => Ok((matches.get_str("COMMAND"), matches.get_str("NUMBER"))),
+    }
+}
+
+// The command that these values name.
+fn named(command: Option<&str>, number: Option<&str>) -> Option<Command>
+    ensures { IsNamed (option_map (λ s. s.now) command.entry) (option_map (λ s. s.now) number.entry) result }
+{
+    match (command, number) {
+        (Some("replay"), None) => Some(Command::Replay),
+        _ => None,
+    }
+}
+
+/// The command that the words ask for.
+pub fn command_of(alloc: Global, words: &Vec<String>) -> Result<Option<Command>, NoMemory>
+    ensures { IfOk result (IsAsked (map string_bytes words.now.items)) }
+{
+    match values_of(alloc, words) {
+        Ok((command, number)) => Ok(named(command, number)),
+        Err(fault) => {
+            if fault.kind() == ErrorKind::OutOfMemory {
+                return Err(NoMemory);
+            }
+            Ok(None)
+        }
+    }
+}

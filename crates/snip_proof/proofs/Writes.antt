@@ -1,0 +1,72 @@
+-- Laws over both servers' leaves, from those over the difference vector.
+use Rattle.std.specs.Prelude.{◌≡◌, ◌≢◌, ℕ, ◌<◌, ◌^◌, List, [], ◌∷◌, length, All, AllPairs, slice_index, bit_xor, refl}
+use Rattle.std.proofs.Common.{zero, suc, ◌∙◌, ap, sym, subst, arith, inl, inr}
+use Rattle.std.specs.Int.Bits.{xor_self}
+use Rattle.std.proofs.lemmas.Bool.{cases_lt}
+use Rattle.std.proofs.lemmas.List.{get_or_past}
+use Rattle.std.proofs.lemmas.List.Elements.{All-nil, All-cons, All-head, All-tail}
+use Rattle.std.proofs.lemmas.Nat.{xor_lt}
+use Rattle.express_words.specs.declared.audit.ProofShare.{ProofShare}
+use Rattle.audit_rules.specs.Ranges.{IsProofShare, IsSums}
+use Rattle.audit_rules.specs.Audit.{whole_sums, whole_proof, difference, PassesAt, ServersAccept}
+use Rattle.audit_rules.specs.Whole.{whole_is, servers_pass}
+use Rattle.audit_rules.specs.InRange.{sums-in_range}
+use Rattle.write_sketch.specs.Challenges.{challenge_rs, challenge_ss, sums_under, rs-in_range, ss-in_range}
+
+-- both servers' sums are those of the difference of their leaves
+pub whole_under : (ckey addresses v w : List ℕ) → All (λ n. n < 2 ^ 128) v → All (λ n. n < 2 ^ 128) w → length v ≡ length w →
+    whole_sums (sums_under ckey addresses v) (sums_under ckey addresses w) ≡ sums_under ckey addresses (difference v w)
+whole_under ckey addresses v w hv hw h = whole_is v w (challenge_rs ckey addresses) (challenge_ss ckey addresses) hv hw (rs-in_range ckey addresses) (ss-in_range ckey addresses) h
+
+pub length-difference : (v w : List ℕ) → length v ≡ length w → length (difference v w) ≡ length v
+length-difference [] w h = refl
+length-difference (x ∷ v) [] h = cc
+length-difference (x ∷ v) (y ∷ w) h = ap suc (length-difference v w (omega arith))
+
+pub difference-in_range : (v w : List ℕ) → All (λ n. n < 2 ^ 128) v → All (λ n. n < 2 ^ 128) w → All (λ n. n < 2 ^ 128) (difference v w)
+difference-in_range [] w hv hw = All-nil (λ n. n < 2 ^ 128)
+difference-in_range (x ∷ v) [] hv hw = All-nil (λ n. n < 2 ^ 128)
+difference-in_range (x ∷ v) (y ∷ w) hv hw =
+    All-cons (λ n. n < 2 ^ 128) (bit_xor x y) (difference v w)
+    (xor_lt 128 x y (All-head (λ n. n < 2 ^ 128) x v hv) (All-head (λ n. n < 2 ^ 128) y w hw))
+    (difference-in_range v w (All-tail (λ n. n < 2 ^ 128) x v hv) (All-tail (λ n. n < 2 ^ 128) y w hw))
+
+pub difference_at : (v w : List ℕ) (i : ℕ) → length v ≡ length w → slice_index (difference v w) i ≡ bit_xor (slice_index v i) (slice_index w i)
+difference_at [] [] i h = refl
+difference_at [] (y ∷ w) i h = cc
+difference_at (x ∷ v) [] i h = cc
+difference_at (x ∷ v) (y ∷ w) zero h = refl
+difference_at (x ∷ v) (y ∷ w) (suc i) h = difference_at v w i (omega arith)
+
+sums_under-in_range : (ckey addresses w : List ℕ) → All (λ n. n < 2 ^ 128) w → IsSums (sums_under ckey addresses w)
+sums_under-in_range ckey addresses w h = sums-in_range w (challenge_rs ckey addresses) (challenge_ss ckey addresses) h (rs-in_range ckey addresses) (ss-in_range ckey addresses)
+
+-- what both servers accept is what passes for the difference of their leaves
+pub accept_passes : (ckey addresses v w : List ℕ) (share0 share1 : ProofShare) (sigma : ℕ) → All (λ n. n < 2 ^ 128) v → All (λ n. n < 2 ^ 128) w → length v ≡ length w →
+    IsProofShare share0 → IsProofShare share1 → sigma < 2 ^ 128 →
+    (ServersAccept (sums_under ckey addresses v) (sums_under ckey addresses w) share0 share1 sigma → PassesAt (sums_under ckey addresses (difference v w)) (whole_proof share0 share1) sigma)
+    × (PassesAt (sums_under ckey addresses (difference v w)) (whole_proof share0 share1) sigma → ServersAccept (sums_under ckey addresses v) (sums_under ckey addresses w) share0 share1 sigma)
+accept_passes ckey addresses v w share0 share1 sigma hv hw size p0 p1 hs =
+    let sums0 = sums_under ckey addresses v in
+    let sums1 = sums_under ckey addresses w in
+    subst (λ t. (ServersAccept sums0 sums1 share0 share1 sigma → PassesAt t (whole_proof share0 share1) sigma) × (PassesAt t (whole_proof share0 share1) sigma → ServersAccept sums0 sums1 share0 share1 sigma))
+    (whole_under ckey addresses v w hv hw size)
+    (servers_pass sums0 sums1 share0 share1 sigma (sums_under-in_range ckey addresses v hv) (sums_under-in_range ckey addresses w hw) p0 p1 hs)
+
+-- leaves that are equal at every address but one differ at that place alone
+pub alone : (v w addresses : List ℕ) (p : ℕ) → length v ≡ length addresses → length w ≡ length addresses → p < length addresses → AllPairs (λ a b. a ≢ b) addresses →
+    ((i : ℕ) → i < length addresses → slice_index addresses i ≢ slice_index addresses p → slice_index v i ≡ slice_index w i) →
+    (i : ℕ) → i ≢ p → slice_index (difference v w) i ≡ 0
+alone v w addresses p lv lw inside distinct equal i apart =
+    let size : length v ≡ length w = lv ∙ sym lw in
+    let both : slice_index v i ≡ slice_index w i =
+    elim (cases_lt i (length addresses)) [
+      | inl l ↦
+          equal i l
+          (elim (cases_lt i p) [
+            | inl before ↦ distinct i p 0 before inside
+            | inr after ↦ λ e. let later : p < i = omega arith in distinct p i 0 later l (sym e)
+          ])
+      | inr past ↦ get_or_past v i 0 (omega arith) ∙ sym (get_or_past w i 0 (omega arith))
+    ] in
+    difference_at v w i size ∙ ap (λ n. bit_xor n (slice_index w i)) both ∙ xor_self (slice_index w i)

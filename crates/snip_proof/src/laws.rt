@@ -1,0 +1,103 @@
+//! Both servers' audit of a write as one call, and the two laws on what they accept. The laws' functions only read their
+//! arguments: their contracts are the laws.
+ghost use Rattle.std.specs.Prelude.{◌≡◌, ◌≢◌, ℕ, ◌<◌, ◌≤◌, ◌↔◌, ◌⊎◌, length, All, AllPairs, IsTrue, slice_index, bit_xor};
+ghost use Rattle.dpf_rules.specs.Expansion.{challenge_r, challenge_s};
+ghost use Rattle.audit_rules.specs.Audit.{bad_r, bad_s, difference, whole_proof, zero_share, one_share, PassesAt, ServersAccept};
+ghost use Rattle.audit_rules.specs.Soundness.{IsFirst, IsLast};
+ghost use Rattle.write_sketch.specs.Challenges.{challenge_rs, challenge_ss, sums_under};
+
+use crate::servers::{close_share, judge, open_share};
+use audit_rules::{read_share, read_words, servers_accept_what_passes};
+use express_words::{Openings, ProofShare};
+use write_sketch::sums;
+
+/// Whether both servers accept at the point `sigma` a write with these leaves at the registered addresses, `zero` at server 0
+/// and `one` at server 1: exactly where the whole proof passes for the sums of the difference of their leaves.
+pub fn servers_accept(
+    zero: &[u128],
+    one: &[u128],
+    addresses: &[u128],
+    ckey: &[u8; 32],
+    share0: &ProofShare,
+    share1: &ProofShare,
+    sigma: u128,
+) -> bool
+    requires zero { length zero.now ≡ length addresses.now }
+    requires one { length one.now ≡ length addresses.now }
+    ensures accept { IsTrue result ↔ ServersAccept (sums_under ckey.now addresses.now zero.now) (sums_under ckey.now addresses.now one.now) share0.now share1.now sigma }
+    ensures passes { IsTrue result ↔ PassesAt (sums_under ckey.now addresses.now (difference zero.now one.now)) (whole_proof share0.now share1.now) sigma }
+{
+    read_words(zero);
+    read_words(one);
+    let sums0 = sums(zero, addresses, ckey);
+    let sums1 = sums(one, addresses, ckey);
+    let opening0 = open_share(&sums0, share0, sigma);
+    let opening1 = open_share(&sums1, share1, sigma);
+    let opened = Openings {
+        d: opening0.d ^ opening1.d,
+        e: opening0.e ^ opening1.e,
+    };
+    let closing0 = close_share(0, &sums0, share0, sigma, &opened);
+    let closing1 = close_share(1, &sums1, share1, sigma, &opened);
+    servers_accept_what_passes(&sums0, &sums1, share0, share1, sigma);
+    judge(&closing0, &closing1)
+}
+
+/// The soundness law on what the servers accept. Where the difference of both servers' leaves has two places or more that aren't
+/// zero, `a` the first and `b` the last of them, a proof is accepted at five points at most, unless r at a or s at b is the one
+/// bad value.
+pub fn accepted_points_are_few(
+    zero: &[u128],
+    one: &[u128],
+    addresses: &[u128],
+    ckey: &[u8; 32],
+    a: usize,
+    b: usize,
+    share0: &ProofShare,
+    share1: &ProofShare,
+    points: &[u128],
+)
+    requires zero { length zero.now ≡ length addresses.now }
+    requires one { length one.now ≡ length addresses.now }
+    requires first { IsFirst (difference zero.now one.now) a }
+    requires last { IsLast (difference zero.now one.now) b }
+    requires two { a < b }
+    requires distinct { AllPairs (λ p q. p ≢ q) points.now }
+    requires accepted { All (ServersAccept (sums_under ckey.now addresses.now zero.now) (sums_under ckey.now addresses.now one.now) share0.now share1.now) points.now }
+    ensures caught { let w = difference zero.now one.now in
+        let r = challenge_rs ckey.now addresses.now in
+        let s = challenge_ss ckey.now addresses.now in
+        (slice_index r a ≡ bad_r w r s a) ⊎ (slice_index s b ≡ bad_s w s a b) ⊎ (length points.now ≤ 5) }
+{
+    read_words(zero);
+    read_words(one);
+    read_share(share0);
+    read_share(share1);
+    read_words(points);
+}
+
+/// Honest writes are accepted. Where both servers' leaves are equal at every address but the target's, which stands at `place` of
+/// distinct addresses, the client's proof is accepted at every point.
+pub fn honest_writes_are_accepted(
+    zero: &[u128],
+    one: &[u128],
+    addresses: &[u128],
+    place: usize,
+    ckey: &[u8; 32],
+    choices: &[u128; 16],
+    sigma: u128,
+)
+    requires zero { length zero.now ≡ length addresses.now }
+    requires one { length one.now ≡ length addresses.now }
+    requires place { place < length addresses.now }
+    requires distinct { AllPairs (λ p q. p ≢ q) addresses.now }
+    requires equal { (i : ℕ) → i < length addresses.now → slice_index addresses.now i ≢ slice_index addresses.now place → slice_index zero.now i ≡ slice_index one.now i }
+    ensures accepted { let m = bit_xor (slice_index zero.now place) (slice_index one.now place) in
+        let target = slice_index addresses.now place in
+        let share1 = one_share m (challenge_r ckey.now target) (challenge_s ckey.now target) choices.now in
+        ServersAccept (sums_under ckey.now addresses.now zero.now) (sums_under ckey.now addresses.now one.now) (zero_share choices.now) share1 sigma }
+{
+    read_words(zero);
+    read_words(one);
+    read_words(choices);
+}

@@ -1,0 +1,5 @@
+use Rattle.wire_frames.proofs.Writes.{then}
+use Rattle.wire_frames.proofs.encoding.put_u32_word.Goals as goal
+
+pub returns : goal.returns
+returns c = then c.put_u32-place.ensures.written c.put_word.ensures.written

@@ -1,0 +1,51 @@
+//! The sums of a server's leaves under a challenge key.
+#![tactic(auto)]
+
+ghost use Rattle.std.specs.Prelude.{◌≡◌, length, bit_xor};
+ghost use Rattle.audit_rules.specs.Audit.{product};
+ghost use Rattle.write_sketch.specs.Challenges.{sums_under};
+
+pub use audit_rules::Sums;
+use chacha_expand::challenge;
+use field_tables::{Tables, mul_fast};
+
+// The sums with one box more, whose leaf is `w`, by three products.
+fn with_box(tables: &Tables, sums: Sums, w: u128, r: u128, s: u128) -> Sums
+    ensures added { result ≡ record {
+      x = bit_xor sums.x (product w r);
+      y = bit_xor sums.y (product w s);
+      m = bit_xor sums.m w;
+      z = bit_xor sums.z (product (product w r) s);
+    } }
+{
+    let by_r = mul_fast(tables, w, r);
+    Sums {
+        x: sums.x ^ by_r,
+        y: sums.y ^ mul_fast(tables, w, s),
+        m: sums.m ^ w,
+        z: sums.z ^ mul_fast(tables, by_r, s),
+    }
+}
+
+/// The four sums of a server's leaves `states` at `addresses`, under the challenge that `ckey` draws at each address. Empty
+/// lists give four zeros.
+pub fn sums(states: &[u128], addresses: &[u128], ckey: &[u8; 32]) -> Sums
+    requires { length states.now ≡ length addresses.now }
+    ensures sums { result ≡ sums_under ckey.now addresses.now states.now }
+{
+    let tables = Tables::new();
+    let mut sums = Sums {
+        x: 0,
+        y: 0,
+        m: 0,
+        z: 0,
+    };
+    for i in 0..states.len() {
+        let (r, s) = challenge(ckey, addresses[i]);
+        sums = with_box(&tables, sums, states[i], r, s);
+    }
+    sums
+}
+
+#[cfg(test)]
+mod tests;
