@@ -1,5 +1,5 @@
 -- What is spelled keeps the rules.
-use Rattle.std.proofs.Common.{◌≡◌, ℕ, List, [], ◌∷◌, length, Ok, arith, sym, ◌∙◌}
+use Rattle.std.proofs.Common.{◌≡◌, ℕ, List, [], ◌∷◌, length, Ok, arith, sym, ◌∙◌, zero, suc, ◌<◌, get_or, subst}
 use Rattle.hex.specs.Hex.{decode_sized}
 use Rattle.hex.proofs.HexLemmas.{decode_sized-ok, decode_sized-twice, decode_of-ok}
 use Rattle.express_words.specs.declared.settings.Settings.{Settings}
@@ -37,3 +37,9 @@ keeps_rules schedule text (first, lines, are, head, events, few) = record {
   events = events_keep schedule.header.settings schedule.events lines events;
   few = few;
 }
+
+-- each event of those that keep the rules keeps them
+pub rules_at : (settings : Settings) (events : List Event) (i : ℕ) (event : Event) → EventsKeepRules settings events → i < length events → event ≡ get_or events i event → EventKeepsRules settings event
+rules_at settings [] i event keep within is = absurd (omega (arith, within))
+rules_at settings (first ∷ events) zero event keep within is = subst (EventKeepsRules settings) (sym is) keep.0
+rules_at settings (first ∷ events) (suc i) event keep within is = rules_at settings events i event keep.1 (omega (arith, within)) is
