@@ -1,10 +1,11 @@
 -- What is written at an end, by what may come.
-use Rattle.std.proofs.Common.{◌≡◌, ℕ, List, Option, Some, subst}
+use Rattle.std.proofs.Common.{◌≡◌, ℕ, List, Option, Some, subst, sym}
 use Rattle.clap.specs.Words.{Text}
+use Rattle.schedule_text.specs.Spelling.{IsFirstBadLine}
 use Rattle.express_words.specs.Streams.{Stream}
 use Rattle.express_cli.specs.CommandLine.{Asks, IsAsked}
 use Rattle.express_cli.specs.Reading.{GaveAll}
-use Rattle.express_cli.specs.Ends.{Writes, Said, ReplayMay, RunMay}
+use Rattle.express_cli.specs.Ends.{Writes, Said, BadLineMay, ReplayMay, RunMay, bad_line}
 use Rattle.express_cli.specs.declared.words.Command.{Command}
 use Rattle.express_cli.specs.declared.words.Command.TheVariants.{Replay}
 use Rattle.express_cli.specs.declared.ends.End.{End}
@@ -55,3 +56,14 @@ unmoved May old mid new before between now end same_written same_count h =
 -- the one command
 pub asks_replay : (words : List Text) (asked : Option Command) (command : Command) → asked ≡ Some command → IsAsked words asked → Asks words Replay
 asks_replay words asked Replay same h = let Asked : Option Command → Type 0 = λ o. IsAsked words o in subst Asked same h
+
+-- what may be said of the first bad line may come of the replay
+pub bad_line_may : (bytes : List ℕ) (n : ℕ) → IsFirstBadLine n bytes → (end : End) (text : List ℕ) → BadLineMay n end text → ReplayMay bytes end text
+bad_line_may bytes n first (ends.BadLine m) text may =
+    let Bad : ℕ → Type 0 = λ k. IsFirstBadLine k bytes × (text ≡ bad_line k) in subst Bad (sym may.0) (first, may.1)
+bad_line_may bytes n first ends.OutOfMemory text may = may
+bad_line_may bytes n first ends.Done text may = absurd may
+bad_line_may bytes n first ends.Usage text may = absurd may
+bad_line_may bytes n first ends.ReadFault text may = absurd may
+bad_line_may bytes n first ends.WriteFault text may = absurd may
+bad_line_may bytes n first ends.TooLong text may = absurd may

@@ -1,6 +1,6 @@
 //! Replays a schedule.
-ghost use Rattle.std.specs.Prelude.{◌≡◌, ◌≤◌, IfOk, length};
-ghost use Rattle.schedule_text.specs.declared.schedule.TheConstants.{MOST_EVENTS};
+ghost use Rattle.std.specs.Prelude.{◌≡◌, ◌≤◌, IfOk};
+ghost use Rattle.schedule_text.specs.Rules.{KeepsRules};
 ghost use Rattle.replay_world.specs.WorldView.{played, IsWhole};
 ghost use Rattle.express_cli.specs.Ends.{Writes, ReplayMay};
 
@@ -14,7 +14,7 @@ use std::alloc::Global;
 
 // The world after all events of a schedule.
 fn world_after(alloc: Global, schedule: &Schedule) -> Result<World, NoMemory>
-    requires { length schedule.now.events ≤ MOST_EVENTS }
+    requires { KeepsRules schedule.now }
     ensures whole { IfOk result (λ world. IsWhole world) }
     ensures played { IfOk result (λ world. played world ≡ schedule.now) }
 {

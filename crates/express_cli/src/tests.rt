@@ -16,7 +16,7 @@ struct Case {
 const USAGE: &[u8] = b"usage: express replay, serve, client, cloak, carry, batch or mill NUMBER\n";
 
 // Outputs of replays are those of an independent program written from the protocol's description.
-const CASES: [Case; 13] = [
+const CASES: [Case; 18] = [
     Case {
         name: "smallest",
         words: &["replay"],
@@ -38,6 +38,112 @@ journal 0 1 register 0\n\
 journal 0 2 read 0\n\
 share 0 00112233445566778899aabbccddeeff 00000000000000000000000000000000 00000000000000000000000000000000\n\
 end\n",
+    },
+    Case {
+        name: "address zero, and a read clears",
+        words: &["replay"],
+        input: b"express 1 16 4 1 1 0000000000000000000000000000000000000000000000000000000000000000\n\
+ask 0 register 00000000000000000000000000000000\n\
+ask 0 write 00000000000000000000000000000000 ffffffffffffffffffffffffffffffff\n\
+ask 0 read 0\n\
+ask 0 read 0\n\
+finish 0\n",
+        status: 0,
+        written: b"outcome 0 0 registered 0\n\
+outcome 0 1 accepted\n\
+outcome 0 2 message ffffffffffffffffffffffffffffffff\n\
+outcome 0 3 message 00000000000000000000000000000000\n\
+journal 0 1 register 0\n\
+journal 0 2 begin 1\n\
+journal 0 2 settle accepted\n\
+journal 0 3 read 0\n\
+journal 0 4 read 0\n\
+share 0 00000000000000000000000000000000 00000000000000000000000000000000 00000000000000000000000000000000\n\
+end\n",
+    },
+    Case {
+        name: "neighbours at the deepest level",
+        words: &["replay"],
+        input: b"express 1 16 4 1 1 0000000000000000000000000000000000000000000000000000000000000000\n\
+ask 0 register ffffffffffffffffffffffffffffffff\n\
+ask 0 register fffffffffffffffffffffffffffffffe\n\
+ask 0 write ffffffffffffffffffffffffffffffff ffffffffffffffffffffffffffffffff\n\
+ask 0 write fffffffffffffffffffffffffffffffe 00112233445566778899aabbccddeeff\n\
+ask 0 read 0\n\
+ask 0 read 1\n\
+finish 0\n",
+        status: 0,
+        written: b"outcome 0 0 registered 0\n\
+outcome 0 1 registered 1\n\
+outcome 0 2 accepted\n\
+outcome 0 3 accepted\n\
+outcome 0 4 message ffffffffffffffffffffffffffffffff\n\
+outcome 0 5 message 00112233445566778899aabbccddeeff\n\
+journal 0 1 register 0\n\
+journal 0 2 register 1\n\
+journal 0 3 begin 2\n\
+journal 0 3 settle accepted\n\
+journal 0 4 begin 2\n\
+journal 0 4 settle accepted\n\
+journal 0 5 read 0\n\
+journal 0 6 read 1\n\
+share 0 ffffffffffffffffffffffffffffffff 00000000000000000000000000000000 00000000000000000000000000000000\n\
+share 1 fffffffffffffffffffffffffffffffe 00000000000000000000000000000000 00000000000000000000000000000000\n\
+end\n",
+    },
+    Case {
+        name: "two writes cancel",
+        words: &["replay"],
+        input: b"express 1 16 4 1 1 0000000000000000000000000000000000000000000000000000000000000000\n\
+ask 0 register 00112233445566778899aabbccddeeff\n\
+ask 0 write 00112233445566778899aabbccddeeff ffffffffffffffffffffffffffffffff\n\
+ask 0 write 00112233445566778899aabbccddeeff ffffffffffffffffffffffffffffffff\n\
+ask 0 read 0\n\
+finish 0\n",
+        status: 0,
+        written: b"outcome 0 0 registered 0\n\
+outcome 0 1 accepted\n\
+outcome 0 2 accepted\n\
+outcome 0 3 message 00000000000000000000000000000000\n\
+journal 0 1 register 0\n\
+journal 0 2 begin 1\n\
+journal 0 2 settle accepted\n\
+journal 0 3 begin 1\n\
+journal 0 3 settle accepted\n\
+journal 0 4 read 0\n\
+share 0 00112233445566778899aabbccddeeff 00000000000000000000000000000000 00000000000000000000000000000000\n\
+end\n",
+    },
+    Case {
+        name: "both shares of a write",
+        words: &["replay"],
+        input: b"express 1 16 4 1 1 0000000000000000000000000000000000000000000000000000000000000000\n\
+ask 0 register 00112233445566778899aabbccddeeff\n\
+ask 0 register ffffffffffffffffffffffffffffffff\n\
+ask 0 write 00112233445566778899aabbccddeeff 48656c6c6f2c206e657773726f6f6d21\n\
+finish 0\n",
+        status: 0,
+        written: b"outcome 0 0 registered 0\n\
+outcome 0 1 registered 1\n\
+outcome 0 2 accepted\n\
+journal 0 1 register 0\n\
+journal 0 2 register 1\n\
+journal 0 3 begin 2\n\
+journal 0 3 settle accepted\n\
+share 0 00112233445566778899aabbccddeeff 573301d8e3a51934f422c25e3f201c71 1f566db48c89395a9155b12c504f7150\n\
+share 1 ffffffffffffffffffffffffffffffff 479629c3b797e7f90c1f131d3e1f46c9 479629c3b797e7f90c1f131d3e1f46c9\n\
+end\n",
+    },
+    Case {
+        name: "half a message",
+        words: &["replay"],
+        input: b"express 1 16 4 1 1 0000000000000000000000000000000000000000000000000000000000000000\n\
+ask 0 register 00112233445566778899aabbccddeeff\n\
+finish 0\n\
+ask 0 read 0\n\
+ask 0 write 00112233445566778899aabbccddeeff 0123456789abcdef0123456789abcde\n",
+        status: 3,
+        written: b"bad line 5\n",
     },
     Case {
         name: "taken and full",

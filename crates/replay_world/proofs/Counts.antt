@@ -4,7 +4,7 @@ use Rattle.std.proofs.lemmas.List.{length_push}
 use Rattle.express_words.specs.declared.settings.Settings.{Settings}
 use Rattle.mailbox_rules.specs.Requests.{Request}
 use Rattle.schedule_text.specs.declared.schedule.Asked.{Asked}
-use Rattle.schedule_text.specs.declared.schedule.Asked.TheVariants.{Register, Read}
+use Rattle.schedule_text.specs.declared.schedule.Asked.TheVariants.{Register, Write, Read}
 use Rattle.schedule_text.specs.declared.schedule.Event.{Event}
 use Rattle.schedule_text.specs.declared.schedule.Event.TheVariants.{Ask, Finish}
 use Rattle.replay_world.specs.declared.lines.Told.TheVariants.{NoOwn}
@@ -22,6 +22,7 @@ record Adds (old new : Run) : Type 0 where
 
 refused_adds : (r : Run) (one : Asked) → Adds r (refused_on r one)
 refused_adds r (Register address) = record { outcomes = omega arith; waiting = refl }
+refused_adds r (Write target message) = record { outcomes = omega arith; waiting = refl }
 refused_adds r (Read own) = record { outcomes = let e = length_push r.outcomes (outcome_at r.outcomes (NoOwn own) []) in omega (arith, e); waiting = refl }
 
 carried_adds : (settings : Settings) (r : Run) (request : Request) → Adds r (carried_out settings r request)

@@ -1,11 +1,14 @@
 -- Events follow the run.
-use Rattle.std.proofs.Common.{◌≡◌, ℕ, zero, suc, ◌+◌, ◌<◌, ◌≤◌, Bool, true, false, cond, ◌&&◌, List, [], ◌∷◌, ◌++◌, length, take, get_or, arith, refl, sym, ◌∙◌, ap, ap₂, add-one}
+use Rattle.std.proofs.Common.{◌≡◌, ℕ, zero, suc, ◌+◌, ◌<◌, ◌≤◌, Bool, true, false, cond, ◌&&◌, List, [], ◌∷◌, ◌++◌, length, take, get_or, arith, refl, sym, ◌∙◌, ap, ap₂, add-one, subst}
 use Rattle.express_words.specs.declared.settings.Settings.{Settings}
 use Rattle.schedule_text.specs.declared.schedule.Header.{Header}
+use Rattle.schedule_text.specs.Rules.{IsAskable, EventKeepsRules}
+use Rattle.schedule_text.specs.declared.schedule.Event.{Event}
+use Rattle.schedule_text.specs.declared.schedule.Event.TheVariants.{Ask, Finish}
 use Rattle.schedule_text.specs.declared.schedule.Asked.{Asked}
 use Rattle.replay_world.specs.declared.state.State.{State}
 use Rattle.replay_world.specs.Run.{Run, refuses, is_idle, is_refused, refused_on, asked_on, worked_off, all_worked_off}
-use Rattle.replay_world.specs.View.{IsAt}
+use Rattle.replay_world.specs.View.{IsAt, AreAskable, HasAskable}
 
 -- one more request waits
 abbrev pub waits : Run → Asked → Run
@@ -46,12 +49,21 @@ asked_behind header s r one at busy =
     let some : is_idle r.waiting ≡ false = ap is_idle (sym at.waiting) ∙ some_items _ busy in
     asked_if header r one (ap (λ t. t && is_refused header.settings r one) some)
 
-pub waits_follows : (header : Header) (r : Run) (old new : State) (one : Asked) → IsAt header old r
+askable_push : (width : ℕ) (xs : List Asked) (one : Asked) → AreAskable width xs → IsAskable width one → AreAskable width (xs ++ one ∷ [])
+askable_push width [] one all able = (able, tt)
+askable_push width (x ∷ xs) one all able = (all.0, askable_push width xs one all.1 able)
+
+pub askable_at : (width : ℕ) (xs : List Asked) (i : ℕ) (one : Asked) → AreAskable width xs → i < length xs → one ≡ get_or xs i one → IsAskable width one
+askable_at width [] i one all within is = absurd (omega (arith, within))
+askable_at width (x ∷ xs) zero one all within is = subst (λ (a : Asked). IsAskable width a) (sym is) all.0
+askable_at width (x ∷ xs) (suc i) one all within is = askable_at width xs i one all.1 (omega (arith, within)) is
+
+pub waits_follows : (header : Header) (r : Run) (old new : State) (one : Asked) → IsAt header old r → IsAskable header.settings.width one
     → new.client.seed ≡ old.client.seed → new.client.sent ≡ old.client.sent → new.client.owned.items ≡ old.client.owned.items
     → new.leader ≡ old.leader → new.helper ≡ old.helper → new.journal.items ≡ old.journal.items → new.outcomes.items ≡ old.outcomes.items
     → new.client.waiting.items ≡ old.client.waiting.items ++ one ∷ []
     → IsAt header new (waits r one)
-waits_follows header r old new one at seed sent owned leader helper journal outcomes waiting = record {
+waits_follows header r old new one at able seed sent owned leader helper journal outcomes waiting = record {
   seed = seed ∙ at.seed;
   waiting = waiting ∙ ap (λ xs. xs ++ one ∷ []) at.waiting;
   sent = sent ∙ at.sent;
@@ -66,6 +78,8 @@ waits_follows header r old new one at seed sent owned leader helper journal outc
   numbered = at.numbered;
   few = at.few;
   fit = at.fit;
+  askable = askable_push header.settings.width r.waiting one at.askable able;
+  width = at.width;
 }
 
 -- the list of requests is taken from the client
@@ -88,6 +102,8 @@ taken_follows header r old new at seed sent owned leader helper journal outcomes
   numbered = at.numbered;
   few = at.few;
   fit = at.fit;
+  askable = tt;
+  width = at.width;
 }
 
 all_then : (settings : Settings) (xs : List Asked) (x : Asked) (r : Run) → all_worked_off settings (xs ++ x ∷ []) r ≡ worked_off settings (all_worked_off settings xs r) x
@@ -113,3 +129,8 @@ take_whole [] zero h = refl
 take_whole [] (suc n) h = refl
 take_whole (x ∷ xs) zero h = absurd (omega (arith, h))
 take_whole (x ∷ xs) (suc n) h = ap (λ ys. x ∷ ys) (take_whole xs n (omega (arith, h)))
+
+-- what an event asks can be asked
+pub has_askable : (settings : Settings) (event : Event) → EventKeepsRules settings event → HasAskable settings.width event
+has_askable settings (Ask client one) keeps = keeps.1
+has_askable settings (Finish client) keeps = tt

@@ -94,7 +94,7 @@ abbrev pub line_at : ℕ → Command → Line
 line_at serial command = record { lane = 0; serial = serial; command = command }
 
 -- the next request's operation
-does-last : (sent : List Request) (request : Request) (command : Command) → does (sent ++ request ∷ []) (line_at (length sent + 1) command) ≡ operation_of command (Some request)
+pub does-last : (sent : List Request) (request : Request) (command : Command) → does (sent ++ request ∷ []) (line_at (length sent + 1) command) ≡ operation_of command (Some request)
 does-last sent request command = ap (operation_of command) (get-last sent request (length sent + 1 - 1) (omega arith))
 
 -- the table after the first command of the next request

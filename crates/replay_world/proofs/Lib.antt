@@ -10,3 +10,5 @@ pub mod RefuseStep
 pub mod EventSteps
 pub mod Counts
 pub mod SharesText
+pub mod WriteStep
+pub mod AddLemmas

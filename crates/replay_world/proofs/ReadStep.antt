@@ -121,6 +121,8 @@ read_follows header r old new own box message at own_is zero_has one_has leader 
       numbered = rw (length_push r.sent (requests.Read own)) (numbered-more (length r.sent) r.lines _ at.numbered (omega arith) (omega arith));
       few = rw (length_push r.sent (requests.Read own), length_push r.outcomes _) (omega (arith, at.few));
       fit = fit_push settings.width r.sent own at.fit;
+      askable = at.askable;
+      width = at.width;
     }
 
 get_below : (n : ℕ) (xs : List ℕ) (i x : ℕ) → AllBelow n xs → slice_get xs i ≡ Some x → x < n

@@ -41,6 +41,8 @@ told_follows header r old new own at seed waiting sent owned leader helper journ
   numbered = at.numbered;
   few = rw (length_push r.outcomes (outcome_at r.outcomes (NoOwn own) [])) (omega (arith, at.few));
   fit = at.fit;
+  askable = at.askable;
+  width = at.width;
 }
 
 pub worked_none : (header : Header) (r : Run) (s : State) (own : ℕ) → IsAt header s r → slice_get s.client.owned.items own ≡ None → worked_off header.settings r (asked.Read own) ≡ told_on r (NoOwn own) []
@@ -55,6 +57,10 @@ unfolding worked_off
 worked_some header r s own box at some =
     let within : own < length ((table_of header.settings r).got 0) = some_there _ own box (ap (λ xs. slice_get xs own) (sym at.owned) ∙ some) in
     rw (lt-leb _ _ within) refl
+
+pub worked_write : (header : Header) (r : Run) (target : ℕ) (message : List ℕ) → worked_off header.settings r (asked.Write target message) ≡ carried_out header.settings r (requests.Write target message)
+unfolding worked_off
+worked_write header r target message = refl
 
 pub worked_register : (header : Header) (r : Run) (address : ℕ) → worked_off header.settings r (asked.Register address) ≡ carried_out header.settings r (requests.Register address)
 unfolding worked_off

@@ -1,5 +1,5 @@
 -- A registration follows the run.
-use Rattle.std.proofs.Common.{◌≡◌, ℕ, ◌+◌, ◌<◌, ◌≤◌, List, [], ◌∷◌, ◌++◌, length, Result, Ok, Err, arith, sym, ◌∙◌, ap, ap₂, length-append, subst}
+use Rattle.std.proofs.Common.{◌≡◌, ℕ, ◌+◌, ◌<◌, ◌≤◌, List, [], ◌∷◌, ◌++◌, length, Result, Ok, Err, arith, sym, ◌∙◌, ap, ap₂, length-append, subst, ◌^◌}
 use Rattle.std.proofs.lemmas.List.{length_push}
 use Rattle.express_words.specs.declared.settings.Settings.{Settings}
 use Rattle.mailbox_rules.specs.Requests as requests
@@ -47,9 +47,9 @@ own_after old new address (Err fault) owned h below =
     let same = shelf_after old new address (Err fault) h in
     all_below_more _ _ owned (let e : length new.boxes ≡ length old.boxes = ap (λ (s : Shelf). length s.boxes) same in omega (arith, e)) below
 
-fit_push : (width : ℕ) (sent : List Request) (address : ℕ) → AreFit width sent → AreFit width (sent ++ requests.Register address ∷ [])
-fit_push width [] address fit = (tt, tt)
-fit_push width (x ∷ sent) address fit = (fit.0, fit_push width sent address fit.1)
+fit_push : (width : ℕ) (sent : List Request) (address : ℕ) → address < 2 ^ 128 → AreFit width sent → AreFit width (sent ++ requests.Register address ∷ [])
+fit_push width [] address small fit = (small, tt)
+fit_push width (x ∷ sent) address small fit = (fit.0, fit_push width sent address small fit.1)
 
 shelf_registered : (settings : Settings) (t u : Table) (old new : Shelf) (address : ℕ) (answer : Result ℕ RegFault) → old ≡ shelf_of settings t → shelves.Registers old new address answer
     → u ≡ after_register settings.boxes settings.width t 0 address (box_of address t.boxes) → new ≡ shelf_of settings u
@@ -61,7 +61,7 @@ shelf_registered settings t u old new address answer is h next =
     ∙ ap (λ (bs : List Mailbox). let v : Shelf = record { limit = settings.boxes; width = settings.width; boxes = bs } in v) (sym boxes.0)
     ∙ ap (shelf_of settings) (sym next)
 
-pub register_follows : (header : Header) (r : Run) (old new : State) (address : ℕ) (answer leaders : Result ℕ RegFault) → IsAt header old r
+pub register_follows : (header : Header) (r : Run) (old new : State) (address : ℕ) (answer leaders : Result ℕ RegFault) → address < 2 ^ 128 → IsAt header old r
     → shelves.Registers old.helper new.helper address answer → shelves.Registers old.leader new.leader address leaders
     → new.client.seed ≡ old.client.seed → new.client.waiting.items ≡ old.client.waiting.items → new.client.sent ≡ old.client.sent + 1
     → new.client.owned.items ≡ owned_after answer old.client.owned.items
@@ -69,7 +69,7 @@ pub register_follows : (header : Header) (r : Run) (old new : State) (address : 
     → new.journal.items ≡ old.journal.items ++ record { lane = 0; serial = old.client.sent + 1; entry = entry_of Registers (result_of_answer answer) } ∷ []
     → IsAt header new (carried_out header.settings r (requests.Register address))
 unfolding carried_out
-register_follows header r old new address answer leaders at helper leader seed waiting sent owned outcomes journal =
+register_follows header r old new address answer leaders small at helper leader seed waiting sent owned outcomes journal =
     let settings = header.settings in
     let shared_boxes = shares_of_run header r at.fit in
     let same = addresses_shared _ _ _ shared_boxes in
@@ -99,5 +99,7 @@ register_follows header r old new address answer leaders at helper leader seed w
           ∙ sym (ap (journal_of (r.lines ++ line_at (length r.sent + 1) Registers ∷ [])) results ∙ journal_of-push r.lines (results_of settings r) (line_at (length r.sent + 1) Registers) (result_of_answer answer) (length-results settings r));
       numbered = rw (length_push r.sent (requests.Register address)) (numbered-more (length r.sent) r.lines _ at.numbered (omega arith) (omega arith));
       few = rw (length_push r.sent (requests.Register address), length_push r.outcomes _) (omega (arith, at.few));
-      fit = fit_push settings.width r.sent address at.fit;
+      fit = fit_push settings.width r.sent address small at.fit;
+      askable = at.askable;
+      width = at.width;
     }

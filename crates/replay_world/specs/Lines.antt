@@ -2,7 +2,7 @@
 use Rattle.std.specs.Prelude.{ℕ, List, [], ◌∷◌}
 use Rattle.express_words.specs.declared.refusal.Refusal.TheVariants as refusals
 use Rattle.mailbox_rules.specs.Requests.{Command, Line}
-use Rattle.mailbox_rules.specs.Tables.{Result, Registered, Taken, Full, Settled, Gave, NoBox}
+use Rattle.mailbox_rules.specs.Tables.{Result, Registered, Taken, Full, Began, Settled, Gave, NoBox}
 use Rattle.replay_world.specs.declared.lines.Outcome.TheVariants as outcomes
 use Rattle.replay_world.specs.declared.lines.Told.{Told}
 use Rattle.replay_world.specs.declared.lines.Told.TheVariants.{Done}
@@ -16,6 +16,8 @@ abbrev pub entry_of : Command → Result → Entry
 entry_of command (Registered box) = entries.Registered box
 entry_of command (Taken box) = entries.Refused (shown command) (refusals.Taken box)
 entry_of command (Full limit) = entries.Refused (shown command) (refusals.Full limit)
+entry_of command (Began count) = entries.Began count
+entry_of command (Settled accepted) = entries.Settled accepted
 entry_of command (Gave box bytes) = entries.WasRead box
 entry_of command (NoBox box) = entries.Refused (shown command) (refusals.NoBox box)
 entry_of command result = entries.Refused (shown command) refusals.NoDeposit

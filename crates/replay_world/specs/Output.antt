@@ -1,5 +1,5 @@
 -- The text that a replay writes.
-use Rattle.std.specs.Prelude.{ℕ, ◌+◌, List, [], ◌∷◌, ◌++◌, codes, flat_map}
+use Rattle.std.specs.Prelude.{ℕ, ◌+◌, true, false, List, [], ◌∷◌, ◌++◌, codes, flat_map}
 use Rattle.std.specs.Fmt.{decimal}
 use Rattle.std.specs.Int.{w128, to_be_bytes}
 use Rattle.hex.specs.Hex.{encode_lower}
@@ -63,6 +63,9 @@ command_text commands.Retire = codes "retire"
 
 abbrev pub entry_text : Entry → List ℕ
 entry_text (entries.Registered box) = codes "register " ++ decimal box
+entry_text (entries.Began count) = codes "begin " ++ decimal count
+entry_text (entries.Settled true) = codes "settle accepted"
+entry_text (entries.Settled false) = codes "settle rejected"
 entry_text (entries.WasRead box) = codes "read " ++ decimal box
 entry_text (entries.Refused command refusal) = command_text command ++ (codes " " ++ refusal_text refusal)
 

@@ -3,12 +3,13 @@ use Rattle.std.specs.Prelude.{ℕ, List, [], ◌∷◌, map}
 use Rattle.mailbox_rules.specs.Requests.{Request, Command, Registers, Begins, Audits, Settles, Reads, Retires, Line}
 use Rattle.mailbox_rules.specs.Requests as rules
 use Rattle.schedule_text.specs.declared.schedule.Asked.{Asked}
-use Rattle.schedule_text.specs.declared.schedule.Asked.TheVariants.{Register, Read}
+use Rattle.schedule_text.specs.declared.schedule.Asked.TheVariants.{Register, Write, Read}
 use Rattle.replay_world.specs.declared.lines.Command.TheVariants as told
 use Rattle.replay_world.specs.declared.lines.Command as told_commands
 
 abbrev pub request_of : Asked → Request
 request_of (Register address) = rules.Register address
+request_of (Write target message) = rules.Write target message
 request_of (Read own) = rules.Read own
 
 -- the commands that a request becomes

@@ -1,7 +1,10 @@
 -- The run of a schedule of one client: its requests are worked off one after another, by the rules of the mailboxes.
-use Rattle.std.specs.Prelude.{ℕ, ◌+◌, nat_le, ◌&&◌, if◌then◌else◌, Bool, true, false, List, [], ◌∷◌, ◌++◌, length}
+use Rattle.std.specs.Prelude.{ℕ, ◌+◌, nat_le, ◌&&◌, if◌then◌else◌, Bool, true, false, List, [], ◌∷◌, ◌++◌, length, Option, Some}
 use Rattle.express_words.specs.declared.settings.Settings.{Settings}
-use Rattle.mailbox_rules.specs.Requests.{Request, Line, Operation, operation_by}
+use Rattle.dpf_rules.specs.Expansion.{choice, draw32}
+use Rattle.dpf_rules.specs.Keys.{honest_keys}
+use Rattle.dpf_rules.specs.Walk.{write_bytes}
+use Rattle.mailbox_rules.specs.Requests.{Request, Write, Line, Operation, operation_by, request_at}
 use Rattle.mailbox_rules.specs.Tables.{Table, Writes, Result, Refused, table_after, results_after, plain_writes}
 use Rattle.schedule_text.specs.declared.schedule.Asked.{Asked}
 use Rattle.schedule_text.specs.declared.schedule.Asked.TheVariants as asked
@@ -36,9 +39,22 @@ does sent = operation_by (λ lane. sent)
 abbrev pub plain : List Request → Writes
 plain sent = plain_writes (λ lane. sent) (λ lane serial. true)
 
--- What the requests add to a server's shares. No request writes yet.
+-- a root of a client's write: word 0 or 1 of the sixteen that its seed gives for the serial
+abbrev pub root_of : Header → ℕ → ℕ → ℕ
+root_of header serial server = choice (draw32 header.seed 1) serial server
+
+-- What a request adds to a server's share of the box at an address: a write's bytes there, from the client's keys.
+abbrev pub share_of : Header → ℕ → ℕ → Option Request → ℕ → List ℕ
+share_of header server serial (Some (Write target message)) address =
+    write_bytes (honest_keys target message (root_of header serial 0) (root_of header serial 1)) server (root_of header serial server) address
+share_of header server serial request address = []
+
+-- What the requests add to a server's shares.
 abbrev pub shared : Header → ℕ → List Request → Writes
-shared header server sent = record { accepts = λ lane serial. true; adds = λ lane serial address. [] }
+shared header server sent = record {
+  accepts = λ lane serial. true;
+  adds = λ lane serial. share_of header server serial (request_at (λ l. sent) lane serial);
+}
 
 abbrev pub table_by : Settings → (List Request → Writes) → List Request → List Line → Table
 table_by settings writes sent lines = table_after settings.boxes settings.width (writes sent) (does sent) lines
@@ -79,6 +95,7 @@ carried_out settings r request =
 -- A client refuses a read of a box that it never got, and sends nothing.
 abbrev pub refuses : List ℕ → Asked → Bool
 refuses owned (asked.Register address) = false
+refuses owned (asked.Write target message) = false
 refuses owned (asked.Read own) = nat_le (length owned) own
 
 abbrev pub is_refused : Settings → Run → Asked → Bool
@@ -86,6 +103,7 @@ is_refused settings r one = refuses ((table_of settings r).got 0) one
 
 abbrev pub refused_on : Run → Asked → Run
 refused_on r (asked.Register address) = r
+refused_on r (asked.Write target message) = r
 refused_on r (asked.Read own) = told_on r (NoOwn own) []
 
 -- one request is worked off

@@ -1,6 +1,6 @@
 -- The boxes of one server, each with the server's share of its bytes.
 use Rattle.std.specs.Prelude.{◌≡◌, ℕ, ◌≤◌, ◌<◌, true, List, [], ◌∷◌, ◌++◌, length, slice_get, Some, None, Result, Ok, Err}
-use Rattle.mailbox_rules.specs.Tables.{Mailbox, box_of, new_box}
+use Rattle.mailbox_rules.specs.Tables.{Mailbox, box_of, new_box, xor_bytes}
 use Rattle.box_registry.specs.Boxes.{Box}
 use Rattle.box_registry.specs.declared.fault.RegFault.{RegFault}
 use Rattle.box_registry.specs.declared.fault.RegFault.TheVariants.{Taken, Full}
@@ -32,3 +32,9 @@ Registers old new address (Err (Full limit)) = (box_of address old.boxes ≡ Non
 -- A live box of this number stands, with a share of the width.
 abbrev pub HasShare : Shelf → ℕ → Type 0
 HasShare shelf n = (box : Mailbox) × (slice_get shelf.boxes n ≡ Some box) × (box.live ≡ true) × (length box.bytes ≡ shelf.width)
+
+-- Shares, each with what stands for its box's address added. Those beyond the addresses stay.
+unfoldable pub all_added : (ℕ → List ℕ) → List ℕ → List (List ℕ) → List (List ℕ)
+all_added adds [] shares = shares
+all_added adds (address ∷ addresses) [] = []
+all_added adds (address ∷ addresses) (share ∷ shares) = xor_bytes share (adds address) ∷ all_added adds addresses shares

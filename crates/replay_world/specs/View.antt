@@ -1,9 +1,14 @@
 -- Where in a run the code's state stands.
-use Rattle.std.specs.Prelude.{◌≡◌, ℕ, ◌≤◌, ◌<◌, length, List, [], ◌∷◌}
+use Rattle.std.specs.Prelude.{◌≡◌, ℕ, ◌≤◌, ◌<◌, ◌^◌, length, List, [], ◌∷◌}
 use Rattle.express_words.specs.declared.settings.Settings.{Settings}
 use Rattle.mailbox_rules.specs.Requests.{Request, Register, Write, Read, Retire, Line}
 use Rattle.mailbox_rules.specs.Tables.{Table}
 use Rattle.dpf_rules.specs.Expansion.{draw32}
+use Rattle.dpf_keys.specs.Width.{IsWidth}
+use Rattle.schedule_text.specs.Rules.{IsAskable}
+use Rattle.schedule_text.specs.declared.schedule.Asked.{Asked}
+use Rattle.schedule_text.specs.declared.schedule.Event.{Event}
+use Rattle.schedule_text.specs.declared.schedule.Event.TheVariants.{Ask, Finish}
 use Rattle.schedule_text.specs.declared.schedule.Header.{Header}
 use Rattle.replay_world.specs.declared.state.State.{State}
 use Rattle.replay_world.specs.Shelf.{Shelf}
@@ -18,16 +23,26 @@ abbrev pub AreNumbered : ℕ → List Line → Type 0
 AreNumbered count [] = Unit {0}
 AreNumbered count (line ∷ lines) = ((1 ≤ line.serial) × (line.serial ≤ count)) × AreNumbered count lines
 
--- no request writes yet
+-- An address is a number of 128 bits, and a message has the width.
 abbrev pub IsFit : ℕ → Request → Type 0
-IsFit width (Register address) = Unit {0}
-IsFit width (Write target message) = ⊥
+IsFit width (Register address) = address < 2 ^ 128
+IsFit width (Write target message) = (target < 2 ^ 128) × (length message ≡ width)
 IsFit width (Read own) = Unit {0}
 IsFit width (Retire own) = Unit {0}
 
 abbrev pub AreFit : ℕ → List Request → Type 0
 AreFit width [] = Unit {0}
 AreFit width (request ∷ requests) = IsFit width request × AreFit width requests
+
+-- all these can be asked
+abbrev pub AreAskable : ℕ → List Asked → Type 0
+AreAskable width [] = Unit {0}
+AreAskable width (one ∷ more) = IsAskable width one × AreAskable width more
+
+-- what the event asks, if it asks something, can be asked
+abbrev pub HasAskable : ℕ → Event → Type 0
+HasAskable width (Ask client one) = IsAskable width one
+HasAskable width (Finish client) = Unit {0}
 
 abbrev pub AllBelow : ℕ → List ℕ → Type 0
 AllBelow n [] = Unit {0}
@@ -49,6 +64,8 @@ pub record IsAt (header : Header) (s : State) (r : Run) : Type 0 where
   pub numbered : AreNumbered (length r.sent) r.lines
   pub few : length r.sent ≤ length r.outcomes
   pub fit : AreFit header.settings.width r.sent
+  pub askable : AreAskable header.settings.width r.waiting
+  pub width : IsWidth header.settings.width
 
 abbrev pub IsInRun : State → Type 0
 IsInRun s = (header : Header) × (r : Run) × IsAt header s r

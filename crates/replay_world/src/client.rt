@@ -1,7 +1,9 @@
 //! The client: its list of requests, the boxes that it got, and how many requests it sent.
 ghost use Rattle.std.specs.Prelude.{◌≡◌, ◌<◌, ◌≤◌, ◌+◌, ◌^◌, [], length, slice_get, IfOk, IfSome};
+ghost use Rattle.dpf_rules.specs.Expansion.{choice};
 ghost use Rattle.replay_world.specs.Run.{refuses};
 
+use chacha_expand::choices;
 use schedule_text::Asked;
 use std::alloc::Global;
 
@@ -39,13 +41,23 @@ impl Client {
         self.owned.get(own as usize).copied()
     }
 
+    /// Both roots of the write of a serial.
+    pub fn roots(&self, serial: u32) -> (u128, u128)
+        ensures zero { result.0 ≡ choice self.now.seed serial 0 }
+        ensures one { result.1 ≡ choice self.now.seed serial 1 }
+    {
+        let words = choices(&self.seed, serial);
+        (words[0], words[1])
+    }
+
     /// A read of a box that it never got isn't sent.
-    pub fn refuses(&self, one: Asked) -> bool
-        ensures { result ≡ refuses self.now.owned.items one }
+    pub fn refuses(&self, one: &Asked) -> bool
+        ensures { result ≡ refuses self.now.owned.items one.now }
     {
         match one {
             Asked::Register(_) => false,
-            Asked::Read(own) => self.owned.len() <= own as usize,
+            Asked::Write(_, _) => false,
+            Asked::Read(own) => self.owned.len() <= *own as usize,
         }
     }
 }

@@ -47,6 +47,10 @@ pub enum Command {
 pub enum Entry {
     /// The address got this box.
     Registered(u32),
+    /// A write began over this many boxes.
+    Began(u32),
+    /// A write was accepted, or not.
+    Settled(bool),
     /// The box was read.
     WasRead(u32),
     Refused(Command, Refusal),

@@ -1,14 +1,30 @@
 //! One of the two servers: its boxes with their keys, and its shares of their bytes.
 ghost use Rattle.std.specs.Prelude.{◌≡◌, ◌<◌, ◌≤◌, [], length, true, slice_get, IfOk, Some};
-ghost use Rattle.mailbox_rules.specs.Tables.{xor_bytes, boxes_cleared, addresses};
+ghost use Rattle.mailbox_rules.specs.Tables.{xor_bytes, boxes_with, boxes_cleared, addresses};
+ghost use Rattle.dpf_rules.specs.Walk.{write_bytes, last_of};
 ghost use Rattle.mailbox_rules.specs.Laws.{bytes_of};
-ghost use Rattle.replay_world.specs.Shelf.{Registers, HasShare};
+ghost use Rattle.replay_world.specs.Shelf.{Registers, HasShare, HaveWidth, all_added};
 
 use crate::share::Share;
 use box_registry::{PlainRegistry, RegFault};
+use dpf_keys::{PublicPart, walk};
 use express_words::{NoMemory, Settings};
 use std::alloc::Global;
 use std::marker::Model;
+
+// Adds to each share the write bytes at its box's address.
+fn add_to_all(shares: &mut [Share], addresses: &[u128], part: &PublicPart, server: u8, root: u128)
+    requires server { server < 2 }
+    requires same { length shares.old ≡ length addresses.now }
+    requires width { HaveWidth (length (last_of part.now)) shares.old }
+    ensures added { shares.new ≡ all_added (write_bytes part.now server root) addresses.now shares.old }
+    ensures width { HaveWidth (length (last_of part.now)) shares.new }
+{
+    for i in 0..shares.len() {
+        let leaf = walk(part, server, root, addresses[i]);
+        shares[i].add(part, leaf);
+    }
+}
 
 #[derive(Drop)]
 pub struct Server {
@@ -69,6 +85,16 @@ impl Server {
     {
         let share = &mut self.shares[box_number as usize];
         share.take(out);
+    }
+
+    /// Adds to each share the bytes that a write has at its box.
+    pub fn add_write(&mut self, part: &PublicPart, server: u8, root: u128)
+        requires server { server < 2 }
+        requires width { length (last_of part.now) ≡ self.old.width }
+        ensures { self.new ≡ record self.old { boxes = boxes_with (write_bytes part.now server root) (length self.old.boxes) self.old.boxes } }
+    {
+        let addresses = self.registry.first(self.registry.count());
+        add_to_all(&mut self.shares, addresses, part, server, root);
     }
 
     /// The width of each share in bytes.

@@ -1,7 +1,9 @@
 //! One server's share of a box's bytes.
 ghost use Rattle.std.specs.Prelude.{◌≡◌, length, replicate, IfOk};
+ghost use Rattle.dpf_rules.specs.Walk.{leaf_bytes, last_of};
 ghost use Rattle.mailbox_rules.specs.Tables.{xor_bytes};
 
+use dpf_keys::{PublicPart, output_into};
 use dpf_rules::xor_into;
 use express_words::NoMemory;
 use std::alloc::Global;
@@ -43,5 +45,13 @@ impl Share {
     {
         xor_into(out, &self.bytes);
         self.bytes.fill(0);
+    }
+
+    /// Adds the write bytes of a leaf.
+    pub fn add(&mut self, part: &PublicPart, leaf: u128)
+        requires { length self.old ≡ length (last_of part.now) }
+        ensures { self.new ≡ xor_bytes self.old (leaf_bytes part.now leaf) }
+    {
+        output_into(part, leaf, &mut self.bytes);
     }
 }

@@ -1,5 +1,7 @@
 //! The state of a run: the client, the two servers, and what was told and noted so far.
 ghost use Rattle.std.specs.Prelude.{◌≡◌, ℕ, ◌+◌, ◌<◌, ◌≤◌, ◌^◌, [], ◌∷◌, ◌++◌, length, OnOk, IfOk, replicate};
+ghost use Rattle.dpf_keys.specs.Width.{IsWidth};
+ghost use Rattle.dpf_rules.specs.Keys.{honest_keys};
 ghost use Rattle.mailbox_rules.specs.Requests.{Registers};
 ghost use Rattle.replay_world.specs.Lines.{entry_of, told_of};
 ghost use Rattle.replay_world.specs.Answers.{result_of_answer, owned_after};
@@ -10,6 +12,7 @@ use crate::lines::{Command, Entry, JournalLine, Outcome, OutcomeLine, Told};
 use crate::server::Server;
 use box_registry::RegFault;
 use chacha_expand::{draw32, owner_keys};
+use dpf_keys::{PublicPart, generate};
 use express_words::{List, NoMemory, Refusal};
 use schedule_text::{Asked, Event, Header};
 use std::alloc::Global;
@@ -79,6 +82,23 @@ fn note(journal: &mut Vec<JournalLine>, serial: u32, entry: Entry) -> Result<(),
     Ok(())
 }
 
+// The public part of a write.
+fn public_part(
+    alloc: Global,
+    target: u128,
+    message: &[u8],
+    root0: u128,
+    root1: u128,
+) -> Result<Vec<u8>, NoMemory>
+    requires { IsWidth (length message.now) }
+    ensures keys { IfOk result (λ part. part.items ≡ honest_keys target message.now root0 root1) }
+    ensures length { IfOk result (λ part. length part.items ≡ 2064 + length message.now) }
+{
+    let mut part = vec![in alloc; 0u8; 2064 + message.len()]?;
+    generate(target, message, root0, root1, &mut part);
+    Ok(part)
+}
+
 #[derive(Drop)]
 pub struct State {
     client: Client,
@@ -92,10 +112,13 @@ impl State {
     ghost use Rattle.std.specs.Prelude.{◌≡◌, ℕ, ◌+◌, ◌<◌, ◌≤◌, ◌^◌, length, OnOk, IfOk, slice_get, Some, None};
     ghost use Rattle.mailbox_rules.specs.Requests as rules;
     ghost use Rattle.replay_world.specs.Run.{Run, start, shares_of, carried_out, worked_off, refused_on, asked_on, all_worked_off, finished, happens};
-    ghost use Rattle.replay_world.specs.View.{IsAt, IsInRun, Follows, shelf_of};
+    ghost use Rattle.replay_world.specs.View.{IsAt, IsInRun, Follows, AreAskable, HasAskable, shelf_of};
+    ghost use Rattle.schedule_text.specs.Rules.{IsAskable};
+    ghost use Rattle.dpf_keys.specs.Width.{IsWidth};
     ghost use Rattle.schedule_text.specs.declared.schedule.Header.{Header};
 
     pub fn open(alloc: Global, header: &Header) -> State
+        requires { IsWidth header.now.settings.width }
         ensures { IsAt header.now result start }
     {
         State {
@@ -143,18 +166,48 @@ impl State {
         Ok(())
     }
 
-    // Works off one request.
-    fn work_off(&mut self, alloc: Global, one: Asked) -> Result<(), NoMemory>
+    // Both servers add their write bytes to all boxes.
+    fn write(&mut self, alloc: Global, target: u128, message: &[u8]) -> Result<(), NoMemory>
         requires run { IsInRun self.old }
         requires room { length self.old.outcomes.items + 1 < 2 ^ 32 }
-        ensures ok { OnOk result (Follows (λ header r. worked_off header.settings r one) self.old self.new) }
+        requires width { length message.now ≡ self.old.leader.width }
+        ensures ok { OnOk result (Follows (λ header r. carried_out header.settings r (rules.Write target message.now)) self.old self.new) }
+        ensures more { OnOk result (length self.new.outcomes.items ≡ length self.old.outcomes.items + 1) }
+    {
+        let serial = self.client.sent + 1;
+        let (root0, root1) = self.client.roots(serial);
+        let keys = public_part(alloc, target, message, root0, root1)?;
+        let count = self.helper.count();
+        let Some(part) = PublicPart::of(&keys) else {
+            unreachable!()
+        };
+        self.leader.add_write(&part, 0, root0);
+        self.helper.add_write(&part, 1, root1);
+        self.client.sent = serial;
+        note(&mut self.journal, serial, Entry::Began(count))?;
+        note(&mut self.journal, serial, Entry::Settled(true))?;
+        tell(
+            &mut self.outcomes,
+            Told::Done(Outcome::Accepted),
+            Vec::new(alloc),
+        )?;
+        Ok(())
+    }
+
+    // Works off one request.
+    fn work_off(&mut self, alloc: Global, one: &Asked) -> Result<(), NoMemory>
+        requires run { IsInRun self.old }
+        requires room { length self.old.outcomes.items + 1 < 2 ^ 32 }
+        requires askable { IsAskable self.old.leader.width one.now }
+        ensures ok { OnOk result (Follows (λ header r. worked_off header.settings r one.now) self.old self.new) }
         ensures more { OnOk result (length self.new.outcomes.items ≡ length self.old.outcomes.items + 1) }
     {
         match one {
-            Asked::Register(address) => self.register(alloc, address),
-            Asked::Read(own) => match self.client.own_box(own) {
-                Some(box_number) => self.read(alloc, own, box_number),
-                None => self.tell_no_own(alloc, own),
+            Asked::Register(address) => self.register(alloc, *address),
+            Asked::Write(target, message) => self.write(alloc, *target, message.as_slice()),
+            Asked::Read(own) => match self.client.own_box(*own) {
+                Some(box_number) => self.read(alloc, *own, box_number),
+                None => self.tell_no_own(alloc, *own),
             },
         }
     }
@@ -170,25 +223,28 @@ impl State {
     }
 
     // The client refuses it and sends nothing.
-    fn refuse(&mut self, alloc: Global, one: Asked) -> Result<(), NoMemory>
+    fn refuse(&mut self, alloc: Global, one: &Asked) -> Result<(), NoMemory>
         requires { length self.old.outcomes.items < 2 ^ 32 }
-        ensures { OnOk result (Follows (λ header r. refused_on r one) self.old self.new) }
+        ensures { OnOk result (Follows (λ header r. refused_on r one.now) self.old self.new) }
     {
         match one {
             Asked::Register(_) => Ok(()),
-            Asked::Read(own) => self.tell_no_own(alloc, own),
+            Asked::Write(_, _) => Ok(()),
+            Asked::Read(own) => self.tell_no_own(alloc, *own),
         }
     }
 
     // A request is asked.
-    fn ask(&mut self, alloc: Global, one: Asked) -> Result<(), NoMemory>
-        requires { length self.old.outcomes.items < 2 ^ 32 }
-        ensures ok { OnOk result (Follows (λ header r. asked_on header.settings r one) self.old self.new) }
+    fn ask(&mut self, alloc: Global, one: &Asked) -> Result<(), NoMemory>
+        requires run { IsInRun self.old }
+        requires room { length self.old.outcomes.items < 2 ^ 32 }
+        requires askable { IsAskable self.old.leader.width one.now }
+        ensures ok { OnOk result (Follows (λ header r. asked_on header.settings r one.now) self.old self.new) }
     {
         if self.client.waiting.is_empty() && self.client.refuses(one) {
             self.refuse(alloc, one)
         } else {
-            self.client.waiting.push(one)?;
+            self.client.waiting.push(one.copied(alloc)?)?;
             Ok(())
         }
     }
@@ -197,10 +253,11 @@ impl State {
     fn work_off_all(&mut self, alloc: Global, waiting: &[Asked]) -> Result<(), NoMemory>
         requires run { IsInRun self.old }
         requires room { length self.old.outcomes.items + length waiting.now < 2 ^ 32 }
+        requires askable { AreAskable self.old.leader.width waiting.now }
         ensures ok { OnOk result (Follows (λ header r. all_worked_off header.settings waiting.now r) self.old self.new) }
     {
         for one in waiting {
-            self.work_off(alloc, *one)?;
+            self.work_off(alloc, one)?;
         }
         Ok(())
     }
@@ -220,9 +277,10 @@ impl State {
     pub fn event(&mut self, alloc: Global, event: &Event) -> Result<(), NoMemory>
         requires run { IsInRun self.old }
         requires room { length self.old.outcomes.items + length self.old.client.waiting.items + 1 < 2 ^ 32 }
+        requires askable { HasAskable self.old.leader.width event.now }
         ensures ok { OnOk result (Follows (λ header r. happens header.settings r event.now) self.old self.new) }
     {
-        match *event {
+        match event {
             Event::Ask(_, one) => self.ask(alloc, one),
             Event::Finish(_) => self.finish(alloc),
         }

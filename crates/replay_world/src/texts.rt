@@ -106,6 +106,9 @@ fn entry_text(alloc: Global, entry: Entry) -> Result<String, AllocError>
 {
     match entry {
         Entry::Registered(box_number) => format!(in alloc; "register {box_number}"),
+        Entry::Began(count) => format!(in alloc; "begin {count}"),
+        Entry::Settled(true) => format!(in alloc; "settle accepted"),
+        Entry::Settled(false) => format!(in alloc; "settle rejected"),
         Entry::WasRead(box_number) => format!(in alloc; "read {box_number}"),
         Entry::Refused(command, refusal) => {
             let command = command_text(command);

@@ -28,12 +28,15 @@ impl World {
     ghost use Rattle.std.specs.Prelude.{◌≡◌, ◌<◌, ◌≤◌, ◌++◌, [], length, OnOk, OnErr, IfOk, Err, string_bytes};
     ghost use Rattle.express_words.specs.Causes.{Rose};
     ghost use Rattle.express_words.specs.Streams.{Took, TookPrefix};
+    ghost use Rattle.express_words.specs.Limits.{KeepsLimits};
+    ghost use Rattle.schedule_text.specs.Rules.{EventKeepsRules};
     ghost use Rattle.replay_world.specs.WorldView.{played, IsWhole, with_event};
     ghost use Rattle.replay_world.specs.Schedules.{outcomes_of, whole_journal, share_at};
     ghost use Rattle.replay_world.specs.Output.{output_of};
 
     /// A world in which nothing has happened.
     pub fn open(alloc: Global, header: &Header) -> Result<World, NoMemory>
+        requires { KeepsLimits header.now.settings.width header.now.settings.boxes header.now.settings.lanes header.now.settings.window }
         ensures whole { IfOk result (λ world. IsWhole world) }
         ensures schedule { IfOk result (λ world. played world ≡ record { header = header.now; events = [] }) }
     {
@@ -49,10 +52,11 @@ impl World {
     pub fn event(&mut self, alloc: Global, event: &Event) -> Result<(), NoMemory>
         requires whole { IsWhole self.old }
         requires room { length (played self.old).events < MOST_EVENTS }
+        requires rules { EventKeepsRules (played self.old).header.settings event.now }
         ensures whole { OnOk result (IsWhole self.new) }
         ensures schedule { OnOk result (played self.new ≡ with_event (played self.old) event.now) }
     {
-        self.events.push(*event)?;
+        self.events.push(event.copied(alloc)?)?;
         self.state.event(alloc, event)?;
         Ok(())
     }

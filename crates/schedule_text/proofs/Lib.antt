@@ -5,3 +5,4 @@ pub mod LineLaws
 pub mod EventLaws
 pub mod HeaderLaws
 pub mod ScheduleLaws
+pub mod RuleLaws

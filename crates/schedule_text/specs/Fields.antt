@@ -1,5 +1,5 @@
 -- The fields of a line, as functions from its bytes: what each finds at the front, or that it isn't there.
-use Rattle.std.specs.Prelude.{ℕ, ◌+◌, ◌-◌, ◌*◌, nat_le, ◌==◌, ◌&&◌, if◌then◌else◌, Bool, true, false, List, [], ◌∷◌, Option, Some, None, option_map}
+use Rattle.std.specs.Prelude.{ℕ, ◌+◌, ◌-◌, ◌*◌, nat_le, ◌==◌, ◌&&◌, if◌then◌else◌, Bool, true, false, List, [], ◌∷◌, take, drop, Option, Some, None, option_map}
 use Rattle.std.specs.Char.{is_ascii_digit}
 use Rattle.std.specs.Int.{w128, from_be_bytes}
 use Rattle.std.specs.Result.{result_ok}
@@ -61,3 +61,11 @@ address_of digits = option_map (from_be_bytes w128) (result_ok (decode_sized dig
 
 unfoldable pub seed_of : List ℕ → Option (List ℕ)
 seed_of digits = result_ok (decode_sized digits 32)
+
+-- an address in front, and what follows it
+unfoldable pub address_at : List ℕ → Option (ℕ × List ℕ)
+address_at bytes = option_map (λ address. (address, drop 32 bytes)) (address_of (take 32 bytes))
+
+-- a message of a width, in twice as many hexadecimal digits
+unfoldable pub message_of : ℕ → List ℕ → Option (List ℕ)
+message_of width digits = result_ok (decode_sized digits width)

@@ -3,12 +3,12 @@ use Rattle.std.specs.Prelude.{ℕ, ◌+◌, ◌-◌, ◌%◌, ◌==◌, if◌the
 use Rattle.express_words.specs.declared.settings.Settings.{Settings}
 use Rattle.schedule_text.specs.declared.schedule.Header.{Header}
 use Rattle.schedule_text.specs.declared.schedule.Asked.{Asked}
-use Rattle.schedule_text.specs.declared.schedule.Asked.TheVariants.{Register, Read}
+use Rattle.schedule_text.specs.declared.schedule.Asked.TheVariants.{Register, Write, Read}
 use Rattle.schedule_text.specs.declared.schedule.Event.{Event}
 use Rattle.schedule_text.specs.declared.schedule.Event.TheVariants.{Ask, Finish}
 use Rattle.schedule_text.specs.declared.schedule.Schedule.{Schedule}
 use Rattle.schedule_text.specs.declared.schedule.TheConstants.{MOST_EVENTS}
-use Rattle.schedule_text.specs.Fields.{◌>>=◌, or_else, after, wanted, number_at, last_number, address_of, seed_of}
+use Rattle.schedule_text.specs.Fields.{◌>>=◌, or_else, after, wanted, number_at, last_number, address_of, address_at, message_of, seed_of}
 
 -- register ADDRESS
 unfoldable pub register_of : List ℕ → Option Asked
@@ -18,17 +18,30 @@ register_of text = after (codes "register ") text >>= λ digits. option_map Regi
 unfoldable pub read_of : List ℕ → Option Asked
 read_of text = after (codes "read ") text >>= λ number. option_map Read (last_number 0 4095 number)
 
-abbrev pub asked_of : List ℕ → Option Asked
-asked_of text = or_else (register_of text) (read_of text)
+-- write ADDRESS MESSAGE, up to the message
+unfoldable pub target_of : List ℕ → Option (ℕ × List ℕ)
+target_of text = do
+  rest ← after (codes "write ") text
+  target ← address_at rest
+  digits ← after (codes " ") target.1
+  Some (target.0, digits)
 
--- ask C and what is asked
-unfoldable pub ask_of : Settings → List ℕ → Option Event
-ask_of settings line = do
+unfoldable pub write_of : Settings → List ℕ → Option Asked
+write_of settings text = target_of text >>= λ target. option_map (Write target.0) (message_of settings.width target.1)
+
+abbrev pub asked_of : Settings → List ℕ → Option Asked
+asked_of settings text = or_else (register_of text) (or_else (write_of settings text) (read_of text))
+
+-- ask C, and what is asked
+unfoldable pub client_of : Settings → List ℕ → Option (ℕ × List ℕ)
+client_of settings line = do
   rest ← after (codes "ask ") line
   c ← number_at 0 (settings.lanes - 1) rest
   text ← after (codes " ") c.1
-  asked ← asked_of text
-  Some (Ask c.0 asked)
+  Some (c.0, text)
+
+unfoldable pub ask_of : Settings → List ℕ → Option Event
+ask_of settings line = client_of settings line >>= λ c. option_map (Ask c.0) (asked_of settings c.1)
 
 -- finish C
 unfoldable pub finish_of : Settings → List ℕ → Option Event

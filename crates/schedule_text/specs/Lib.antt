@@ -3,3 +3,4 @@ pub mod Grammar
 pub mod Spelling
 pub mod Reading
 pub mod Judging
+pub mod Rules

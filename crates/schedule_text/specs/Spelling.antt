@@ -6,7 +6,7 @@ use Rattle.hex.specs.Hex.{decode_sized}
 use Rattle.express_words.specs.Limits.{KeepsLimits}
 use Rattle.express_words.specs.declared.settings.Settings.{Settings}
 use Rattle.schedule_text.specs.declared.schedule.Asked.{Asked}
-use Rattle.schedule_text.specs.declared.schedule.Asked.TheVariants.{Register, Read}
+use Rattle.schedule_text.specs.declared.schedule.Asked.TheVariants.{Register, Write, Read}
 use Rattle.schedule_text.specs.declared.schedule.Event.{Event}
 use Rattle.schedule_text.specs.declared.schedule.Event.TheVariants.{Ask, Finish}
 use Rattle.schedule_text.specs.declared.schedule.Header.{Header}
@@ -17,12 +17,14 @@ use Rattle.schedule_text.specs.declared.schedule.TheConstants.{MOST_EVENTS}
 abbrev pub SpellsAddress : ℕ → List ℕ → Type 0
 SpellsAddress address digits = (bytes : List ℕ) × (decode_sized digits 16 ≡ Ok bytes) × (address ≡ from_be_bytes w128 bytes)
 
-abbrev pub SpellsAsked : Asked → List ℕ → Type 0
-SpellsAsked (Register address) text = (digits : List ℕ) × SpellsAddress address digits × (text ≡ codes "register " ++ digits)
-SpellsAsked (Read own) text = (own ≤ 4095) × (text ≡ codes "read " ++ decimal own)
+abbrev pub SpellsAsked : Settings → Asked → List ℕ → Type 0
+SpellsAsked settings (Register address) text = (digits : List ℕ) × SpellsAddress address digits × (text ≡ codes "register " ++ digits)
+SpellsAsked settings (Write target message) text = (digits : List ℕ) × (more : List ℕ) × SpellsAddress target digits × (decode_sized more settings.width ≡ Ok message)
+    × (text ≡ codes "write " ++ (digits ++ (codes " " ++ more)))
+SpellsAsked settings (Read own) text = (own ≤ 4095) × (text ≡ codes "read " ++ decimal own)
 
 abbrev pub SpellsEvent : Settings → Event → List ℕ → Type 0
-SpellsEvent settings (Ask client asked) line = (client < settings.lanes) × ((text : List ℕ) × SpellsAsked asked text × (line ≡ codes "ask " ++ (decimal client ++ (codes " " ++ text))))
+SpellsEvent settings (Ask client asked) line = (client < settings.lanes) × ((text : List ℕ) × SpellsAsked settings asked text × (line ≡ codes "ask " ++ (decimal client ++ (codes " " ++ text))))
 SpellsEvent settings (Finish client) line = (client < settings.lanes) × (line ≡ codes "finish " ++ decimal client)
 
 -- The header of a schedule, as long as there is one lane and a window of 1.

@@ -1,7 +1,11 @@
 //! The fields of a line: fixed words, numbers, and hexadecimal digits.
-ghost use Rattle.std.specs.Prelude.{◌≡◌, ◌<◌, ◌≤◌, ◌^◌, option_map, IfSome};
+ghost use Rattle.std.specs.Prelude.{◌≡◌, ◌<◌, ◌≤◌, ◌^◌, option_map, IfOk, IfSome};
 ghost use Rattle.std.specs.Option.{option_copied};
-ghost use Rattle.schedule_text.specs.Fields.{after, digits_on, within, number_at, last_number, address_of, seed_of};
+ghost use Rattle.schedule_text.specs.Fields.{after, digits_on, within, number_at, last_number, address_of, address_at, message_of, seed_of};
+
+use express_words::NoMemory;
+use hex::FromHexError;
+use std::alloc::Global;
 
 /// What follows these characters.
 #[tactic(auto, unfolding(crate::specs::Fields::after))]
@@ -99,5 +103,30 @@ pub fn seed_of(digits: &[u8]) -> Option<[u8; 32]>
     match hex::decode_to_slice(digits, &mut seed) {
         Ok(()) => Some(seed),
         Err(_) => None,
+    }
+}
+
+/// An address at the front, and what follows it.
+#[tactic(auto, unfolding(crate::specs::Fields::address_at))]
+pub fn address_at(bytes: &[u8]) -> Option<(u128, &[u8])>
+    ensures { option_map (λ r. (r.0, r.1.now)) result ≡ address_at bytes.now }
+{
+    let (digits, rest) = bytes.split_at(bytes.len().min(32));
+    let address = address_of(digits)?;
+    Some((address, rest))
+}
+
+/// A message of a width, in twice as many hexadecimal digits.
+#[tactic(auto, unfolding(crate::specs::Fields::message_of))]
+pub fn message_of(alloc: Global, width: u32, digits: &[u8]) -> Result<Option<Vec<u8>>, NoMemory>
+    ensures { IfOk result (λ found. option_map (λ message. message.items) found ≡ message_of width digits.now) }
+{
+    if digits.len() != 2 * width as usize {
+        return Ok(None);
+    }
+    match hex::decode(alloc, digits) {
+        Ok(message) => Ok(Some(message)),
+        Err(FromHexError::OutOfMemory) => Err(NoMemory),
+        Err(_) => Ok(None),
     }
 }

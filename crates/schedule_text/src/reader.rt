@@ -3,6 +3,7 @@ ghost use Rattle.std.specs.Prelude.{◌≡◌, ℕ, ◌<◌, ◌≤◌, ◌∷�
 ghost use Rattle.schedule_text.specs.Grammar.{lines_of, events_of, schedule_of};
 ghost use Rattle.schedule_text.specs.Reading.{Gives};
 ghost use Rattle.schedule_text.specs.Judging.{Judges};
+ghost use Rattle.schedule_text.specs.Rules.{KeepsRules};
 ghost use Rattle.schedule_text.specs.Spelling.{SpellsSchedule, IsFirstBadLine};
 ghost use Rattle.schedule_text.specs.declared.reader.ReadFault.TheVariants.{NoMemory};
 
@@ -24,6 +25,14 @@ impl<T: Drop> From<AllocFailed<T>> for ReadFault {
     ghost from_gives = { λ _ e. e ≡ NoMemory };
 
     fn from(_: AllocFailed<T>) -> Self {
+        ReadFault::NoMemory
+    }
+}
+
+impl From<express_words::NoMemory> for ReadFault {
+    ghost from_gives = { λ _ e. e ≡ NoMemory };
+
+    fn from(_: express_words::NoMemory) -> Self {
         ReadFault::NoMemory
     }
 }
@@ -56,7 +65,7 @@ fn read_events(alloc: Global, settings: &Settings, text: &[u8]) -> Result<Vec<Ev
         if events.len() == MOST_EVENTS {
             return Err(bad);
         }
-        match event_of(settings, line) {
+        match event_of(alloc, settings, line)? {
             None => return Err(bad),
             Some(event) => events.push(event)?,
         }
@@ -90,6 +99,7 @@ fn read_text(alloc: Global, text: &[u8]) -> Result<Schedule, ReadFault>
 pub fn read(alloc: Global, text: &[u8]) -> Result<Schedule, ReadFault>
     ensures judges { Judges text.now result }
     ensures schedule { Gives (λ schedule. schedule) result (schedule_of text.now) }
+    ensures rules { IfOk result (λ schedule. KeepsRules schedule) }
     ensures few { IfOk result (λ schedule. length schedule.events ≤ MOST_EVENTS) }
 {
     read_text(alloc, text)

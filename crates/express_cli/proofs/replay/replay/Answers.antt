@@ -3,10 +3,18 @@ use Rattle.schedule_text.specs.Spelling.{SpellsSchedule}
 use Rattle.schedule_text.specs.declared.schedule.Schedule.{Schedule}
 use Rattle.replay_world.specs.Output.{output_of}
 use Rattle.replay_world.specs.WorldView.{played}
-use Rattle.express_cli.specs.Ends.{ReplayMay}
+use Rattle.express_cli.specs.Ends.{BadLineMay, ReplayMay}
 use Rattle.express_cli.specs.declared.ends.End.TheVariants.{Done, OutOfMemory}
-use Rattle.express_cli.proofs.Writing.{said, unmoved}
+use Rattle.express_cli.proofs.Writing.{more_may, said, unmoved, bad_line_may}
 use Rattle.express_cli.proofs.replay.replay.Goals as goal
+
+pub returns-in-Err-BadLine-clause-ends : goal.returns-in-Err-BadLine-clause-ends
+returns-in-Err-BadLine-clause-ends g c =
+    let first = rw c.in-Err-BadLine.field-0-is at c.in-Err-BadLine.ensures.judges in
+    more_may (BadLineMay c.in-Err-BadLine.line) (ReplayMay c.args.text.now) _ _ _ _ _ (bad_line_may c.args.text.now c.in-Err-BadLine.line first) c.say_bad_line.ensures.says
+
+pub returns-in-Err-NoMemory-clause-ends : goal.returns-in-Err-NoMemory-clause-ends
+returns-in-Err-NoMemory-clause-ends g c = said (ReplayMay c.args.text.now) _ _ _ _ OutOfMemory _ _ refl c.say.ensures.says
 
 pub returns-in-Err-clause-ends : goal.returns-in-Err-clause-ends
 returns-in-Err-clause-ends g c = said (ReplayMay c.args.text.now) _ _ _ _ OutOfMemory _ _ refl c.say-in-Err.ensures.says

@@ -13,13 +13,13 @@ returns-then-len-eq-MOST_EVENTS-clause-events c =
 pub returns-in-None-clause-events : goal.returns-in-None-clause-events
 returns-in-None-clause-events c =
     let counted : c.len.result ≡ length c.loop-rest.events.items = omega arith in
-    sym c.loop-rest.invariant.same ∙ rw (c.first_line.ensures.lines, counted) (events_after-bad _ _ _ _ _ _ (sym c.in-None.ensures))
+    sym c.loop-rest.invariant.same ∙ rw (c.first_line.ensures.lines, counted) (events_after-bad _ _ _ _ _ _ (sym (sym c.in-None.is ∙ c.in_ok-event_of.ensures)))
 
 pub loop-rest-preserved : goal.loop-rest-preserved
 loop-rest-preserved c =
     let pushed = c.in_ok-push-in-Some.ensures.items in
     record {
-      same = events_after-step _ _ _ _ _ _ _ _ _ pushed c.first_line.ensures.lines (sym c.in-Some.ensures) (omega arith) c.loop-rest.invariant.same;
+      same = events_after-step _ _ _ _ _ _ _ _ _ pushed c.first_line.ensures.lines (sym (sym c.in-Some.is ∙ c.in_ok-event_of.ensures)) (omega arith) c.loop-rest.invariant.same;
       few = rw pushed (rw length_push (omega arith));
     }
 

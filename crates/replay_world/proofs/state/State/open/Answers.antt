@@ -19,4 +19,6 @@ returns c = record {
   numbered = tt;
   few = omega arith;
   fit = tt;
+  askable = tt;
+  width = c.requires;
 }
