@@ -42,7 +42,7 @@ usage_only words from to c d old new before now ends.TooLong h none = absurd (no
 pub replayed : (words : List Text) (from to : Option Stream) (c d : ℕ) (old new : Option (List ℕ)) (before now : ℕ) (end : End)
     → Writes (RunMay words from to c d) old new before now end → status_of end ≡ 0 → Asks words Replay × Replayed from to old new
 replayed words from to c d old new before now ends.Done h e =
-    (h.1.0, (h.1.1.0, h.1.1.1, (h.1.1.2.0, h.1.1.2.1, h.1.1.2.2, took_as old new _ _ h.1.1.2.3 h.2)))
+    (h.1.0, (h.1.1.0, h.1.1.1, (h.1.1.2.0, h.1.1.2.1, took_as old new _ _ h.1.1.2.2 h.2)))
 replayed words from to c d old new before now _ h e = cc
 
 pub bad_line : (words : List Text) (from to : Option Stream) (c d : ℕ) (old new : Option (List ℕ)) (before now : ℕ) (end : End)

@@ -6,7 +6,6 @@ use Rattle.schedule_text.specs.Grammar.{schedule_of}
 use Rattle.schedule_text.specs.Spelling.{SpellsSchedule, IsFirstBadLine}
 use Rattle.schedule_text.specs.declared.schedule.Schedule.{Schedule}
 use Rattle.replay_world.specs.Output.{output_of}
-use Rattle.replay_world.specs.Schedules.{SharesAddUp}
 use Rattle.express_cli.specs.CommandLine.{Asks}
 use Rattle.express_cli.specs.Reading.{most_bytes}
 use Rattle.express_cli.specs.Ends.{Writes, RunMay, status_of, bad_line, too_long_text}
@@ -39,11 +38,11 @@ bad_left s t n same bad = let P : List ℕ → Type 0 = λ text. IsFirstBadLine 
 
 replays : Reads → (words : List Text) (s : Stream) (to : Option Stream) (c d : ℕ) (old new : Option (List ℕ)) (before now : ℕ) (end : End)
     → Writes (RunMay words (Some s) to c d) old new before now end → Asks words Replay → RanWell c d before now (status_of end)
-    → (schedule : Schedule) → SpellsSchedule schedule s.left → length s.left ≤ most_bytes → (status_of end ≡ 0) × SharesAddUp schedule × Took old new (output_of schedule)
+    → (schedule : Schedule) → SpellsSchedule schedule s.left → length s.left ≤ most_bytes → (status_of end ≡ 0) × Took old new (output_of schedule)
 replays law words s to c d old new before now ends.Done h asks well schedule spells short =
     let given = spells_left _ _ _ (gave_left s to h.1.1.0 h.1.1.1) h.1.1.2.1 in
     let same = same_schedule (schedule_of s.left) _ _ (law.schedule s.left _ given) (law.schedule s.left _ spells) in
-    (refl, subst SharesAddUp same h.1.1.2.2, took_as old new _ _ (h.1.1.2.3 ∙ ap output_of same) h.2)
+    (refl, took_as old new _ _ (h.1.1.2.2 ∙ ap output_of same) h.2)
 replays law words s to c d old new before now ends.Usage h asks well schedule spells short = absurd (h.1.0 Replay asks)
 replays law words s to c d old new before now (ends.BadLine n) h asks well schedule spells short =
     let given = bad_left _ _ n (gave_left s to h.1.1.0 h.1.1.1) h.1.1.2.0 in
@@ -91,7 +90,7 @@ refuses words s to c d old new before now ends.TooLong h asks well long = (refl,
 -- each where the source tells its bytes
 pub headline : Reads → (words : List Text) (from to : Option Stream) (c d : ℕ) (old new : Option (List ℕ)) (before now : ℕ) (end : End)
     → Writes (RunMay words from to c d) old new before now end → Asks words Replay → RanWell c d before now (status_of end)
-    → IfSome from (λ s. (schedule : Schedule) → SpellsSchedule schedule s.left → length s.left ≤ most_bytes → (status_of end ≡ 0) × SharesAddUp schedule × Took old new (output_of schedule))
+    → IfSome from (λ s. (schedule : Schedule) → SpellsSchedule schedule s.left → length s.left ≤ most_bytes → (status_of end ≡ 0) × Took old new (output_of schedule))
 headline law words None to c d old new before now end h asks well = tt
 headline law words (Some s) to c d old new before now end h asks well = replays law words s to c d old new before now end h asks well
 

@@ -6,7 +6,6 @@ use Rattle.express_words.specs.Streams.{Stream, Took, TookPrefix}
 use Rattle.schedule_text.specs.Spelling.{SpellsSchedule, IsFirstBadLine}
 use Rattle.schedule_text.specs.declared.schedule.Schedule.{Schedule}
 use Rattle.replay_world.specs.Output.{output_of}
-use Rattle.replay_world.specs.Schedules.{SharesAddUp}
 use Rattle.clap.specs.Words.{Text}
 use Rattle.express_cli.specs.CommandLine.{Asks, AskNothing}
 use Rattle.express_cli.specs.Reading.{GaveAll, GaveSome, most_bytes}
@@ -65,7 +64,7 @@ BadLineMay n TooLong text = ⊥
 
 -- To replay bytes comes to the output of the schedule that they spell, to their first bad line, or to want of memory.
 abbrev pub ReplayMay : List ℕ → End → List ℕ → Type 0
-ReplayMay bytes Done text = (schedule : Schedule) × SpellsSchedule schedule bytes × SharesAddUp schedule × (text ≡ output_of schedule)
+ReplayMay bytes Done text = (schedule : Schedule) × SpellsSchedule schedule bytes × (text ≡ output_of schedule)
 ReplayMay bytes (BadLine n) text = IsFirstBadLine n bytes × (text ≡ bad_line n)
 ReplayMay bytes OutOfMemory text = text ≡ out_of_memory_text
 ReplayMay bytes Usage text = ⊥

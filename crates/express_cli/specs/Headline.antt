@@ -5,7 +5,6 @@ use Rattle.express_words.specs.Streams.{Stream, Took}
 use Rattle.schedule_text.specs.Spelling.{SpellsSchedule, IsFirstBadLine}
 use Rattle.schedule_text.specs.declared.schedule.Schedule.{Schedule}
 use Rattle.replay_world.specs.Output.{output_of}
-use Rattle.replay_world.specs.Schedules.{SharesAddUp}
 use Rattle.express_cli.specs.Reading.{GaveAll}
 use Rattle.express_cli.specs.Ends.{bad_line}
 
@@ -15,10 +14,9 @@ pub record RanWell (source_before source_now sink_before sink_now status : ℕ) 
   pub sink : ¬ Rose sink_before sink_now
   pub memory : status ≢ 7
 
--- The source gave all its bytes, and the output of the schedule that they spell was written, whose two servers' shares add up to the
--- plain table of mailboxes.
+-- The source gave all its bytes, and the output of the schedule that they spell was written.
 abbrev pub Replayed : Option Stream → Option Stream → Option (List ℕ) → Option (List ℕ) → Type 0
-Replayed from to old new = (bytes : List ℕ) × GaveAll from to bytes × ((schedule : Schedule) × SpellsSchedule schedule bytes × SharesAddUp schedule × Took old new (output_of schedule))
+Replayed from to old new = (bytes : List ℕ) × GaveAll from to bytes × ((schedule : Schedule) × SpellsSchedule schedule bytes × Took old new (output_of schedule))
 
 -- The source gave all its bytes, and their first bad line was named.
 abbrev pub Refused : Option Stream → Option Stream → Option (List ℕ) → Option (List ℕ) → Type 0

@@ -39,7 +39,6 @@ pub fn replay<K: Sink>(alloc: Global, text: &[u8], out: &mut K) -> End
         Ok(world) => world,
         Err(_) => return say(out, OUT_OF_MEMORY, End::OutOfMemory),
     };
-    world.shares_add_up();
     match world.put(alloc, out) {
         Ok(()) => End::Done,
         Err(PutFault::Failed) => End::WriteFault,

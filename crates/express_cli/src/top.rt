@@ -5,7 +5,6 @@ ghost use Rattle.express_words.specs.Streams.{Took, TookPrefix};
 ghost use Rattle.schedule_text.specs.Spelling.{SpellsSchedule, IsFirstBadLine};
 ghost use Rattle.schedule_text.specs.declared.schedule.Schedule.{Schedule};
 ghost use Rattle.replay_world.specs.Output.{output_of};
-ghost use Rattle.replay_world.specs.Schedules.{SharesAddUp};
 ghost use Rattle.express_cli.specs.CommandLine.{Asks, AskNothing};
 ghost use Rattle.express_cli.specs.Reading.{most_bytes, GaveSome, GaveMore};
 ghost use Rattle.express_cli.specs.Ends.{Writes, RunMay, bad_line, usage_text, read_fault_text, out_of_memory_text, too_long_text};
@@ -55,12 +54,11 @@ pub fn run<S: Source, K: Sink, N: Net>(
     _net: &mut N,
 ) -> u8
     // Where a schedule is to be replayed, source and sink tell their bytes, neither fails and memory is found, the
-    // status is 0 and the output of the schedule that the bytes read spell is written. Its two servers' shares add up to
-    // the plain table of mailboxes.
+    // status is 0 and the output of the schedule that the bytes read spell is written.
     ensures headline { Asks (map string_bytes words.now.items) Replay
         → RanWell (S.count input.old) (S.count input.new) (K.count out.old) (K.count out.new) result
         → IfSome (S.content input.old) (λ s. (schedule : Schedule) → SpellsSchedule schedule s.left → length s.left ≤ most_bytes
-        → (result ≡ 0) × SharesAddUp schedule × Took (K.written out.old) (K.written out.new) (output_of schedule)) }
+        → (result ≡ 0) × Took (K.written out.old) (K.written out.new) (output_of schedule)) }
     // Likewise the first bad line of another text is named, and an input that is too long is refused.
     ensures names_bad_line { Asks (map string_bytes words.now.items) Replay
         → RanWell (S.count input.old) (S.count input.new) (K.count out.old) (K.count out.new) result

@@ -1,12 +1,11 @@
 -- What a schedule's run comes to.
 use Rattle.std.specs.Prelude.{ℕ, List, replicate, Option, Some, None, slice_get}
 use Rattle.mailbox_rules.specs.Tables.{Mailbox}
-use Rattle.mailbox_rules.specs.Laws.{AreShares}
 use Rattle.schedule_text.specs.declared.schedule.Schedule.{Schedule}
 use Rattle.replay_world.specs.declared.lines.OutcomeLine.{OutcomeLine}
 use Rattle.replay_world.specs.declared.lines.JournalLine.{JournalLine}
 use Rattle.replay_world.specs.Lines.{journal_of}
-use Rattle.replay_world.specs.Run.{run_of, table_of, results_of, shares_of}
+use Rattle.replay_world.specs.Run.{run_of, results_of, shares_of}
 
 -- the outcomes in the order in which they were told
 abbrev pub outcomes_of : Schedule → List OutcomeLine
@@ -27,7 +26,3 @@ share_or_zeros width (Some box) = box.bytes
 -- A server's share of a box. One that isn't registered has zeros.
 abbrev pub share_at : Schedule → ℕ → ℕ → List ℕ
 share_at schedule server box = share_or_zeros schedule.header.settings.width (slice_get (boxes_at schedule server) box)
-
--- box by box, both servers' shares add up to the plain table of mailboxes
-abbrev pub SharesAddUp : Schedule → Type 0
-SharesAddUp schedule = AreShares (table_of schedule.header.settings (run_of schedule)).boxes (boxes_at schedule 0) (boxes_at schedule 1)

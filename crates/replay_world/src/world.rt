@@ -31,7 +31,7 @@ impl World {
     ghost use Rattle.express_words.specs.Limits.{KeepsLimits};
     ghost use Rattle.schedule_text.specs.Rules.{EventKeepsRules};
     ghost use Rattle.replay_world.specs.WorldView.{played, IsWhole, with_event};
-    ghost use Rattle.replay_world.specs.Schedules.{outcomes_of, whole_journal, share_at, SharesAddUp};
+    ghost use Rattle.replay_world.specs.Schedules.{outcomes_of, whole_journal, share_at};
     ghost use Rattle.replay_world.specs.Output.{output_of};
 
     /// A world in which nothing has happened.
@@ -91,13 +91,6 @@ impl World {
             self.blank.bytes()
         }
     }
-
-    /// Does nothing: its contract is the law that both servers' shares add up to the plain table, whatever was written, read
-    /// and written again.
-    pub fn shares_add_up(&self)
-        requires { IsWhole self.now }
-        ensures { SharesAddUp (played self.now) }
-    {}
 
     #[tactic(auto, unfolding(crate::specs::Output::output_of))]
     fn text(&self, alloc: Global) -> Result<String, NoMemory>

@@ -25,7 +25,7 @@ returns-in-Err-Failed-clause-ends g c =
     let world = c.in-Ok-world_after.world in
     let spelled = subst Spelled (sym c.in-Ok-world_after.ensures.played) c.in-Ok.ensures.judges in
     let failed = ap Err c.in-Err-Failed.field-0-is in
-    (c.in-Err-Failed.ensures.cause failed, (Done, output_of (played world), (played world, spelled, c.shares_add_up.ensures, refl), c.in-Err-Failed.ensures.failed failed))
+    (c.in-Err-Failed.ensures.cause failed, (Done, output_of (played world), (played world, spelled, refl), c.in-Err-Failed.ensures.failed failed))
 
 -- want of memory leaves the sink as it was
 pub returns-clause-ends : goal.returns-clause-ends
