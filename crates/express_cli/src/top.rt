@@ -4,6 +4,7 @@ ghost use Rattle.express_words.specs.Causes.{Rose};
 ghost use Rattle.express_words.specs.Streams.{Took, TookPrefix};
 ghost use Rattle.schedule_text.specs.Spelling.{SpellsSchedule, IsFirstBadLine};
 ghost use Rattle.schedule_text.specs.declared.schedule.Schedule.{Schedule};
+ghost use Rattle.replay_world.specs.Laws.{SharesAddUp, ReadsAddUp};
 ghost use Rattle.replay_world.specs.Output.{output_of};
 ghost use Rattle.express_cli.specs.CommandLine.{Asks, AskNothing};
 ghost use Rattle.express_cli.specs.Reading.{most_bytes, GaveSome, GaveMore};
@@ -18,6 +19,7 @@ use crate::replay::replay;
 use crate::texts::{OUT_OF_MEMORY, READ_FAULT, TOO_LONG, USAGE, say};
 use crate::words::{Command, command_of};
 use express_words::outside::{Net, Sink, Source};
+use replay_world::shares_add_up;
 use schedule_text::read_exactly;
 use std::alloc::Global;
 
@@ -68,6 +70,9 @@ pub fn run<S: Source, K: Sink, N: Net>(
         → RanWell (S.count input.old) (S.count input.new) (K.count out.old) (K.count out.new) result
         → IfSome (S.content input.old) (λ s. most_bytes < length s.left
         → (result ≡ 8) × Took (K.written out.old) (K.written out.new) too_long_text) }
+    // What a schedule writes stands in the sum of both servers' shares, and a read gives their sum.
+    ensures shares_add_up { SharesAddUp }
+    ensures reads_add_up { ReadsAddUp }
 
     ensures statuses { Contains (0 ∷ 2 ∷ 3 ∷ 4 ∷ 5 ∷ 7 ∷ 8 ∷ []) result }
     // Only the usage text comes of words that ask for nothing, and the input isn't read.
@@ -91,5 +96,6 @@ pub fn run<S: Source, K: Sink, N: Net>(
     ensures too_long_only { GaveMore (S.content input.old) (S.content input.new) → Contains (8 ∷ 5 ∷ 7 ∷ []) result }
 {
     read_exactly();
+    shares_add_up();
     status_of(finish(alloc, words, input, out))
 }

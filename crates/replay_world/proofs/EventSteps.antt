@@ -49,7 +49,7 @@ asked_behind header s r one at busy =
     let some : is_idle r.waiting ≡ false = ap is_idle (sym at.waiting) ∙ some_items _ busy in
     asked_if header r one (ap (λ t. t && is_refused header.settings r one) some)
 
-askable_push : (width : ℕ) (xs : List Asked) (one : Asked) → AreAskable width xs → IsAskable width one → AreAskable width (xs ++ one ∷ [])
+pub askable_push : (width : ℕ) (xs : List Asked) (one : Asked) → AreAskable width xs → IsAskable width one → AreAskable width (xs ++ one ∷ [])
 askable_push width [] one all able = (able, tt)
 askable_push width (x ∷ xs) one all able = (all.0, askable_push width xs one all.1 able)
 

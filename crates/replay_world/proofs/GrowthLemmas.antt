@@ -24,7 +24,7 @@ line_same limit width W V t line (ReadBox place) accepts adds = refl
 line_same limit width W V t line (RetireBox place) accepts adds = refl
 line_same limit width W V t line Refuse accepts adds = refl
 
-result_same : (limit : ℕ) (W V : Writes) (t : Table) (line : Line) (op : Operation) → V.accepts line.lane line.serial ≡ W.accepts line.lane line.serial → result_of limit V t line op ≡ result_of limit W t line op
+pub result_same : (limit : ℕ) (W V : Writes) (t : Table) (line : Line) (op : Operation) → V.accepts line.lane line.serial ≡ W.accepts line.lane line.serial → result_of limit V t line op ≡ result_of limit W t line op
 unfolding result_of
 result_same limit W V t line (AddBox address) accepts = refl
 result_same limit W V t line BeginWrite accepts = refl

@@ -12,3 +12,4 @@ pub mod Counts
 pub mod SharesText
 pub mod WriteStep
 pub mod AddLemmas
+pub mod RunLaws

@@ -15,7 +15,7 @@ use Rattle.replay_world.specs.View.{IsFit, AreFit}
 use Rattle.replay_world.proofs.ByteLemmas.{same_sum, sum-zeros, sum-nil, length-sum}
 use Rattle.replay_world.proofs.GrowthLemmas.{IsGrowing, request-before}
 
-abbrev both : Header → List Request → Writes
+abbrev pub both : Header → List Request → Writes
 both header sent = sum_of (shared header 0 sent) (shared header 1 sent)
 
 abbrev IsFitIfAny : ℕ → Option Request → Type 0
@@ -28,7 +28,7 @@ fit_at width (request ∷ sent) zero fit = fit.0
 fit_at width (request ∷ sent) (suc n) fit = fit_at width sent n fit.1
 
 -- boxes of the width, at addresses of 128 bits
-AreGood : ℕ → List Mailbox → Type 0
+pub AreGood : ℕ → List Mailbox → Type 0
 AreGood width [] = Unit {0}
 AreGood width (box ∷ boxes) = ((length box.bytes ≡ width) × (box.address < 2 ^ 128)) × AreGood width boxes
 
@@ -148,7 +148,7 @@ good_line settings sent t line (ReadBox place) fit good small = good_clearing se
 good_line settings sent t line (RetireBox place) fit good small = good_clearing settings.width false t (number_of t line.lane place) good
 good_line settings sent t line Refuse fit good small = good
 
-line_same : (header : Header) (sent : List Request) (t : Table) (line : Line) (operation : Operation) → AreFit header.settings.width sent → AreGood header.settings.width t.boxes
+pub line_same : (header : Header) (sent : List Request) (t : Table) (line : Line) (operation : Operation) → AreFit header.settings.width sent → AreGood header.settings.width t.boxes
     → after_line header.settings.boxes header.settings.width (plain sent) t line operation ≡ after_line header.settings.boxes header.settings.width (both header sent) t line operation
 unfolding after_line
 line_same header sent t line (AddBox address) fit good = refl
@@ -162,6 +162,11 @@ line_same header sent t line (ReadBox place) fit good = refl
 line_same header sent t line (RetireBox place) fit good = refl
 line_same header sent t line Refuse fit good = refl
 
+pub next_good : (settings : Settings) (sent : List Request) (t : Table) (line : Line) → AreFit settings.width sent → AreGood settings.width t.boxes
+    → AreGood settings.width (after_line settings.boxes settings.width (plain sent) t line (does sent line)).boxes
+next_good settings sent t line fit good =
+    good_line settings sent t line (does sent line) fit good (good_operation settings.width line.command (request_at (λ l. sent) line.lane line.serial) (fit_at settings.width sent (line.serial - 1) fit))
+
 tables_same : (header : Header) (sent : List Request) (lines : List Line) (t : Table) → AreFit header.settings.width sent → AreGood header.settings.width t.boxes
     → table_from header.settings.boxes header.settings.width (plain sent) (does sent) t lines ≡ table_from header.settings.boxes header.settings.width (both header sent) (does sent) t lines
 unfolding table_from
@@ -169,11 +174,11 @@ tables_same header sent [] t fit good = refl
 tables_same header sent (line ∷ lines) t fit good =
     let width = header.settings.width in
     let next = after_line header.settings.boxes width (plain sent) t line (does sent line) in
-    let fine = good_line header.settings sent t line (does sent line) fit good (good_operation width line.command (request_at (λ l. sent) line.lane line.serial) (fit_at width sent (line.serial - 1) fit)) in
+    let fine = next_good header.settings sent t line fit good in
     tables_same header sent lines next fit fine
     ∙ ap (λ u. table_from header.settings.boxes width (both header sent) (does sent) u lines) (line_same header sent t line (does sent line) fit good)
 
-none_good : (width : ℕ) → AreGood width []
+pub none_good : (width : ℕ) → AreGood width []
 unfolding AreGood
 none_good width = tt
 

@@ -7,3 +7,4 @@ pub mod Shelf
 pub mod Answers
 pub mod View
 pub mod WorldView
+pub mod Laws

@@ -2,6 +2,7 @@
 #![tactic(auto)]
 
 mod client;
+mod laws;
 mod lines;
 mod server;
 mod share;
@@ -12,5 +13,6 @@ mod world;
 pub use express_words::outside::{
     Conn, Counted, Failed, MemoryConn, MemoryNet, MemorySink, MemorySource, Net, Sink, Source,
 };
+pub use laws::shares_add_up;
 pub use lines::{Command, Entry, JournalLine, Outcome, OutcomeLine, Told};
 pub use world::{PutFault, World};

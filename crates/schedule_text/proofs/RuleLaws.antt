@@ -1,5 +1,7 @@
 -- What is spelled keeps the rules.
-use Rattle.std.proofs.Common.{◌≡◌, ℕ, List, [], ◌∷◌, length, Ok, arith, sym, ◌∙◌, zero, suc, ◌<◌, get_or, subst}
+use Rattle.std.proofs.Common.{◌≡◌, ℕ, List, [], ◌∷◌, length, Ok, arith, sym, ◌∙◌, zero, suc, ◌<◌, ◌^◌, get_or, subst}
+use Rattle.std.specs.Int.{w128, from_be_bytes}
+use Rattle.hex.specs.Hex.{IsBytes}
 use Rattle.hex.specs.Hex.{decode_sized}
 use Rattle.hex.proofs.HexLemmas.{decode_sized-ok, decode_sized-twice, decode_of-ok}
 use Rattle.express_words.specs.declared.settings.Settings.{Settings}
@@ -8,7 +10,7 @@ use Rattle.schedule_text.specs.declared.schedule.Asked.TheVariants.{Register, Wr
 use Rattle.schedule_text.specs.declared.schedule.Event.{Event}
 use Rattle.schedule_text.specs.declared.schedule.Event.TheVariants.{Ask, Finish}
 use Rattle.schedule_text.specs.declared.schedule.Schedule.{Schedule}
-use Rattle.schedule_text.specs.Spelling.{SpellsAsked, SpellsEvent, SpellsEvents, SpellsSchedule}
+use Rattle.schedule_text.specs.Spelling.{SpellsAddress, SpellsAsked, SpellsEvent, SpellsEvents, SpellsSchedule}
 use Rattle.schedule_text.specs.Rules.{IsAskable, EventKeepsRules, EventsKeepRules, KeepsRules}
 
 decoded_length : (digits message : List ℕ) (width : ℕ) → decode_sized digits width ≡ Ok message → length message ≡ width
@@ -17,9 +19,17 @@ decoded_length digits message width h =
     let decoded = (decode_of-ok digits message (sym (decode_sized-twice digits width sized) ∙ h)).2 in
     omega (arith, sized, decoded)
 
+number_small : (bytes : List ℕ) → IsBytes bytes → from_be_bytes w128 bytes < 2 ^ 128
+number_small bytes h = omega (arith, h 0, h 1, h 2, h 3, h 4, h 5, h 6, h 7, h 8, h 9, h 10, h 11, h 12, h 13, h 14, h 15)
+
+address_small : (address : ℕ) (digits : List ℕ) → SpellsAddress address digits → address < 2 ^ 128
+address_small address digits (bytes, decoded, is) =
+    let sized = decode_sized-ok digits 16 bytes decoded in
+    rw is (number_small bytes (decode_of-ok digits bytes (sym (decode_sized-twice digits 16 sized) ∙ decoded)).3)
+
 askable : (settings : Settings) (asked : Asked) (text : List ℕ) → SpellsAsked settings asked text → IsAskable settings.width asked
-askable settings (Register address) text h = tt
-askable settings (Write target message) text h = decoded_length h.1 message settings.width h.3
+askable settings (Register address) text h = address_small address h.0 h.1
+askable settings (Write target message) text h = (address_small target h.0 h.2, decoded_length h.1 message settings.width h.3)
 askable settings (Read own) text h = h.0
 
 event_keeps : (settings : Settings) (event : Event) (line : List ℕ) → SpellsEvent settings event line → EventKeepsRules settings event

@@ -1,5 +1,5 @@
 -- The rules that a schedule keeps.
-use Rattle.std.specs.Prelude.{◌≡◌, ℕ, ◌≤◌, ◌<◌, length, List, [], ◌∷◌}
+use Rattle.std.specs.Prelude.{◌≡◌, ℕ, ◌≤◌, ◌<◌, ◌^◌, length, List, [], ◌∷◌}
 use Rattle.express_words.specs.Limits.{KeepsLimits}
 use Rattle.express_words.specs.declared.settings.Settings.{Settings}
 use Rattle.schedule_text.specs.declared.schedule.Asked.{Asked}
@@ -9,10 +9,10 @@ use Rattle.schedule_text.specs.declared.schedule.Event.TheVariants.{Ask, Finish}
 use Rattle.schedule_text.specs.declared.schedule.Schedule.{Schedule}
 use Rattle.schedule_text.specs.declared.schedule.TheConstants.{MOST_EVENTS}
 
--- a message has the width of the settings
+-- An address is a number of 128 bits, and a message has the width of the settings.
 abbrev pub IsAskable : ℕ → Asked → Type 0
-IsAskable width (Register address) = Unit {0}
-IsAskable width (Write target message) = length message ≡ width
+IsAskable width (Register address) = address < 2 ^ 128
+IsAskable width (Write target message) = (target < 2 ^ 128) × (length message ≡ width)
 IsAskable width (Read own) = own ≤ 4095
 
 abbrev pub EventKeepsRules : Settings → Event → Type 0

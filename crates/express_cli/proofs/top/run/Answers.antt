@@ -21,3 +21,9 @@ returns-clause-usage_only g c = rw c.status_of.ensures (usage_only _ _ _ _ _ _ _
 
 pub returns-clause-too_long_only : goal.returns-clause-too_long_only
 returns-clause-too_long_only g c = rw c.status_of.ensures (too_long_only _ _ _ _ _ _ _ _ _ _ c.finish.ensures)
+
+pub returns-clause-shares_add_up : goal.returns-clause-shares_add_up
+returns-clause-shares_add_up g c = c.shares_add_up.ensures.boxes
+
+pub returns-clause-reads_add_up : goal.returns-clause-reads_add_up
+returns-clause-reads_add_up g c = c.shares_add_up.ensures.reads
