@@ -5,3 +5,4 @@ pub mod Forms
 pub mod Bodies
 pub mod Reading
 pub mod Gathering
+pub mod Whole

@@ -127,9 +127,12 @@ IsWord n = n < 2 ^ 128
 abbrev pub IsKey : List ℕ → Type 0
 IsKey key = length key ≡ 32
 
--- the length of a public part: 2,064 bytes and a message's width
+-- the bytes of a public part before its last block, which has a message's width
+abbrev pub levels_len : ℕ
+levels_len = 2064
+
 abbrev pub IsPart : List ℕ → Type 0
-IsPart part = (2064 ≤ length part) × IsWidth (length part - 2064)
+IsPart part = (levels_len ≤ length part) × IsWidth (length part - levels_len)
 
 abbrev pub AreOpenings : Openings → Type 0
 AreOpenings o = IsWord o.d × IsWord o.e
