@@ -8,3 +8,7 @@ pub mod Growing
 pub mod Waiting
 pub mod GrammarLaws
 pub mod GatheringLaws
+pub mod WholeLaws
+pub mod ClassLaws
+pub mod Longest
+pub mod AnswerLaws

@@ -6,3 +6,4 @@ pub mod Bodies
 pub mod Reading
 pub mod Gathering
 pub mod Whole
+pub mod Texts

@@ -1,5 +1,5 @@
 -- Bytes that should be exactly one frame, its class and width, and the frames that answer it.
-use Rattle.std.specs.Prelude.{ℕ, ◌+◌, ◌==◌, ◌&&◌, Bool, true, false, if◌then◌else◌}
+use Rattle.std.specs.Prelude.{◌≡◌, ℕ, ◌+◌, ◌≤◌, ◌==◌, ◌&&◌, Bool, true, false, if◌then◌else◌}
 use Rattle.std.specs.Prelude.{List, length, Option, Some, None, Result, Ok, Err}
 use Rattle.express_words.specs.declared.refusal.Refusal.{Refusal}
 use Rattle.express_words.specs.declared.refusal.Refusal.TheVariants as refusal
@@ -7,7 +7,8 @@ use Rattle.frame_rules.specs.declared.fault.FrameFault.{FrameFault}
 use Rattle.frame_rules.specs.declared.fault.FrameFault.TheVariants as fault
 use Rattle.frame_rules.specs.Frames as frame
 use Rattle.frame_rules.specs.Frames.{PlainFrame, PlainBody}
-use Rattle.frame_rules.specs.Spelling.{levels_len}
+use Rattle.frame_rules.specs.Kinds.{is_linked}
+use Rattle.frame_rules.specs.Spelling.{levels_len, kind_of, IsAddressed, IsBody}
 use Rattle.frame_rules.specs.Reading.{decoded}
 
 -- ---- exactly one frame
@@ -87,3 +88,9 @@ answer f body = record { lane = f.lane; serial = f.serial; link = 0; body = body
 -- on the link under this number, with the lane and serial of the frame that it follows
 abbrev pub on_link : PlainFrame → ℕ → PlainBody → PlainFrame
 on_link f number body = record { lane = f.lane; serial = f.serial; link = number; body = body }
+
+-- what may answer a client's frame: nothing of the link, and no refusal of bytes that are no frame
+pub record IsAnswer (body : PlainBody) : Type 0 where
+  pub unlinked : is_linked (kind_of body) ≡ false
+  pub addressed : (lane serial : ℕ) → 1 ≤ serial → IsAddressed body lane serial
+  pub is_body : IsBody body

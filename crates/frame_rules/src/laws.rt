@@ -1,12 +1,16 @@
 //! The laws of the grammar. Each function is empty: its contract is the law.
-ghost use Rattle.std.specs.Prelude.{◌≡◌, ◌≢◌, ℕ, ◌+◌, ◌<◌, ◌≤◌, List, [], ◌++◌, All, length, take, Ok, Err};
-ghost use Rattle.frame_rules.specs.Frames.{PlainFrame};
-ghost use Rattle.frame_rules.specs.Spelling.{Spells};
+ghost use Rattle.std.specs.Prelude.{◌≡◌, ◌≢◌, ℕ, ◌+◌, ◌<◌, ◌≤◌, ◌==◌, nat_le, ◌&&◌, ◌||◌, List, [], ◌++◌, All, length, take, Ok, Err};
+ghost use Rattle.frame_rules.specs.Frames.{PlainFrame, PlainBody};
+ghost use Rattle.frame_rules.specs.Kinds.{number_of};
+ghost use Rattle.frame_rules.specs.Spelling.{kind_of, spelling, IsFrame, Spells};
 ghost use Rattle.frame_rules.specs.Reading.{decoded};
+ghost use Rattle.frame_rules.specs.Whole.{whole, is_from_client, is_command, is_reply};
 ghost use Rattle.frame_rules.specs.Gathering.{gathered, Gathers};
 ghost use Rattle.frame_rules.specs.declared.fault.FrameFault.{FrameFault as Fault};
 
 use crate::fault::FrameFault;
+use crate::frame::FRAME_MAX;
+use express_words::Refusal;
 
 /// Each frame has one spelling, and no spelling begins another one.
 pub fn one_spelling()
@@ -32,4 +36,27 @@ pub fn gathered_in_any_pieces()
     ensures pieces { (held a b : List ℕ) → gathered (gathered held a) b ≡ gathered held (a ++ b) }
     ensures held { (stream : List ℕ) → Gathers stream (gathered [] stream) }
     ensures only { (stream a b : List ℕ) → Gathers stream a → Gathers stream b → a ≡ b }
+{}
+
+/// A frame has 21 to FRAME_MAX bytes, and some frame has so many. Bytes that are short are fewer.
+pub fn lengths()
+    ensures least { (f : PlainFrame) (bytes : List ℕ) → Spells f bytes → 21 ≤ length bytes }
+    ensures most { (f : PlainFrame) (bytes : List ℕ) → Spells f bytes → length bytes ≤ FRAME_MAX }
+    ensures reached { (f : PlainFrame) × IsFrame f × (length (spelling f) ≡ FRAME_MAX) }
+    ensures short { (bytes : List ℕ) → decoded bytes ≡ Err FrameFault.Short → length bytes < FRAME_MAX }
+{}
+
+/// Bytes are taken as exactly one frame where they spell it, and not where they end early or others follow.
+pub fn whole_as_spelled()
+    ensures found { (bytes : List ℕ) (f : PlainFrame) → All (λ b. b < 256) bytes → whole bytes ≡ Ok f → Spells f bytes }
+    ensures only { (f : PlainFrame) (bytes : List ℕ) → Spells f bytes → whole bytes ≡ Ok f }
+    ensures early { (f : PlainFrame) (bytes : List ℕ) (n : ℕ) → Spells f bytes → n < length bytes → whole (take n bytes) ≡ Err (Refusal.Malformed n) }
+    ensures behind { (f : PlainFrame) (bytes more : List ℕ) → Spells f bytes → more ≢ [] → whole (bytes ++ more) ≡ Err (Refusal.Malformed (length bytes)) }
+{}
+
+/// The classes of frames are those of these numbers of kinds.
+pub fn classes()
+    ensures from_client { (b : PlainBody) → is_from_client b ≡ (nat_le (number_of (kind_of b)) 5 || number_of (kind_of b) == 16) }
+    ensures command { (b : PlainBody) → is_command b ≡ ((nat_le 10 (number_of (kind_of b)) && nat_le (number_of (kind_of b)) 14) || number_of (kind_of b) == 17) }
+    ensures reply { (b : PlainBody) → is_reply b ≡ (number_of (kind_of b) == 15 || number_of (kind_of b) == 18) }
 {}

@@ -1,5 +1,5 @@
 -- What the code read, in terms of spellings.
-use Rattle.std.proofs.Common.{◌≡◌, ℕ, ◌≤◌, List, length, take, drop, Result, Ok, Err, sym, ap, ◌∙◌, subst, arith}
+use Rattle.std.proofs.Common.{◌≡◌, ℕ, ◌<◌, ◌≤◌, List, length, take, drop, Result, Ok, Err, sym, ap, ◌∙◌, subst, arith}
 use Rattle.std.specs.Prelude.{IfOk}
 use Rattle.std.proofs.lemmas.List.{take-append-drop, length-take, length-take-le}
 use Rattle.frame_rules.specs.declared.frame.Frame.{Frame}
@@ -10,6 +10,7 @@ use Rattle.frame_rules.specs.Spelling.{Spells, spelling}
 use Rattle.frame_rules.specs.Reading.{decoded, Reads}
 use Rattle.frame_rules.proofs.Digits.{IsBytes}
 use Rattle.frame_rules.proofs.GrammarLaws.{decoded_takes, spells_again}
+use Rattle.frame_rules.proofs.Waiting.{decoded_short}
 
 pub is_found : (bytes : List ℕ) (r : Result (Frame × ℕ) FrameFault) → IsBytes bytes → Reads r (decoded bytes) → IfOk r (λ x. Spells (plain x.0) (take x.1 bytes))
 is_found bytes (Ok x) fits e = (decoded_takes bytes (plain x.0) x.1 fits e).spells
@@ -36,3 +37,9 @@ is_long bytes (Ok x) fits e =
     let d = decoded_takes bytes (plain x.0) x.1 fits e in
     sym (length-take-le x.1 bytes d.whole) ∙ ap length d.spells.spelled
 is_long bytes (Err d) fits e = tt
+
+pub is_fewer : (bytes : List ℕ) (r : Result (Frame × ℕ) FrameFault) → Reads r (decoded bytes) → r ≡ Err Short → length bytes < 8213
+is_fewer bytes (Ok x) e short = absurd cc
+is_fewer bytes (Err d) e short = (decoded_short bytes (e ∙ ap (λ x. Err x) (same d short))).most where
+  same : (d : FrameFault) → (let r : Result (Frame × ℕ) FrameFault = Err d in r) ≡ Err Short → d ≡ Short
+  same d e = cc

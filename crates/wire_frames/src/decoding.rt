@@ -68,6 +68,8 @@ pub fn decode(bytes: &[u8]) -> Result<(Frame<'_>, usize), FrameFault>
     ensures length { IfOk result (λ x. x.1 ≡ length (spelling (plain x.0))) }
     // What is spelled so is read.
     ensures only { (f : PlainFrame) (len : ℕ) → len ≤ length bytes.now → Spells f (take len bytes.now) → Reads result (Ok (f, len)) }
+    // Bytes that are short are fewer than the longest frame has.
+    ensures fewer { result ≡ Err FrameFault.Short → length bytes.now < FRAME_MAX }
     // A front of a frame is short.
     ensures short { (f : PlainFrame) (whole : List ℕ) → Spells f whole → length bytes.now < length whole → bytes.now ≡ take (length bytes.now) whole → result ≡ Err FrameFault.Short }
 {

@@ -6,6 +6,7 @@ ghost use Rattle.frame_rules.specs.Spelling.{word, address, openings, closing, r
 ghost use Rattle.frame_rules.specs.Reading.{decoded};
 ghost use Rattle.wire_frames.specs.Writing.{Writes};
 
+use crate::FRAME_MAX;
 use crate::kinds::{kind_of, number_of, version_of};
 use crate::tags::{
     put_tag, put_tag_bytes, put_tag_u8, put_tag_u16, put_tag_u32, put_tag_u64, put_tag_word,
@@ -213,11 +214,13 @@ fn put_frame(out: &mut [u8], frame: &Frame<'_>) -> usize
     end
 }
 
-/// Writes the one spelling of a frame at the front of `out`, and answers its length in bytes.
+/// Writes the one spelling of a frame at the front of `out`, and answers its length in bytes. FRAME_MAX bytes have room
+/// for each frame.
 pub fn encode_into(frame: &Frame<'_>, out: &mut [u8]) -> usize
     requires is_frame { IsFrame (plain frame.now) }
     requires room { length (spelling (plain frame.now)) ≤ length out.old }
     ensures length { result ≡ length (spelling (plain frame.now)) }
+    ensures most { result ≤ FRAME_MAX }
     ensures spelled { Spells (plain frame.now) (take result out.new) }
     ensures rest { drop result out.new ≡ drop result out.old }
     // What was written is read again, whatever follows it.

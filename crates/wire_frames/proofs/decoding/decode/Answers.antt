@@ -1,7 +1,7 @@
 use Rattle.std.proofs.Common.{ap, ◌∙◌, subst, length, arith}
 use Rattle.frame_rules.specs.Reading.{decoded, Reads}
 use Rattle.frame_rules.proofs.GrammarLaws.{prefix_short}
-use Rattle.wire_frames.proofs.Spelled.{is_found, is_within, is_long, is_only, is_short}
+use Rattle.wire_frames.proofs.Spelled.{is_found, is_within, is_long, is_only, is_short, is_fewer}
 use Rattle.wire_frames.proofs.decoding.decode.Goals as goal
 
 pub returns-clause-found : goal.returns-clause-found
@@ -19,3 +19,6 @@ returns-clause-short c f whole s lt front =
 
 pub returns-clause-length : goal.returns-clause-length
 returns-clause-length c = is_long c.args.bytes.now c.frame_in.result (λ i. omega (arith, c.type_inv.bytes i)) c.frame_in.ensures
+
+pub returns-clause-fewer : goal.returns-clause-fewer
+returns-clause-fewer c e = is_fewer c.args.bytes.now c.frame_in.result c.frame_in.ensures e
