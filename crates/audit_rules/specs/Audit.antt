@@ -1,7 +1,7 @@
 -- The audit of a write on numbers of the field of 2^128 elements. The sketch with two challenge vectors is this project's own;
 -- its proof is a client's, in the manner of Prio (Corrigan-Gibbs and Boneh, NSDI 2017, section 4), with two multiplication
 -- gates, x·y and M·z, and one multiplication triple. A sum of field values is their XOR.
-use Rattle.std.specs.Prelude.{◌≡◌, ℕ, ◌==◌, if◌then◌else◌, List, [], ◌∷◌, slice_index, bit_xor}
+use Rattle.std.specs.Prelude.{◌≡◌, ℕ, ◌==◌, ◌&&◌, Bool, if◌then◌else◌, List, [], ◌∷◌, slice_index, bit_xor}
 use Rattle.tower_field.specs.Levels.{product_at, inverse_at}
 use Rattle.poly_roots.specs.Polynomials.{value_at, plus_of, times_of}
 use Rattle.poly_roots.specs.Through.{through}
@@ -79,7 +79,11 @@ closing_of server share sigma opened =
           (if server == 0 then product opened.d opened.e else 0);
     }
 
--- both sums over the servers are 0
+-- whether both closings together accept: both sums over the servers are 0
+unfoldable pub accepts : Closing → Closing → Bool
+accepts zero one = (bit_xor zero.o one.o == 0) && (bit_xor zero.tau one.tau == 0)
+
+-- the same as a statement
 unfoldable pub IsAccepted : Closing → Closing → Type 0
 IsAccepted zero one = (bit_xor zero.o one.o ≡ 0) × (bit_xor zero.tau one.tau ≡ 0)
 

@@ -12,3 +12,5 @@ pub mod Whole
 pub mod Accepted
 pub mod InRange
 pub mod Rows
+pub mod Challenges
+pub mod Values

@@ -14,7 +14,8 @@ use Rattle.audit_rules.specs.InRange.{sums-in_range, whole-in_range, zero-in_ran
 use Rattle.audit_rules.specs.Soundness.{IsFirst, IsLast, caught_numbers}
 use Rattle.audit_rules.specs.Accepted.{alone_passes}
 use Rattle.dpf_rules.specs.Expansion.{challenge_r, challenge_s}
-use Rattle.write_sketch.specs.Challenges.{challenge_rs, challenge_ss, sums_under, rs-in_range, ss-in_range, length-challenge_rs, length-challenge_ss, r_at, s_at}
+use Rattle.audit_rules.specs.Challenges.{challenge_rs, challenge_ss, sums_under}
+use Rattle.audit_rules.proofs.ChallengeLemmas.{rs-in_range, ss-in_range, length-challenge_rs, length-challenge_ss, r_at, s_at}
 
 -- both servers' sums are those of the difference of their leaves
 pub whole_under : (ckey addresses v w : List ℕ) → All (λ n. n < 2 ^ 128) v → All (λ n. n < 2 ^ 128) w → length v ≡ length w →

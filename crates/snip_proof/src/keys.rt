@@ -3,11 +3,10 @@
 ghost use Rattle.std.specs.Prelude.{◌≡◌, ◌≢◌, ℕ, ◌^◌, ◌<◌, ◌≤◌, ◌⊎◌, length, All, AllPairs, Contains, slice_index};
 ghost use Rattle.dpf_rules.specs.Expansion.{challenge_r, challenge_s};
 ghost use Rattle.dpf_rules.specs.Walk.{leaf_of};
-ghost use Rattle.dpf_rules.specs.Evaluation.{difference_at, difference_vector};
+ghost use Rattle.dpf_rules.specs.Evaluation.{difference_at, difference_vector, leaves};
 ghost use Rattle.audit_rules.specs.Audit.{bad_r, bad_s, zero_share, one_share, ServersAccept};
 ghost use Rattle.audit_rules.specs.Soundness.{IsFirst, IsLast};
-ghost use Rattle.write_sketch.specs.Challenges.{challenge_rs, challenge_ss, sums_under};
-ghost use Rattle.write_sketch.specs.Leaves.{leaves};
+ghost use Rattle.audit_rules.specs.Challenges.{challenge_rs, challenge_ss, sums_under};
 
 use audit_rules::{read_share, read_words};
 use express_words::ProofShare;

@@ -4,7 +4,7 @@ ghost use Rattle.std.specs.Prelude.{◌≡◌, ◌≢◌, ℕ, ◌<◌, ◌≤�
 ghost use Rattle.dpf_rules.specs.Expansion.{challenge_r, challenge_s};
 ghost use Rattle.audit_rules.specs.Audit.{bad_r, bad_s, difference, whole_proof, zero_share, one_share, PassesAt, ServersAccept};
 ghost use Rattle.audit_rules.specs.Soundness.{IsFirst, IsLast};
-ghost use Rattle.write_sketch.specs.Challenges.{challenge_rs, challenge_ss, sums_under};
+ghost use Rattle.audit_rules.specs.Challenges.{challenge_rs, challenge_ss, sums_under};
 
 use crate::servers::{close_share, judge, open_share};
 use audit_rules::{read_share, read_words, servers_accept_what_passes};

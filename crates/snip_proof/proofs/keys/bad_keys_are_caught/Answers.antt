@@ -4,8 +4,9 @@ use Rattle.std.proofs.lemmas.List.{length-map}
 use Rattle.dpf_rules.specs.Walk.{leaf_of}
 use Rattle.audit_rules.specs.Audit.{bad_r, bad_s}
 use Rattle.audit_rules.specs.Soundness.{IsFirst, IsLast}
-use Rattle.write_sketch.specs.Challenges.{challenge_rs, challenge_ss}
-use Rattle.write_sketch.specs.Leaves.{leaves, leaves-in_range, difference-leaves}
+use Rattle.audit_rules.specs.Challenges.{challenge_rs, challenge_ss}
+use Rattle.dpf_rules.specs.Evaluation.{leaves}
+use Rattle.audit_rules.proofs.LeafLemmas.{leaves-in_range, difference-leaves}
 use Rattle.snip_proof.proofs.Writes.{few_points}
 use Rattle.snip_proof.proofs.keys.bad_keys_are_caught.Goals as goal
 

@@ -1,0 +1,2 @@
+pub mod ChallengeLemmas
+pub mod LeafLemmas
