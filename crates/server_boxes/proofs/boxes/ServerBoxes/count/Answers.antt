@@ -1,0 +1,11 @@
+use Rattle.std.proofs.Common.{◌≡◌, ◌<◌, ◌≤◌, ◌+◌, ℕ, List, length, sym, ap, subst, ◌∙◌, refl, arith}
+use Rattle.server_boxes.specs.Held.{Held}
+use Rattle.server_boxes.proofs.Both.{length-boxes_in, fits}
+use Rattle.server_boxes.proofs.boxes.ServerBoxes.count.Goals as goal
+
+pub returns-clause-count : goal.returns-clause-count
+returns-clause-count c =
+    let i = c.self.inside in
+    c.count.ensures.count
+    ∙ (sym (length-boxes_in i.registry.boxes i.shares.boxes (fits i.registry i.shares c.self.invariant))
+    ∙ ap (λ (h : Held). length h.boxes) c.self.view_is)

@@ -1,0 +1,28 @@
+use Rattle.std.proofs.Common.{◌≡◌, ◌<◌, ◌≤◌, ◌+◌, ℕ, List, length, sym, ap, subst, ◌∙◌, refl, arith}
+use Rattle.std.specs.Prelude.{OnOk, OnErr, Ok, Err, Result, position, ◌==◌}
+use Rattle.box_registry.specs.declared.fault.RegFault.{RegFault}
+use Rattle.box_registry.specs.Boxes.{Boxes, answer_at, answer_to, with_box}
+use Rattle.box_registry.specs.Boxes as registry
+use Rattle.step_rules.specs.Boxes.{place_of, with_new}
+use Rattle.server_boxes.specs.Held.{Held, with_boxes}
+use Rattle.server_boxes.specs.Rows.{held_in}
+use Rattle.server_boxes.proofs.Both.{fits, length-boxes_in, answer_is, registered_rows, registered_boxes}
+use Rattle.server_boxes.proofs.boxes.ServerBoxes.register.Goals as goal
+
+pub invariant_of-self : goal.invariant_of-self
+invariant_of-self c =
+    let i = c.self.inside in
+    registered_rows i.registry i.shares c.self.invariant c.args.address c.args.key.now c.add.result c.add.new.self c.add.ensures.answer c.add.ensures.added c.add.ensures.refused
+
+pub returns-clause-answer : goal.returns-clause-answer
+returns-clause-answer c =
+    let i = c.self.inside in
+    c.add.ensures.answer
+    ∙ (sym (answer_is i.registry i.shares c.self.invariant c.args.address)
+    ∙ ap (λ (h : Held). answer_at h.limit (length h.boxes) (place_of c.args.address h.boxes)) c.self.view_is)
+
+pub returns-clause-added : goal.returns-clause-added
+returns-clause-added c =
+    let i = c.self.inside in
+    subst (λ (h : Held). OnOk c.add.result (held_in c.add.new.self i.shares ≡ with_boxes h (with_new h.width c.args.address c.args.key.now h.boxes))) c.self.view_is
+    (registered_boxes i.registry i.shares c.self.invariant c.args.address c.args.key.now c.add.result c.add.new.self c.add.ensures.answer c.add.ensures.added)

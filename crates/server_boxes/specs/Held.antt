@@ -1,0 +1,33 @@
+-- One server's boxes as a caller sees them.
+use Rattle.std.specs.Prelude.{◌≡◌, ℕ, List, Option, Some, None, length, replicate, slice_get}
+use Rattle.audit_rules.specs.Values.{Write}
+use Rattle.step_rules.specs.Boxes.{Box, addresses_of}
+use Rattle.server_boxes.specs.declared.room.Begun.{Begun}
+
+-- the bytes of a share, at most so many boxes, and those that stand
+pub record Held : Type 0 where
+  pub width : ℕ
+  pub limit : ℕ
+  pub boxes : List Box
+
+abbrev pub with_boxes : Held → List Box → Held
+with_boxes h boxes = record { width = h.width; limit = h.limit; boxes = boxes }
+
+-- the same addresses in the same order, so the same count: shares alone may have changed, and boxes may be retired
+pub record HasSameAddresses (old new : Held) : Type 0 where
+  pub width : new.width ≡ old.width
+  pub limit : new.limit ≡ old.limit
+  pub count : length new.boxes ≡ length old.boxes
+  pub addresses : addresses_of new.boxes ≡ addresses_of old.boxes
+
+-- a box that isn't there has zeros
+abbrev pub share_of : ℕ → Option Box → List ℕ
+share_of width (Some found) = found.share
+share_of width None = replicate width 0
+
+abbrev pub share_at : Held → ℕ → List ℕ
+share_at h number = share_of h.width (slice_get h.boxes number)
+
+-- a write that has begun, with its public part
+abbrev pub write_in : Begun → List ℕ → Write
+write_in b part = record { root = b.root; part = part; count = b.count; ckey = b.ckey }

@@ -1,0 +1,9 @@
+//! The boxes of a server, leader or helper: their addresses, keys and shares, and what registers, writes and reads do to
+//! them. All memory is taken at opening.
+#![tactic(auto)]
+
+mod boxes;
+mod room;
+
+pub use boxes::ServerBoxes;
+pub use room::{Begun, Proof, Room};

@@ -1,0 +1,11 @@
+pub mod Gates
+pub mod Boxes
+pub mod Helper
+pub mod HelperClients
+pub mod HelperCommands
+pub mod Leader
+pub mod LeaderClients
+pub mod LeaderReplies
+pub mod Client
+pub mod ClientAsks
+pub mod ClientReplies
