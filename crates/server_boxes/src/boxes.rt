@@ -1,5 +1,5 @@
 //! The boxes over the registry and the shares.
-ghost use Rattle.std.specs.Prelude.{◌≡◌, ◌+◌, ◌<◌, ◌≤◌, ℕ, IfOk, OnOk, OnErr, Some, [], length, map, take, option_map, replicate, slice_get};
+ghost use Rattle.std.specs.Prelude.{◌≡◌, ◌+◌, ◌<◌, ◌≤◌, ℕ, IfOk, OnOk, OnErr, IfSome, Some, [], length, map, take, option_map, replicate, slice_get};
 ghost use Rattle.dpf_keys.specs.Width.{IsPart, IsWidth};
 ghost use Rattle.dpf_rules.specs.Bytes.{xor_bytes};
 ghost use Rattle.dpf_rules.specs.Evaluation.{prefix_count};
@@ -69,7 +69,8 @@ impl ServerBoxes {
 
     /// The key of a box, or None exactly where there is no box of this number.
     pub fn key_of(&self, number: u32) -> Option<[u8; 32]>
-        ensures { option_map (λ found. found.key) (slice_get self.now.boxes number) ≡ result }
+        ensures key { option_map (λ found. found.key) (slice_get self.now.boxes number) ≡ result }
+        ensures there { IfSome result (λ key. number < length self.now.boxes) }
     {
         if number < self.registry.count() {
             Some(*self.registry.key_of(number))

@@ -3,7 +3,9 @@
 #![tactic(auto)]
 
 mod boxes;
+mod closing;
 mod room;
 
 pub use boxes::ServerBoxes;
+pub use closing::close;
 pub use room::{Begun, Proof, Room};

@@ -6,7 +6,9 @@ use Rattle.express_words.specs.declared.refusal.Refusal.TheVariants as refusal
 use Rattle.frame_rules.specs.declared.frame.DepositBody.{DepositBody}
 use Rattle.frame_rules.specs.Frames as frame
 use Rattle.frame_rules.specs.Frames.{PlainFrame, PlainBody}
-use Rattle.step_rules.specs.Gates.{Gate, New, Same, Stale, Phase, opening, closing}
+use Rattle.lane_table.specs.Gates.{opening_gate, closing_gate}
+use Rattle.lane_table.specs.declared.gate.Gate.{Gate}
+use Rattle.lane_table.specs.declared.gate.Gate.TheVariants.{New, Same, Stale, Phase}
 use Rattle.frame_rules.specs.Whole.{whole}
 use Rattle.step_rules.specs.Helper.{Server, Helper, Row, Stage, Idle, Deposited, Begun, Proved, Audited, Done, row, row_at, with_row, door, want_in, Turn, ClientTurn, says, refuses, refuses_bytes}
 
@@ -36,7 +38,7 @@ deposit_at r serial held Same = row_turn r held_deposit
 deposit_at r serial held New = row_turn (row serial (Deposited held)) held_deposit
 
 unfoldable pub deposit_row : Row → ℕ → DepositBody → RowTurn
-deposit_row r serial held = deposit_at r serial held (opening (door r) serial (want_in held))
+deposit_row r serial held = deposit_at r serial held (opening_gate (door r) serial (want_in held))
 
 -- ---- Proof
 
@@ -55,7 +57,7 @@ proof_at r share Same = proof_in r share r.stage
 proof_at r share New = proof_in r share r.stage
 
 unfoldable pub proof_row : Row → ℕ → ProofShare → RowTurn
-proof_row r serial share = proof_at r share (closing (door r) serial)
+proof_row r serial share = proof_at r share (closing_gate (door r) serial)
 
 -- ---- a frame of a lane that is there
 

@@ -12,7 +12,8 @@ use Rattle.frame_rules.specs.Spelling.{spelling}
 use Rattle.dpf_rules.specs.Bytes.{xor_bytes}
 use Rattle.dpf_rules.specs.Evaluation.{prefix_count}
 use Rattle.dpf_rules.specs.Expansion.{draw32, token, mask}
-use Rattle.step_rules.specs.Gates.{Want, Register, Write as Writes, Read}
+use Rattle.lane_table.specs.declared.row.Want.{Want}
+use Rattle.lane_table.specs.declared.row.Want.TheVariants.{Register, Write as Writes, Read}
 use Rattle.step_rules.specs.Boxes.{Box, addresses_of, place_of, with_new, with_write, with_read}
 use Rattle.audit_rules.specs.Audit.{accepts}
 use Rattle.audit_rules.specs.Values.{Write, Values, values, ckey_of}

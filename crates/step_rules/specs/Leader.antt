@@ -8,7 +8,9 @@ use Rattle.express_words.specs.declared.audit.Closing.{Closing}
 use Rattle.frame_rules.specs.Frames as frame
 use Rattle.frame_rules.specs.Frames.{PlainFrame, PlainBody}
 use Rattle.frame_rules.specs.Spelling.{spelling}
-use Rattle.step_rules.specs.Gates.{Want, Nothing, Register, Write as Writes, Read, Door}
+use Rattle.lane_table.specs.declared.row.Row.{Row as Door}
+use Rattle.lane_table.specs.declared.row.Want.{Want}
+use Rattle.lane_table.specs.declared.row.Want.TheVariants.{Nothing, Register, Write as Writes, Read}
 use Rattle.step_rules.specs.Boxes.{Box}
 use Rattle.audit_rules.specs.Values.{Write}
 use Rattle.frame_rules.specs.Whole.{answer, refused_bytes}

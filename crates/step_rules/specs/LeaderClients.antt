@@ -6,7 +6,9 @@ use Rattle.express_words.specs.declared.refusal.Refusal.TheVariants as refusal
 use Rattle.frame_rules.specs.Frames as frame
 use Rattle.frame_rules.specs.Frames.{PlainFrame, PlainBody}
 use Rattle.dpf_rules.specs.Expansion.{draw32, token}
-use Rattle.step_rules.specs.Gates.{Gate, New, Same, Stale, Phase, opening, closing}
+use Rattle.lane_table.specs.Gates.{opening_gate, closing_gate}
+use Rattle.lane_table.specs.declared.gate.Gate.{Gate}
+use Rattle.lane_table.specs.declared.gate.Gate.TheVariants.{New, Same, Stale, Phase}
 use Rattle.step_rules.specs.Boxes.{Box, addresses_of}
 use Rattle.audit_rules.specs.Values.{Write, opens, sigma_of}
 use Rattle.frame_rules.specs.Whole.{whole, has_width, on_link}
@@ -87,7 +89,7 @@ submission_at a f asked named New = new_at a f asked named (row_at a f.lane).sta
 unfoldable pub on_submission : Leader → PlainFrame → Asked → Option Named → Turn
 on_submission a f asked named =
     if nat_le a.settings.lanes f.lane then refuses a f (refusal.Lane a.settings.lanes) else
-    submission_at a f asked named (opening (door (row_at a f.lane)) f.serial (want_in asked))
+    submission_at a f asked named (opening_gate (door (row_at a f.lane)) f.serial (want_in asked))
 
 -- ---- Proof
 
@@ -119,7 +121,7 @@ proof_at a f share New = proof_in a f share (row_at a f.lane).stage
 unfoldable pub on_proof : Leader → PlainFrame → ProofShare → Turn
 on_proof a f share =
     if nat_le a.settings.lanes f.lane then refuses a f (refusal.Lane a.settings.lanes) else
-    proof_at a f share (closing (door (row_at a f.lane)) f.serial)
+    proof_at a f share (closing_gate (door (row_at a f.lane)) f.serial)
 
 -- ---- any frame
 

@@ -10,7 +10,8 @@ use Rattle.frame_rules.specs.Frames.{PlainFrame, PlainBody, PlainReply}
 use Rattle.dpf_rules.specs.Bytes.{xor_bytes}
 use Rattle.dpf_rules.specs.Expansion.{mask}
 use Rattle.audit_rules.specs.Audit.{closing_of, opened_of, accepts}
-use Rattle.step_rules.specs.Gates.{Want, Register, Write as Writes, Read}
+use Rattle.lane_table.specs.declared.row.Want.{Want}
+use Rattle.lane_table.specs.declared.row.Want.TheVariants.{Register, Write as Writes, Read}
 use Rattle.step_rules.specs.Boxes.{Box, place_of, with_new, with_write, with_read}
 use Rattle.audit_rules.specs.Values.{Write, ckey_of}
 use Rattle.frame_rules.specs.Whole.{is_reply, linked, answer, on_link}

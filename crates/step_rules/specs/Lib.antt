@@ -1,4 +1,3 @@
-pub mod Gates
 pub mod Boxes
 pub mod Helper
 pub mod HelperClients
