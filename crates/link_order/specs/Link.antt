@@ -17,16 +17,16 @@ pub record Carried : Type 0 where
   pub size : ℕ
   pub replies : List (List ℕ)
 
--- What holds of every link that issues commands: as many commands are outstanding as there are numbers from the
--- oldest one's on, at most the window, and each has room.
+-- what holds of every link that issues commands: at most the window of them are outstanding, each has a
+-- number from 1 on, and each has room
 pub record IsOutstanding (link : Outstanding) : Type 0 where
   pub some : 1 ≤ link.window
   pub numbered : length link.frames < link.next
   pub few : length link.frames ≤ link.window
   pub short : All (λ frame. length frame ≤ link.size) link.frames
 
--- What holds of every link that carries commands out: as many replies are kept as were carried, up to the window, and
--- each has room.
+-- what holds of every link that carries commands out: as many replies are kept as were carried, up to the
+-- window, and each has room
 pub record IsCarried (link : Carried) : Type 0 where
   pub some : 1 ≤ link.window
   pub kept : length link.replies ≡ min link.carried link.window

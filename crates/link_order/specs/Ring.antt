@@ -16,8 +16,18 @@ frames_from blocks window number (n ∷ lengths) = take n (slice_index_or blocks
 
 -- frames that wait, as commands
 abbrev pub outstanding_in : Held → Outstanding
-outstanding_in ring = record { next = ring.pushed + 1; window = ring.window; size = ring.size; frames = ring.frames }
+outstanding_in ring = record {
+  next = ring.pushed + 1;
+  window = ring.window;
+  size = ring.size;
+  frames = ring.frames;
+}
 
 -- frames that are kept, as replies
 abbrev pub carried_in : Held → Carried
-carried_in ring = record { carried = ring.pushed; window = ring.window; size = ring.size; replies = ring.frames }
+carried_in ring = record {
+  carried = ring.pushed;
+  window = ring.window;
+  size = ring.size;
+  replies = ring.frames;
+}
