@@ -162,6 +162,3 @@ each-step places place i count at each k d lt =
 -- bytes of a block's own length take the place of its bytes
 pub refill-whole : (xs bytes : List ℕ) → length bytes ≡ length xs → refill (length xs) xs bytes ≡ bytes
 refill-whole xs bytes e = rw (← e) (take-append_seam bytes (drop (length bytes) xs))
-
-abbrev pub with_bytes : Blocks → ℕ → List ℕ → Blocks
-with_bytes b index bytes = blocks b.size (set b.blocks index bytes)

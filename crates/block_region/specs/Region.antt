@@ -1,5 +1,5 @@
 -- A region as a caller sees it: for each class its blocks, each with its bytes while it is out.
-use Rattle.std.specs.Prelude.{◌≡◌, ℕ, ◌<◌, List, [], ◌∷◌, Option, Some, None, is_none, position, count_by, replicate, slice_index_or, slice_set, length, map, unwrap_or, All}
+use Rattle.std.specs.Prelude.{◌≡◌, ◌≢◌, ℕ, ◌+◌, ◌<◌, List, [], ◌∷◌, ◌++◌, Option, Some, None, is_none, position, count_by, replicate, slice_index_or, slice_set, length, drop, map, unwrap_or, All}
 
 -- a block by its class and its number there
 pub record Place : Type 0 where
@@ -37,6 +37,10 @@ abbrev pub with_content : List Shelf → Place → Option (List ℕ) → List Sh
 with_content region place content =
     slice_set region place.class (shelf_of (class_of region place.class).size (slice_set (class_of region place.class).blocks place.index content))
 
+-- how many bytes a block of the class has
+abbrev pub size_of_class : List Shelf → ℕ → ℕ
+size_of_class region class = (class_of region class).size
+
 -- how many blocks of the class are free
 abbrev pub free_blocks : List Shelf → ℕ → ℕ
 free_blocks region class = count_by is_none (class_of region class).blocks
@@ -51,6 +55,15 @@ pub record TakesBlock (old new : List Shelf) (class : ℕ) (place : Place) : Typ
   pub free : first_free old class ≡ Some place.index
   pub zeros : new ≡ with_content old place (Some (replicate (class_of old class).size 0))
 
+-- one block of the class more is free than before, and of each other class as many
+pub record FreesOne (old new : List Shelf) (class : ℕ) : Type 0 where
+  pub here : free_blocks new class ≡ free_blocks old class + 1
+  pub elsewhere : (other : ℕ) → other ≢ class → free_blocks new other ≡ free_blocks old other
+
+-- bytes written over the first ones of a block; the others stay
+abbrev pub written_over : List ℕ → List ℕ → List ℕ
+written_over block bytes = bytes ++ drop (length bytes) block
+
 abbrev pub zeros : ℕ → List ℕ
 zeros size = replicate size 0
 
@@ -58,6 +71,14 @@ zeros size = replicate size 0
 pub record Blocks : Type 0 where
   pub size : ℕ
   pub blocks : List (List ℕ)
+
+-- the bytes of a block
+abbrev pub block_at : Blocks → ℕ → List ℕ
+block_at b index = slice_index_or b.blocks index []
+
+-- the same blocks with other bytes in one of them
+abbrev pub with_bytes : Blocks → ℕ → List ℕ → Blocks
+with_bytes b index bytes = record { size = b.size; blocks = slice_set b.blocks index bytes }
 
 -- the blocks of a region's first class, while all of them are out
 abbrev pub blocks_in : List Shelf → Blocks

@@ -1,9 +1,9 @@
 //! Equal blocks, all of them out.
-ghost use Rattle.std.specs.Prelude.{◌≡◌, ◌<◌, ◌≤◌, IfOk, length, drop, replicate, slice_index_or, slice_set, [], ◌++◌};
+ghost use Rattle.std.specs.Prelude.{◌≡◌, ◌<◌, ◌≤◌, IfOk, length, replicate};
 ghost use Rattle.std.specs.Borrow.{sem};
-ghost use Rattle.block_region.specs.Region.{Blocks, zeros};
+ghost use Rattle.block_region.specs.Region.{block_at, with_bytes, written_over, zeros};
 
-use crate::{Block, Class, Region};
+use crate::{Block, Class, Region, write_front};
 use express_words::NoMemory;
 use std::alloc::Global;
 use std::marker::Model;
@@ -47,9 +47,10 @@ impl BlockArray {
         Ok(BlockArray { region, blocks })
     }
 
+    /// The bytes of a block, as many as `size` says.
     pub fn get(&self, index: usize) -> &[u8]
         requires { index < length self.now.blocks }
-        ensures value { result.now ≡ slice_index_or self.now.blocks index [] }
+        ensures value { result.now ≡ block_at self.now index }
         ensures size { length result.now ≡ self.now.size }
     {
         self.region.bytes(&self.blocks[index])
@@ -59,7 +60,7 @@ impl BlockArray {
     pub fn get_mut(&mut self, index: usize) -> &mut [u8]
         requires { index < length self.old.blocks }
         ensures* writes_back { sem 𝓛 (LendsOfArray self.entry index result) }
-        ensures value { result.now ≡ slice_index_or self.old.blocks index [] }
+        ensures value { result.now ≡ block_at self.old index }
         ensures size { length result.now ≡ self.old.size }
     {
         self.region.bytes_mut(&self.blocks[index])
@@ -69,15 +70,8 @@ impl BlockArray {
     pub fn write(&mut self, index: usize, bytes: &[u8])
         requires block { index < length self.old.blocks }
         requires fits { length bytes.now ≤ self.old.size }
-        ensures { self.new ≡ record { size = self.old.size; blocks = slice_set self.old.blocks index (bytes.now ++ drop (length bytes.now) (slice_index_or self.old.blocks index [])) } }
+        ensures { self.new ≡ with_bytes self.old index (written_over (block_at self.old index) bytes.now) }
     {
         write_front(self.get_mut(index), bytes);
     }
-}
-
-fn write_front(block: &mut [u8], bytes: &[u8])
-    requires { length bytes.now ≤ length block.old }
-    ensures { block.new ≡ bytes.now ++ drop (length bytes.now) block.old }
-{
-    block[..bytes.len()].copy_from_slice(bytes);
 }

@@ -3,11 +3,13 @@
 
 mod block;
 mod block_array;
+mod front;
 mod region;
 mod shelf;
 
 pub use block::Block;
 pub use block_array::BlockArray;
+pub use front::write_front;
 pub use region::{Class, Region};
 
 #[cfg(test)]

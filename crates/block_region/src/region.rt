@@ -2,7 +2,7 @@
 ghost use Rattle.std.specs.Prelude.{◌≡◌, ◌<◌, ◌↔◌, IfOk, IfSome, IfNone, IsNone, IsSome, Some, None, length, map};
 ghost use Rattle.std.specs.Borrow.{sem};
 ghost use Rattle.block_region.specs.Classes.{size_of};
-ghost use Rattle.block_region.specs.Region.{unused, bytes_at, with_content, free_blocks, TakesBlock};
+ghost use Rattle.block_region.specs.Region.{unused, bytes_at, size_of_class, with_content, free_blocks, FreesOne, TakesBlock};
 
 use crate::Block;
 use crate::shelf::BlockShelf;
@@ -60,15 +60,18 @@ impl Region {
         ensures none { IsNone result ↔ (free_blocks self.old class ≡ 0) }
         ensures stays { IfNone result (self.new ≡ self.old) }
         ensures taken { IfSome result (TakesBlock self.old self.new class) }
+        ensures free { IfSome result (λ _. FreesOne self.new self.old class) }
     {
         let shelf = &mut self.shelves[usize::from(class)];
         let index = shelf.take()?;
         Some(Block::new(class, index))
     }
 
+    /// The bytes of the block, as many as its class says.
     pub fn bytes(&self, block: &Block) -> &[u8]
         requires { IsSome (bytes_at self.now block.now) }
-        ensures { bytes_at self.now block.now ≡ Some result.now }
+        ensures value { bytes_at self.now block.now ≡ Some result.now }
+        ensures size { length result.now ≡ size_of_class self.now block.now.class }
     {
         self.shelves[block.class()].bytes(block.index())
     }
@@ -78,6 +81,7 @@ impl Region {
         requires { IsSome (bytes_at self.old block.now) }
         ensures* writes_back { sem 𝓛 (LendsBlock self.entry block.now result) }
         ensures value { bytes_at self.old block.now ≡ Some result.now }
+        ensures size { length result.now ≡ size_of_class self.old block.now.class }
     {
         let shelf = &mut self.shelves[block.class()];
         shelf.bytes_mut(block.index())
@@ -86,7 +90,8 @@ impl Region {
     /// Gives the block back. All other blocks stay.
     pub fn give(&mut self, block: Block)
         requires { IsSome (bytes_at self.old block) }
-        ensures { self.new ≡ with_content self.old block None }
+        ensures given { self.new ≡ with_content self.old block None }
+        ensures free { FreesOne self.old self.new block.class }
     {
         let shelf = &mut self.shelves[block.class()];
         shelf.give(block.index());

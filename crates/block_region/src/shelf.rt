@@ -67,7 +67,8 @@ impl BlockShelf {
 
     pub(crate) fn bytes(&self, index: usize) -> &[u8]
         requires { IsSome (block_of self.now.blocks index) }
-        ensures { block_of self.now.blocks index ≡ Some result.now }
+        ensures value { block_of self.now.blocks index ≡ Some result.now }
+        ensures size { length result.now ≡ self.now.size }
     {
         self.slots[index].bytes.as_slice()
     }
@@ -76,6 +77,7 @@ impl BlockShelf {
         requires { IsSome (block_of self.old.blocks index) }
         ensures* writes_back { sem 𝓛 (LendsOnShelf self.entry index result) }
         ensures value { block_of self.old.blocks index ≡ Some result.now }
+        ensures size { length result.now ≡ self.old.size }
     {
         let slot = &mut self.slots[index];
         slot.bytes.as_mut_slice()

@@ -1,9 +1,9 @@
 -- The entries of a map as boxes.
-use Rattle.std.proofs.Common.{◌≡◌, ℕ, zero, suc, ◌<◌, nat_eq, Bool, false, List, [], ◌∷◌, ◌++◌, length, position, slice_get, slice_index_or, Option, Some, None, option_map, is_some, arith, refl, sym, ◌∙◌, ap}
+use Rattle.std.proofs.Common.{◌≡◌, ℕ, zero, suc, ◌<◌, nat_eq, Bool, false, List, [], ◌∷◌, ◌++◌, length, position, slice_get, slice_index_or, Option, Some, None, option_map, is_some, arith, refl, sym, ◌∙◌, ap, subst}
 use Rattle.std.specs.Map.{keys_of}
 use Rattle.std.specs.Map.{lookup}
 use Rattle.indexmap.proofs.MapLemmas.{some_index}
-use Rattle.box_registry.specs.Boxes.{Box, Boxes, addresses_of, place_of}
+use Rattle.box_registry.specs.Boxes.{Box, Boxes, Differ, addresses_of, place_of}
 use Rattle.box_registry.specs.Entries.{box_of_entry, boxes_of_entries}
 
 pub addresses_of-entries : (entries : List (ℕ × List ℕ)) → addresses_of (boxes_of_entries entries) ≡ keys_of entries
@@ -59,3 +59,11 @@ absent address entries none =
 pub length-now : (limit : ℕ) (entries : List (ℕ × List ℕ)) (addresses : List ℕ) (now : Boxes) → record { limit = limit; boxes = boxes_of_entries entries } ≡ now → addresses ≡ keys_of entries
     → length now.boxes ≡ length addresses
 length-now limit entries addresses now view is = ap (λ (r : Boxes). length r.boxes) (sym view) ∙ length-entries entries ∙ ap length (sym is)
+
+pub addresses-now : (limit : ℕ) (entries : List (ℕ × List ℕ)) (addresses : List ℕ) (now : Boxes) → record { limit = limit; boxes = boxes_of_entries entries } ≡ now → addresses ≡ keys_of entries
+    → addresses ≡ addresses_of now.boxes
+addresses-now limit entries addresses now view is = is ∙ sym (addresses_of-entries entries) ∙ ap (λ (r : Boxes). addresses_of r.boxes) view
+
+pub differ-now : (limit : ℕ) (entries : List (ℕ × List ℕ)) (addresses : List ℕ) (now : Boxes) → record { limit = limit; boxes = boxes_of_entries entries } ≡ now → addresses ≡ keys_of entries
+    → Differ addresses → Differ (addresses_of now.boxes)
+differ-now limit entries addresses now view is differ = subst Differ (addresses-now limit entries addresses now view is) differ

@@ -1,15 +1,18 @@
 -- Rows of addresses and keys as boxes.
-use Rattle.std.proofs.Common.{◌≡◌, ℕ, zero, suc, ◌<◌, ◌≤◌, get_or, List, [], ◌∷◌, ◌++◌, length, slice_get, Option, Some, None, option_map, arith, refl, sym, ◌∙◌, ap}
+use Rattle.std.proofs.Common.{◌≡◌, ℕ, zero, suc, ◌<◌, ◌≤◌, get_or, List, [], ◌∷◌, ◌++◌, length, slice_get, Option, Some, None, option_map, arith, refl, sym, ◌∙◌, ap, subst}
 use Rattle.std.specs.Prelude.{◌==◌, position, Ok, Err}
 use Rattle.std.proofs.lemmas.Bool.{le-leb, lt-leb}
 use Rattle.box_registry.specs.declared.fault.RegFault.TheVariants.{Taken, Full}
-use Rattle.box_registry.specs.Boxes.{Box, Boxes, addresses_of, place_of, answer_at, answer_to, with_box}
+use Rattle.box_registry.specs.Boxes.{Box, Boxes, Differ, addresses_of, place_of, answer_at, answer_to, with_box}
 use Rattle.box_registry.specs.Rows.{boxes_of_rows}
 
 pub addresses_of-rows : (addresses : List ℕ) (keys : List (List ℕ)) → length keys ≡ length addresses → addresses_of (boxes_of_rows addresses keys) ≡ addresses
 addresses_of-rows [] keys same = refl
 addresses_of-rows (a ∷ addresses) [] same = absurd (omega arith)
 addresses_of-rows (a ∷ addresses) (k ∷ keys) same = ap (λ (xs : List ℕ). a ∷ xs) (addresses_of-rows addresses keys (omega arith))
+
+pub differ-rows : (addresses : List ℕ) (keys : List (List ℕ)) → length keys ≡ length addresses → Differ addresses → Differ (addresses_of (boxes_of_rows addresses keys))
+differ-rows addresses keys same differ = subst Differ (sym (addresses_of-rows addresses keys same)) differ
 
 pub length-rows : (addresses : List ℕ) (keys : List (List ℕ)) → length keys ≡ length addresses → length (boxes_of_rows addresses keys) ≡ length addresses
 length-rows [] keys same = refl
@@ -45,6 +48,9 @@ module _ (limit : ℕ) (addresses : List ℕ) (keys : List (List ℕ)) (now : Bo
 
   pub length-now : length addresses ≡ length now.boxes
   length-now = sym (length-rows addresses keys same) ∙ ap (λ (r : Boxes). length r.boxes) view
+
+  pub differ-now : Differ addresses → Differ (addresses_of now.boxes)
+  differ-now differ = subst Differ addresses-now differ
 
   pub limit-now : limit ≡ now.limit
   limit-now = ap (λ (r : Boxes). r.limit) view

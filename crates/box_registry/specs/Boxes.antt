@@ -1,5 +1,5 @@
 -- The boxes of a server, in the order in which they were registered.
-use Rattle.std.specs.Prelude.{ℕ, nat_le, ◌==◌, if◌then◌else◌, List, [], ◌∷◌, ◌++◌, length, map, position, Option, Some, None, Result, Ok, Err}
+use Rattle.std.specs.Prelude.{ℕ, ◌≢◌, nat_le, ◌==◌, if◌then◌else◌, List, [], ◌∷◌, ◌++◌, length, map, position, Option, Some, None, Result, Ok, Err, AllPairs}
 use Rattle.box_registry.specs.declared.fault.RegFault.{RegFault}
 use Rattle.box_registry.specs.declared.fault.RegFault.TheVariants.{Taken, Full}
 
@@ -15,6 +15,10 @@ pub record Boxes : Type 0 where
 
 abbrev pub addresses_of : List Box → List ℕ
 addresses_of boxes = map (λ box. box.address) boxes
+
+-- no two of the addresses are the same
+abbrev pub Differ : List ℕ → Type 0
+Differ addresses = AllPairs (λ a b. a ≢ b) addresses
 
 -- the box at which an address stands
 abbrev pub place_of : ℕ → List Box → Option ℕ

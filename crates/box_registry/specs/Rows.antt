@@ -1,7 +1,7 @@
 -- The boxes that two arrays hold, one of addresses and one of keys.
 use Rattle.std.specs.Prelude.{◌≡◌, ℕ, ◌≤◌, List, [], ◌∷◌, length}
 use Rattle.dpf_eval.specs.Listing.{Listing}
-use Rattle.box_registry.specs.Boxes.{Box}
+use Rattle.box_registry.specs.Boxes.{Box, Differ}
 
 -- box by box, as far as both go
 abbrev pub boxes_of_rows : List ℕ → List (List ℕ) → List Box
@@ -9,9 +9,10 @@ boxes_of_rows [] keys = []
 boxes_of_rows (address ∷ addresses) [] = []
 boxes_of_rows (address ∷ addresses) (key ∷ keys) = record { address = address; key = key } ∷ boxes_of_rows addresses keys
 
--- a key for each address, and room for every key to come
+-- a key for each address, no address twice, and room for every key to come
 pub record AreRows (limit : ℕ) (frontier : Listing) (keys : List (List ℕ)) (keys_room : ℕ) : Type 0 where
   pub limit_same : frontier.limit ≡ limit
   pub as_many : length keys ≡ length frontier.addresses
   pub within : length frontier.addresses ≤ limit
+  pub differ : Differ frontier.addresses
   pub keys_fit : limit ≤ keys_room

@@ -1,6 +1,6 @@
 //! The boxes in a map. It takes memory for each box.
 ghost use Rattle.std.specs.Prelude.{◌≡◌, ◌<◌, ◌≤◌, [], length, take, slice_get, IfOk, OnOk, OnErr, IfSome, Some, None, option_map};
-ghost use Rattle.box_registry.specs.Boxes.{addresses_of, place_of, answer_to, with_box};
+ghost use Rattle.box_registry.specs.Boxes.{Differ, addresses_of, place_of, answer_to, with_box};
 
 use crate::RegFault;
 use express_words::NoMemory;
@@ -17,16 +17,15 @@ pub struct PlainRegistry {
 }
 
 impl Model for PlainRegistry {
-    ghost use Rattle.std.specs.Prelude.{◌≡◌, ◌<◌, ◌≤◌, ◌^◌, length};
     ghost use Rattle.box_registry.specs.Boxes.{Boxes};
-    ghost use Rattle.box_registry.specs.Entries.{boxes_of_entries};
+    ghost use Rattle.box_registry.specs.Entries.{boxes_of_entries, AreKeys};
     ghost use Rattle.indexmap.specs.IndexMap.{keys};
 
     ghost Value = { Boxes };
 
     ghost view = { λ r. record { limit = r.limit; boxes = boxes_of_entries r.by_address.entries } };
 
-    ghost invariant = { λ r. (r.addresses.items ≡ keys r.by_address) × (length r.addresses.items ≤ r.limit) × (r.limit < 2 ^ 32) };
+    ghost invariant = { λ r. AreKeys r.limit r.addresses.items (keys r.by_address) };
 }
 
 impl PlainRegistry {
@@ -47,6 +46,7 @@ impl PlainRegistry {
         ensures added { IfOk result (λ answer. IfOk answer (λ _. self.new ≡ with_box self.old address key.now)) }
         ensures refused { IfOk result (λ answer. OnErr answer (self.new ≡ self.old)) }
         ensures memory { OnErr result (self.new ≡ self.old) }
+        ensures differ { Differ (addresses_of self.new.boxes) }
     {
         match self.box_of(address) {
             Some(box_number) => Ok(Err(RegFault::Taken(box_number))),
@@ -65,6 +65,7 @@ impl PlainRegistry {
         ensures number { IfOk result (λ n. n ≡ length self.old.boxes) }
         ensures ok { OnOk result (self.new ≡ with_box self.old address key.now) }
         ensures memory { OnErr result (self.new ≡ self.old) }
+        ensures differ { Differ (addresses_of self.new.boxes) }
     {
         let count = self.count();
         self.addresses.push(address)?;
@@ -81,6 +82,7 @@ impl PlainRegistry {
     pub fn count(&self) -> u32
         ensures count { result ≡ length self.now.boxes }
         ensures limit { result ≤ self.now.limit }
+        ensures differ { Differ (addresses_of self.now.boxes) }
     {
         self.addresses.len() as u32
     }
@@ -89,6 +91,7 @@ impl PlainRegistry {
     pub fn box_of(&self, address: u128) -> Option<u32>
         ensures place { result ≡ place_of address self.now.boxes }
         ensures within { IfSome result (λ n. n < length self.now.boxes) }
+        ensures differ { Differ (addresses_of self.now.boxes) }
     {
         let place = self.by_address.get_index_of(&address)?;
         Some(place as u32)
@@ -116,7 +119,8 @@ impl PlainRegistry {
     /// The addresses of the first boxes, in the order of registration.
     pub fn first(&self, count: u32) -> &[u128]
         requires { count ≤ length self.now.boxes }
-        ensures { result.now ≡ take count (addresses_of self.now.boxes) }
+        ensures first { result.now ≡ take count (addresses_of self.now.boxes) }
+        ensures differ { Differ result.now }
     {
         &self.addresses[..count as usize]
     }

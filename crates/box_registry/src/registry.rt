@@ -2,7 +2,7 @@
 ghost use Rattle.std.specs.Prelude.{◌≡◌, ◌+◌, ◌<◌, ◌≤◌, [], length, map, take, drop, slice_get, IfOk, OnOk, OnErr, IfSome, Some, option_map};
 ghost use Rattle.dpf_rules.specs.Evaluation.{prefix_count};
 ghost use Rattle.dpf_rules.specs.Walk.{leaf_of};
-ghost use Rattle.box_registry.specs.Boxes.{addresses_of, place_of, answer_to, with_box};
+ghost use Rattle.box_registry.specs.Boxes.{Differ, addresses_of, place_of, answer_to, with_box};
 
 use crate::RegFault;
 use dpf_eval::{Frontier, Steps};
@@ -53,6 +53,7 @@ impl Registry {
         ensures answer { result ≡ answer_to self.old address }
         ensures added { OnOk result (self.new ≡ with_box self.old address key.now) }
         ensures refused { OnErr result (self.new ≡ self.old) }
+        ensures differ { Differ (addresses_of self.new.boxes) }
     {
         match self.frontier.box_of(address) {
             Some(box_number) => Err(RegFault::Taken(box_number)),
@@ -70,6 +71,7 @@ impl Registry {
     pub fn count(&self) -> u32
         ensures count { result ≡ length self.now.boxes }
         ensures limit { result ≤ self.now.limit }
+        ensures differ { Differ (addresses_of self.now.boxes) }
     {
         self.frontier.count()
     }
@@ -78,6 +80,7 @@ impl Registry {
     pub fn box_of(&self, address: u128) -> Option<u32>
         ensures place { result ≡ place_of address self.now.boxes }
         ensures within { IfSome result (λ n. n < length self.now.boxes) }
+        ensures differ { Differ (addresses_of self.now.boxes) }
     {
         self.frontier.box_of(address)
     }
@@ -101,7 +104,8 @@ impl Registry {
     /// The addresses of the first boxes, in the order of registration.
     pub fn first(&self, count: u32) -> &[u128]
         requires { count ≤ length self.now.boxes }
-        ensures { result.now ≡ take count (addresses_of self.now.boxes) }
+        ensures first { result.now ≡ take count (addresses_of self.now.boxes) }
+        ensures differ { Differ result.now }
     {
         self.frontier.first(count)
     }

@@ -1,4 +1,4 @@
-//! The registry in arrays beside the plain one.
+//! The registry in arrays beside the plain one, and one of the largest settings.
 use super::*;
 use std::process::Abort;
 use std::test::Fail;
@@ -41,5 +41,17 @@ fn both_agree(rt: HostRuntime) -> Result<(), Fail> {
         assert!(rt; arrays.box_of(CALLS[k]) == plain.box_of(CALLS[k]));
     }
     same_boxes(&rt, &arrays, &plain);
+    Ok(())
+}
+
+// As many boxes as may stand: the last one has its address and key.
+#[test]
+fn largest_settings(rt: HostRuntime) -> Result<(), Fail> {
+    let mut boxes = Registry::open(rt.alloc(), 4096).map_err(|_| "memory")?;
+    for address in 0..4096u32 {
+        assert!(rt; boxes.add(u128::from(address), &[7; 32]) == Ok(address));
+    }
+    assert!(rt; boxes.add(u128::MAX, &[7; 32]) == Err(RegFault::Full(4096)));
+    assert!(rt; boxes.count() == 4096 && boxes.box_of(4095) == Some(4095));
     Ok(())
 }

@@ -1,3 +1,3 @@
 pub mod ChangeLaws
+pub mod GateLaws
 pub mod LaneLaws
-pub mod OpeningLaws

@@ -1,3 +1,4 @@
 pub mod Changes
+pub mod Gates
 pub mod Slots
 pub mod Table

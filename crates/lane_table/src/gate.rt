@@ -1,8 +1,4 @@
 //! Whether a frame of a lane is let in.
-ghost use Rattle.std.specs.Prelude.{◌≡◌, ◌≢◌, ◌<◌, ◌↔◌};
-ghost use Rattle.lane_table.specs.declared.row.Want.TheVariants.{Write};
-ghost use Rattle.lane_table.specs.declared.gate.Gate.TheVariants.{New, Same, Stale, Phase};
-
 use crate::row::{Row, Want};
 
 /// How a frame stands to the row of its lane.
@@ -18,12 +14,12 @@ pub enum Gate {
     Phase(u8),
 }
 
+ghost use Rattle.std.specs.Prelude.{◌≡◌};
+ghost use Rattle.lane_table.specs.Gates.{closing_gate, opening_gate};
+
 /// Judges a frame that opens a request. A serial that the row has already is let in again where it asks for the same.
 pub fn opening(row: &Row, serial: u32, want: Want) -> Gate
-    ensures new { (result ≡ New) ↔ (row.now.serial < serial) }
-    ensures stale { (result ≡ Stale row.now.serial) ↔ (serial < row.now.serial) }
-    ensures same { (result ≡ Same) ↔ ((serial ≡ row.now.serial) × (want ≡ row.now.want)) }
-    ensures phase { (result ≡ Phase row.now.phase) ↔ ((serial ≡ row.now.serial) × (want ≢ row.now.want)) }
+    ensures { result ≡ opening_gate row.now serial want }
 {
     if serial < row.serial {
         Gate::Stale(row.serial)
@@ -38,9 +34,7 @@ pub fn opening(row: &Row, serial: u32, want: Want) -> Gate
 
 /// Judges a frame that goes on with a request. Only a write has such a frame.
 pub fn closing(row: &Row, serial: u32) -> Gate
-    ensures stale { (result ≡ Stale row.now.serial) ↔ (serial ≢ row.now.serial) }
-    ensures same { (result ≡ Same) ↔ ((serial ≡ row.now.serial) × (row.now.want ≡ Write)) }
-    ensures phase { (result ≡ Phase row.now.phase) ↔ ((serial ≡ row.now.serial) × (row.now.want ≢ Write)) }
+    ensures { result ≡ closing_gate row.now serial }
 {
     if serial != row.serial {
         Gate::Stale(row.serial)

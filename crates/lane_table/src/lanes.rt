@@ -3,8 +3,8 @@ ghost use Rattle.std.specs.Prelude.{◌≡◌, ◌<◌, ◌≤◌, ◌↔◌, If
 ghost use Rattle.lane_table.specs.Table.{idle_table, lane_at, table_of, with_reply, with_row};
 
 use crate::row::Row;
-use crate::slot::{Slot, idle_slots, write_front};
-use block_region::{Class, Region};
+use crate::slot::Slot;
+use block_region::BlockArray;
 use express_words::NoMemory;
 use std::alloc::Global;
 use std::marker::Model;
@@ -13,20 +13,18 @@ use std::marker::Model;
 #[derive(Drop)]
 pub struct Lanes {
     slots: Vec<Slot>,
-    replies: Region,
+    replies: BlockArray,
 }
 
 impl Model for Lanes {
-    ghost use Rattle.std.specs.Prelude.{◌≡◌, length};
-    ghost use Rattle.block_region.specs.Region.{class_of};
     ghost use Rattle.lane_table.specs.Table.{Table, table_of};
     ghost use Rattle.lane_table.specs.Slots.{AreKept, lanes_in};
 
     ghost Value = { Table };
 
-    ghost view = { λ t. table_of (class_of t.replies 0).size (lanes_in t.slots.items (class_of t.replies 0).blocks) };
+    ghost view = { λ t. table_of t.replies.size (lanes_in t.slots.items t.replies.blocks) };
 
-    ghost invariant = { λ t. (length t.replies ≡ 1) × AreKept t.slots.items (class_of t.replies 0) };
+    ghost invariant = { λ t. AreKept t.slots.items t.replies };
 }
 
 impl Lanes {
@@ -34,13 +32,11 @@ impl Lanes {
     pub fn open(alloc: Global, lanes: u16, kept: u32) -> Result<Lanes, NoMemory>
         ensures { IfOk result (λ table. table ≡ idle_table lanes kept) }
     {
-        let class = Class {
-            size: kept,
-            count: u32::from(lanes),
-        };
-        let mut replies = Region::open(alloc, &[class])?;
-        let slots = idle_slots(alloc, &mut replies, lanes, kept)?;
-        Ok(Lanes { slots, replies })
+        let replies = BlockArray::open(alloc, kept, u32::from(lanes))?;
+        match vec![in alloc; Slot::IDLE; usize::from(lanes)] {
+            Ok(slots) => Ok(Lanes { slots, replies }),
+            Err(_) => Err(NoMemory),
+        }
     }
 
     /// The lane's row, or the number of lanes exactly where the lane isn't below it.
@@ -69,18 +65,18 @@ impl Lanes {
         requires room { length reply.now ≤ self.old.room }
         ensures { self.new ≡ table_of self.old.room (with_reply self.old.lanes lane reply.now) }
     {
-        let slot = &mut self.slots[usize::from(lane)];
-        slot.length = reply.len();
-        write_front(&mut self.replies, &slot.block, reply);
+        let place = usize::from(lane);
+        self.slots[place].length = reply.len();
+        self.replies.write(place, reply);
     }
 
     /// The reply that is kept for the lane, empty where none was.
     pub fn kept(&self, lane: u16) -> &[u8]
         requires { lane < length self.now.lanes }
-        ensures { result.now ≡ (lane_at self.now.lanes lane).reply }
+        ensures reply { result.now ≡ (lane_at self.now.lanes lane).reply }
+        ensures room { length result.now ≤ self.now.room }
     {
-        let slot = &self.slots[usize::from(lane)];
-        let bytes = self.replies.bytes(&slot.block);
-        &bytes[..slot.length]
+        let place = usize::from(lane);
+        &self.replies.get(place)[..self.slots[place].length]
     }
 }

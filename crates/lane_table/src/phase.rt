@@ -1,4 +1,5 @@
-//! How far a lane's request has come at a server.
+//! How far a lane's request has come at a server, by the numbers that a refusal's frame has.
+ghost use Rattle.std.specs.Prelude.{◌≡◌};
 
 /// Nothing of the lane's serial stands.
 pub const IDLE: u8 = 0;
@@ -18,3 +19,16 @@ pub const WAITING: u8 = 6;
 pub const CHALLENGED: u8 = 7;
 /// At the leader: the audit of the write, or its settling, is outstanding.
 pub const AUDITING: u8 = 8;
+
+/// The number of each phase.
+pub fn phases_are_numbered()
+    ensures idle { IDLE ≡ 0 }
+    ensures deposited { DEPOSITED ≡ 1 }
+    ensures begun { BEGUN ≡ 2 }
+    ensures proved { PROVED ≡ 3 }
+    ensures audited { AUDITED ≡ 4 }
+    ensures done { DONE ≡ 5 }
+    ensures waiting { WAITING ≡ 6 }
+    ensures challenged { CHALLENGED ≡ 7 }
+    ensures auditing { AUDITING ≡ 8 }
+{}

@@ -1,4 +1,4 @@
-//! Two lanes through sets and keeps, and the gates of one of them.
+//! Two lanes through sets and keeps, the gates of one of them, and a table of the largest settings.
 use crate::{Gate, Lanes, Row, Want, closing, opening, phase};
 use std::test::Fail;
 
@@ -43,4 +43,16 @@ fn gates_of_one_row(rt: HostRuntime) {
         ..row
     };
     assert_eq!(rt; closing(&read, 7), Gate::Phase(phase::WAITING));
+}
+
+// The most lanes, each with room for the longest frame.
+#[test]
+fn largest_settings(rt: HostRuntime) -> Result<(), Fail> {
+    let reply = [7; 8213];
+    let mut lanes = Lanes::open(rt.alloc(), 256, 8213)?;
+    lanes.keep(255, &reply);
+    assert_eq!(rt; lanes.kept(255), reply.as_slice());
+    assert_eq!(rt; lanes.kept(254), [].as_slice());
+    assert_eq!(rt; lanes.get(256), Err(256));
+    Ok(())
 }

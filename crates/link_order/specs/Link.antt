@@ -1,5 +1,5 @@
 -- A numbered link as its two ends see it.
-use Rattle.std.specs.Prelude.{◌≡◌, ℕ, ◌+◌, ◌-◌, ◌<◌, List, length, drop}
+use Rattle.std.specs.Prelude.{◌≡◌, ℕ, ◌+◌, ◌-◌, ◌<◌, ◌≤◌, min, List, length, drop, All}
 
 -- The commands that were issued and not acknowledged, oldest first; the next number, the most commands that may be
 -- outstanding, and the most bytes of one.
@@ -16,6 +16,21 @@ pub record Carried : Type 0 where
   pub window : ℕ
   pub size : ℕ
   pub replies : List (List ℕ)
+
+-- what holds of every link that issues commands: at most the window of them are outstanding, each has a
+-- number from 1 on, and each has room
+pub record IsOutstanding (link : Outstanding) : Type 0 where
+  pub some : 1 ≤ link.window
+  pub numbered : length link.frames < link.next
+  pub few : length link.frames ≤ link.window
+  pub short : All (λ frame. length frame ≤ link.size) link.frames
+
+-- what holds of every link that carries commands out: as many replies are kept as were carried, up to the
+-- window, and each has room
+pub record IsCarried (link : Carried) : Type 0 where
+  pub some : 1 ≤ link.window
+  pub kept : length link.replies ≡ min link.carried link.window
+  pub short : All (λ reply. length reply ≤ link.size) link.replies
 
 -- the number of the oldest outstanding command
 abbrev pub IsOldest : Outstanding → ℕ → Type 0

@@ -1,6 +1,6 @@
 //! The replies to the commands that were carried out last.
-ghost use Rattle.std.specs.Prelude.{◌≡◌, ℕ, ◌+◌, ◌-◌, ◌<◌, ◌≤◌, ◌^◌, ◌↔◌, IfOk, Some, [], ◌∷◌, ◌++◌, length, slice_get};
-ghost use Rattle.link_order.specs.Link.{Carried, last};
+ghost use Rattle.std.specs.Prelude.{◌≡◌, ◌+◌, ◌-◌, ◌<◌, ◌≤◌, ◌^◌, IfOk, [], ◌∷◌, ◌++◌, length, drop};
+ghost use Rattle.link_order.specs.Link.{IsCarried, last};
 
 use crate::frame_ring::FrameRing;
 use express_words::NoMemory;
@@ -25,20 +25,24 @@ pub struct Incoming {
 }
 
 impl Model for Incoming {
-    ghost use Rattle.link_order.specs.Link.{Carried};
+    ghost use Rattle.link_order.specs.Link.{Carried, IsCarried};
+    ghost use Rattle.link_order.specs.Ring.{carried_in};
 
     ghost Value = { Carried };
 
-    ghost view = { λ i. record { carried = i.ring.pushed; window = i.ring.window; size = i.ring.size; replies = i.ring.frames } };
+    ghost view = { λ i. carried_in i.ring };
+
+    ghost invariant = { λ i. IsCarried (carried_in i.ring) };
 }
 
 impl Incoming {
-    ghost use Rattle.link_order.specs.Arrivals.{IsArrival};
+    ghost use Rattle.link_order.specs.Arrivals.{IfKept, IsArrival};
 
     /// A link with no command carried out, that keeps the last `window` replies of at most `size` bytes each.
     pub fn open(alloc: Global, window: u8, size: u32) -> Result<Incoming, NoMemory>
         requires window { (1 ≤ window) × (window ≤ 32) }
-        ensures { IfOk result (λ link. link ≡ record { carried = 0; window = window; size = size; replies = [] }) }
+        ensures opened { IfOk result (λ link. link ≡ record { carried = 0; window = window; size = size; replies = [] }) }
+        ensures link { IfOk result IsCarried }
     {
         Ok(Incoming {
             ring: FrameRing::open(alloc, window, size)?,
@@ -47,7 +51,9 @@ impl Incoming {
 
     /// Whether a command of this number is to be carried out now, was carried out and its reply is kept, or neither.
     pub fn arrival(&self, number: u64) -> Arrival<'_>
-        ensures { IsArrival self.now number result }
+        ensures which { IsArrival self.now number result }
+        ensures room { IfKept result (λ reply. length reply ≤ self.now.size) }
+        ensures link { IsCarried self.now }
     {
         let carried = self.ring.pushed();
         let oldest = carried - self.ring.len() as u64;
@@ -68,7 +74,10 @@ impl Incoming {
     pub fn carry(&mut self, reply: &[u8])
         requires fits { length reply.now ≤ self.old.size }
         requires countable { self.old.carried < 2 ^ 64 - 1 }
-        ensures { self.new ≡ record { carried = self.old.carried + 1; window = self.old.window; size = self.old.size; replies = last self.old.window (self.old.replies ++ reply.now ∷ []) } }
+        ensures carried { self.new ≡ record { carried = self.old.carried + 1; window = self.old.window; size = self.old.size; replies = last self.old.window (self.old.replies ++ reply.now ∷ []) } }
+        ensures grows { length self.old.replies < self.old.window → self.new.replies ≡ self.old.replies ++ reply.now ∷ [] }
+        ensures turns { length self.old.replies ≡ self.old.window → self.new.replies ≡ drop 1 self.old.replies ++ reply.now ∷ [] }
+        ensures link { IsCarried self.new }
     {
         self.ring.push(reply);
     }

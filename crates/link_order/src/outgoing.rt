@@ -1,7 +1,7 @@
 //! The commands that wait for their replies.
 ghost use Rattle.std.specs.Prelude.{◌≡◌, ◌+◌, ◌-◌, ◌<◌, ◌≤◌, ◌^◌, ◌↔◌, IfOk, OnOk, OnErr, IfErr, IsErr, IsNone, IsTrue, IfSome, Some, [], ◌∷◌, ◌++◌, length, drop, slice_get};
 ghost use Rattle.std.specs.Bool.{OnTrue, OnFalse};
-ghost use Rattle.link_order.specs.Link.{Outstanding, IsOldest};
+ghost use Rattle.link_order.specs.Link.{IsOldest, IsOutstanding};
 
 use crate::frame_ring::FrameRing;
 use express_words::NoMemory;
@@ -16,21 +16,22 @@ pub struct Outgoing {
 
 impl Model for Outgoing {
     ghost use Rattle.std.specs.Prelude.{◌+◌, ◌<◌, ◌^◌};
-    ghost use Rattle.std.specs.Bool.{OnTrue, OnFalse};
-    ghost use Rattle.link_order.specs.Link.{Outstanding};
+    ghost use Rattle.link_order.specs.Link.{Outstanding, IsOutstanding};
+    ghost use Rattle.link_order.specs.Ring.{outstanding_in};
 
     ghost Value = { Outstanding };
 
-    ghost view = { λ o. record { next = o.ring.pushed + 1; window = o.ring.window; size = o.ring.size; frames = o.ring.frames } };
+    ghost view = { λ o. outstanding_in o.ring };
 
-    ghost invariant = { λ o. o.ring.pushed + 1 < 2 ^ 64 };
+    ghost invariant = { λ o. (o.ring.pushed + 1 < 2 ^ 64) × IsOutstanding (outstanding_in o.ring) };
 }
 
 impl Outgoing {
     /// A link with no command issued, of which at most `window` may be outstanding, each of at most `size` bytes.
     pub fn open(alloc: Global, window: u8, size: u32) -> Result<Outgoing, NoMemory>
         requires window { (1 ≤ window) × (window ≤ 32) }
-        ensures { IfOk result (λ link. link ≡ record { next = 1; window = window; size = size; frames = [] }) }
+        ensures opened { IfOk result (λ link. link ≡ record { next = 1; window = window; size = size; frames = [] }) }
+        ensures link { IfOk result IsOutstanding }
     {
         Ok(Outgoing {
             ring: FrameRing::open(alloc, window, size)?,
@@ -39,7 +40,8 @@ impl Outgoing {
 
     /// The number that the next command gets.
     pub fn next(&self) -> u64
-        ensures { result ≡ self.now.next }
+        ensures number { result ≡ self.now.next }
+        ensures link { IsOutstanding self.now }
     {
         self.ring.pushed() + 1
     }
@@ -54,6 +56,7 @@ impl Outgoing {
         ensures stays { OnErr result (self.new ≡ self.old) }
         ensures number { IfOk result (λ number. number ≡ self.old.next) }
         ensures issued { OnOk result (self.new ≡ record { next = self.old.next + 1; window = self.old.window; size = self.old.size; frames = self.old.frames ++ frame.now ∷ [] }) }
+        ensures link { IsOutstanding self.new }
     {
         if self.ring.is_full() {
             return Err(self.oldest_number());
@@ -68,6 +71,8 @@ impl Outgoing {
         ensures none { IsNone result ↔ (self.now.frames ≡ []) }
         ensures number { IfSome result (λ command. IsOldest self.now command.0) }
         ensures frame { IfSome result (λ command. slice_get self.now.frames 0 ≡ Some command.1.now) }
+        ensures room { IfSome result (λ command. length command.1.now ≤ self.now.size) }
+        ensures link { IsOutstanding self.now }
     {
         if self.ring.len() == 0 {
             return None;
@@ -80,6 +85,7 @@ impl Outgoing {
         ensures oldest { IsTrue result ↔ IsOldest self.old number }
         ensures removed { OnTrue result (self.new ≡ record { next = self.old.next; window = self.old.window; size = self.old.size; frames = drop 1 self.old.frames }) }
         ensures stays { OnFalse result (self.new ≡ self.old) }
+        ensures link { IsOutstanding self.new }
     {
         if self.ring.len() == 0 || number != self.oldest_number() {
             return false;

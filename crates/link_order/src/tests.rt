@@ -1,4 +1,4 @@
-//! Both ends of a link through a window of one command and of two.
+//! Both ends of a link through a window of one command and of two, and of the largest settings.
 use crate::{Arrival, Incoming, Outgoing};
 use std::test::Fail;
 
@@ -56,5 +56,21 @@ fn replies_that_are_kept(rt: HostRuntime) -> Result<(), Fail> {
     ] {
         assert_eq!(rt; arrives(&two, number), wanted);
     }
+    Ok(())
+}
+
+// The most commands that may be outstanding, and the most bytes of a frame.
+#[test]
+fn largest_settings(rt: HostRuntime) -> Result<(), Fail> {
+    let frame = [7; 8213];
+    let mut commands = Outgoing::open(rt.alloc(), 32, 8213)?;
+    let mut replies = Incoming::open(rt.alloc(), 32, 8213)?;
+    for number in 1..33 {
+        assert_eq!(rt; commands.issue(&frame), Ok(number));
+        replies.carry(&frame);
+    }
+    assert_eq!(rt; commands.issue(&frame), Err(1));
+    assert_eq!(rt; arrives(&replies, 1), frame.as_slice());
+    assert_eq!(rt; arrives(&replies, 32), frame.as_slice());
     Ok(())
 }

@@ -81,10 +81,11 @@ impl ShareStore {
         self.live[box_number as usize] = false;
     }
 
-    /// The share of a box.
+    /// The share of a box, as many bytes as the width.
     pub fn share(&self, box_number: u32) -> &[u8]
         requires { box_number < length self.now.boxes }
-        ensures { result.now ≡ (share_at self.now.boxes box_number).bytes }
+        ensures bytes { result.now ≡ (share_at self.now.boxes box_number).bytes }
+        ensures width { length result.now ≡ self.now.width }
     {
         self.shares.get(box_number as usize)
     }

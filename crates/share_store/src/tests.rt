@@ -51,3 +51,14 @@ fn one_write(rt: HostRuntime) -> Result<(), Fail> {
     }
     Ok(())
 }
+
+// The most boxes of the greatest width: the last one's share can be taken.
+#[test]
+fn largest_settings(rt: HostRuntime) -> Result<(), Fail> {
+    let mut store = ShareStore::open(rt.alloc(), 4096, 4096).map_err(|_| "memory")?;
+    let mut out = [7; 4096];
+    store.retire(4095, &mut out);
+    assert!(rt; store.retired(4095) && !store.retired(4094));
+    assert!(rt; store.share(4095) == [0; 4096].as_slice() && out == [7; 4096]);
+    Ok(())
+}

@@ -1,5 +1,6 @@
 use Rattle.std.proofs.Common.{ap, ◌∙◌, length, get_or, drop, ◌++◌, [], ◌≡◌, List, ℕ}
-use Rattle.block_region.proofs.ArrayLaws.{refill-whole, with_bytes}
+use Rattle.block_region.specs.Region.{with_bytes}
+use Rattle.block_region.proofs.ArrayLaws.{refill-whole}
 use Rattle.block_region.proofs.block_array.BlockArray.write.Goals as goal
 
 pub returns : goal.returns

@@ -1,5 +1,7 @@
-use Rattle.std.proofs.Common.{is_none}
+use Rattle.std.proofs.Common.{is_none, sym, ap}
+use Rattle.block_region.specs.Region.{Shelf}
 use Rattle.block_region.proofs.BlockLaws.{position-none, none-position, class-at}
+use Rattle.block_region.proofs.FreeLaws.{taken-free}
 use Rattle.block_region.proofs.region.Region.take.Goals as goal
 
 pub returns-in_err-index-clause-none : goal.returns-in_err-index-clause-none
@@ -15,3 +17,11 @@ returns-clause-none c =
     let within = rw (← c.self.view_is) at c.requires in
     let at = class-at c.self.inside.shelves.items c.args.class c.from.result shelf c.from.ensures within c.index_mut-shelf.ensures.value in
     rw (← c.self.view_is, at) (λ h. absurd (cc h), λ e. let none = none-position is_none shelf.blocks e in rw (← c.in_ok-index.ensures.which) at none)
+
+pub returns-clause-free : goal.returns-clause-free
+returns-clause-free c =
+    let shelf = c.index_mut-shelf.result.now in
+    let within = rw (← c.self.view_is) at c.requires in
+    let at = class-at c.self.inside.shelves.items c.args.class c.from.result shelf c.from.ensures within c.index_mut-shelf.ensures.value in
+    rw (← c.self.view_is, c.from.ensures)
+    (taken-free c.self.inside.shelves.items c.args.class c.in_ok-index.index shelf c.take.new.self _ within at (sym c.in_ok-index.ensures.which) (ap (λ (s : Shelf). s.blocks) c.in_ok-index.ensures.taken))

@@ -5,9 +5,9 @@ use Rattle.box_registry.proofs.plain.PlainRegistry.address_of.Goals as goal
 
 pub returns : goal.returns
 returns c =
-    let count = length-now _ _ _ _ c.self.view_is c.self.invariant.0 in
+    let count = length-now _ _ _ _ c.self.view_is c.self.invariant.same in
     let within : c.args.box_number < length c.self.inside.addresses.items = omega (arith, count) in
     ap (λ (r : Boxes). option_map (λ (found : Box). found.address) (slice_get r.boxes c.args.box_number)) (sym c.self.view_is)
     ∙ address-entries _ c.args.box_number
-    ∙ ap (λ xs. slice_get xs c.args.box_number) (sym c.self.invariant.0)
+    ∙ ap (λ xs. slice_get xs c.args.box_number) (sym c.self.invariant.same)
     ∙ get_there _ _ _ within c.index.ensures

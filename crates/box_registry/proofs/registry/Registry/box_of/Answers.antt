@@ -1,5 +1,5 @@
 use Rattle.std.proofs.Common.{◌<◌, ◌==◌, ◌∙◌, ap, ℕ, List, position, IfSome, subst}
-use Rattle.box_registry.proofs.RowLemmas.{addresses-now, length-now}
+use Rattle.box_registry.proofs.RowLemmas.{addresses-now, differ-now, length-now}
 use Rattle.box_registry.proofs.registry.Registry.box_of.Goals as goal
 
 pub returns-clause-place : goal.returns-clause-place
@@ -14,3 +14,6 @@ returns-clause-within c =
     subst P
     (length-now c.self.inside.limit c.self.inside.frontier.addresses c.self.inside.keys.items c.args.self.now c.self.view_is c.self.invariant.as_many)
     c.box_of.ensures.there
+
+pub returns-clause-differ : goal.returns-clause-differ
+returns-clause-differ c = differ-now c.self.inside.limit c.self.inside.frontier.addresses c.self.inside.keys.items c.args.self.now c.self.view_is c.self.invariant.as_many c.self.invariant.differ

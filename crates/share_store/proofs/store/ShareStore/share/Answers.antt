@@ -9,8 +9,8 @@ get-requires c =
     omega (arith, ap (λ (s : Shares). length s.boxes) c.self.view_is, length-shares_in c.self.inside.live.items c.self.inside.shares.blocks c.self.invariant) in
     omega (arith, c.self.invariant)
 
-pub returns : goal.returns
-returns c =
+pub returns-clause-bytes : goal.returns-clause-bytes
+returns-clause-bytes c =
     let within : c.args.box_number < length c.self.inside.live.items =
     omega (arith, ap (λ (s : Shares). length s.boxes) c.self.view_is, length-shares_in c.self.inside.live.items c.self.inside.shares.blocks c.self.invariant) in
     c.get.ensures.value
