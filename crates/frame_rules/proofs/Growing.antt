@@ -48,7 +48,7 @@ module _ {A : Type 0} where
   settles_cond true r s r' s' h h' = h
   settles_cond false r s r' s' h h' = h'
 
-number_grows : (w : Width) (place : ℕ) (a b : List ℕ) → Settles (number_at w place a) (number_at w place (a ++ b))
+pub number_grows : (w : Width) (place : ℕ) (a b : List ℕ) → Settles (number_at w place a) (number_at w place (a ++ b))
 unfolding Settles number_at
 number_grows w place a b =
     elim (cases_lt (length a) (place + byte_len w)) [
@@ -142,7 +142,7 @@ link_grows : (k : Kind) (a b : List ℕ) → Settles (link_in k a) (link_in k (a
 unfolding link_in
 link_grows k a b = settles_on (number_at _ 12 a) (number_at _ 12 (a ++ b)) _ (number_grows _ 12 a b)
 
-header_grows : (a b : List ℕ) → Settles (header_in a) (header_in (a ++ b))
+pub header_grows : (a b : List ℕ) → Settles (header_in a) (header_in (a ++ b))
 unfolding header_in
 header_grows a b =
     settles_then (length_in a) (length_in (a ++ b)) _ _ (length_grows a b) (λ len e.

@@ -12,3 +12,4 @@ pub mod WholeLaws
 pub mod ClassLaws
 pub mod Longest
 pub mod AnswerLaws
+pub mod Filling

@@ -21,7 +21,7 @@ abbrev fails : {A : Type 0} → FrameFault → Result A FrameFault
 fails d = Err d
 
 -- a step that failed: itself, or what came after it
-bind_err : {A B : Type 0} (r : Result A FrameFault) (f : A → Result B FrameFault) (d : FrameFault) → (r >>= f) ≡ Err d → (r ≡ Err d) ⊎ ((x : A) × (r ≡ Ok x) × (f x ≡ Err d))
+pub bind_err : {A B : Type 0} (r : Result A FrameFault) (f : A → Result B FrameFault) (d : FrameFault) → (r >>= f) ≡ Err d → (r ≡ Err d) ⊎ ((x : A) × (r ≡ Ok x) × (f x ≡ Err d))
 bind_err (Ok x) f d e = inr (x, refl, e)
 bind_err {B = B} (Err c) f d e = inl (ap (λ x. Err x) (same c d e)) where
   same : (c d : FrameFault) → fails {A = B} c ≡ Err d → c ≡ d
@@ -194,7 +194,7 @@ step_short {A} r f P first then e = pick (bind_err r f Short e) where
   pick (inl h) = first h
   pick (inr h) = then h.0 h.2
 
-header_short : (bytes : List ℕ) → header_in bytes ≡ Err Short → length bytes < 20
+pub header_short : (bytes : List ℕ) → header_in bytes ≡ Err Short → length bytes < 20
 unfolding header_in
 header_short bytes e =
     step_short (length_in bytes) _ (length bytes < 20) (λ h. omega (arith, length_short bytes h)) (λ len e.
@@ -211,7 +211,7 @@ pub record IsWaiting (bytes : List ℕ) : Type 0 where
   pub most : length bytes < 8213
   pub length_right : (n : ℕ) → number_at w32 0 bytes ≡ Ok n → (17 ≤ n) × (n ≤ 8209) × (length bytes < 4 + n)
 
-length_limits : (bytes : List ℕ) (n : ℕ) → length_in bytes ≡ Ok n → (number_at w32 0 bytes ≡ Ok n) × (17 ≤ n) × (n ≤ 8209)
+pub length_limits : (bytes : List ℕ) (n : ℕ) → length_in bytes ≡ Ok n → (number_at w32 0 bytes ≡ Ok n) × (17 ≤ n) × (n ≤ 8209)
 unfolding length_in
 length_limits bytes n e =
     let b = bind_ok (number_at w32 0 bytes) (λ length. cond (leb 17 length && leb length 8209) (Ok length) (Err (Malformed 0))) n e in
@@ -223,7 +223,7 @@ length_limits bytes n e =
     limited n h = grind (arith, nat_tests)
 
 -- the length of a header that was read
-header_length : (bytes : List ℕ) (h : Header) → header_in bytes ≡ Ok h → (n : ℕ) × (length_in bytes ≡ Ok n) × (h.left ≡ n - 16)
+pub header_length : (bytes : List ℕ) (h : Header) → header_in bytes ≡ Ok h → (n : ℕ) × (length_in bytes ≡ Ok n) × (h.left ≡ n - 16)
 unfolding header_in
 header_length bytes h e =
     let made = λ (len : ℕ) (kind : Kind) (lane serial link : ℕ). let h : Header = record { kind = kind; lane = lane; serial = serial; link = link; left = len - 16 } in h in
@@ -235,7 +235,7 @@ header_length bytes h e =
     let g = bind_ok (link_in c.0 bytes) (λ l. Ok (made a.0 c.0 d.0 f.0 l)) h f.2 in
     (a.0, a.1, ap (λ (x : Header). x.left) (sym (ok_is _ _ g.2)))
 
-same_number : (m n : ℕ) → (let r : Result ℕ FrameFault = Ok m in r) ≡ Ok n → m ≡ n
+pub same_number : (m n : ℕ) → (let r : Result ℕ FrameFault = Ok m in r) ≡ Ok n → m ≡ n
 same_number m n e = cc
 
 -- a number of a length that is not refused

@@ -41,6 +41,45 @@ fn missing_from(held: &[u8]) -> usize
     }
 }
 
+/// So many bytes are judged one by one: the header, a tag and a refusal's number. Behind them the length alone decides.
+const JUDGED: usize = 22;
+
+/// Takes bytes one by one while what is held is waiting for more.
+fn take_each(held: &mut Vec<u8>, piece: &[u8])
+    requires { FRAME_MAX ≤ vec_capacity held.old }
+    ensures held { held.new.items ≡ gathered held.old.items piece.now }
+    ensures capacity { vec_capacity held.new ≡ vec_capacity held.old }
+{
+    for byte in piece {
+        if !is_waiting(held) {
+            return;
+        }
+        held.push_reserved(*byte);
+    }
+}
+
+/// Adds bytes that have room.
+fn push_all(held: &mut Vec<u8>, bytes: &[u8])
+    requires { length held.old.items + length bytes.now ≤ vec_capacity held.old }
+    ensures held { held.new.items ≡ held.old.items ++ bytes.now }
+    ensures capacity { vec_capacity held.new ≡ vec_capacity held.old }
+{
+    for byte in bytes {
+        held.push_reserved(*byte);
+    }
+}
+
+/// Takes what is missing at once.
+fn take_missing(held: &mut Vec<u8>, piece: &[u8])
+    requires judged { JUDGED ≤ length held.old.items }
+    requires room { FRAME_MAX ≤ vec_capacity held.old }
+    ensures held { held.new.items ≡ gathered held.old.items piece.now }
+    ensures capacity { vec_capacity held.new ≡ vec_capacity held.old }
+{
+    let count = missing_from(held).min(piece.len());
+    push_all(held, &piece[..count]);
+}
+
 /// Takes bytes while what is held is waiting for more.
 fn take_from(held: &mut Vec<u8>, piece: &[u8])
     requires { FRAME_MAX ≤ vec_capacity held.old }
@@ -48,11 +87,10 @@ fn take_from(held: &mut Vec<u8>, piece: &[u8])
     ensures capacity { vec_capacity held.new ≡ vec_capacity held.old }
     ensures grows { length held.old.items ≤ length held.new.items }
 {
-    for byte in piece {
-        if !is_waiting(held) {
-            return;
-        }
-        held.push_reserved(*byte);
+    let front = JUDGED.saturating_sub(held.len()).min(piece.len());
+    take_each(held, &piece[..front]);
+    if held.len() >= JUDGED {
+        take_missing(held, &piece[front..]);
     }
 }
 

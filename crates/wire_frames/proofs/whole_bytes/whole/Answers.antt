@@ -1,9 +1,9 @@
-use Rattle.std.proofs.Common.{List, ℕ, Err, length, ap, ◌∙◌, subst, arith}
+use Rattle.std.proofs.Common.{Err, length, ap, ◌∙◌, subst, arith}
 use Rattle.std.proofs.lemmas.List.{take_all}
 use Rattle.frame_rules.specs.Spelling.{Spells}
 use Rattle.frame_rules.specs.Frames.{plain}
 use Rattle.frame_rules.proofs.Waiting.{decoded_short}
-use Rattle.frame_rules.proofs.WholeLaws.{whole_ok, whole_front, whole_short, whole_malformed, whole_version, malformed_frame, version_frame}
+use Rattle.frame_rules.proofs.WholeLaws.{whole_ok, whole_front, whole_short, whole_malformed, whole_version, malformed_frame}
 use Rattle.wire_frames.proofs.whole_bytes.whole.Goals as goal
 
 pub overflow_cast-result-in-Err-Short : goal.overflow_cast-result-in-Err-Short

@@ -1,6 +1,6 @@
 use Rattle.std.proofs.Common.{◌≡◌, drop, vec_capacity}
 use Rattle.frame_rules.specs.Gathering.{gathered}
-use Rattle.wire_frames.proofs.gathering.take_from.Given as goal
+use Rattle.wire_frames.proofs.gathering.take_each.Given as goal
 
 abbrev pub invariant-loop-byte : goal.invariant-loop-byte
 invariant-loop-byte l = record {
