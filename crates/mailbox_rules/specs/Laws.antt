@@ -1,7 +1,7 @@
 -- What holds of the tables after every journal.
-use Rattle.std.specs.Prelude.{◌≡◌, ℕ, ◌≤◌, List, [], ◌∷◌, ◌++◌, length, Option, Some, None, slice_get}
-use Rattle.mailbox_rules.specs.Requests.{Line, Operation}
-use Rattle.mailbox_rules.specs.Tables.{Mailbox, Writes, xor_bytes, addresses, after_line, result_of, table_after, results_after, sum_of, result_sum}
+use Rattle.std.specs.Prelude.{◌≡◌, ℕ, suc, ◌≤◌, false, List, [], ◌∷◌, ◌++◌, length, map, take, Option, Some, None, slice_get}
+use Rattle.mailbox_rules.specs.Requests.{Command, Line, Entry, entry, Operation, AddBox, SettleWrite, ReadBox, RetireBox}
+use Rattle.mailbox_rules.specs.Tables.{Mailbox, Table, Writes, NoBox, xor_bytes, addresses, after_line, result_of, table_after, results_after, sum_of, result_sum, outline, result_outline, own_from}
 
 -- a box's address and life are those of its two shares, and its bytes are their sum
 pub record IsShared (x y z : Mailbox) : Type 0 where
@@ -23,8 +23,9 @@ AcceptsSame one two = (lane serial : ℕ) → two.accepts lane serial ≡ one.ac
 
 -- after every journal the sums of both servers' shares are the bytes of the plain table
 abbrev pub SharesAddUp : Type 0
-SharesAddUp = (limit width : ℕ) (one two : Writes) (does : Line → Operation) (lines : List Line) → AcceptsSame one two
-    → AreShares (table_after limit width (sum_of one two) does lines).boxes (table_after limit width one does lines).boxes (table_after limit width two does lines).boxes
+SharesAddUp = (limit width : ℕ) (one two : Writes) (entries : List Entry) → AcceptsSame one two
+    → AreShares (table_after limit width (sum_of one two) entries).boxes
+    (table_after limit width one entries).boxes (table_after limit width two entries).boxes
 
 abbrev pub bytes_of : Option Mailbox → List ℕ
 bytes_of None = []
@@ -32,47 +33,152 @@ bytes_of (Some box) = box.bytes
 
 -- what stands in a box is the sum of what the two servers have there
 abbrev pub BytesAddUp : Type 0
-BytesAddUp = (limit width : ℕ) (one two : Writes) (does : Line → Operation) (lines : List Line) (n : ℕ) → AcceptsSame one two
-    → bytes_of (slice_get (table_after limit width (sum_of one two) does lines).boxes n)
-    ≡ xor_bytes (bytes_of (slice_get (table_after limit width one does lines).boxes n)) (bytes_of (slice_get (table_after limit width two does lines).boxes n))
+BytesAddUp = (limit width : ℕ) (one two : Writes) (entries : List Entry) (n : ℕ) → AcceptsSame one two
+    → bytes_of (slice_get (table_after limit width (sum_of one two) entries).boxes n)
+    ≡ xor_bytes (bytes_of (slice_get (table_after limit width one entries).boxes n))
+    (bytes_of (slice_get (table_after limit width two entries).boxes n))
 
--- the next line's result at the plain table is that of both servers, with the sum of the bytes that they gave
+-- the next entry's result at the plain table is that of both servers, with the bytes that they gave added
 abbrev pub ReadsAddUp : Type 0
-ReadsAddUp = (limit width : ℕ) (one two : Writes) (does : Line → Operation) (lines : List Line) (line : Line) → AcceptsSame one two
-    → result_of limit (sum_of one two) (table_after limit width (sum_of one two) does lines) line (does line)
-    ≡ result_sum (result_of limit one (table_after limit width one does lines) line (does line)) (result_of limit two (table_after limit width two does lines) line (does line))
+ReadsAddUp = (limit width : ℕ) (one two : Writes) (entries : List Entry) (line : Line) (does : Operation)
+    → AcceptsSame one two
+    → result_of limit (sum_of one two) (table_after limit width (sum_of one two) entries) line does
+    ≡ result_sum (result_of limit one (table_after limit width one entries) line does)
+    (result_of limit two (table_after limit width two entries) line does)
 
--- two readings of the journal's lines are one
-abbrev pub DoesSame : (Line → Operation) → (Line → Operation) → List Line → Type 0
-DoesSame does other [] = Unit {0}
-DoesSame does other (line ∷ lines) = (other line ≡ does line) × DoesSame does other lines
-
--- tables and results depend on what their own lines do alone, so requests that come later change none of them
-abbrev pub TablesStay : Type 0
-TablesStay = (limit width : ℕ) (writes : Writes) (does other : Line → Operation) (lines : List Line) → DoesSame does other lines
-    → (table_after limit width writes other lines ≡ table_after limit width writes does lines)
-    × (results_after limit width writes other lines ≡ results_after limit width writes does lines)
-
--- a journal's table is that of the part before its last line, after that line; and so are its results
+-- a journal's table is that of the part before its last entry, after that entry; and so are its results
 abbrev pub TablesGrow : Type 0
-TablesGrow = (limit width : ℕ) (writes : Writes) (does : Line → Operation) (lines : List Line) (line : Line)
-    → table_after limit width writes does (lines ++ line ∷ []) ≡ after_line limit width writes (table_after limit width writes does lines) line (does line)
+TablesGrow = (limit width : ℕ) (writes : Writes) (entries : List Entry) (e : Entry)
+    → table_after limit width writes (entries ++ e ∷ [])
+    ≡ after_line limit width writes (table_after limit width writes entries) e.line e.does
 
 abbrev pub ResultsGrow : Type 0
-ResultsGrow = (limit width : ℕ) (writes : Writes) (does : Line → Operation) (lines : List Line) (line : Line)
-    → results_after limit width writes does (lines ++ line ∷ []) ≡ results_after limit width writes does lines ++ result_of limit writes (table_after limit width writes does lines) line (does line) ∷ []
+ResultsGrow = (limit width : ℕ) (writes : Writes) (entries : List Entry) (e : Entry)
+    → results_after limit width writes (entries ++ e ∷ [])
+    ≡ results_after limit width writes entries
+    ++ result_of limit writes (table_after limit width writes entries) e.line e.does ∷ []
+
+-- so the table after a part of a journal becomes that of the next longer part by the entry that comes next
+abbrev pub PartsGrow : Type 0
+PartsGrow = (limit width : ℕ) (writes : Writes) (entries : List Entry) (i : ℕ) (e : Entry)
+    → slice_get entries i ≡ Some e
+    → table_after limit width writes (take (suc i) entries)
+    ≡ after_line limit width writes (table_after limit width writes (take i entries)) e.line e.does
+
+-- and the result of an entry is what it gives after the part before it
+abbrev pub ResultsStand : Type 0
+ResultsStand = (limit width : ℕ) (writes : Writes) (entries : List Entry) (i : ℕ) (e : Entry)
+    → slice_get entries i ≡ Some e
+    → slice_get (results_after limit width writes entries) i
+    ≡ Some (result_of limit writes (table_after limit width writes (take i entries)) e.line e.does)
+
+-- what holds of the lane and serial of each settle of a journal
+abbrev pub AtSettle : (ℕ → ℕ → Type 0) → Line → Operation → Type 0
+AtSettle P line SettleWrite = P line.lane line.serial
+AtSettle P line does = Unit {0}
+
+abbrev pub AtSettles : (ℕ → ℕ → Type 0) → List Entry → Type 0
+AtSettles P [] = Unit {0}
+AtSettles P (e ∷ entries) = AtSettle P e.line e.does × AtSettles P entries
+
+-- a write is one under both, and one that both accept
+pub record IsSameWrite (one two : Writes) (lane serial : ℕ) : Type 0 where
+  pub accepts : two.accepts lane serial ≡ one.accepts lane serial
+  pub adds : (address : ℕ) → two.adds lane serial address ≡ one.adds lane serial address
+
+-- tables and results depend on the writes that the journal settles alone
+abbrev pub TablesAgree : Type 0
+TablesAgree = (limit width : ℕ) (one two : Writes) (entries : List Entry)
+    → AtSettles (λ lane serial. IsSameWrite one two lane serial) entries
+    → (table_after limit width two entries ≡ table_after limit width one entries)
+    × (results_after limit width two entries ≡ results_after limit width one entries)
+
+-- Writes change the bytes in the boxes alone: numbers, addresses, owners and lives of the boxes, the boxes
+-- got and the counts are those of any other writes and width.
+abbrev pub OutlinesAgree : Type 0
+OutlinesAgree = (limit width other : ℕ) (one two : Writes) (entries : List Entry)
+    → outline (table_after limit other two entries) ≡ outline (table_after limit width one entries)
+
+-- and results but for the bytes depend on which settles are accepted alone
+abbrev pub ResultOutlinesAgree : Type 0
+ResultOutlinesAgree = (limit width other : ℕ) (one two : Writes) (entries : List Entry)
+    → AtSettles (λ lane serial. two.accepts lane serial ≡ one.accepts lane serial) entries
+    → map (λ r. result_outline r) (results_after limit other two entries)
+    ≡ map (λ r. result_outline r) (results_after limit width one entries)
 
 -- the boxes keep their numbers and addresses, whatever comes after
 abbrev pub BoxesStay : Type 0
-BoxesStay = (limit width : ℕ) (writes : Writes) (does : Line → Operation) (lines more : List Line) (n a : ℕ)
-    → slice_get (addresses (table_after limit width writes does lines).boxes) n ≡ Some a
-    → slice_get (addresses (table_after limit width writes does (lines ++ more)).boxes) n ≡ Some a
+BoxesStay = (limit width : ℕ) (writes : Writes) (entries more : List Entry) (n a : ℕ)
+    → slice_get (addresses (table_after limit width writes entries).boxes) n ≡ Some a
+    → slice_get (addresses (table_after limit width writes (entries ++ more)).boxes) n ≡ Some a
 
 -- no address stands at two boxes, and there are no more boxes than the limit
 abbrev pub AddressesDiffer : Type 0
-AddressesDiffer = (limit width : ℕ) (writes : Writes) (does : Line → Operation) (lines : List Line) (i k a : ℕ)
-    → slice_get (addresses (table_after limit width writes does lines).boxes) i ≡ Some a
-    → slice_get (addresses (table_after limit width writes does lines).boxes) k ≡ Some a → i ≡ k
+AddressesDiffer = (limit width : ℕ) (writes : Writes) (entries : List Entry) (i k a : ℕ)
+    → slice_get (addresses (table_after limit width writes entries).boxes) i ≡ Some a
+    → slice_get (addresses (table_after limit width writes entries).boxes) k ≡ Some a → i ≡ k
 
 abbrev pub BoxesWithinLimit : Type 0
-BoxesWithinLimit = (limit width : ℕ) (writes : Writes) (does : Line → Operation) (lines : List Line) → length (table_after limit width writes does lines).boxes ≤ limit
+BoxesWithinLimit = (limit width : ℕ) (writes : Writes) (entries : List Entry)
+    → length (table_after limit width writes entries).boxes ≤ limit
+
+-- an entry that did this
+pub record Did (entries : List Entry) (does : Operation) : Type 0 where
+  pub place : ℕ
+  pub line : Line
+  pub is : slice_get entries place ≡ Some (entry line does)
+
+-- an entry by which a box was registered
+pub record Registering (entries : List Entry) (box : Mailbox) : Type 0 where
+  pub place : ℕ
+  pub command : Command
+  pub is : slice_get entries place
+      ≡ Some (entry (record { lane = box.lane; serial = box.serial; command = command }) (AddBox box.address))
+
+-- each box comes from an entry of its lane and serial that added its address
+abbrev pub BoxesAreRegistered : Type 0
+BoxesAreRegistered = (limit width : ℕ) (writes : Writes) (entries : List Entry) (n : ℕ) (box : Mailbox)
+    → slice_get (table_after limit width writes entries).boxes n ≡ Some box → Registering entries box
+
+-- the boxes that a lane got are those that its own entries registered, in their order
+abbrev pub GotIsOwn : Type 0
+GotIsOwn = (limit width : ℕ) (writes : Writes) (entries : List Entry) (lane : ℕ)
+    → (table_after limit width writes entries).got lane
+    ≡ own_from lane 0 (table_after limit width writes entries).boxes
+
+-- a box that a lane got stands among the boxes, and is the lane's
+pub record OwnBox (t : Table) (lane n : ℕ) : Type 0 where
+  pub box : Mailbox
+  pub is : slice_get t.boxes n ≡ Some box
+  pub owner : box.lane ≡ lane
+
+abbrev pub OwnBoxesStand : Type 0
+OwnBoxesStand = (limit width : ℕ) (writes : Writes) (entries : List Entry) (lane k n : ℕ)
+    → slice_get ((table_after limit width writes entries).got lane) k ≡ Some n
+    → OwnBox (table_after limit width writes entries) lane n
+
+-- a lane gets boxes by its own entries alone
+abbrev pub GotByOwn : Type 0
+GotByOwn = (limit width : ℕ) (writes : Writes) (entries more : List Entry) (lane : ℕ)
+    → ((i : ℕ) (e : Entry) → slice_get more i ≡ Some e → e.line.lane ≡ lane → ⊥)
+    → (table_after limit width writes (entries ++ more)).got lane
+    ≡ (table_after limit width writes entries).got lane
+
+-- what a lane got stays, and it gets more at the end alone
+abbrev pub GotStays : Type 0
+GotStays = (limit width : ℕ) (writes : Writes) (entries more : List Entry) (lane k n : ℕ)
+    → slice_get ((table_after limit width writes entries).got lane) k ≡ Some n
+    → slice_get ((table_after limit width writes (entries ++ more)).got lane) k ≡ Some n
+
+-- a box that isn't live was retired
+abbrev pub RetiredByEntry : Type 0
+RetiredByEntry = (limit width : ℕ) (writes : Writes) (entries : List Entry) (n : ℕ) (box : Mailbox)
+    → slice_get (table_after limit width writes entries).boxes n ≡ Some box → box.live ≡ false
+    → Did entries (RetireBox n)
+
+-- where a read of a box that a lane got finds none, that box was retired before
+abbrev pub NoBoxIsRetired : Type 0
+NoBoxIsRetired = (limit width : ℕ) (writes : Writes) (entries : List Entry) (lane k n : ℕ) (line : Line)
+    → slice_get ((table_after limit width writes entries).got lane) k ≡ Some n
+    → result_of limit writes (table_after limit width writes entries) line (ReadBox n) ≡ NoBox n
+    → Did entries (RetireBox n)

@@ -7,13 +7,26 @@ ghost use Rattle.mailbox_rules.specs.Laws.{
   SharesAddUp,
   BytesAddUp,
   ReadsAddUp,
-  TablesStay,
   TablesGrow,
   ResultsGrow,
+  PartsGrow,
+  ResultsStand,
+  TablesAgree,
+  OutlinesAgree,
+  ResultOutlinesAgree,
   BoxesStay,
   AddressesDiffer,
   BoxesWithinLimit,
+  BoxesAreRegistered,
+  GotIsOwn,
+  GotStays,
+  GotByOwn,
+  OwnBoxesStand,
+  RetiredByEntry,
+  NoBoxIsRetired,
 };
+ghost use Rattle.mailbox_rules.specs.Owned.{BoxesInTurn, GotWithinLimit, OwnersStay};
+ghost use Rattle.mailbox_rules.specs.Widths.{BoxesHaveWidth};
 
 /// The two servers' shares of one journal add up to the plain table, and so does what they give to a read.
 pub fn shares_add_up()
@@ -22,15 +35,21 @@ pub fn shares_add_up()
     ensures reads { ReadsAddUp }
 {}
 
-/// A journal's table and results don't change by requests that come later.
-pub fn tables_stay()
-    ensures { TablesStay }
-{}
-
-/// The table and the results grow line by line.
+/// The table and the results grow entry by entry.
+/// The result of each entry is what it gives after the part of the journal before it.
 pub fn tables_grow()
     ensures table { TablesGrow }
     ensures results { ResultsGrow }
+    ensures parts { PartsGrow }
+    ensures stand { ResultsStand }
+{}
+
+/// Tables and results depend on the writes that are settled alone.
+/// All but the bytes depends on which of them are accepted.
+pub fn tables_agree()
+    ensures settled { TablesAgree }
+    ensures outlines { OutlinesAgree }
+    ensures results { ResultOutlinesAgree }
 {}
 
 /// A box keeps its number and its address for ever.
@@ -42,4 +61,34 @@ pub fn boxes_stay()
 pub fn boxes_differ()
     ensures addresses { AddressesDiffer }
     ensures limit { BoxesWithinLimit }
+{}
+
+/// Each box was registered by an entry of its lane and serial.
+/// A lane got the boxes that its own entries registered, by those entries alone, and keeps them.
+pub fn boxes_are_owned()
+    ensures registered { BoxesAreRegistered }
+    ensures got { GotIsOwn }
+    ensures stays { GotStays }
+    ensures own { GotByOwn }
+    ensures stand { OwnBoxesStand }
+{}
+
+/// A box that isn't live was retired by an entry.
+/// So a read of a box that a lane got finds none only after a retire.
+pub fn boxes_are_retired()
+    ensures entry { RetiredByEntry }
+    ensures no_box { NoBoxIsRetired }
+{}
+
+/// Boxes are registered in the order of their numbers and keep their owners.
+/// No lane gets more of them than the limit.
+pub fn boxes_in_turn()
+    ensures turn { BoxesInTurn }
+    ensures owners { OwnersStay }
+    ensures limit { GotWithinLimit }
+{}
+
+/// Every box keeps its width, whatever is written, read and retired.
+pub fn boxes_have_width()
+    ensures { BoxesHaveWidth }
 {}

@@ -1,8 +1,8 @@
 -- Write bytes that are added to all shares.
-use Rattle.std.proofs.Common.{◌≡◌, ℕ, zero, suc, ◌+◌, ◌<◌, ◌≤◌, true, List, [], ◌∷◌, length, take, slice_index_or, slice_set, arith, refl, sym, ◌∙◌, ap, ap₂, add-one}
+use Rattle.std.proofs.Common.{◌≡◌, ℕ, zero, suc, ◌+◌, ◌<◌, ◌≤◌, List, [], ◌∷◌, length, take, slice_index_or, slice_set, arith, refl, sym, ◌∙◌, ap, ap₂, add-one}
 use Rattle.mailbox_rules.specs.Tables.{Mailbox, xor_bytes, boxes_with}
 use Rattle.box_registry.specs.Boxes.{Box, addresses_of}
-use Rattle.replay_world.specs.Shelf.{mailboxes, all_added}
+use Rattle.replay_world.specs.Shelf.{box_at, mailboxes, all_added}
 
 pub none_added : (adds : ℕ → List ℕ) (shares : List (List ℕ)) → all_added adds [] shares ≡ shares
 unfolding all_added
@@ -40,7 +40,7 @@ unfolding all_added boxes_with
 mailboxes-added adds [] shares h = refl
 mailboxes-added adds (box ∷ boxes) [] h = absurd (omega (arith, h))
 mailboxes-added adds (box ∷ boxes) (share ∷ shares) h =
-    ap (λ (ms : List Mailbox). record { address = box.address; bytes = xor_bytes share (adds box.address); live = true } ∷ ms) (mailboxes-added adds boxes shares (omega (arith, h)))
+    ap (λ (ms : List Mailbox). box_at box.address (xor_bytes share (adds box.address)) ∷ ms) (mailboxes-added adds boxes shares (omega (arith, h)))
 
 pub length-added : (adds : ℕ → List ℕ) (addresses : List ℕ) (shares : List (List ℕ)) → length (all_added adds addresses shares) ≡ length shares
 unfolding all_added

@@ -28,7 +28,7 @@ refused_adds r (Read own) = record { outcomes = let e = length_push r.outcomes (
 carried_adds : (settings : Settings) (r : Run) (request : Request) → Adds r (carried_out settings r request)
 unfolding carried_out
 carried_adds settings r request =
-    let result = last_result (results_of settings (sent_on r request)) in
+    let result = last_result (results_of settings (sent_on settings r request)) in
     record { outcomes = let e = length_push r.outcomes (outcome_at r.outcomes (told_of result) (message_of result)) in omega (arith, e); waiting = refl }
 
 worked_adds : (settings : Settings) (r : Run) (one : Asked) → Adds r (worked_off settings r one)

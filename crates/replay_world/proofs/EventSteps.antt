@@ -78,6 +78,7 @@ waits_follows header r old new one at able seed sent owned leader helper journal
   numbered = at.numbered;
   few = at.few;
   fit = at.fit;
+  addresses = at.addresses;
   askable = askable_push header.settings.width r.waiting one at.askable able;
   width = at.width;
 }
@@ -102,6 +103,7 @@ taken_follows header r old new at seed sent owned leader helper journal outcomes
   numbered = at.numbered;
   few = at.few;
   fit = at.fit;
+  addresses = at.addresses;
   askable = tt;
   width = at.width;
 }

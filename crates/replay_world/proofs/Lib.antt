@@ -1,6 +1,7 @@
 pub mod ByteLemmas
 pub mod ShelfLemmas
 pub mod GrowthLemmas
+pub mod OwnerLemmas
 pub mod RegisterLemmas
 pub mod SharesLemmas
 pub mod JournalLemmas

@@ -41,6 +41,7 @@ told_follows header r old new own at seed waiting sent owned leader helper journ
   numbered = at.numbered;
   few = rw (length_push r.outcomes (outcome_at r.outcomes (NoOwn own) [])) (omega (arith, at.few));
   fit = at.fit;
+  addresses = at.addresses;
   askable = at.askable;
   width = at.width;
 }

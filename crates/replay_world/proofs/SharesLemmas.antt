@@ -5,13 +5,13 @@ use Rattle.express_words.specs.declared.settings.Settings.{Settings}
 use Rattle.dpf_rules.specs.Keys.{honest_keys}
 use Rattle.dpf_rules.specs.Walk.{write_bytes, leaf_of}
 use Rattle.dpf_rules.proofs.WriteLemmas.{write_sum, length-leaf_bytes}
-use Rattle.mailbox_rules.specs.Requests.{Request, Register, Write, Read, Retire, Line, Command, Registers, Begins, Audits, Settles, Reads, Retires, Operation, AddBox, BeginWrite, AuditWrite, SettleWrite, ReadBox, RetireBox, Refuse, operation_of, request_at}
-use Rattle.mailbox_rules.specs.Tables.{Mailbox, Table, Writes, empty_table, new_box, box_of, boxes_with, boxes_cleared, number_of, after_register, after_clearing, after_line, table_from, table_after, xor_bytes, message_at, sum_of, addresses}
+use Rattle.mailbox_rules.specs.Requests.{Request, Register, Write, Read, Retire, Line, Entry, Operation, AddBox, BeginWrite, AuditWrite, SettleWrite, ReadBox, RetireBox, Refuse, request_at}
+use Rattle.mailbox_rules.specs.Tables.{Mailbox, Table, Writes, empty_table, new_box, box_of, boxes_with, boxes_cleared, after_register, after_line, table_from, table_after, xor_bytes, message_at, sum_of, addresses}
 use Rattle.mailbox_rules.specs.Laws.{AreShares}
 use Rattle.mailbox_rules.proofs.Shares.{shares_add_up}
 use Rattle.schedule_text.specs.declared.schedule.Header.{Header}
-use Rattle.replay_world.specs.Run.{Run, does, plain, shared, share_of, root_of, table_by, table_of, shares_of}
-use Rattle.replay_world.specs.View.{IsFit, AreFit}
+use Rattle.replay_world.specs.Run.{Run, plain, shared, share_of, root_of, table_by, table_of, shares_of}
+use Rattle.replay_world.specs.View.{IsFit, AreFit, HasFitAddress, HaveFitAddresses}
 use Rattle.replay_world.proofs.ByteLemmas.{same_sum, sum-zeros, sum-nil, length-sum}
 use Rattle.replay_world.proofs.GrowthLemmas.{IsGrowing, request-before}
 
@@ -32,23 +32,9 @@ pub AreGood : ℕ → List Mailbox → Type 0
 AreGood width [] = Unit {0}
 AreGood width (box ∷ boxes) = ((length box.bytes ≡ width) × (box.address < 2 ^ 128)) × AreGood width boxes
 
-abbrev IsGoodOperation : Operation → Type 0
-IsGoodOperation (AddBox address) = address < 2 ^ 128
-IsGoodOperation operation = Unit {0}
-
-good_operation : (width : ℕ) (command : Command) (request : Option Request) → IsFitIfAny width request → IsGoodOperation (operation_of command request)
-good_operation width Registers (Some (Register address)) fit = fit
-good_operation width Registers request fit = tt
-good_operation width Begins (Some (Write target message)) fit = tt
-good_operation width Begins request fit = tt
-good_operation width Audits (Some (Write target message)) fit = tt
-good_operation width Audits request fit = tt
-good_operation width Settles (Some (Write target message)) fit = tt
-good_operation width Settles request fit = tt
-good_operation width Reads (Some (Read own)) fit = tt
-good_operation width Reads request fit = tt
-good_operation width Retires (Some (Retire own)) fit = tt
-good_operation width Retires request fit = tt
+pub addresses_push : (journal : List Entry) (e : Entry) → HaveFitAddresses journal → HasFitAddress e.does → HaveFitAddresses (journal ++ e ∷ [])
+addresses_push [] e fit here = (here, tt)
+addresses_push (x ∷ journal) e fit here = (fit.0, addresses_push journal e fit.1 here)
 
 -- Both write bytes of a write add to a box what its message does.
 write_adds : (width target : ℕ) (message : List ℕ) (root0 root1 : ℕ) (bytes : List ℕ) (address : ℕ) → target < 2 ^ 128 → length message ≡ width → length bytes ≡ width → address < 2 ^ 128
@@ -92,7 +78,7 @@ adds_length width (Some (Read own)) bytes address fit fits = ap length (sum-nil 
 adds_length width (Some (Retire own)) bytes address fit fits = ap length (sum-nil bytes) ∙ fits
 
 abbrev with_bytes : Mailbox → List ℕ → Mailbox
-with_bytes box bytes = record { address = box.address; bytes = bytes; live = box.live }
+with_bytes box bytes = record box { bytes = bytes }
 
 boxes_same : (width : ℕ) (f g : ℕ → List ℕ) (n : ℕ) (boxes : List Mailbox) → AreGood width boxes
     → ((bytes : List ℕ) (address : ℕ) → length bytes ≡ width → address < 2 ^ 128 → xor_bytes bytes (f address) ≡ xor_bytes bytes (g address))
@@ -111,41 +97,36 @@ good_with width f (suc n) [] good wide = tt
 good_with width f (suc n) (box ∷ boxes) good wide =
     ((elim box.live as (λ t. length (cond t (xor_bytes box.bytes (f box.address)) box.bytes) ≡ width) [ true ↦ wide box.bytes box.address good.0.0 | false ↦ good.0.0 ], good.0.1), good_with width f n boxes good.1 wide)
 
-good_push : (width address : ℕ) (boxes : List Mailbox) → AreGood width boxes → address < 2 ^ 128 → AreGood width (boxes ++ new_box width address ∷ [])
+good_push : (width : ℕ) (line : Line) (address : ℕ) (boxes : List Mailbox) → AreGood width boxes → address < 2 ^ 128 → AreGood width (boxes ++ new_box width line address ∷ [])
 unfolding AreGood
-good_push width address [] good small = ((length-replicate width 0, small), tt)
-good_push width address (box ∷ boxes) good small = (good.0, good_push width address boxes good.1 small)
+good_push width line address [] good small = ((length-replicate width 0, small), tt)
+good_push width line address (box ∷ boxes) good small = (good.0, good_push width line address boxes good.1 small)
 
 good_cleared : (width : ℕ) (stays : Bool) (boxes : List Mailbox) (n : ℕ) → AreGood width boxes → AreGood width (boxes_cleared width stays boxes n)
 unfolding AreGood boxes_cleared
 good_cleared width stays [] n good = tt
 good_cleared width stays (box ∷ boxes) zero good =
-    (elim box.live as (λ t. let b : Mailbox = cond t (record { address = box.address; bytes = replicate width 0; live = stays }) box in (length b.bytes ≡ width) × (b.address < 2 ^ 128)) [ true ↦ (length-replicate width 0, good.0.1) | false ↦ good.0 ], good.1)
+    (elim box.live as (λ t. let b : Mailbox = cond t (record box { bytes = replicate width 0; live = stays }) box in (length b.bytes ≡ width) × (b.address < 2 ^ 128)) [ true ↦ (length-replicate width 0, good.0.1) | false ↦ good.0 ], good.1)
 good_cleared width stays (box ∷ boxes) (suc n) good = (good.0, good_cleared width stays boxes n good.1)
 
-good_registered : (limit width : ℕ) (t : Table) (lane address : ℕ) (place : Option ℕ) → AreGood width t.boxes → address < 2 ^ 128 → AreGood width (after_register limit width t lane address place).boxes
+good_registered : (limit width : ℕ) (t : Table) (line : Line) (address : ℕ) (place : Option ℕ) → AreGood width t.boxes → address < 2 ^ 128 → AreGood width (after_register limit width t line address place).boxes
 unfolding after_register
-good_registered limit width t lane address (Some n) good small = good
-good_registered limit width t lane address None good small =
-    elim (nat_le limit (length t.boxes)) as (λ b. let u : Table = cond b t (record { boxes = t.boxes ++ new_box width address ∷ []; got = λ d. cond (nat_eq d lane) (t.got lane ++ length t.boxes ∷ []) (t.got d); count = t.count }) in AreGood width u.boxes)
-    [ true ↦ good | false ↦ good_push width address t.boxes good small ]
+good_registered limit width t line address (Some n) good small = good
+good_registered limit width t line address None good small =
+    elim (nat_le limit (length t.boxes)) as (λ b. let u : Table = cond b t (record { boxes = t.boxes ++ new_box width line address ∷ []; got = λ d. cond (nat_eq d line.lane) (t.got line.lane ++ length t.boxes ∷ []) (t.got d); count = t.count }) in AreGood width u.boxes)
+    [ true ↦ good | false ↦ good_push width line address t.boxes good small ]
 
-good_clearing : (width : ℕ) (stays : Bool) (t : Table) (place : Option ℕ) → AreGood width t.boxes → AreGood width (after_clearing width stays t place).boxes
-unfolding after_clearing
-good_clearing width stays t None good = good
-good_clearing width stays t (Some n) good = good_cleared width stays t.boxes n good
-
-good_line : (settings : Settings) (sent : List Request) (t : Table) (line : Line) (operation : Operation) → AreFit settings.width sent → AreGood settings.width t.boxes → IsGoodOperation operation
+good_line : (settings : Settings) (sent : List Request) (t : Table) (line : Line) (operation : Operation) → AreFit settings.width sent → AreGood settings.width t.boxes → HasFitAddress operation
     → AreGood settings.width (after_line settings.boxes settings.width (plain sent) t line operation).boxes
 unfolding after_line
-good_line settings sent t line (AddBox address) fit good small = good_registered settings.boxes settings.width t line.lane address (box_of address t.boxes) good small
+good_line settings sent t line (AddBox address) fit good small = good_registered settings.boxes settings.width t line address (box_of address t.boxes) good small
 good_line settings sent t line BeginWrite fit good small = good
 good_line settings sent t line AuditWrite fit good small = good
 good_line settings sent t line SettleWrite fit good small =
     good_with settings.width (message_at (request_at (λ l. sent) line.lane line.serial)) (t.count line.lane) t.boxes good
     (λ bytes address fits. adds_length settings.width (request_at (λ l. sent) line.lane line.serial) bytes address (fit_at settings.width sent (line.serial - 1) fit) fits)
-good_line settings sent t line (ReadBox place) fit good small = good_clearing settings.width true t (number_of t line.lane place) good
-good_line settings sent t line (RetireBox place) fit good small = good_clearing settings.width false t (number_of t line.lane place) good
+good_line settings sent t line (ReadBox box) fit good small = good_cleared settings.width true t.boxes box good
+good_line settings sent t line (RetireBox box) fit good small = good_cleared settings.width false t.boxes box good
 good_line settings sent t line Refuse fit good small = good
 
 pub line_same : (header : Header) (sent : List Request) (t : Table) (line : Line) (operation : Operation) → AreFit header.settings.width sent → AreGood header.settings.width t.boxes
@@ -158,37 +139,36 @@ line_same header sent t line SettleWrite fit good =
     ap (λ (boxes : List Mailbox). let u : Table = record t { boxes = boxes } in u)
     (boxes_same header.settings.width _ _ (t.count line.lane) t.boxes good
     (λ bytes address fits there. adds_same header line.serial (request_at (λ l. sent) line.lane line.serial) bytes address (fit_at header.settings.width sent (line.serial - 1) fit) fits there))
-line_same header sent t line (ReadBox place) fit good = refl
-line_same header sent t line (RetireBox place) fit good = refl
+line_same header sent t line (ReadBox box) fit good = refl
+line_same header sent t line (RetireBox box) fit good = refl
 line_same header sent t line Refuse fit good = refl
 
-pub next_good : (settings : Settings) (sent : List Request) (t : Table) (line : Line) → AreFit settings.width sent → AreGood settings.width t.boxes
-    → AreGood settings.width (after_line settings.boxes settings.width (plain sent) t line (does sent line)).boxes
-next_good settings sent t line fit good =
-    good_line settings sent t line (does sent line) fit good (good_operation settings.width line.command (request_at (λ l. sent) line.lane line.serial) (fit_at settings.width sent (line.serial - 1) fit))
+pub next_good : (settings : Settings) (sent : List Request) (t : Table) (e : Entry) → AreFit settings.width sent → HasFitAddress e.does → AreGood settings.width t.boxes
+    → AreGood settings.width (after_line settings.boxes settings.width (plain sent) t e.line e.does).boxes
+next_good settings sent t e fit small good = good_line settings sent t e.line e.does fit good small
 
-tables_same : (header : Header) (sent : List Request) (lines : List Line) (t : Table) → AreFit header.settings.width sent → AreGood header.settings.width t.boxes
-    → table_from header.settings.boxes header.settings.width (plain sent) (does sent) t lines ≡ table_from header.settings.boxes header.settings.width (both header sent) (does sent) t lines
+tables_same : (header : Header) (sent : List Request) (journal : List Entry) (t : Table) → AreFit header.settings.width sent → HaveFitAddresses journal → AreGood header.settings.width t.boxes
+    → table_from header.settings.boxes header.settings.width (plain sent) t journal ≡ table_from header.settings.boxes header.settings.width (both header sent) t journal
 unfolding table_from
-tables_same header sent [] t fit good = refl
-tables_same header sent (line ∷ lines) t fit good =
+tables_same header sent [] t fit small good = refl
+tables_same header sent (e ∷ journal) t fit small good =
     let width = header.settings.width in
-    let next = after_line header.settings.boxes width (plain sent) t line (does sent line) in
-    let fine = next_good header.settings sent t line fit good in
-    tables_same header sent lines next fit fine
-    ∙ ap (λ u. table_from header.settings.boxes width (both header sent) (does sent) u lines) (line_same header sent t line (does sent line) fit good)
+    let next = after_line header.settings.boxes width (plain sent) t e.line e.does in
+    let fine = next_good header.settings sent t e fit small.0 good in
+    tables_same header sent journal next fit small.1 fine
+    ∙ ap (λ u. table_from header.settings.boxes width (both header sent) u journal) (line_same header sent t e.line e.does fit good)
 
 pub none_good : (width : ℕ) → AreGood width []
 unfolding AreGood
 none_good width = tt
 
 -- the plain table is what both servers' shares add up to
-pub shares_of_run : (header : Header) (r : Run) → AreFit header.settings.width r.sent
+pub shares_of_run : (header : Header) (r : Run) → AreFit header.settings.width r.sent → HaveFitAddresses r.journal
     → AreShares (table_of header.settings r).boxes (shares_of header 0 r).boxes (shares_of header 1 r).boxes
 unfolding table_after
-shares_of_run header r fit =
-    let same : table_of header.settings r ≡ table_by header.settings (both header) r.sent r.lines = tables_same header r.sent r.lines empty_table fit (none_good header.settings.width) in
-    rw same (shares_add_up header.settings.boxes header.settings.width (shared header 0 r.sent) (shared header 1 r.sent) (does r.sent) r.lines (λ lane serial. refl))
+shares_of_run header r fit small =
+    let same : table_of header.settings r ≡ table_by header.settings (both header) r.sent r.journal = tables_same header r.sent r.journal empty_table fit small (none_good header.settings.width) in
+    rw same (shares_add_up header.settings.boxes header.settings.width (shared header 0 r.sent) (shared header 1 r.sent) r.journal (λ lane serial. refl))
 
 pub addresses_shared : (xs ys zs : List Mailbox) → AreShares xs ys zs → (addresses ys ≡ addresses xs) × (addresses zs ≡ addresses xs)
 addresses_shared [] [] [] h = (refl, refl)
@@ -210,8 +190,8 @@ counts_shared xs ys zs h =
     let same = addresses_shared xs ys zs h in
     (sym (length_addresses ys) ∙ ap length same.0 ∙ length_addresses xs, sym (length_addresses zs) ∙ ap length same.1 ∙ length_addresses xs)
 
-pub same_count : (header : Header) (r : Run) → AreFit header.settings.width r.sent → length (shares_of header 0 r).boxes ≡ length (shares_of header 1 r).boxes
-same_count header r fit = let counts = counts_shared _ _ _ (shares_of_run header r fit) in counts.0 ∙ sym counts.1
+pub same_count : (header : Header) (r : Run) → AreFit header.settings.width r.sent → HaveFitAddresses r.journal → length (shares_of header 0 r).boxes ≡ length (shares_of header 1 r).boxes
+same_count header r fit small = let counts = counts_shared _ _ _ (shares_of_run header r fit small) in counts.0 ∙ sym counts.1
 
 pub plain_grows : IsGrowing plain
 unfolding IsGrowing

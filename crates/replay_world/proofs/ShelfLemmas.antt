@@ -6,7 +6,7 @@ use Rattle.mailbox_rules.specs.Laws.{bytes_of}
 use Rattle.box_registry.specs.Boxes.{Box, addresses_of, place_of, answer_at}
 use Rattle.box_registry.specs.declared.fault.RegFault.{RegFault}
 use Rattle.box_registry.specs.declared.fault.RegFault.TheVariants.{Taken, Full}
-use Rattle.replay_world.specs.Shelf.{Shelf, mailboxes, HaveWidth, Registers}
+use Rattle.replay_world.specs.Shelf.{Shelf, box_at, mailboxes, HaveWidth, Registers}
 use Rattle.replay_world.specs.Schedules.{share_or_zeros}
 
 pub length-mailboxes : (boxes : List Box) (shares : List (List ℕ)) → length shares ≡ length boxes → length (mailboxes boxes shares) ≡ length boxes
@@ -28,11 +28,11 @@ address-there (box ∷ boxes) zero address h = h
 address-there (box ∷ boxes) (suc n) address h = address-there boxes n address h
 
 pub mailboxes-push : (boxes : List Box) (shares : List (List ℕ)) (box : Box) (share : List ℕ) → length shares ≡ length boxes
-    → mailboxes (boxes ++ box ∷ []) (shares ++ share ∷ []) ≡ mailboxes boxes shares ++ record { address = box.address; bytes = share; live = true } ∷ []
+    → mailboxes (boxes ++ box ∷ []) (shares ++ share ∷ []) ≡ mailboxes boxes shares ++ box_at box.address share ∷ []
 mailboxes-push [] [] box share h = refl
 mailboxes-push [] (x ∷ shares) box share h = absurd (omega (arith, h))
 mailboxes-push (b ∷ boxes) [] box share h = absurd (omega (arith, h))
-mailboxes-push (b ∷ boxes) (x ∷ shares) box share h = ap (λ (ms : List Mailbox). record { address = b.address; bytes = x; live = true } ∷ ms) (mailboxes-push boxes shares box share (omega (arith, h)))
+mailboxes-push (b ∷ boxes) (x ∷ shares) box share h = ap (λ (ms : List Mailbox). box_at b.address x ∷ ms) (mailboxes-push boxes shares box share (omega (arith, h)))
 
 pub bytes-mailboxes : (boxes : List Box) (shares : List (List ℕ)) (n : ℕ) (share : List ℕ) → length shares ≡ length boxes → n < length boxes → share ≡ slice_index_or shares n share
     → share ≡ bytes_of (slice_get (mailboxes boxes shares) n)
@@ -47,7 +47,7 @@ unfolding boxes_cleared
 cleared-mailboxes width [] shares n = refl
 cleared-mailboxes width (box ∷ boxes) [] n = refl
 cleared-mailboxes width (box ∷ boxes) (x ∷ shares) zero = refl
-cleared-mailboxes width (box ∷ boxes) (x ∷ shares) (suc n) = ap (λ (ms : List Mailbox). record { address = box.address; bytes = x; live = true } ∷ ms) (cleared-mailboxes width boxes shares n)
+cleared-mailboxes width (box ∷ boxes) (x ∷ shares) (suc n) = ap (λ (ms : List Mailbox). box_at box.address x ∷ ms) (cleared-mailboxes width boxes shares n)
 
 pub width-at : (width : ℕ) (shares : List (List ℕ)) (n : ℕ) (share : List ℕ) → HaveWidth width shares → n < length shares → share ≡ slice_index_or shares n share → length share ≡ width
 width-at width [] n share have within is = absurd (omega (arith, within))
@@ -89,7 +89,7 @@ pub share-there : (width : ℕ) (boxes : List Box) (shares : List (List ℕ)) (n
     → (box : Mailbox) × (slice_get (mailboxes boxes shares) n ≡ Some box) × (box.live ≡ true) × (length box.bytes ≡ width)
 share-there width [] shares n h have within = absurd (omega (arith, within))
 share-there width (box ∷ boxes) [] n h have within = absurd (omega (arith, h))
-share-there width (box ∷ boxes) (x ∷ shares) zero h have within = (record { address = box.address; bytes = x; live = true }, refl, refl, have.0)
+share-there width (box ∷ boxes) (x ∷ shares) zero h have within = (box_at box.address x, refl, refl, have.0)
 share-there width (box ∷ boxes) (x ∷ shares) (suc n) h have within = share-there width boxes shares n (omega (arith, h)) have.1 (omega (arith, within))
 
 pub share-some : (width : ℕ) (boxes : List Mailbox) (n : ℕ) → n < length boxes → bytes_of (slice_get boxes n) ≡ share_or_zeros width (slice_get boxes n)

@@ -5,7 +5,7 @@ use Rattle.express_words.specs.declared.settings.Settings.{Settings}
 use Rattle.dpf_rules.specs.Keys.{honest_keys}
 use Rattle.dpf_rules.specs.Walk.{write_bytes}
 use Rattle.mailbox_rules.specs.Requests as requests
-use Rattle.mailbox_rules.specs.Requests.{Request, Begins, Settles, Line, BeginWrite, SettleWrite}
+use Rattle.mailbox_rules.specs.Requests.{Request, Begins, Settles, BeginWrite, SettleWrite, entry}
 use Rattle.mailbox_rules.specs.Tables as rules
 use Rattle.mailbox_rules.specs.Tables.{Mailbox, Table, Writes, Result, boxes_with, after_line, result_of, results_after}
 use Rattle.mailbox_rules.proofs.Folds.{tables_grow, results_grow}
@@ -16,12 +16,14 @@ use Rattle.replay_world.specs.declared.lines.Told.TheVariants.{Done}
 use Rattle.replay_world.specs.declared.lines.Outcome.TheVariants.{Accepted}
 use Rattle.replay_world.specs.declared.lines.Entry.{Entry}
 use Rattle.replay_world.specs.declared.lines.Entry.TheVariants as entries
-use Rattle.replay_world.specs.Shelf.{Shelf}
+use Rattle.replay_world.specs.Shelf.{Shelf, without_owners}
+use Rattle.replay_world.specs.Requests.{line_at}
 use Rattle.replay_world.specs.Lines.{told_of, message_of, journal_of}
-use Rattle.replay_world.specs.Run.{Run, does, plain, shared, share_of, root_of, table_by, table_of, results_of, sent_on, outcome_at, carried_out, last_result}
+use Rattle.replay_world.specs.Run.{Run, plain, shared, share_of, root_of, table_by, table_of, results_of, sent_on, outcome_at, carried_out, last_result}
 use Rattle.replay_world.specs.View.{IsAt, AreNumbered, AreFit, shelf_of}
-use Rattle.replay_world.proofs.GrowthLemmas.{IsGrowing, table-next, results-next, does-last, get-last, numbered-more, line_at}
-use Rattle.replay_world.proofs.SharesLemmas.{shares_of_run, counts_shared, plain_grows, shared_grows}
+use Rattle.replay_world.proofs.GrowthLemmas.{IsGrowing, table-next, results-next, get-last, numbered-more}
+use Rattle.replay_world.proofs.OwnerLemmas.{without-length, without-with}
+use Rattle.replay_world.proofs.SharesLemmas.{shares_of_run, counts_shared, addresses_push, plain_grows, shared_grows}
 use Rattle.replay_world.proofs.JournalLemmas.{length-results, journal_of-push, last_result-push}
 use Rattle.replay_world.proofs.RegisterStep.{all_below_more}
 
@@ -38,39 +40,44 @@ settled : (limit width : ℕ) (writes : Writes) (t : Table) (serial : ℕ) → w
 unfolding after_line
 settled limit width writes t serial accepted = rw accepted refl
 
-two_lines : Run → List Line
-two_lines r = (r.lines ++ line_at (length r.sent + 1) Begins ∷ []) ++ line_at (length r.sent + 1) Settles ∷ []
+abbrev began : ℕ → requests.Entry
+began serial = entry (line_at serial Begins) BeginWrite
 
-two_lines_are : (r : Run) → r.lines ++ line_at (length r.sent + 1) Begins ∷ line_at (length r.sent + 1) Settles ∷ [] ≡ two_lines r
-unfolding two_lines
-two_lines_are r = sym (append_assoc r.lines (line_at (length r.sent + 1) Begins ∷ []) (line_at (length r.sent + 1) Settles ∷ []))
+abbrev settles : ℕ → requests.Entry
+settles serial = entry (line_at serial Settles) SettleWrite
 
-table_written : (settings : Settings) (W : List Request → Writes) (r : Run) (target : ℕ) (message : List ℕ) → IsGrowing W → AreNumbered (length r.sent) r.lines
+two_entries : Run → List requests.Entry
+two_entries r = (r.journal ++ began (length r.sent + 1) ∷ []) ++ settles (length r.sent + 1) ∷ []
+
+two_entries_are : (r : Run) → r.journal ++ began (length r.sent + 1) ∷ settles (length r.sent + 1) ∷ [] ≡ two_entries r
+unfolding two_entries
+two_entries_are r = sym (append_assoc r.journal (began (length r.sent + 1) ∷ []) (settles (length r.sent + 1) ∷ []))
+
+table_written : (settings : Settings) (W : List Request → Writes) (r : Run) (target : ℕ) (message : List ℕ) → IsGrowing W → AreNumbered (length r.sent) r.journal
     → (W (r.sent ++ requests.Write target message ∷ [])).accepts 0 (length r.sent + 1) ≡ true
-    → table_by settings W (r.sent ++ requests.Write target message ∷ []) (r.lines ++ line_at (length r.sent + 1) Begins ∷ line_at (length r.sent + 1) Settles ∷ [])
-    ≡ written (table_by settings W r.sent r.lines) ((W (r.sent ++ requests.Write target message ∷ [])).adds 0 (length r.sent + 1))
-unfolding two_lines
+    → table_by settings W (r.sent ++ requests.Write target message ∷ []) (r.journal ++ began (length r.sent + 1) ∷ settles (length r.sent + 1) ∷ [])
+    ≡ written (table_by settings W r.sent r.journal) ((W (r.sent ++ requests.Write target message ∷ [])).adds 0 (length r.sent + 1))
+unfolding two_entries
 table_written settings W r target message grows numbered accepted =
     let request = requests.Write target message in
     let sent = r.sent ++ request ∷ [] in
     let serial = length r.sent + 1 in
-    ap (table_by settings W sent) (two_lines_are r)
-    ∙ tables_grow settings.boxes settings.width (W sent) (does sent) (r.lines ++ line_at serial Begins ∷ []) (line_at serial Settles)
-    ∙ ap₂ (λ t operation. after_line settings.boxes settings.width (W sent) t (line_at serial Settles) operation) (table-next settings W r.sent request r.lines Begins grows numbered) (does-last r.sent request Settles)
-    ∙ settled settings.boxes settings.width (W sent) (table_by settings W r.sent r.lines) serial accepted
+    ap (table_by settings W sent) (two_entries_are r)
+    ∙ tables_grow settings.boxes settings.width (W sent) (r.journal ++ began serial ∷ []) (settles serial)
+    ∙ ap (λ t. after_line settings.boxes settings.width (W sent) t (line_at serial Settles) SettleWrite) (table-next settings W r.sent request r.journal (began serial) grows numbered)
+    ∙ settled settings.boxes settings.width (W sent) (table_by settings W r.sent r.journal) serial accepted
 
-results_written : (settings : Settings) (r : Run) (target : ℕ) (message : List ℕ) → AreNumbered (length r.sent) r.lines
-    → results_of settings (sent_on r (requests.Write target message))
+results_written : (settings : Settings) (r : Run) (target : ℕ) (message : List ℕ) → AreNumbered (length r.sent) r.journal
+    → results_of settings (sent_on settings r (requests.Write target message))
     ≡ (results_of settings r ++ rules.Began (length (table_of settings r).boxes) ∷ []) ++ rules.Settled true ∷ []
-unfolding two_lines result_of
+unfolding two_entries result_of
 results_written settings r target message numbered =
     let request = requests.Write target message in
     let sent = r.sent ++ request ∷ [] in
     let serial = length r.sent + 1 in
-    ap (results_after settings.boxes settings.width (plain sent) (does sent)) (two_lines_are r)
-    ∙ results_grow settings.boxes settings.width (plain sent) (does sent) (r.lines ++ line_at serial Begins ∷ []) (line_at serial Settles)
-    ∙ ap₂ (λ (results : List Result) operation. results ++ result_of settings.boxes (plain sent) (table_by settings plain sent (r.lines ++ line_at serial Begins ∷ [])) (line_at serial Settles) operation ∷ [])
-    (results-next settings plain r.sent request r.lines Begins plain_grows numbered) (does-last r.sent request Settles)
+    ap (results_after settings.boxes settings.width (plain sent)) (two_entries_are r)
+    ∙ results_grow settings.boxes settings.width (plain sent) (r.journal ++ began serial ∷ []) (settles serial)
+    ∙ ap (λ (results : List Result). results ++ rules.Settled true ∷ []) (results-next settings plain r.sent request r.journal (began serial) plain_grows numbered)
 
 share_is : (header : Header) (server : ℕ) (r : Run) (target : ℕ) (message : List ℕ)
     → (shared header server (r.sent ++ requests.Write target message ∷ [])).adds 0 (length r.sent + 1)
@@ -84,9 +91,9 @@ length_with adds zero boxes = refl
 length_with adds (suc n) [] = refl
 length_with adds (suc n) (box ∷ boxes) = ap suc (length_with adds n boxes)
 
-numbered_push : (count : ℕ) (lines : List Line) (line : Line) → AreNumbered count lines → 1 ≤ line.serial → line.serial ≤ count → AreNumbered count (lines ++ line ∷ [])
-numbered_push count [] line numbered some few = ((some, few), tt)
-numbered_push count (other ∷ lines) line numbered some few = (numbered.0, numbered_push count lines line numbered.1 some few)
+numbered_push : (count : ℕ) (journal : List requests.Entry) (e : requests.Entry) → AreNumbered count journal → 1 ≤ e.line.serial → e.line.serial ≤ count → AreNumbered count (journal ++ e ∷ [])
+numbered_push count [] e numbered some few = ((some, few), tt)
+numbered_push count (other ∷ journal) e numbered some few = (numbered.0, numbered_push count journal e numbered.1 some few)
 
 fit_push : (width : ℕ) (sent : List Request) (target : ℕ) (message : List ℕ) → target < 2 ^ 128 → length message ≡ width → AreFit width sent → AreFit width (sent ++ requests.Write target message ∷ [])
 fit_push width [] target message small wide fit = ((small, wide), tt)
@@ -97,7 +104,11 @@ abbrev pub with_write : Shelf → (ℕ → List ℕ) → Shelf
 with_write shelf adds = record shelf { boxes = boxes_with adds (length shelf.boxes) shelf.boxes }
 
 shelf_written : (settings : Settings) (t u : Table) (old new : Shelf) (adds : ℕ → List ℕ) → old ≡ shelf_of settings t → new ≡ with_write old adds → u ≡ written t adds → new ≡ shelf_of settings u
-shelf_written settings t u old new adds is step next = step ∙ ap (λ (s : Shelf). with_write s adds) is ∙ ap (shelf_of settings) (sym next)
+shelf_written settings t u old new adds is step next =
+    step ∙ ap (λ (s : Shelf). with_write s adds) is
+    ∙ ap (λ (boxes : List Mailbox). let v : Shelf = record { limit = settings.boxes; width = settings.width; boxes = boxes } in v)
+    (ap (λ n. boxes_with adds n (without_owners t.boxes)) (without-length t.boxes) ∙ sym (without-with adds (length t.boxes) t.boxes))
+    ∙ ap (shelf_of settings) (sym next)
 
 abbrev pub note : ℕ → Entry → JournalLine
 note serial entry = record { lane = 0; serial = serial; entry = entry }
@@ -112,7 +123,7 @@ pub write_follows : (header : Header) (r : Run) (old new : State) (target : ℕ)
     → new.outcomes.items ≡ old.outcomes.items ++ outcome_at old.outcomes.items (Done Accepted) [] ∷ []
     → new.journal.items ≡ (old.journal.items ++ note (old.client.sent + 1) (entries.Began count) ∷ []) ++ note (old.client.sent + 1) (entries.Settled true) ∷ []
     → IsAt header new (carried_out header.settings r (requests.Write target message))
-unfolding carried_out two_lines
+unfolding carried_out two_entries
 write_follows header r old new target message count root0 root1 small wide at zero_root one_root leader helper counted seed waiting sent owned outcomes journal =
     let settings = header.settings in
     let request = requests.Write target message in
@@ -123,13 +134,13 @@ write_follows header r old new target message count root0 root1 small wide at ze
     let plain_next = table_written settings plain r target message plain_grows at.numbered refl in
     let zero_next = table_written settings (shared header 0) r target message (shared_grows header 0) at.numbered refl in
     let one_next = table_written settings (shared header 1) r target message (shared_grows header 1) at.numbered refl in
-    let as_many : count ≡ length (table_of settings r).boxes = counted ∙ ap (λ (s : Shelf). length s.boxes) at.helper ∙ (counts_shared _ _ _ (shares_of_run header r at.fit)).1 in
-    let results : results_of settings (sent_on r request) ≡ (results_of settings r ++ rules.Began count ∷ []) ++ rules.Settled true ∷ [] =
+    let as_many : count ≡ length (table_of settings r).boxes = counted ∙ ap (λ (s : Shelf). length s.boxes) at.helper ∙ without-length _ ∙ (counts_shared _ _ _ (shares_of_run header r at.fit at.addresses)).1 in
+    let results : results_of settings (sent_on settings r request) ≡ (results_of settings r ++ rules.Began count ∷ []) ++ rules.Settled true ∷ [] =
     results_written settings r target message at.numbered ∙ ap (λ n. (results_of settings r ++ rules.Began n ∷ []) ++ rules.Settled true ∷ []) (sym as_many) in
-    let result : last_result (results_of settings (sent_on r request)) ≡ rules.Settled true =
+    let result : last_result (results_of settings (sent_on settings r request)) ≡ rules.Settled true =
     ap last_result results ∙ last_result-push (results_of settings r ++ rules.Began count ∷ []) (rules.Settled true) in
-    let begin_length : length (results_of settings r ++ rules.Began count ∷ []) ≡ length (r.lines ++ line_at serial Begins ∷ []) =
-    length_push (results_of settings r) (rules.Began count) ∙ ap (λ n. n + 1) (length-results settings r) ∙ sym (length_push r.lines (line_at serial Begins)) in
+    let begin_length : length (results_of settings r ++ rules.Began count ∷ []) ≡ length (r.journal ++ began serial ∷ []) =
+    length_push (results_of settings r) (rules.Began count) ∙ ap (λ n. n + 1) (length-results settings r) ∙ sym (length_push r.journal (began serial)) in
     let same_length : length new.helper.boxes ≡ length old.helper.boxes = ap (λ (s : Shelf). length s.boxes) helper ∙ length_with _ (length old.helper.boxes) old.helper.boxes in
     record {
       seed = seed ∙ at.seed;
@@ -145,13 +156,14 @@ write_follows header r old new target message count root0 root1 small wide at ze
           ∙ ap₂ (λ told bytes. r.outcomes ++ outcome_at r.outcomes told bytes ∷ []) (ap told_of (sym result)) (ap message_of (sym result));
       journal = journal
           ∙ ap₂ (λ lines n. (lines ++ note (n + 1) (entries.Began count) ∷ []) ++ note (n + 1) (entries.Settled true) ∷ []) at.journal at.sent
-          ∙ sym (ap₂ journal_of (two_lines_are r) results
-          ∙ journal_of-push (r.lines ++ line_at serial Begins ∷ []) (results_of settings r ++ rules.Began count ∷ []) (line_at serial Settles) (rules.Settled true) begin_length
-          ∙ ap (λ lines. lines ++ note serial (entries.Settled true) ∷ []) (journal_of-push r.lines (results_of settings r) (line_at serial Begins) (rules.Began count) (length-results settings r)));
-      numbered = rw (two_lines_are r, length_push r.sent request)
-          (numbered_push (length r.sent + 1) (r.lines ++ line_at serial Begins ∷ []) (line_at serial Settles) (numbered-more (length r.sent) r.lines (line_at serial Begins) at.numbered (omega arith) (omega arith)) (omega arith) (omega arith));
+          ∙ sym (ap₂ journal_of (two_entries_are r) results
+          ∙ journal_of-push (r.journal ++ began serial ∷ []) (results_of settings r ++ rules.Began count ∷ []) (settles serial) (rules.Settled true) begin_length
+          ∙ ap (λ lines. lines ++ note serial (entries.Settled true) ∷ []) (journal_of-push r.journal (results_of settings r) (began serial) (rules.Began count) (length-results settings r)));
+      numbered = rw (two_entries_are r, length_push r.sent request)
+          (numbered_push (length r.sent + 1) (r.journal ++ began serial ∷ []) (settles serial) (numbered-more (length r.sent) r.journal (began serial) at.numbered (omega arith) (omega arith)) (omega arith) (omega arith));
       few = rw (length_push r.sent request, length_push r.outcomes _) (omega (arith, at.few));
       fit = fit_push settings.width r.sent target message small wide at.fit;
+      addresses = rw (two_entries_are r) (addresses_push (r.journal ++ began serial ∷ []) (settles serial) (addresses_push r.journal (began serial) at.addresses tt) tt);
       askable = at.askable;
       width = at.width;
     }

@@ -1,7 +1,8 @@
 -- What is told of the results that the rules of the mailboxes give.
 use Rattle.std.specs.Prelude.{ℕ, List, [], ◌∷◌}
 use Rattle.express_words.specs.declared.refusal.Refusal.TheVariants as refusals
-use Rattle.mailbox_rules.specs.Requests.{Command, Line}
+use Rattle.mailbox_rules.specs.Requests.{Command}
+use Rattle.mailbox_rules.specs.Requests as requests
 use Rattle.mailbox_rules.specs.Tables.{Result, Registered, Taken, Full, Began, Settled, Gave, NoBox}
 use Rattle.replay_world.specs.declared.lines.Outcome.TheVariants as outcomes
 use Rattle.replay_world.specs.declared.lines.Told.{Told}
@@ -22,11 +23,15 @@ entry_of command (Gave box bytes) = entries.WasRead box
 entry_of command (NoBox box) = entries.Refused (shown command) (refusals.NoBox box)
 entry_of command result = entries.Refused (shown command) refusals.NoDeposit
 
-abbrev pub journal_of : List Line → List Result → List JournalLine
+-- what the journal shows of an entry and its result
+abbrev pub shown_line : requests.Entry → Result → JournalLine
+shown_line e result =
+    record { lane = e.line.lane; serial = e.line.serial; entry = entry_of e.line.command result }
+
+abbrev pub journal_of : List requests.Entry → List Result → List JournalLine
 journal_of [] results = []
-journal_of (line ∷ lines) [] = []
-journal_of (line ∷ lines) (result ∷ results) =
-    record { lane = line.lane; serial = line.serial; entry = entry_of line.command result } ∷ journal_of lines results
+journal_of (e ∷ entries) [] = []
+journal_of (e ∷ entries) (result ∷ results) = shown_line e result ∷ journal_of entries results
 
 -- What a client is told of the result of its request's last command, and the bytes that it gets.
 abbrev pub told_of : Result → Told

@@ -34,7 +34,9 @@ refusal_text (NoBox box) = codes "nobox " ++ decimal box
 refusal_text (BadToken box) = codes "badtoken " ++ decimal box
 refusal_text NoDeposit = codes "nodeposit"
 refusal_text NotProved = codes "notproved"
-refusal_text (Rejected o0 o1 t0 t1) = codes "rejected " ++ (number_text o0 ++ (codes " " ++ (number_text o1 ++ (codes " " ++ (number_text t0 ++ (codes " " ++ number_text t1))))))
+refusal_text (Rejected o0 o1 t0 t1) =
+    codes "rejected " ++ (number_text o0 ++ (codes " " ++ (number_text o1
+    ++ (codes " " ++ (number_text t0 ++ (codes " " ++ number_text t1))))))
 refusal_text (Again number) = codes "again " ++ decimal number
 refusal_text (LinkDown count) = codes "linkdown " ++ decimal count
 
@@ -51,7 +53,9 @@ told_text (Done (outcomes.Refused refusal)) message = refused_text refusal
 told_text (NoOwn own) message = codes "no box " ++ decimal own
 
 unfoldable pub outcome_line : OutcomeLine → List ℕ
-outcome_line o = codes "outcome " ++ (decimal o.client ++ (codes " " ++ (decimal o.request ++ (codes " " ++ (told_text o.outcome o.message ++ codes "\n")))))
+outcome_line o =
+    codes "outcome " ++ (decimal o.client ++ (codes " " ++ (decimal o.request
+    ++ (codes " " ++ (told_text o.outcome o.message ++ codes "\n")))))
 
 abbrev pub command_text : Command → List ℕ
 command_text commands.Register = codes "register"
@@ -70,19 +74,25 @@ entry_text (entries.WasRead box) = codes "read " ++ decimal box
 entry_text (entries.Refused command refusal) = command_text command ++ (codes " " ++ refusal_text refusal)
 
 unfoldable pub journal_line : JournalLine → List ℕ
-journal_line j = codes "journal " ++ (decimal j.lane ++ (codes " " ++ (decimal j.serial ++ (codes " " ++ (entry_text j.entry ++ codes "\n")))))
+journal_line j =
+    codes "journal " ++ (decimal j.lane ++ (codes " " ++ (decimal j.serial
+    ++ (codes " " ++ (entry_text j.entry ++ codes "\n")))))
 
 -- a box's number and address, and both servers' shares of it
 unfoldable pub share_line : ℕ → ℕ → List ℕ → List ℕ → List ℕ
-share_line box address zero one = codes "share " ++ (decimal box ++ (codes " " ++ (number_text address ++ (codes " " ++ (encode_lower zero ++ (codes " " ++ (encode_lower one ++ codes "\n")))))))
+share_line box address zero one =
+    codes "share " ++ (decimal box ++ (codes " " ++ (number_text address
+    ++ (codes " " ++ (encode_lower zero ++ (codes " " ++ (encode_lower one ++ codes "\n")))))))
 
 -- the boxes of the helper in order, each beside the leader's share, from this number on
 unfoldable pub share_lines : ℕ → List Mailbox → List Mailbox → List ℕ
 share_lines number [] ones = []
 share_lines number (zero ∷ zeros) [] = []
-share_lines number (zero ∷ zeros) (one ∷ ones) = share_line number one.address zero.bytes one.bytes ++ share_lines (number + 1) zeros ones
+share_lines number (zero ∷ zeros) (one ∷ ones) =
+    share_line number one.address zero.bytes one.bytes ++ share_lines (number + 1) zeros ones
 
--- The outcomes in the order in which they were told, the journal, the boxes with both servers' shares, and the end.
+-- The outcomes in the order in which they were told, the journal, the boxes with both servers' shares, and
+-- the end.
 unfoldable pub output_of : Schedule → List ℕ
 output_of schedule =
     flat_map outcome_line (outcomes_of schedule)

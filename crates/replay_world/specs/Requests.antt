@@ -1,6 +1,6 @@
 -- Requests and commands of a schedule, as the rules of the mailboxes have them.
-use Rattle.std.specs.Prelude.{ℕ, List, [], ◌∷◌, map}
-use Rattle.mailbox_rules.specs.Requests.{Request, Command, Registers, Begins, Audits, Settles, Reads, Retires, Line}
+use Rattle.std.specs.Prelude.{ℕ, List, [], ◌∷◌, map, Some}
+use Rattle.mailbox_rules.specs.Requests.{Request, Command, Registers, Begins, Audits, Settles, Reads, Retires, Line, Entry, entry, operation_of}
 use Rattle.mailbox_rules.specs.Requests as rules
 use Rattle.schedule_text.specs.declared.schedule.Asked.{Asked}
 use Rattle.schedule_text.specs.declared.schedule.Asked.TheVariants.{Register, Write, Read}
@@ -19,9 +19,15 @@ commands_of (rules.Write target message) = Begins ∷ Settles ∷ []
 commands_of (rules.Read own) = Reads ∷ []
 commands_of (rules.Retire own) = Retires ∷ []
 
--- the journal's lines for the request of a serial of the one client
-abbrev pub lines_of : ℕ → Request → List Line
-lines_of serial request = map (λ command. record { lane = 0; serial = serial; command = command }) (commands_of request)
+-- a line of the journal for the one client's request of that serial
+abbrev pub line_at : ℕ → Command → Line
+line_at serial command = record { lane = 0; serial = serial; command = command }
+
+-- the journal's entries for a client's request of that serial, where the client got these boxes so far
+abbrev pub entries_of : List ℕ → ℕ → Request → List Entry
+entries_of got serial request =
+    map (λ command. entry (line_at serial command) (operation_of got command (Some request)))
+    (commands_of request)
 
 -- a command as the journal shows it
 abbrev pub shown : Command → told_commands.Command

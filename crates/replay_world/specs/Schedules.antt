@@ -13,7 +13,8 @@ outcomes_of schedule = (run_of schedule).outcomes
 
 -- the commands in the order in which they were carried out, with their results
 abbrev pub whole_journal : Schedule → List JournalLine
-whole_journal schedule = journal_of (run_of schedule).lines (results_of schedule.header.settings (run_of schedule))
+whole_journal schedule =
+    journal_of (run_of schedule).journal (results_of schedule.header.settings (run_of schedule))
 
 -- the boxes with a server's shares
 abbrev pub boxes_at : Schedule → ℕ → List Mailbox
@@ -25,4 +26,5 @@ share_or_zeros width (Some box) = box.bytes
 
 -- A server's share of a box. One that isn't registered has zeros.
 abbrev pub share_at : Schedule → ℕ → ℕ → List ℕ
-share_at schedule server box = share_or_zeros schedule.header.settings.width (slice_get (boxes_at schedule server) box)
+share_at schedule server box =
+    share_or_zeros schedule.header.settings.width (slice_get (boxes_at schedule server) box)

@@ -1,17 +1,30 @@
-mod Cases
-mod Lists
-mod Stages
-mod Coherent
-mod Moves
-mod Fitting
-mod Handlers
-mod Events
-mod Drain
-mod Laws
-mod Finish
-mod Rounds
-mod Still
-mod Tallies
-mod Journal
-mod Heeded
-mod Outcomes
+pub mod Cases
+pub mod Lists
+pub mod Stages
+pub mod Coherent
+pub mod Moves
+pub mod Fitting
+pub mod Handlers
+pub mod Events
+pub mod Rounds
+pub mod Counts
+pub mod Acts
+pub mod Drain
+pub mod Laws
+pub mod Finish
+pub mod Still
+pub mod Tallies
+pub mod Journal
+pub mod Heeded
+pub mod Outcomes
+pub mod Accounts
+pub mod NoForeign
+pub mod Following
+pub mod Clients
+pub mod Lawful
+pub mod Asked
+pub mod Registers
+pub mod Since
+pub mod LeadOn
+pub mod Ended
+pub mod Worked

@@ -1,9 +1,10 @@
--- The invariant of a run, as one record, and that every event keeps it.
+-- The invariant of a run, as one record. It holds at the start, and every event keeps it, whatever foreign
+-- frames do (proofs/Events).
 use Rattle.std.specs.Prelude.{◌≡◌, ℕ, ◌+◌, ◌*◌, ◌<◌, ◌≤◌, Bool, false, List, length, take, Some, slice_get}
-use Rattle.mailbox_rules.specs.Requests.{Audits, Begins, Command, Line, Settles}
-use Rattle.token_rules.specs.Tokens.{Answer, Answered, Challenge, Deposit, Foreign, HeldDeposit, HeldProof, Injected, Lane, Later, NoOwnBox, Oracle, Ordered, ProofToHelper, ProofToLeader, Replied, Submission, Token, Told, World, start}
-use Rattle.token_rules.specs.Run.{Event, happens, line_of}
-use Rattle.token_rules.specs.Stages.{Checked, Checking, Fits, Invited, Opened, Opening, Proving, Rested, Served, Settled, Settling, Shown, Stage, Trusted, done, far, issued, opens_with, past, rank}
+use Rattle.mailbox_rules.specs.Requests.{Audits, Begins, Command, Line, Settles, lines_of, opens_with}
+use Rattle.token_rules.specs.Tokens.{Answer, Answered, Challenge, Deposit, Foreign, HeldDeposit, HeldProof, Injected, Lane, Later, NoOwnBox, Ordered, ProofToHelper, ProofToLeader, Replied, Submission, Token, Told, World}
+use Rattle.token_rules.specs.Run.{line_of}
+use Rattle.token_rules.specs.Stages.{Checked, Checking, Fits, Invited, IsOpening, Opened, Opening, Proving, Served, Settled, Settling, Shown, Stage, Trusted, done, far, issued, past, rank}
 
 -- what holds of each element
 abbrev pub Each : {X : Type 0} → (X → Type 0) → List X → Type 0
@@ -19,7 +20,14 @@ pub record State : Type 0 where
   pub acknowledged : ℕ
 
 abbrev pub state : World → (ℕ → Stage) → State
-state w p = record { foreign = w.foreign; lanes = w.lanes; stages = p; commands = w.commands; carried = w.carried; acknowledged = w.acknowledged }
+state w p = record {
+  foreign = w.foreign;
+  lanes = w.lanes;
+  stages = p;
+  commands = w.commands;
+  carried = w.carried;
+  acknowledged = w.acknowledged;
+}
 
 abbrev pub at : State → ℕ → ℕ
 at w c = far (w.lanes c) (w.stages c)
@@ -33,7 +41,8 @@ pub record Numbered (w : State) (number : ℕ) (line : Line) : Type 0 where
 -- What a token of the pool tells. Nothing that happens makes it false.
 abbrev pub Says : State → Token → Type 0
 Says w (Deposit c s) = 32 * s + 1 ≤ at w c
-Says w (Submission c s command) = (32 * s + 3 ≤ at w c) × (s ≡ (w.lanes c).serial → command ≡ (w.lanes c).opening)
+Says w (Submission c s command) =
+    (32 * s + 3 ≤ at w c) × (s ≡ (w.lanes c).serial → command ≡ (w.lanes c).opening)
 Says w (ProofToHelper c s) = 32 * s + 7 ≤ at w c
 Says w (ProofToLeader c s) = 32 * s + 9 ≤ at w c
 Says w (Ordered number line) = Numbered w number line
@@ -43,8 +52,8 @@ Says w (HeldProof c s) = 32 * s + 8 ≤ at w c
 Says w (Challenge c s) = (32 * s + 6 ≤ at w c) × (s ≡ (w.lanes c).serial → (w.lanes c).opening ≡ Begins)
 Says w (Answer c s) = 32 * s + 15 ≤ at w c
 Says w (Later c s) = Unit {0}
-Says w (Injected to_leader lane bytes) = Unit {0}
-Says w (Foreign c content) = Unit {0}
+Says w (Injected to_leader lane) = Unit {0}
+Says w (Foreign c) = Unit {0}
 
 -- a token of a client is one of an honest lane
 abbrev pub IsFrom : (ℕ → Bool) → Token → Type 0
@@ -70,7 +79,8 @@ pub record Now (lane : Lane) (here : Stage) (line : Line) (there : Stage) : Type
 -- the command at that place, acknowledged, carried out, or outstanding
 pub record Stands (w : State) (i : ℕ) (line : Line) : Type 0 where
   pub gone : i < w.acknowledged → 32 * line.serial + past line.command ≤ at w line.lane
-  pub held : w.acknowledged ≤ i → i < w.carried → Now (w.lanes line.lane) (w.stages line.lane) line (done line.command)
+  pub held : w.acknowledged ≤ i → i < w.carried
+      → Now (w.lanes line.lane) (w.stages line.lane) line (done line.command)
   pub out : w.carried ≤ i → Now (w.lanes line.lane) (w.stages line.lane) line (issued line.command)
 
 -- one command of the lane stands between these places
@@ -115,29 +125,26 @@ Made w c lane Served = HasAll w c lane.serial lane.opening
 Made w c lane stage = Unit {0}
 
 abbrev pub Backed : State → ℕ → Told → Type 0
-Backed w c (Answered s opening) = HasAll w c s opening
-Backed w c NoOwnBox = Unit {0}
+Backed w c (Answered s opening) = IsOpening opening × HasAll w c s opening
+Backed w c (NoOwnBox own) = Unit {0}
 
--- The invariant. The link's numbers are in order, and the journal is what was carried out. For each lane that isn't foreign: it fits its stage; its commands stand where the stage says, in order;
--- an outstanding command of it is there where the stage says so; the commands of its request so far were acknowledged. Each token of the pool tells the truth, and each outcome has its commands.
+-- The invariant. The link's numbers are in order, and the journal is what was carried out. For each lane that
+-- isn't foreign: it fits its stage; its commands stand where the stage says, in order; an outstanding command
+-- of it is there where the stage says so; the commands of its request so far were acknowledged. Each token of
+-- the pool tells the truth, and each outcome has its commands.
 pub record Coherent (w : World) (p : ℕ → Stage) : Type 0 where
   pub room : 0 < w.window
   pub acknowledged : w.acknowledged ≤ w.carried
   pub carried : w.carried ≤ length w.commands
   pub window : length w.commands ≤ w.acknowledged + w.window
-  pub journal : w.journal ≡ take w.carried w.commands
+  pub journal : lines_of w.journal ≡ take w.carried w.commands
   pub fits : (c : ℕ) → w.foreign c ≡ false → Fits (w.lanes c) (p c)
-  pub lines : (i : ℕ) (line : Line) → slice_get w.commands i ≡ Some line → w.foreign line.lane ≡ false → Stands (state w p) i line
-  pub order : (i k : ℕ) (x y : Line) → i < k → slice_get w.commands i ≡ Some x → slice_get w.commands k ≡ Some y → x.lane ≡ y.lane → w.foreign x.lane ≡ false → 32 * x.serial + past x.command ≤ 32 * y.serial + rank (issued y.command)
+  pub lines : (i : ℕ) (line : Line) → slice_get w.commands i ≡ Some line → w.foreign line.lane ≡ false
+      → Stands (state w p) i line
+  pub order : (i k : ℕ) (x y : Line) → i < k → slice_get w.commands i ≡ Some x
+      → slice_get w.commands k ≡ Some y → x.lane ≡ y.lane → w.foreign x.lane ≡ false
+      → 32 * x.serial + past x.command ≤ 32 * y.serial + rank (issued y.command)
   pub links : (c : ℕ) → w.foreign c ≡ false → Linked (state w p) c (p c)
   pub made : (c : ℕ) → w.foreign c ≡ false → Made (state w p) c (w.lanes c) (p c)
   pub pool : Each (Claims (state w p)) w.pool
-  pub outcomes : Each (λ o. Backed (state w p) o.client o.told) w.outcomes
-
--- the run begins with it, with no request at any client
-abbrev pub StartIsCoherent : Type 0
-StartIsCoherent = (width limit window : ℕ) (foreign : ℕ → Bool) → 0 < window → Coherent (start width limit window foreign) (λ c. Rested)
-
--- and every event keeps it, whatever foreign frames do
-abbrev pub EventsKeep : Type 0
-EventsKeep = (o : Oracle) (w : World) (stages : ℕ → Stage) (event : Event) → Coherent w stages → (next : ℕ → Stage) × Coherent (happens o w event) next
+  pub outcomes : Each (λ o. (w.foreign o.client ≡ false) × Backed (state w p) o.client o.told) w.outcomes

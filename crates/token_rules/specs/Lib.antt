@@ -1,6 +1,11 @@
 pub mod Tokens
 pub mod Rows
 pub mod Run
+pub mod Driven
+pub mod Laws
+pub mod Clients
 pub mod Stages
 pub mod Invariant
-pub mod Laws
+pub mod Lawful
+pub mod Since
+pub mod Worked

@@ -1,4 +1,5 @@
--- What a token does to one row of a server, or to a client's step, and what is answered. A case that comes in no run of clients has no change.
+-- What a token does to one row of a server, or to a client's step, and what is answered. A case that comes in
+-- no run of clients has no change.
 use Rattle.std.specs.Prelude.{ℕ, ◌+◌, nat_lt, nat_le, nat_eq, ◌&&◌, ◌||◌, if◌then◌else◌, Bool}
 use Rattle.mailbox_rules.specs.Requests.{Command, Begins, Audits, Settles, Line}
 use Rattle.token_rules.specs.Tokens.{Row, row, Phase, Deposited, Begun, Proved, Audited, Done, Waiting, Challenged, Auditing}
@@ -33,7 +34,8 @@ helper_proof_at Done r = helper_step r HelperHeldProof
 helper_proof_at phase r = helper_step r HelperNothing
 
 unfoldable pub helper_proof_step : ℕ → Row → HelperStep
-helper_proof_step serial r = if nat_eq serial r.serial then helper_proof_at r.phase r else helper_step r HelperLater
+helper_proof_step serial r =
+    if nat_eq serial r.serial then helper_proof_at r.phase r else helper_step r HelperLater
 
 -- the row after a command that the helper carried out
 abbrev pub carried_phase : Command → Phase
@@ -44,7 +46,8 @@ carried_phase command = Done
 abbrev pub carried_row : Line → Row
 carried_row line = row line.serial (carried_phase line.command)
 
--- Commands are carried out in the order of their numbers alone. The replies to the last ones, as many as the window, are kept.
+-- Commands are carried out in the order of their numbers alone. The replies to the last ones, as many as the
+-- window, are kept.
 pub data Arrival : Type 0 where
   Next : Arrival
   Kept : Arrival
@@ -85,11 +88,13 @@ submission_step full serial command r =
     leader_step (row serial Waiting) (LeaderIssues command)
 
 unfoldable pub leader_proof_at : Bool → Phase → Row → LeaderStep
-leader_proof_at full Challenged r = if full then leader_step r LeaderLater else leader_step (row r.serial Auditing) (LeaderIssues Audits)
+leader_proof_at full Challenged r =
+    if full then leader_step r LeaderLater else leader_step (row r.serial Auditing) (LeaderIssues Audits)
 leader_proof_at full phase r = leader_step r (repeat_says phase)
 
 unfoldable pub leader_proof_step : Bool → ℕ → Row → LeaderStep
-leader_proof_step full serial r = if nat_eq serial r.serial then leader_proof_at full r.phase r else leader_step r LeaderLater
+leader_proof_step full serial r =
+    if nat_eq serial r.serial then leader_proof_at full r.phase r else leader_step r LeaderLater
 
 -- The reply to the oldest outstanding command. That of an audit has the settle issued at once.
 unfoldable pub reply_step : ℕ → Command → LeaderStep
@@ -97,7 +102,8 @@ reply_step serial Begins = leader_step (row serial Challenged) LeaderKept
 reply_step serial Audits = leader_step (row serial Auditing) (LeaderIssues Settles)
 reply_step serial command = leader_step (row serial Done) LeaderKept
 
--- A client, who knows what it heard of its current request. Its steps are: deposit, submission, proof to the helper, proof to the leader.
+-- A client, who knows what it heard of its current request. Its steps are: deposit, submission, proof to the
+-- helper, proof to the leader.
 
 pub data ClientHears : Type 0 where
   HeardHeldDeposit : ClientHears

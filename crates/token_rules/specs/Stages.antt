@@ -1,14 +1,16 @@
 -- Where a client's lane stands: the step of its client and its rows at both servers come from one stage.
-use Rattle.std.specs.Prelude.{◌≡◌, ℕ, zero, suc, ◌+◌, ◌-◌, ◌*◌, ◌<◌}
+use Rattle.std.specs.Prelude.{◌≡◌, ℕ, zero, suc, ◌+◌, ◌-◌, ◌*◌, ◌<◌, Bool, true, false}
 use Rattle.mailbox_rules.specs.Requests.{Audits, Begins, Command, Settles}
 use Rattle.token_rules.specs.Tokens.{Audited, Auditing, Begun, Challenged, Deposited, Done, Idle, Lane, Phase, Proved, Waiting}
 use Rattle.token_rules.specs.Rows.{carried_phase}
 
 -- The stages of a request, in order. What stands between Opened and Served comes in a write alone.
 -- Asked: the client has the request. Noted: the helper has its deposit. Heard: the client knows of it.
--- Opening: the leader issued the opening command. Opened: the helper carried it out. Invited: the leader acknowledged a begin.
--- Proving: the client has the challenge. Shown: the helper has the proof. Trusted: the client knows of it.
--- Checking: the audit was issued. Checked: it was carried out. Settling: the settle was issued. Settled: it was carried out.
+-- Opening: the leader issued the opening command. Opened: the helper carried it out.
+-- Invited: the leader acknowledged a begin. Proving: the client has the challenge.
+-- Shown: the helper has the proof. Trusted: the client knows of it.
+-- Checking: the audit was issued. Checked: it was carried out.
+-- Settling: the settle was issued. Settled: it was carried out.
 -- Served: the leader acknowledged the last command. Rested: the client has its outcome, or was never asked.
 pub data Stage : Type 0 where
   Asked : Stage
@@ -151,7 +153,8 @@ pub record Fits (lane : Lane) (stage : Stage) : Type 0 where
 abbrev pub far : Lane → Stage → ℕ
 far lane stage = 32 * lane.serial + rank stage
 
--- what a command's stages are: where it is issued, where it is carried out, and how far its lane has come at least once it is acknowledged
+-- What a command's stages are: where it is issued, where it is carried out, and how far its lane has come at
+-- least once it is acknowledged.
 abbrev pub issued : Command → Stage
 issued Audits = Checking
 issued Settles = Settling
@@ -167,8 +170,18 @@ past Begins = 6
 past Audits = 12
 past command = 15
 
--- the command that opens the request that a command is for
-abbrev pub opens_with : Command → Command
-opens_with Audits = Begins
-opens_with Settles = Begins
-opens_with command = command
+-- no command of the lane is outstanding
+abbrev pub IsFree : Stage → Type 0
+IsFree Opening = ⊥
+IsFree Opened = ⊥
+IsFree Checking = ⊥
+IsFree Checked = ⊥
+IsFree Settling = ⊥
+IsFree Settled = ⊥
+IsFree stage = Unit {0}
+
+abbrev pub is_out : Stage → Bool
+is_out Opening = true
+is_out Checking = true
+is_out Settling = true
+is_out stage = false

@@ -1,8 +1,8 @@
-use Rattle.std.proofs.Common.{◌≡◌, ◌++◌, ◌∷◌, [], length, List, ℕ, ◌+◌, arith, sym, ◌∙◌, ap, ap₂, true, length-append}
+use Rattle.std.proofs.Common.{◌≡◌, ◌++◌, ◌∷◌, [], length, List, ℕ, ◌+◌, replicate, arith, sym, ◌∙◌, ap, ap₂, length-append}
 use Rattle.std.proofs.lemmas.List.{length-replicate}
-use Rattle.mailbox_rules.specs.Tables.{Mailbox, box_of, new_box}
+use Rattle.mailbox_rules.specs.Tables.{Mailbox, box_of}
 use Rattle.box_registry.specs.Boxes.{Boxes, with_box, answer_at, place_of}
-use Rattle.replay_world.specs.Shelf.{Shelf, mailboxes}
+use Rattle.replay_world.specs.Shelf.{Shelf, box_at, mailboxes}
 use Rattle.replay_world.proofs.ShelfLemmas.{length-mailboxes, box_of-mailboxes, mailboxes-push, width-push, registers-refused, added-next}
 use Rattle.replay_world.proofs.server.Server.register.Goals as goal
 
@@ -12,9 +12,6 @@ shelf width registry shares = record { limit = registry.limit; width = width; bo
 
 abbrev with_boxes : ℕ → ℕ → List Mailbox → Shelf
 with_boxes limit width boxes = record { limit = limit; width = width; boxes = boxes }
-
-abbrev fresh : ℕ → List ℕ → Mailbox
-fresh address share = record { address = address; bytes = share; live = true }
 
 items : (c : goal.In-Ok-push) → c.push.new.self.items ≡ c.self.inside.shares.items ++ c.in_ok-share.share ∷ []
 items c = c.in-Ok-push.ensures.items ∙ ap (λ xs. xs ++ c.in_ok-share.share ∷ []) c.reserve.ensures.items
@@ -52,6 +49,6 @@ returns-in-Ok-push c =
       ap₂ (shelf c.self.inside.width) (registry c) (items c)
           ∙ ap (λ boxes. with_boxes c.self.inside.registry.limit c.self.inside.width boxes)
           (mailboxes-push c.self.inside.registry.boxes c.self.inside.shares.items _ _ c.self.invariant.0
-          ∙ ap (λ share. mailboxes c.self.inside.registry.boxes c.self.inside.shares.items ++ fresh c.args.address share ∷ []) c.in_ok-share.ensures)
-          ∙ ap (λ (s : Shelf). with_boxes s.limit s.width (s.boxes ++ new_box s.width c.args.address ∷ [])) c.self.view_is,
+          ∙ ap (λ share. mailboxes c.self.inside.registry.boxes c.self.inside.shares.items ++ box_at c.args.address share ∷ []) c.in_ok-share.ensures)
+          ∙ ap (λ (s : Shelf). with_boxes s.limit s.width (s.boxes ++ box_at c.args.address (replicate s.width 0) ∷ [])) c.self.view_is,
     )

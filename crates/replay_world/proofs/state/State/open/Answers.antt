@@ -19,6 +19,7 @@ returns c = record {
   numbered = tt;
   few = omega arith;
   fit = tt;
+  addresses = tt;
   askable = tt;
   width = c.requires;
 }

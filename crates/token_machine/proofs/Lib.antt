@@ -1,5 +1,0 @@
-pub mod BoxLemmas
-pub mod WorldLemmas
-pub mod GoingOn
-pub mod OnTheWay
-pub mod Draining
