@@ -1,5 +1,5 @@
 //! Reads an input to its end.
-ghost use Rattle.std.specs.Prelude.{◌≤◌, IfOk, IfErr};
+ghost use Rattle.std.specs.Prelude.{◌≡◌, ◌≢◌, ◌≤◌, IfOk, OnOk, IfErr};
 ghost use Rattle.express_cli.specs.Reading.{GaveAll, Stopped};
 
 use express_words::outside::Source;
@@ -22,6 +22,9 @@ pub fn read_all<S: Source>(alloc: Global, input: &mut S) -> Result<Vec<u8>, Inpu
     ensures read { IfOk result (λ text. GaveAll (S.content input.old) (S.content input.new) text.items) }
     ensures stopped { IfErr result (Stopped (S.content input.old) (S.content input.new) (S.count input.old) (S.count input.new)) }
     ensures later { S.count input.old ≤ S.count input.new }
+    // No fault of the input is passed over, or told as another cause.
+    ensures unfailed { OnOk result (S.count input.new ≡ S.count input.old) }
+    ensures told { IfErr result (λ fault. fault ≢ InputFault.Failed → S.count input.new ≡ S.count input.old) }
 {
     let mut text = Vec::new(alloc);
     let mut buffer = [0u8; 4096];

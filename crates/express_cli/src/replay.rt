@@ -1,5 +1,5 @@
 //! Replays a schedule.
-ghost use Rattle.std.specs.Prelude.{◌≡◌, ◌≤◌, IfOk};
+ghost use Rattle.std.specs.Prelude.{◌≡◌, ◌≢◌, ◌≤◌, IfOk};
 ghost use Rattle.schedule_text.specs.Rules.{KeepsRules};
 ghost use Rattle.replay_world.specs.WorldView.{played, IsWhole};
 ghost use Rattle.express_cli.specs.Ends.{Writes, ReplayMay};
@@ -29,6 +29,7 @@ fn world_after(alloc: Global, schedule: &Schedule) -> Result<World, NoMemory>
 pub fn replay<K: Sink>(alloc: Global, text: &[u8], out: &mut K) -> End
     ensures ends { Writes (ReplayMay text.now) (K.written out.old) (K.written out.new) (K.count out.old) (K.count out.new) result }
     ensures later { K.count out.old ≤ K.count out.new }
+    ensures told { result ≢ End.WriteFault → K.count out.new ≡ K.count out.old }
 {
     let schedule = match read(alloc, text) {
         Ok(schedule) => schedule,

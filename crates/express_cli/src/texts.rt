@@ -1,5 +1,5 @@
 //! Writes the texts with which a run ends.
-ghost use Rattle.std.specs.Prelude.{◌≡◌, ◌≢◌, ◌≤◌, IfOk, string_bytes};
+ghost use Rattle.std.specs.Prelude.{◌≡◌, ◌≢◌, ◌≤◌, ◌⊎◌, IfOk, string_bytes};
 ghost use Rattle.express_cli.specs.Ends.{Writes, Said, BadLineMay, bad_line};
 
 use crate::End;
@@ -20,6 +20,8 @@ pub fn say<K: Sink>(out: &mut K, text: &str, end: End) -> End
     requires { end ≢ End.WriteFault }
     ensures says { Writes (Said end text.now) (K.written out.old) (K.written out.new) (K.count out.old) (K.count out.new) result }
     ensures later { K.count out.old ≤ K.count out.new }
+    ensures only { (result ≡ end) ⊎ (result ≡ End.WriteFault) }
+    ensures told { result ≢ End.WriteFault → K.count out.new ≡ K.count out.old }
 {
     match out.put(text.as_bytes()) {
         Ok(()) => end,
@@ -37,6 +39,7 @@ fn bad_line(alloc: Global, line: u32) -> Result<String, AllocError>
 pub fn say_bad_line<K: Sink>(alloc: Global, out: &mut K, line: u32) -> End
     ensures says { Writes (BadLineMay line) (K.written out.old) (K.written out.new) (K.count out.old) (K.count out.new) result }
     ensures later { K.count out.old ≤ K.count out.new }
+    ensures told { result ≢ End.WriteFault → K.count out.new ≡ K.count out.old }
 {
     match bad_line(alloc, line) {
         Err(_) => say(out, OUT_OF_MEMORY, End::OutOfMemory),

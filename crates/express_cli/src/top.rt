@@ -1,5 +1,5 @@
 //! The top call.
-ghost use Rattle.std.specs.Prelude.{◌≡◌, ℕ, ◌+◌, ◌<◌, ◌≤◌, ◌∷◌, [], List, length, Contains, map, string_bytes, IfSome};
+ghost use Rattle.std.specs.Prelude.{◌≡◌, ◌≢◌, ℕ, ◌+◌, ◌<◌, ◌≤◌, ◌∷◌, [], List, length, Contains, map, string_bytes, IfSome};
 ghost use Rattle.express_words.specs.Causes.{Rose};
 ghost use Rattle.express_words.specs.Streams.{Took, TookPrefix};
 ghost use Rattle.schedule_text.specs.Spelling.{SpellsSchedule, IsFirstBadLine};
@@ -25,8 +25,11 @@ use std::alloc::Global;
 
 // Does what the words ask for.
 fn finish<S: Source, K: Sink>(alloc: Global, words: &Vec<String>, input: &mut S, out: &mut K) -> End
-    ensures { Writes (RunMay (map string_bytes words.now.items) (S.content input.old) (S.content input.new) (S.count input.old) (S.count input.new))
+    ensures ends { Writes (RunMay (map string_bytes words.now.items) (S.content input.old) (S.content input.new) (S.count input.old) (S.count input.new))
         (K.written out.old) (K.written out.new) (K.count out.old) (K.count out.new) result }
+    // A fault of the input or of the sink is told as that, and as nothing else.
+    ensures source { result ≢ End.ReadFault → result ≢ End.WriteFault → S.count input.new ≡ S.count input.old }
+    ensures sink { result ≢ End.WriteFault → K.count out.new ≡ K.count out.old }
 {
     match command_of(alloc, words) {
         Err(_) => return say(out, OUT_OF_MEMORY, End::OutOfMemory),
@@ -92,6 +95,9 @@ pub fn run<S: Source, K: Sink, N: Net>(
     ensures out_of_memory { result ≡ 7 → Took (K.written out.old) (K.written out.new) out_of_memory_text }
     ensures too_long { result ≡ 8 → Asks (map string_bytes words.now.items) Replay
         × GaveSome (S.content input.old) (S.content input.new) (λ n. n ≡ most_bytes + 1) × Took (K.written out.old) (K.written out.new) too_long_text }
+    // No fault is passed over: the input's count rises only where the status is 4 or 5, the sink's only where it is 5.
+    ensures source_unfailed { result ≢ 4 → result ≢ 5 → S.count input.new ≡ S.count input.old }
+    ensures sink_unfailed { result ≢ 5 → K.count out.new ≡ K.count out.old }
     ensures net_rests { _net.new ≡ _net.old }
     ensures too_long_only { GaveMore (S.content input.old) (S.content input.new) → Contains (8 ∷ 5 ∷ 7 ∷ []) result }
 {

@@ -17,6 +17,14 @@ Adds old None call = Unit {0}
 Adds None (Some new) call = ⊥
 Adds (Some old) (Some new) call = new ≡ old ++ call ∷ []
 
+-- A net that tells its calls gives connections that tell their bytes: none given and none taken yet.
+-- So what a connection took and has left can be said of it until its close.
+abbrev pub GivesTelling : Option (List Call) → Option Stream → Option (List ℕ) → Type 0
+GivesTelling None content written = Unit {0}
+GivesTelling (Some calls) None written = ⊥
+GivesTelling (Some calls) (Some stream) None = ⊥
+GivesTelling (Some calls) (Some stream) (Some bytes) = (stream.given ≡ []) × (bytes ≡ [])
+
 -- From old to new a connection was closed, of which the net can tell only what the connection tells.
 abbrev pub AddsClose : Option (List Call) → Option (List Call) → Option Stream → Option (List ℕ) → ℕ → Type 0
 AddsClose old None content written count = Unit {0}

@@ -4,3 +4,4 @@ pub mod Limits
 pub mod Memory
 pub mod Noted
 pub mod Streams
+pub mod Texts

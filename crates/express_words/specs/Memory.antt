@@ -1,11 +1,8 @@
 -- What the outside in memory does at each call.
-use Rattle.std.specs.Prelude.{◌≡◌, ℕ, ◌+◌, ◌-◌, ◌^◌, ◌<◌, ◌≤◌, ◌⊎◌, ◌==◌, min, Bool, true, false, List, [], ◌∷◌, ◌++◌, take, drop, length, Contains, Option, Some, None}
+use Rattle.std.specs.Prelude.{◌≡◌, ℕ, ◌+◌, ◌-◌, ◌<◌, ◌≤◌, ◌⊎◌, ◌==◌, Bool, true, false, List, [], ◌∷◌, ◌++◌, take, drop, length, Contains, Option, Some, None}
 use Rattle.express_words.specs.Streams.{Stream}
 use Rattle.express_words.specs.Calls.{Call, Closed}
-
--- one more, up to the last value of a 64-bit counter
-abbrev pub next : ℕ → ℕ
-next n = min (n + 1) (2 ^ 64 - 1)
+use Rattle.express_words.specs.Causes.{next}
 
 -- how many calls were made, the numbers of the calls that are to fail, from 1, and how many failed
 pub record Tally : Type 0 where
@@ -27,6 +24,10 @@ passed t = record { made = next t.made; failing = t.failing; faults = t.faults }
 -- after a call that failed
 abbrev pub failed : Tally → Tally
 failed t = record { made = next t.made; failing = t.failing; faults = next t.faults }
+
+-- one fault more, of no call
+abbrev pub faulted : Tally → Tally
+faulted t = record { made = t.made; failing = t.failing; faults = next t.faults }
 
 -- a source that gave some more of its bytes
 abbrev pub advanced : ℕ → Stream → Stream

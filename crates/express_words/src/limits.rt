@@ -1,4 +1,5 @@
 //! The limits of a system of mailboxes.
+ghost use Rattle.std.specs.Prelude.{◌≡◌};
 
 /// A message has at least so many bytes.
 pub const LEAST_WIDTH: u32 = 16;
@@ -14,3 +15,12 @@ pub const MOST_LANES: u16 = 256;
 
 /// At most so many commands are outstanding on the link.
 pub const MOST_WINDOW: u8 = 32;
+
+/// What the limits are.
+pub fn limits_are()
+    ensures least_width { LEAST_WIDTH ≡ 16 }
+    ensures most_width { MOST_WIDTH ≡ 4096 }
+    ensures most_boxes { MOST_BOXES ≡ 4096 }
+    ensures most_lanes { MOST_LANES ≡ 256 }
+    ensures most_window { MOST_WINDOW ≡ 32 }
+{}

@@ -113,6 +113,7 @@ impl World {
         ensures memory { result ≡ Err PutFault.NoMemory → out.new ≡ out.old }
         ensures later { K.count out.old ≤ K.count out.new }
         ensures cause { result ≡ Err PutFault.Failed → Rose (K.count out.old) (K.count out.new) }
+        ensures unfailed { OnOk result (K.count out.new ≡ K.count out.old) }
     {
         match self.text(alloc) {
             Err(_) => Err(PutFault::NoMemory),

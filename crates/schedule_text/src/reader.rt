@@ -111,4 +111,5 @@ pub fn read_exactly()
     ensures only { (text : List ℕ) (schedule : Schedule) → SpellsSchedule schedule text → schedule_of text ≡ Ok schedule }
     ensures bad { (text : List ℕ) (n : ℕ) → schedule_of text ≡ Err n → IsFirstBadLine n text }
     ensures only_bad { (text : List ℕ) (n : ℕ) → IsFirstBadLine n text → schedule_of text ≡ Err n }
+    ensures most_events { MOST_EVENTS ≡ 20000 }
 {}

@@ -1,6 +1,7 @@
 //! The calls on an object in memory: how many were made and failed, and which are to fail.
 ghost use Rattle.std.specs.Prelude.{◌≡◌, ◌≤◌, ◌↔◌, IfOk, IsTrue, Contains};
-ghost use Rattle.express_words.specs.Memory.{Tally, next, started, IsListed, failed};
+ghost use Rattle.express_words.specs.Causes.{next};
+ghost use Rattle.express_words.specs.Memory.{Tally, started, IsListed, faulted};
 
 use crate::NoMemory;
 use std::alloc::Global;
@@ -45,7 +46,7 @@ impl CallLog {
     /// Counts a fault.
     pub fn fail(&mut self)
         ensures later { self.old.faults ≤ self.new.faults }
-        ensures counted { self.new ≡ record { made = self.old.made; failing = self.old.failing; faults = next self.old.faults } }
+        ensures counted { self.new ≡ faulted self.old }
     {
         self.faults = self.faults.saturating_add(1);
     }

@@ -1,6 +1,6 @@
 //! A connection in memory.
 ghost use Rattle.std.specs.Prelude.{◌≡◌, ℕ, ◌-◌, ◌<◌, ◌≤◌, ◌⊎◌, ◌↔◌, min, [], ◌++◌, length, take, drop, Some, IfOk, OnOk, OnErr, IsErr};
-ghost use Rattle.express_words.specs.Causes.{HasCause};
+ghost use Rattle.express_words.specs.Causes.{HasCause, CountsFault};
 ghost use Rattle.express_words.specs.Streams.{Gave, IsAtEnd, Took, TookPrefix};
 ghost use Rattle.express_words.specs.Memory.{ConnState, IsListed, started, advanced, passed, failed, fresh};
 
@@ -89,6 +89,7 @@ impl Source for MemoryConn {
         ensures failed { OnErr result (Gave (Some self.old.content) (Some self.new.content) []) }
         ensures writes_nothing { self.new.written ≡ self.old.written }
         ensures cause { HasCause self.old.tally.faults self.new.tally.faults result }
+        ensures counts { CountsFault self.old.tally.faults self.new.tally.faults result }
         ensures fails { IsErr result ↔ IsListed self.old.tally }
         ensures amount { IfOk result (λ n. n ≡ min (length self.old.content.left) (length buf.old)) }
         ensures copied { IfOk result (λ n. buf.new ≡ take n self.old.content.left ++ drop n buf.old) }
@@ -110,6 +111,7 @@ impl Sink for MemoryConn {
         ensures failed { OnErr result (TookPrefix (Some self.old.written) (Some self.new.written) bytes.now) }
         ensures gives_nothing { self.new.content ≡ self.old.content }
         ensures cause { HasCause self.old.tally.faults self.new.tally.faults result }
+        ensures counts { CountsFault self.old.tally.faults self.new.tally.faults result }
         ensures fails { IsErr result ↔ (IsListed self.old.tally ⊎ (self.old.room < length bytes.now)) }
         ensures after { OnOk result (self.new ≡ record { content = self.old.content; written = self.old.written ++ bytes.now; room = self.old.room - length bytes.now; tally = passed self.old.tally }) }
         ensures stays { OnErr result (self.new ≡ record { content = self.old.content; written = self.old.written; room = self.old.room; tally = failed self.old.tally }) }

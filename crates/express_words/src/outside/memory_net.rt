@@ -1,9 +1,9 @@
 //! A net in memory.
 ghost use Rattle.std.specs.Prelude.{◌≡◌, ◌≢◌, ℕ, ◌<◌, ◌≤◌, ◌⊎◌, ◌↔◌, List, [], ◌∷◌, length, true, false, IfOk, OnOk, OnErr, Option, Some, None, IsNone, IfSome, OnSome, IfNone, IsTrue, IsErr, is_err};
-ghost use Rattle.express_words.specs.Causes.{HasCause, CountsFailure, Rose};
+ghost use Rattle.express_words.specs.Causes.{HasCause, CountsFault, CountsFailure, Rose, next};
 ghost use Rattle.express_words.specs.Streams.{Stream};
-ghost use Rattle.express_words.specs.Calls.{Call, Listened, Accepted, Dialled, Adds, AddsClose};
-ghost use Rattle.express_words.specs.Memory.{NetState, ConnState, Ledger, LacksRoom, IsListed, started, passed, failed, next, noted, unnoted, NotesIfRoom, GivesFirst, lending, closing, told};
+ghost use Rattle.express_words.specs.Calls.{Call, Listened, Accepted, Dialled, Adds, GivesTelling, AddsClose};
+ghost use Rattle.express_words.specs.Memory.{NetState, ConnState, Ledger, LacksRoom, IsListed, started, passed, failed, faulted, noted, unnoted, NotesIfRoom, GivesFirst, lending, closing, told};
 
 use crate::NoMemory;
 use crate::outside::call_log::CallLog;
@@ -116,6 +116,7 @@ impl Net for MemoryNet {
         ensures call { Adds (told self.old.ledger) (told self.new.ledger) (Listened at.now (is_err result)) }
         ensures door { CountsFailure self.old.doors self.new.doors result }
         ensures cause { HasCause self.old.tally.faults self.new.tally.faults result }
+        ensures counts { CountsFault self.old.tally.faults self.new.tally.faults result }
         ensures fails { IsErr result ↔ (IsListed self.old.tally ⊎ LacksRoom self.old.ledger 1 (length at.now)) }
         ensures after { OnOk result (self.new ≡ record { waiting = self.old.waiting; ledger = noted (Listened at.now false) (length at.now) self.old.ledger; tally = passed self.old.tally; doors = self.old.doors }) }
         ensures stays { OnErr result (self.new ≡ record { waiting = self.old.waiting; ledger = self.new.ledger; tally = failed self.old.tally; doors = next self.old.doors }) }
@@ -136,9 +137,11 @@ impl Net for MemoryNet {
         ensures whole { IfOk result (λ conn. conn.tally.faults ≡ 0) }
         ensures unread { IfOk result (λ conn. conn.content.given ≡ []) }
         ensures unwritten { IfOk result (λ conn. conn.written ≡ []) }
+        ensures tells { IfOk result (λ conn. GivesTelling (told self.new.ledger) (Some conn.content) (Some conn.written)) }
         ensures call { Adds (told self.old.ledger) (told self.new.ledger) (Accepted (is_err result)) }
         ensures door { CountsFailure self.old.doors self.new.doors result }
         ensures cause { HasCause self.old.tally.faults self.new.tally.faults result }
+        ensures counts { CountsFault self.old.tally.faults self.new.tally.faults result }
         ensures fails { IsErr result ↔ (IsListed self.old.tally ⊎ (LacksRoom self.old.ledger 2 0 ⊎ (self.old.waiting ≡ []))) }
         ensures gives { IfOk result (GivesFirst self.old.waiting self.new.waiting) }
         ensures after { OnOk result (self.new ≡ record { waiting = self.new.waiting; ledger = lending (noted (Accepted false) 0 self.old.ledger); tally = passed self.old.tally; doors = self.old.doors }) }
@@ -159,9 +162,11 @@ impl Net for MemoryNet {
         ensures whole { IfOk result (λ conn. conn.tally.faults ≡ 0) }
         ensures unread { IfOk result (λ conn. conn.content.given ≡ []) }
         ensures unwritten { IfOk result (λ conn. conn.written ≡ []) }
+        ensures tells { IfOk result (λ conn. GivesTelling (told self.new.ledger) (Some conn.content) (Some conn.written)) }
         ensures call { Adds (told self.old.ledger) (told self.new.ledger) (Dialled peer.now (is_err result)) }
         ensures door { self.new.doors ≡ self.old.doors }
         ensures cause { HasCause self.old.tally.faults self.new.tally.faults result }
+        ensures counts { CountsFault self.old.tally.faults self.new.tally.faults result }
         ensures fails { IsErr result ↔ (IsListed self.old.tally ⊎ (LacksRoom self.old.ledger 2 (length peer.now) ⊎ (self.old.waiting ≡ []))) }
         ensures gives { IfOk result (GivesFirst self.old.waiting self.new.waiting) }
         ensures after { OnOk result (self.new ≡ record { waiting = self.new.waiting; ledger = lending (noted (Dialled peer.now false) (length peer.now) self.old.ledger); tally = passed self.old.tally; doors = self.old.doors }) }
@@ -178,6 +183,8 @@ impl Net for MemoryNet {
         ensures later { self.old.tally.faults ≤ self.new.tally.faults }
         ensures whole { conn.tally.faults ≡ 0 → self.new.tally.faults ≡ self.old.tally.faults }
         ensures broken { conn.tally.faults ≢ 0 → Rose self.old.tally.faults self.new.tally.faults }
+        ensures kept { conn.tally.faults ≡ 0 → self.new.tally ≡ self.old.tally }
+        ensures counted { conn.tally.faults ≢ 0 → self.new.tally ≡ faulted self.old.tally }
         ensures noted { 1 ≤ self.old.ledger.lent → self.new.ledger ≡ closing conn self.old.ledger }
         ensures foreign { self.old.ledger.lent ≡ 0 → self.new.ledger ≡ unnoted self.old.ledger }
         ensures waiting { self.new.waiting ≡ self.old.waiting }

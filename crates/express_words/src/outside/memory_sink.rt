@@ -1,6 +1,6 @@
 //! A sink in memory.
 ghost use Rattle.std.specs.Prelude.{◌≡◌, ℕ, ◌-◌, ◌<◌, ◌⊎◌, ◌↔◌, [], ◌++◌, length, Some, IfOk, OnOk, OnErr, IsErr};
-ghost use Rattle.express_words.specs.Causes.{HasCause};
+ghost use Rattle.express_words.specs.Causes.{HasCause, CountsFault};
 ghost use Rattle.express_words.specs.Streams.{Took, TookPrefix};
 ghost use Rattle.express_words.specs.Memory.{SinkState, IsListed, started, passed, failed};
 
@@ -60,6 +60,7 @@ impl Sink for MemorySink {
         ensures took { OnOk result (Took (Some self.old.written) (Some self.new.written) bytes.now) }
         ensures failed { OnErr result (TookPrefix (Some self.old.written) (Some self.new.written) bytes.now) }
         ensures cause { HasCause self.old.tally.faults self.new.tally.faults result }
+        ensures counts { CountsFault self.old.tally.faults self.new.tally.faults result }
         ensures fails { IsErr result ↔ (IsListed self.old.tally ⊎ (self.old.room < length bytes.now)) }
         ensures after { OnOk result (self.new ≡ record { written = self.old.written ++ bytes.now; room = self.old.room - length bytes.now; tally = passed self.old.tally }) }
         ensures stays { OnErr result (self.new ≡ record { written = self.old.written; room = self.old.room; tally = failed self.old.tally }) }

@@ -1,6 +1,6 @@
 //! A source in memory.
 ghost use Rattle.std.specs.Prelude.{◌≡◌, ℕ, ◌<◌, ◌≤◌, ◌↔◌, min, [], ◌++◌, length, take, drop, Some, IfOk, OnErr, IsErr};
-ghost use Rattle.express_words.specs.Causes.{HasCause};
+ghost use Rattle.express_words.specs.Causes.{HasCause, CountsFault};
 ghost use Rattle.express_words.specs.Streams.{Gave, IsAtEnd};
 ghost use Rattle.express_words.specs.Memory.{SourceState, IsListed, started, advanced, passed, failed};
 
@@ -54,6 +54,7 @@ impl Source for MemorySource {
         ensures end { IfOk result (λ n. n ≡ 0 → 0 < length buf.old → IsAtEnd (Some self.new.content)) }
         ensures failed { OnErr result (Gave (Some self.old.content) (Some self.new.content) []) }
         ensures cause { HasCause self.old.tally.faults self.new.tally.faults result }
+        ensures counts { CountsFault self.old.tally.faults self.new.tally.faults result }
         ensures fails { IsErr result ↔ IsListed self.old.tally }
         ensures amount { IfOk result (λ n. n ≡ min (length self.old.content.left) (length buf.old)) }
         ensures copied { IfOk result (λ n. buf.new ≡ take n self.old.content.left ++ drop n buf.old) }

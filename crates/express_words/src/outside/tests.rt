@@ -95,3 +95,26 @@ fn net_in_memory(rt: HostRuntime) -> Result<(), Fail> {
     }
     Ok(())
 }
+
+// The net's count rises once for a connection with two faults, and the next call is numbered as before.
+#[test]
+fn connection_from_a_net(rt: HostRuntime) -> Result<(), Fail> {
+    let alloc = rt.alloc();
+    let mut conns = Vec::new(alloc);
+    let conn = MemoryConn::new(alloc, b"abc", 1, &[3, 4])?;
+    conns.push(conn).map_err(AllocError::from)?;
+    let mut net = MemoryNet::new(alloc, conns, 4, 4, &[2])?;
+    let mut conn = net.dial("them")?;
+    let mut buf = [0u8; 2];
+    assert_eq!(rt; conn.take(&mut buf), Ok(2));
+    assert_eq!(rt; conn.put(b"x"), Ok(()));
+    assert_eq!(rt; conn.put(b""), Err(Failed));
+    assert_eq!(rt; conn.take(&mut buf), Err(Failed));
+    net.close(conn);
+    assert_eq!(rt; net.faults(), 1);
+    assert_eq!(rt; net.closed()[0].given(), b"ab".as_slice());
+    assert_eq!(rt; net.closed()[0].written(), b"x".as_slice());
+    assert_eq!(rt; net.listen(""), Err(Failed));
+    assert_eq!(rt; net.faults(), 2);
+    Ok(())
+}

@@ -1,4 +1,4 @@
-use Rattle.std.proofs.Common.{◌≤◌, ◌+◌, ◌-◌, length}
+use Rattle.std.proofs.Common.{◌≡◌, ◌≤◌, ◌+◌, ◌-◌, length}
 use Rattle.express_words.specs.Streams.{Gave}
 use Rattle.express_cli.specs.Reading.{most_bytes}
 use Rattle.express_cli.proofs.reading.read_all.Given as goal
@@ -6,7 +6,7 @@ use Rattle.express_cli.proofs.reading.read_all.Given as goal
 abbrev pub invariant-reading : goal.invariant-reading
 invariant-reading g l = record {
   gave : Gave (g.S.Counted.content l.fn.input) (g.S.Counted.content l.input) l.text.items;
-  later : g.S.Counted.count l.fn.input ≤ g.S.Counted.count l.input;
+  unfailed : g.S.Counted.count l.input ≡ g.S.Counted.count l.fn.input;
   short : length l.text.items ≤ most_bytes + 1;
 }
 
