@@ -1,4 +1,11 @@
-//! A source over any reader and a sink over any writer, each with a count of its faults. Neither tells its bytes.
+//! A source over any reader and a sink over any writer, each with a count of its faults. As a source and a sink
+//! neither tells its bytes; over a reader or a writer that is known to have some, the clauses `bytes` say what of
+//! them was given and taken.
+ghost use Rattle.std.specs.Prelude.{◌≤◌, length, IfOk, MatchBool, MatchResult};
+ghost use Rattle.std.specs.Io.KnownBytes.{ReadConsumes};
+ghost use Rattle.express_words.specs.Causes.{HasCause, CountsFault};
+ghost use Rattle.express_words.specs.Streams.{Took, TookPrefix};
+
 use express_words::outside::{Counted, Failed, Sink, Source};
 use std::io::{Read, Write};
 
@@ -24,7 +31,12 @@ impl<R: Read> Counted for ReaderSource<R> {
 }
 
 impl<R: Read> Source for ReaderSource<R> {
-    fn take(&mut self, buf: &mut [u8]) -> Result<usize, Failed> {
+    fn take(&mut self, buf: &mut [u8]) -> Result<usize, Failed>
+        ensures bound { IfOk result (λ n. n ≤ length buf.new) }
+        ensures bytes { ReadConsumes (R.remaining self.old.inner) (R.remaining self.new.inner) result buf.new }
+        ensures cause { HasCause self.old.faults self.new.faults result }
+        ensures counts { CountsFault self.old.faults self.new.faults result }
+    {
         match self.inner.read(buf) {
             Ok(count) => Ok(count),
             Err(_) => {
@@ -57,19 +69,27 @@ impl<W: Write> Counted for WriterSink<W> {
 }
 
 // Writes all of the bytes, and whether that went well.
-fn write_whole<W: Write>(inner: &mut W, bytes: &[u8]) -> bool {
-    let mut rest = bytes;
-    while !rest.is_empty() {
-        match inner.write(rest) {
+fn write_whole<W: Write>(inner: &mut W, bytes: &[u8]) -> bool
+    ensures { MatchBool result (Took (W.contents inner.old) (W.contents inner.new) bytes.now)
+        (TookPrefix (W.contents inner.old) (W.contents inner.new) bytes.now) }
+{
+    let mut done = 0;
+    'writing: while done < bytes.len() {
+        match inner.write(&bytes[done..]) {
             Err(_) | Ok(0) => return false,
-            Ok(count) => rest = &rest[count..],
+            Ok(count) => done += count,
         }
     }
     inner.flush().is_ok()
 }
 
 impl<W: Write> Sink for WriterSink<W> {
-    fn put(&mut self, bytes: &[u8]) -> Result<(), Failed> {
+    fn put(&mut self, bytes: &[u8]) -> Result<(), Failed>
+        ensures bytes { MatchResult result (λ _. Took (W.contents self.old.inner) (W.contents self.new.inner) bytes.now)
+            (λ _. TookPrefix (W.contents self.old.inner) (W.contents self.new.inner) bytes.now) }
+        ensures cause { HasCause self.old.faults self.new.faults result }
+        ensures counts { CountsFault self.old.faults self.new.faults result }
+    {
         if write_whole(&mut self.inner, bytes) {
             Ok(())
         } else {

@@ -1,6 +1,9 @@
 //! The program: the real objects, handed to the top call.
 #![tactic(auto)]
 
+ghost use Rattle.std.specs.Prelude.{◌≡◌, ◌≢◌};
+ghost use Rattle.std.specs.IoError.{error_kind};
+
 mod adapters;
 
 use adapters::{ReaderSource, WriterSink};
@@ -17,7 +20,10 @@ const OUT_OF_MEMORY: u8 = 7;
 const NO_WORDS: u8 = 14;
 
 // The status where the words can't be had for this reason.
-fn status_without_words(error: &io::Error) -> u8 {
+fn status_without_words(error: &io::Error) -> u8
+    ensures memory { error_kind error.now ≡ ErrorKind.OutOfMemory → result ≡ 7 }
+    ensures other { error_kind error.now ≢ ErrorKind.OutOfMemory → result ≡ 14 }
+{
     if error.kind() == ErrorKind::OutOfMemory {
         OUT_OF_MEMORY
     } else {

@@ -36,10 +36,11 @@ fn a_source_counts_errors(rt: HostRuntime) {
     assert_eq!(rt; source.faults(), 1);
 }
 
-/// A writer that takes two bytes a time, as long as there is room.
+/// A writer that takes two bytes a time, as long as there is room, and may fail at each flush.
 #[derive(Drop)]
 struct Narrow {
     room: usize,
+    flushes: bool,
 }
 
 impl Write for Narrow {
@@ -50,15 +51,28 @@ impl Write for Narrow {
     }
 
     fn flush(&mut self) -> io::Result<()> {
-        Ok(())
+        if self.flushes {
+            Ok(())
+        } else {
+            Err(io::Error::from(ErrorKind::BrokenPipe))
+        }
     }
 }
 
 #[test]
 fn a_sink_writes_on_and_counts_what_is_not_taken(rt: HostRuntime) {
-    let mut sink = WriterSink::new(Narrow { room: 7 });
+    let mut sink = WriterSink::new(Narrow {
+        room: 7,
+        flushes: true,
+    });
     assert_eq!(rt; sink.put(b"short"), Ok(()));
     assert_eq!(rt; sink.faults(), 0);
     assert_eq!(rt; sink.put(b"longer"), Err(Failed));
     assert_eq!(rt; sink.faults(), 1);
+    let mut unflushed = WriterSink::new(Narrow {
+        room: 7,
+        flushes: false,
+    });
+    assert_eq!(rt; unflushed.put(b"short"), Err(Failed));
+    assert_eq!(rt; unflushed.faults(), 1);
 }
