@@ -15,6 +15,7 @@ mod memory_sink;
 mod memory_source;
 mod net_ledger;
 
+pub use call_log::CallLog;
 pub use memory_conn::MemoryConn;
 pub use memory_net::MemoryNet;
 pub use memory_sink::MemorySink;

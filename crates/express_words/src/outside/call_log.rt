@@ -7,6 +7,8 @@ use crate::NoMemory;
 use std::alloc::Global;
 use std::marker::Model;
 
+/// The number of calls made, copies of the numbers of those that are to fail, from 1, and the count of faults. Both
+/// counts end at 2^64 - 1.
 #[derive(Drop)]
 pub struct CallLog {
     made: u64,
@@ -21,6 +23,7 @@ impl Model for CallLog {
 }
 
 impl CallLog {
+    /// Before the first call.
     pub fn new(alloc: Global, failing: &[u64]) -> Result<CallLog, NoMemory>
         ensures { IfOk result (λ log. log ≡ started failing.now) }
     {
@@ -51,6 +54,7 @@ impl CallLog {
         self.faults = self.faults.saturating_add(1);
     }
 
+    /// How many faults were counted.
     pub fn faults(&self) -> u64
         ensures { result ≡ self.now.faults }
     {

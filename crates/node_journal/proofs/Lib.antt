@@ -1,0 +1,9 @@
+mod Contents
+mod Found
+mod Histories
+mod LogLaws
+mod Moments
+mod Places
+mod Steps
+mod Tears
+mod Walks

@@ -1,0 +1,15 @@
+use Rattle.std.proofs.Common.{◌≡◌, sym, ap, subst}
+use Rattle.node_journal.specs.Disk.{IsUntouched}
+use Rattle.node_journal.specs.History.{History, Reads, MayLeave, synced}
+use Rattle.node_journal.specs.Memory.{DiskState, LogState}
+use Rattle.node_journal.proofs.Histories.{sync_content}
+use Rattle.node_journal.proofs.memory_disk.MemoryDiskDisk.sync.Goals as goal
+
+pub returns-clause-untouched : goal.returns-clause-untouched
+returns-clause-untouched c =
+    let before = c.self.inside.log.history in
+    let now = c.sync.new.self.history in
+    let old : before ≡ c.args.self.now.log.history = ap (λ (d : DiskState). d.log.history) c.self.view_is in
+    let new : synced before ≡ now = sym (ap (λ (l : LogState). l.history) c.sync.ensures) in
+    subst (λ (h : History). IsUntouched (Reads h) (Reads now) (MayLeave h) (MayLeave now)) old
+    (subst (λ (h : History). IsUntouched (Reads before) (Reads h) (MayLeave before) (MayLeave h)) new (sync_content before))

@@ -1,0 +1,92 @@
+-- What was done to a disk in memory, and what a crash may leave of it.
+use Rattle.std.specs.Prelude.{◌≡◌, ◌⊎◌, ℕ, ◌+◌, ◌≤◌, nat_le, List, [], ◌∷◌, ◌++◌, length, take, drop, if◌then◌else◌}
+use Rattle.std.proofs.Common.{inl, inr, arith}
+use Rattle.node_journal.specs.Disk.{Torn}
+
+-- a write at an offset, or a sync
+pub data Change : Type 0 where
+  Wrote : ℕ → List ℕ → Change
+  Synced : Change
+
+-- the bytes at first, and what was done since, the latest in front
+pub record History : Type 0 where
+  pub first : List ℕ
+  pub changes : List Change
+
+abbrev pub began : List ℕ → History
+began bytes = record { first = bytes; changes = [] }
+
+abbrev pub wrote : ℕ → List ℕ → History → History
+wrote at bytes h = record { first = h.first; changes = Wrote at bytes ∷ h.changes }
+
+abbrev pub synced : History → History
+synced h = record { first = h.first; changes = Synced ∷ h.changes }
+
+-- these bytes at this offset, over what is there and past the end; nothing where the offset is past the end
+abbrev pub overwritten : ℕ → List ℕ → List ℕ → List ℕ
+overwritten at bytes old =
+    if nat_le at (length old) then take at old ++ bytes ++ drop (at + length bytes) old else old
+
+-- what a read gives
+abbrev pub bytes_after : List ℕ → List Change → List ℕ
+bytes_after first [] = first
+bytes_after first (Wrote at bytes ∷ before) = overwritten at bytes (bytes_after first before)
+bytes_after first (Synced ∷ before) = bytes_after first before
+
+abbrev pub bytes_of : History → List ℕ
+bytes_of h = bytes_after h.first h.changes
+
+abbrev pub Reads : History → List ℕ → Type 0
+Reads h c = c ≡ bytes_of h
+
+-- What a crash may leave: what stood at the last sync, with each write since then torn.
+abbrev pub MayLeaveAfter : List ℕ → List Change → List ℕ → Type 0
+MayLeaveAfter first [] c = c ≡ first
+MayLeaveAfter first (Wrote at bytes ∷ before) c =
+    (d : List ℕ) × MayLeaveAfter first before d × Torn at (length bytes) d c
+MayLeaveAfter first (Synced ∷ before) c = c ≡ bytes_after first before
+
+abbrev pub MayLeave : History → List ℕ → Type 0
+MayLeave h c = MayLeaveAfter h.first h.changes c
+
+-- how many writes and syncs there were
+abbrev pub moment_of : History → ℕ
+moment_of h = length h.changes
+
+-- what a crash might have left, at this moment or a later one
+abbrev pub LeftSinceAfter : List ℕ → List Change → ℕ → List ℕ → Type 0
+LeftSinceAfter first [] t c = c ≡ first
+LeftSinceAfter first (Wrote at bytes ∷ before) t c =
+    ((d : List ℕ) × MayLeaveAfter first before d × Torn at (length bytes) d c)
+    ⊎ ((t ≤ length before) × LeftSinceAfter first before t c)
+LeftSinceAfter first (Synced ∷ before) t c =
+    (c ≡ bytes_after first before) ⊎ ((t ≤ length before) × LeftSinceAfter first before t c)
+
+abbrev pub LeftSince : History → ℕ → List ℕ → Type 0
+LeftSince h t c = LeftSinceAfter h.first h.changes t c
+
+-- What a crash leaves of what it may leave: of each write since the last sync these bytes arrive, from the
+-- first on.
+abbrev pub left_after : List ℕ → List ℕ → List Change → List ℕ
+left_after arriving first [] = first
+left_after arriving first (Wrote at bytes ∷ before) =
+    overwritten at (take (length bytes) arriving) (left_after arriving first before)
+left_after arriving first (Synced ∷ before) = bytes_after first before
+
+abbrev pub left_of : List ℕ → History → List ℕ
+left_of arriving h = left_after arriving h.first h.changes
+
+-- The trait's two laws of time. They stand here since a `ghost use` takes nothing from proofs/.
+pub counts_now : (first : List ℕ) (changes : List Change) (t : ℕ) (c : List ℕ)
+    → MayLeaveAfter first changes c → LeftSinceAfter first changes t c
+counts_now first [] t c now = now
+counts_now first (Wrote at bytes ∷ before) t c now = inl now
+counts_now first (Synced ∷ before) t c now = inl now
+
+pub only_now : (first : List ℕ) (changes : List Change) (c : List ℕ)
+    → LeftSinceAfter first changes (length changes) c → MayLeaveAfter first changes c
+only_now first [] c left = left
+only_now first (Wrote at bytes ∷ before) c (inl now) = now
+only_now first (Wrote at bytes ∷ before) c (inr past) = absurd (omega (arith, past.0))
+only_now first (Synced ∷ before) c (inl now) = now
+only_now first (Synced ∷ before) c (inr past) = absurd (omega (arith, past.0))

@@ -1,0 +1,62 @@
+//! One record more behind the closed gate, and then the gate opened.
+ghost use Rattle.std.specs.Prelude.{◌≡◌, ◌≤◌, ◌+◌, ◌^◌, ◌++◌, ◌∷◌, [], List, ℕ, length, OnOk};
+ghost use Rattle.node_journal.specs.Disk.{CountsFault, Within, LeavesOnly};
+ghost use Rattle.node_journal.specs.Records.{body, content, IsSized, EndsAt, RestsBeforeOrAfter, Appended};
+
+use crate::Disk;
+use express_words::outside::Failed;
+
+// Room for a length, the longest record and a gate.
+const ROOM: usize = 8219;
+
+// The length, the bytes and a closed gate.
+fn stage<'a>(bytes: &[u8], room: &'a mut [u8; ROOM]) -> &'a [u8]
+    requires { IsSized bytes.now }
+    ensures { result.now ≡ body bytes.now ++ 0 ∷ [] }
+{
+    let len = bytes.len();
+    room[..4].copy_from_slice(&(len as u32).to_be_bytes());
+    room[4..4 + len].copy_from_slice(bytes);
+    room[4 + len] = 0;
+    &room[..5 + len]
+}
+
+pub(crate) fn put_record<D: Disk>(disk: &mut D, end: u64, bytes: &[u8]) -> Result<(), Failed>
+    requires sized { IsSized bytes.now }
+    requires bound { end ≤ 2 ^ 62 }
+    requires ends { (c : List ℕ) → D.reads disk.old c → EndsAt end c }
+    requires durable { Within (D.may_leave disk.old) (D.reads disk.old) }
+    ensures added { OnOk result ((c : List ℕ) → D.reads disk.new c → EndsAt (end + 5 + length bytes.now) c
+        × Appended (D.reads disk.old) bytes.now c) }
+    ensures durable { OnOk result (Within (D.may_leave disk.new) (D.reads disk.new)) }
+    ensures any_moment { LeavesOnly D.moment D.left_since disk.old disk.new
+        (RestsBeforeOrAfter (D.reads disk.old) end bytes.now) }
+    ensures counts { CountsFault (D.Counted.count disk.old) (D.Counted.count disk.new) result }
+{
+    let mut room = [0; ROOM];
+    let staged = stage(bytes, &mut room);
+    disk.write(end + 1, staged)?;
+    disk.sync()?;
+    disk.write(end, &[1])?;
+    disk.sync()?;
+    Ok(())
+}
+
+/// The first record, on a disk with no byte.
+pub(crate) fn put_first<D: Disk>(disk: &mut D, bytes: &[u8]) -> Result<(), Failed>
+    requires sized { IsSized bytes.now }
+    requires empty { (c : List ℕ) → D.reads disk.old c → c ≡ [] }
+    ensures added { OnOk result ((c : List ℕ) → D.reads disk.new c → EndsAt (0 + 5 + length bytes.now) c
+        × (content c ≡ bytes.now ∷ [])) }
+    ensures durable { OnOk result (Within (D.may_leave disk.new) (D.reads disk.new)) }
+    ensures counts { CountsFault (D.Counted.count disk.old) (D.Counted.count disk.new) result }
+{
+    let mut room = [0; ROOM];
+    let staged = stage(bytes, &mut room);
+    disk.write(0, &[0])?;
+    disk.write(1, staged)?;
+    disk.sync()?;
+    disk.write(0, &[1])?;
+    disk.sync()?;
+    Ok(())
+}

@@ -1,0 +1,219 @@
+//! A journal of records, each of them on the disk before its append answers Ok.
+ghost use Rattle.std.specs.Prelude.{◌≡◌, ◌≢◌, ◌≤◌, ◌+◌, ◌^◌, ◌++◌, ◌∷◌, [], true, false, List, ℕ, length, OnOk, OnErr, IsErrOf, Err, Ok, Some, None, take, drop, IfOk};
+ghost use Rattle.node_journal.specs.Disk.{IsUntouched, LeavesOnly};
+ghost use Rattle.node_journal.specs.Records.{IsSized, IsUndamaged, LeavesBeforeOrAfter, Appended, content, records_from};
+ghost use Rattle.node_journal.specs.Next.{found};
+ghost use Rattle.node_journal.specs.Journal.{JournalState, IsInPlace, CountsDisk, IsOkOrDisk, IsOkDiskOrDamaged, longer, at_end, broken, Passes};
+
+use crate::append::{put_first, put_record};
+use crate::head::find;
+use crate::{Disk, JournalFault};
+use std::marker::Model;
+
+/// A place on a disk, behind whole records. After a call that answers `Disk` each further call answers
+/// `Closed`: open the disk again.
+#[derive(Drop)]
+pub struct Journal {
+    end: u64,
+    limit: u64,
+    ready: bool,
+    closed: bool,
+}
+
+impl Model for Journal {
+    ghost use Rattle.std.specs.Prelude.{◌≤◌, ◌-◌, ◌^◌};
+    ghost use Rattle.node_journal.specs.Journal.{JournalState};
+
+    ghost Value = { JournalState };
+
+    ghost view = { λ j. record { end = j.end; limit = j.limit; ready = j.ready; closed = j.closed } };
+
+    ghost invariant = { λ j. (j.end ≤ j.limit - 1) × (j.limit ≤ 2 ^ 62) };
+}
+
+impl Journal {
+    /// A journal with a first record of 1 to 8,214 bytes, on a disk with no byte. No more than `limit`
+    /// bytes of the disk will be used.
+    pub fn create<D: Disk>(disk: &mut D, limit: u64, first: &[u8]) -> Result<Journal, JournalFault>
+        requires sized { IsSized first.now }
+        requires limit { limit ≤ 2 ^ 62 }
+        ensures not_empty { IsErrOf result JournalFault.NotEmpty → (c : List ℕ) → D.reads disk.old c
+            → c ≢ [] }
+        ensures not_empty_stays { IsErrOf result JournalFault.NotEmpty
+            → IsUntouched (D.reads disk.old) (D.reads disk.new) (D.may_leave disk.old)
+            (D.may_leave disk.new) }
+        ensures empty { OnOk result ((c : List ℕ) → D.reads disk.old c → c ≡ []) }
+        ensures full { (n : ℕ) → IsErrOf result (JournalFault.Full n) → (n ≡ 0)
+            × Passes 0 (length first.now) limit × ((c : List ℕ) → D.reads disk.old c → c ≡ []) }
+        ensures full_stays { (n : ℕ) → IsErrOf result (JournalFault.Full n)
+            → IsUntouched (D.reads disk.old) (D.reads disk.new) (D.may_leave disk.old)
+            (D.may_leave disk.new) }
+        ensures fits { OnOk result (0 + 5 + length first.now + 1 ≤ limit) }
+        ensures counts { CountsDisk (D.Counted.count disk.old) (D.Counted.count disk.new) result }
+        ensures not_damaged { (n : ℕ) → IsErrOf result (JournalFault.Damaged n) → ⊥ }
+        ensures not_closed { IsErrOf result JournalFault.Closed → ⊥ }
+        ensures made { IfOk result (λ j.
+            j ≡ record { end = 5 + length first.now; limit = limit; ready = true; closed = false }) }
+        ensures content { OnOk result ((c : List ℕ) → D.reads disk.new c → content c ≡ first.now ∷ []) }
+        ensures undamaged { OnOk result ((c : List ℕ) → D.reads disk.new c → IsUndamaged limit 0 c) }
+        ensures in_place { IfOk result (λ j. IsInPlace j (D.reads disk.new) (D.may_leave disk.new)) }
+    {
+        let mut probe = [0; 1];
+        match disk.read(0, &mut probe) {
+            Ok(0) => {}
+            Ok(_) => return Err(JournalFault::NotEmpty),
+            Err(_) => return Err(JournalFault::Disk(disk.faults())),
+        }
+        let size = 5 + first.len() as u64;
+        if limit <= size {
+            return Err(JournalFault::Full(0));
+        }
+        match put_first(disk, first) {
+            Ok(()) => Ok(Journal {
+                end: size,
+                limit,
+                ready: true,
+                closed: false,
+            }),
+            Err(_) => Err(JournalFault::Disk(disk.faults())),
+        }
+    }
+
+    /// A journal at the front of a disk. It begins with a sync, so that what is read isn't lost in a crash.
+    pub fn open<D: Disk>(disk: &mut D, limit: u64) -> Result<Journal, JournalFault>
+        requires limit { limit ≤ 2 ^ 62 }
+        ensures cause { IsOkOrDisk result }
+        ensures counts { CountsDisk (D.Counted.count disk.old) (D.Counted.count disk.new) result }
+        ensures made { IfOk result (λ j.
+            j ≡ record { end = 0; limit = limit; ready = false; closed = false }) }
+        ensures untouched { IsUntouched (D.reads disk.old) (D.reads disk.new) (D.may_leave disk.old)
+            (D.may_leave disk.new) }
+        ensures in_place { IfOk result (λ j. IsInPlace j (D.reads disk.new) (D.may_leave disk.new)) }
+    {
+        match disk.sync() {
+            Ok(()) => Ok(Journal {
+                end: 0,
+                limit,
+                ready: false,
+                closed: false,
+            }),
+            Err(_) => Err(JournalFault::Disk(disk.faults())),
+        }
+    }
+
+    /// The next record into the front of `out`, with its length in bytes; None where the next gate is
+    /// missing or closed. After `Damaged` the journal stands where it stood.
+    pub fn next<D: Disk>(
+        &mut self,
+        disk: &mut D,
+        out: &mut [u8],
+    ) -> Result<Option<usize>, JournalFault>
+        requires room { 8214 ≤ length out.old }
+        requires in_place { self.old.closed ≡ false
+            → IsInPlace self.old (D.reads disk.old) (D.may_leave disk.old) }
+        ensures closed { self.old.closed ≡ true → (result ≡ Err JournalFault.Closed)
+            × (self.new ≡ self.old) × (disk.new ≡ disk.old) }
+        ensures cause { self.old.closed ≡ false → IsOkDiskOrDamaged result }
+        ensures counts { CountsDisk (D.Counted.count disk.old) (D.Counted.count disk.new) result }
+        ensures untouched { IsUntouched (D.reads disk.old) (D.reads disk.new) (D.may_leave disk.old)
+            (D.may_leave disk.new) }
+        ensures length { length out.new ≡ length out.old }
+        ensures sized { (n : ℕ) → result ≡ Ok (Some n) → (1 ≤ n) × (n ≤ 8214) }
+
+        // What stands at the journal's end, which is the first of the records from there on.
+        ensures none { result ≡ Ok None → (c : List ℕ) → D.reads disk.old c
+            → found self.old.end self.old.limit (drop self.old.end c) ≡ Ok None }
+        ensures no_more { result ≡ Ok None → (c : List ℕ) → D.reads disk.old c
+            → records_from self.old.end c ≡ [] }
+        ensures some { (n : ℕ) → result ≡ Ok (Some n) → (c : List ℕ) → D.reads disk.old c
+            → found self.old.end self.old.limit (drop self.old.end c) ≡ Ok (Some (take n out.new)) }
+        ensures first_of_more { (n : ℕ) → result ≡ Ok (Some n) → (c : List ℕ) → D.reads disk.old c
+            → records_from self.old.end c ≡ take n out.new ∷ records_from self.new.end c }
+        ensures damaged { (n : ℕ) → IsErrOf result (JournalFault.Damaged n) → (n ≡ self.old.end)
+            × ((c : List ℕ) → D.reads disk.old c
+            → found self.old.end self.old.limit (drop self.old.end c) ≡ Err
+            (JournalFault.Damaged self.old.end)) }
+
+        // `Damaged` never comes where nothing is damaged, and then the rest isn't either.
+        ensures never_damaged { (n : ℕ) → IsErrOf result (JournalFault.Damaged n) → (c : List ℕ)
+            → D.reads disk.old c → IsUndamaged self.old.limit self.old.end c → ⊥ }
+        ensures still_undamaged { (n : ℕ) → result ≡ Ok (Some n) → (c : List ℕ) → D.reads disk.old c
+            → IsUndamaged self.old.limit self.old.end c → IsUndamaged self.old.limit self.new.end c }
+
+        ensures moved { (n : ℕ) → result ≡ Ok (Some n) → self.new ≡ longer n self.old }
+        ensures ended { result ≡ Ok None → self.new ≡ at_end self.old }
+        ensures stays { (n : ℕ) → IsErrOf result (JournalFault.Damaged n) → self.new ≡ self.old }
+        ensures broken { (n : ℕ) → IsErrOf result (JournalFault.Disk n) → self.new ≡ broken self.old }
+        ensures in_place { self.new.closed ≡ false
+            → IsInPlace self.new (D.reads disk.new) (D.may_leave disk.new) }
+    {
+        if self.closed {
+            return Err(JournalFault::Closed);
+        }
+        match find(disk, self.end, self.limit, out) {
+            Ok(Some(len)) => {
+                self.end += 5 + len as u64;
+                Ok(Some(len as usize))
+            }
+            Ok(None) => {
+                self.ready = self.ready || self.end > 0;
+                Ok(None)
+            }
+            Err(JournalFault::Disk(faults)) => {
+                self.closed = true;
+                Err(JournalFault::Disk(faults))
+            }
+            Err(JournalFault::Damaged(at)) => Err(JournalFault::Damaged(at)),
+            Err(JournalFault::Closed | JournalFault::NotEmpty | JournalFault::Full(_)) => {
+                unreachable!()
+            }
+        }
+    }
+
+    /// Adds a record of 1 to 8,214 bytes to a journal that was created, or of which `next` has given at least
+    /// one record and then None. At `Ok` each crash from then on leaves it.
+    pub fn append<D: Disk>(&mut self, disk: &mut D, bytes: &[u8]) -> Result<(), JournalFault>
+        requires sized { IsSized bytes.now }
+        requires ready { self.old.ready ≡ true }
+        requires in_place { self.old.closed ≡ false
+            → IsInPlace self.old (D.reads disk.old) (D.may_leave disk.old) }
+        ensures closed { self.old.closed ≡ true → (result ≡ Err JournalFault.Closed)
+            × (self.new ≡ self.old) × (disk.new ≡ disk.old) }
+        ensures full { self.old.closed ≡ false → Passes self.old.end (length bytes.now) self.old.limit
+            → (result ≡ Err (JournalFault.Full self.old.end)) × (self.new ≡ self.old)
+            × (disk.new ≡ disk.old) }
+        ensures fits { self.old.closed ≡ false → self.old.end + 5 + length bytes.now + 1 ≤ self.old.limit
+            → IsOkOrDisk result × OnErr result (self.new ≡ broken self.old) }
+        ensures counts { CountsDisk (D.Counted.count disk.old) (D.Counted.count disk.new) result }
+        ensures longer { OnOk result (self.new ≡ longer (length bytes.now) self.old) }
+        ensures added { OnOk result ((c : List ℕ) → D.reads disk.new c
+            → Appended (D.reads disk.old) bytes.now c) }
+        ensures undamaged { OnOk result ((c : List ℕ) → D.reads disk.new c → IsUndamaged self.old.limit 0 c) }
+        ensures in_place { self.new.closed ≡ false
+            → IsInPlace self.new (D.reads disk.new) (D.may_leave disk.new) }
+
+        // A crash at any moment of the call leaves the records from before it, with the new one or without,
+        // and nothing that a journal under the same limit would find damaged.
+        ensures any_moment { self.old.closed ≡ false
+            → LeavesOnly D.moment D.left_since disk.old disk.new
+            (LeavesBeforeOrAfter self.old.limit (D.reads disk.old) bytes.now) }
+    {
+        if self.closed {
+            return Err(JournalFault::Closed);
+        }
+        let size = 5 + bytes.len() as u64;
+        if self.limit - self.end <= size {
+            return Err(JournalFault::Full(self.end));
+        }
+        match put_record(disk, self.end, bytes) {
+            Ok(()) => {
+                self.end += size;
+                Ok(())
+            }
+            Err(_) => {
+                self.closed = true;
+                Err(JournalFault::Disk(disk.faults()))
+            }
+        }
+    }
+}

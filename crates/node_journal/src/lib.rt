@@ -1,0 +1,20 @@
+//! A journal of records on a disk that may crash at any moment.
+#![tactic(auto)]
+
+mod append;
+mod disk;
+mod disk_log;
+mod fault;
+mod head;
+mod journal;
+pub mod laws;
+mod memory_disk;
+mod overwrite;
+
+pub use disk::Disk;
+pub use fault::JournalFault;
+pub use journal::Journal;
+pub use memory_disk::MemoryDisk;
+
+#[cfg(test)]
+mod tests;
