@@ -13,7 +13,8 @@ pub record Held : Type 0 where
 abbrev pub with_boxes : Held → List Box → Held
 with_boxes h boxes = record { width = h.width; limit = h.limit; boxes = boxes }
 
--- the same addresses in the same order, so the same count: shares alone may have changed, and boxes may be retired
+-- the same addresses in the same order, so the same count: shares alone may have changed, and boxes may be
+-- retired
 pub record HasSameAddresses (old new : Held) : Type 0 where
   pub width : new.width ≡ old.width
   pub limit : new.limit ≡ old.limit

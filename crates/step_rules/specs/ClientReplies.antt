@@ -63,7 +63,8 @@ on_deposit c request (frame.Held false) = goes_on c request Submits
 on_deposit c request body = ignores c
 
 unfoldable pub on_registered : Client → PlainBody → Turn
-on_registered c (frame.Registered n) = finished (record c { owned = c.owned ++ owned_by c n c.serial ∷ [] }) (Registered n)
+on_registered c (frame.Registered n) =
+    finished (record c { owned = c.owned ++ owned_by c n c.serial ∷ [] }) (Registered n)
 on_registered c body = ignores c
 
 unfoldable pub on_challenge : Client → Request → PlainBody → Turn
@@ -73,10 +74,13 @@ on_challenge c request body = ignores c
 -- both parts with both masks taken off
 abbrev pub unmasked : Client → Owned → List ℕ → List ℕ → List ℕ
 unmasked c own zero one =
-    xor_bytes (xor_bytes zero (mask own.key0 c.lane c.serial c.width)) (xor_bytes one (mask own.key1 c.lane c.serial c.width))
+    xor_bytes
+    (xor_bytes zero (mask own.key0 c.lane c.serial c.width))
+    (xor_bytes one (mask own.key1 c.lane c.serial c.width))
 
 unfoldable pub on_message : Client → Option Owned → PlainBody → Turn
-on_message c (Some own) (frame.Message zero one) = if length zero == c.width then finished c (Message (unmasked c own zero one)) else ignores c
+on_message c (Some own) (frame.Message zero one) =
+    if length zero == c.width then finished c (Message (unmasked c own zero one)) else ignores c
 on_message c own body = ignores c
 
 unfoldable pub on_submission : Client → Request → PlainBody → Turn

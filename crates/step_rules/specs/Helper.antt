@@ -35,7 +35,8 @@ row serial stage = record { serial = serial; stage = stage }
 abbrev pub idle : Row
 idle = row 0 Idle
 
--- What the helper holds but for the link: the rows stand by lane, and draws says how many draws of the seed were taken.
+-- What the helper holds but for the link: the rows stand by lane, and draws says how many draws of the
+-- seed were taken.
 pub record Server : Type 0 where
   pub settings : Settings
   pub boxes : List Box
@@ -50,7 +51,8 @@ pub record Helper : Type 0 where
   pub replies : List (List ℕ)
 
 unfoldable pub opened_server : Settings → List ℕ → Server
-opened_server settings seed = record { settings = settings; boxes = []; rows = replicate settings.lanes idle; draws = 0; seed = seed }
+opened_server settings seed =
+    record { settings = settings; boxes = []; rows = replicate settings.lanes idle; draws = 0; seed = seed }
 
 abbrev pub opened_helper : Settings → List ℕ → Helper
 opened_helper settings seed = record { server = opened_server settings seed; carried = 0; replies = [] }

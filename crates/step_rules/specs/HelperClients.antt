@@ -65,11 +65,13 @@ abbrev pub at_row : Server → PlainFrame → RowTurn → Turn
 at_row h f t = says (with_row h f.lane t.row) f t.body
 
 unfoldable pub if_lane : Server → PlainFrame → RowTurn → Turn
-if_lane h f t = if nat_le h.settings.lanes f.lane then refuses h f (refusal.Lane h.settings.lanes) else at_row h f t
+if_lane h f t =
+    if nat_le h.settings.lanes f.lane then refuses h f (refusal.Lane h.settings.lanes) else at_row h f t
 
 -- ---- any frame
 
--- a kind that the helper doesn't take from clients is the field at place 5; the two that it takes have no width
+-- a kind that the helper doesn't take from clients is the field at place 5; the two that it takes have no
+-- width
 unfoldable pub by_kind : Server → PlainFrame → PlainBody → Turn
 by_kind h f (frame.Deposit held) = if_lane h f (deposit_row (row_at h f.lane) f.serial held)
 by_kind h f (frame.Proof share) = if_lane h f (proof_row (row_at h f.lane) f.serial share)

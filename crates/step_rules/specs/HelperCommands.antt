@@ -44,7 +44,8 @@ done h f want = with_row h f.lane (row f.serial (Done want))
 abbrev pub stage_for : Row → ℕ → Stage
 stage_for r serial = if r.serial == serial then r.stage else Idle
 
--- what the row holds for a register, a begin, an audit, a settle, and a read or retire; None where it isn't at that point
+-- what the row holds for a register, a begin, an audit, a settle, and a read or retire; None where it
+-- isn't at that point
 abbrev pub held_key : Stage → Option (List ℕ)
 held_key (Deposited (deposit.Register key)) = Some key
 held_key stage = None
@@ -72,8 +73,10 @@ held_token stage = None
 unfoldable pub register_at : Server → PlainFrame → ℕ → List ℕ → Option ℕ → Effect
 register_at h f address key (Some n) = refuses (done h f Register) (refusal.Taken n)
 register_at h f address key None =
-    if nat_le h.settings.boxes (length h.boxes) then refuses (done h f Register) (refusal.Full h.settings.boxes) else
-    replies_with (record (done h f Register) { boxes = with_new h.settings.width address key h.boxes }) (frame.ReplyRegistered (length h.boxes))
+    if nat_le h.settings.boxes (length h.boxes)
+    then refuses (done h f Register) (refusal.Full h.settings.boxes) else
+    replies_with (record (done h f Register) { boxes = with_new h.settings.width address key h.boxes })
+    (frame.ReplyRegistered (length h.boxes))
 
 unfoldable pub register : Server → PlainFrame → ℕ → Option (List ℕ) → Effect
 register h f address (Some key) = register_at h f address key (place_of address h.boxes)
@@ -86,11 +89,13 @@ abbrev pub draw : Server → List ℕ
 draw h = draw32 h.seed h.draws
 
 abbrev pub begun : Server → List ℕ → List ℕ → ℕ → Write
-begun h leaders part root = record { root = root; part = part; count = length h.boxes; ckey = ckey_of leaders (draw h) }
+begun h leaders part root =
+    record { root = root; part = part; count = length h.boxes; ckey = ckey_of leaders (draw h) }
 
 unfoldable pub begin : Server → PlainFrame → List ℕ → List ℕ → Option ℕ → Effect
 begin h f leaders part (Some root) =
-    effect (record (with_row h f.lane (row f.serial (Begun (begun h leaders part root)))) { draws = h.draws + 1 })
+    let next = with_row h f.lane (row f.serial (Begun (begun h leaders part root))) in
+    effect (record next { draws = h.draws + 1 })
     (frame.LinkBegun (length h.boxes) (draw h))
 begin h f leaders part None = no_deposit h
 
@@ -104,7 +109,9 @@ abbrev pub audit_values : Server → Write → ProofShare → ℕ → Openings �
 audit_values h w share sigma other = values 1 w (counted h w) share sigma other
 
 abbrev pub audited : Server → PlainFrame → Write → Values → Effect
-audited h f w v = replies_with (with_row h f.lane (row f.serial (Audited w v.closing))) (frame.ReplyAudited v.opened v.closing)
+audited h f w v =
+    replies_with (with_row h f.lane (row f.serial (Audited w v.closing)))
+    (frame.ReplyAudited v.opened v.closing)
 
 unfoldable pub audit : Server → PlainFrame → ℕ → Openings → Option (Option (Write × ProofShare)) → Effect
 audit h f sigma other (Some None) = refuses (done h f Writes) refusal.NotProved
@@ -131,7 +138,9 @@ masked h f box = xor_bytes box.share (mask box.key f.lane f.serial h.settings.wi
 unfoldable pub read_live : Server → PlainFrame → Bool → ℕ → ℕ → Box → Effect
 read_live h f stays number held box =
     if held == token box.key f.lane f.serial
-    then replies_with (record (done h f Read) { boxes = with_read h.settings.width stays number box h.boxes }) (frame.ReplyMasked (masked h f box))
+    then
+    replies_with (record (done h f Read) { boxes = with_read h.settings.width stays number box h.boxes })
+    (frame.ReplyMasked (masked h f box))
     else refuses (done h f Read) (refusal.BadToken number)
 
 unfoldable pub read_at : Server → PlainFrame → Bool → ℕ → ℕ → Option Box → Effect
@@ -159,7 +168,8 @@ carries_out h f =
     if nat_le h.settings.lanes f.lane then refuses h (refusal.Lane h.settings.lanes) else
     command h f f.body (stage_for (row_at h f.lane) f.serial)
 
--- ---- how many nodes of the tree are expanded: one for each distinct proper prefix of an audited write's addresses
+-- ---- how many nodes of the tree are expanded: one for each distinct proper prefix of an audited write's
+-- addresses
 
 unfoldable pub audit_steps : Server → Option (Option (Write × ProofShare)) → ℕ
 audit_steps h (Some (Some p)) = prefix_count (counted h p.0)
@@ -172,7 +182,9 @@ command_steps h body stage = 0
 
 unfoldable pub carry_steps : Server → PlainFrame → ℕ
 carry_steps h f =
-    if nat_le h.settings.lanes f.lane then 0 else command_steps h f.body (stage_for (row_at h f.lane) f.serial)
+    if nat_le h.settings.lanes f.lane
+    then 0
+    else command_steps h f.body (stage_for (row_at h f.lane) f.serial)
 
 -- ---- the link
 
@@ -182,7 +194,9 @@ last n xs = drop (length xs - n) xs
 
 -- the reply is kept among the last ones, as many as the window
 abbrev pub keeps : Helper → Server → PlainFrame → Helper
-keeps h server reply = record { server = server; carried = h.carried + 1; replies = last h.server.settings.window (h.replies ++ spelling reply ∷ []) }
+keeps h server reply =
+    record { server = server; carried = h.carried + 1;
+    replies = last h.server.settings.window (h.replies ++ spelling reply ∷ []) }
 
 abbrev pub carried_with : Helper → PlainFrame → Effect → LinkTurn
 carried_with h f e =
@@ -198,7 +212,9 @@ unfoldable pub arrives : Helper → PlainFrame → LinkTurn
 arrives h f =
     if f.link == h.carried + 1 then carried_with h f (carries_out h.server f) else
     if nat_le f.link h.carried then
-        (if nat_le (h.carried + 1) (f.link + length h.replies) then record { helper = h; answer = Repeated (kept_for h f.link) } else record { helper = h; answer = Ignored })
+        (if nat_le (h.carried + 1) (f.link + length h.replies)
+        then record { helper = h; answer = Repeated (kept_for h f.link) }
+        else record { helper = h; answer = Ignored })
     else record { helper = h; answer = Ignored }
 
 unfoldable pub if_command : Helper → Option PlainFrame → LinkTurn

@@ -22,7 +22,8 @@ pub data Asked : Type 0 where
   Reading : (number : ℕ) → Asked
   Retiring : (number : ℕ) → Asked
 
--- How far a lane's request has come, with what its row holds. Number is that of the lane's outstanding command, kept is the answer that is given again.
+-- How far a lane's request has come, with what its row holds. Number is that of the lane's outstanding
+-- command, kept is the answer that is given again.
 pub data Stage : Type 0 where
   Idle : Stage
   Waiting : (number : ℕ) (asked : Asked) → Stage
@@ -41,7 +42,8 @@ row serial stage = record { serial = serial; stage = stage }
 abbrev pub idle : Row
 idle = row 0 Idle
 
--- The rows stand by lane. Outstanding are the commands that wait for their replies, oldest first; next is the number that the next command gets.
+-- The rows stand by lane. Outstanding are the commands that wait for their replies, oldest first; next is
+-- the number that the next command gets.
 pub record Leader : Type 0 where
   pub settings : Settings
   pub boxes : List Box
@@ -52,7 +54,9 @@ pub record Leader : Type 0 where
   pub seed : List ℕ
 
 unfoldable pub opened_leader : Settings → List ℕ → Leader
-opened_leader settings seed = record { settings = settings; boxes = []; rows = replicate settings.lanes idle; outstanding = []; next = 1; draws = 0; seed = seed }
+opened_leader settings seed =
+    record { settings = settings; boxes = []; rows = replicate settings.lanes idle; outstanding = [];
+    next = 1; draws = 0; seed = seed }
 
 abbrev pub row_at : Leader → ℕ → Row
 row_at a lane = slice_index_or a.rows lane idle

@@ -25,7 +25,10 @@ abbrev pub issues : Leader → PlainFrame → PlainBody → Stage → Turn
 issues a f body stage =
     let command = on_link f a.next body in
     turn
-    (record (with_row a f.lane (row f.serial stage)) { outstanding = a.outstanding ++ command ∷ []; next = a.next + 1 })
+    (record (with_row a f.lane (row f.serial stage)) {
+      outstanding = a.outstanding ++ command ∷ [];
+      next = a.next + 1;
+    })
     (Link a.next command)
 
 abbrev pub issues_drawn : Leader → PlainFrame → PlainBody → Stage → Turn
@@ -45,15 +48,18 @@ if_room a f issued =
 
 -- what a submission is issued as
 unfoldable pub issued_for : Leader → PlainFrame → Asked → Turn
-issued_for a f (Registering address key) = issues a f (frame.LinkRegister address) (Waiting a.next (Registering address key))
-issued_for a f (Writing root part drawn) = issues_drawn a f (frame.LinkBegin drawn part) (Waiting a.next (Writing root part drawn))
+issued_for a f (Registering address key) =
+    issues a f (frame.LinkRegister address) (Waiting a.next (Registering address key))
+issued_for a f (Writing root part drawn) =
+    issues_drawn a f (frame.LinkBegin drawn part) (Waiting a.next (Writing root part drawn))
 issued_for a f (Reading number) = issues a f (frame.LinkRead number) (Waiting a.next (Reading number))
 issued_for a f (Retiring number) = issues a f (frame.LinkRetire number) (Waiting a.next (Retiring number))
 
 -- a read or retire names a box that is there, by its token
 unfoldable pub if_token : Leader → PlainFrame → ℕ → ℕ → Option Box → Turn → Turn
 if_token a f number held None issued = refuses a f (refusal.NoBox number)
-if_token a f number held (Some box) issued = if held == token box.key f.lane f.serial then issued else refuses a f (refusal.BadToken number)
+if_token a f number held (Some box) issued =
+    if held == token box.key f.lane f.serial then issued else refuses a f (refusal.BadToken number)
 
 -- the box and the token that a submission names
 pub record Named : Type 0 where
@@ -128,9 +134,13 @@ on_proof a f share =
 unfoldable pub by_kind : Leader → PlainFrame → PlainBody → Turn
 by_kind a f (frame.Register address key) = on_submission a f (Registering address key) None
 by_kind a f (frame.Write root part) =
-    if has_width a.settings.width (frame.Write root part) then on_submission a f (Writing root part (draw a)) None else refuses_bytes a (refusal.Malformed 0)
-by_kind a f (frame.Read number held) = on_submission a f (Reading number) (Some (record { number = number; held = held }))
-by_kind a f (frame.Retire number held) = on_submission a f (Retiring number) (Some (record { number = number; held = held }))
+    if has_width a.settings.width (frame.Write root part)
+    then on_submission a f (Writing root part (draw a)) None
+    else refuses_bytes a (refusal.Malformed 0)
+by_kind a f (frame.Read number held) =
+    on_submission a f (Reading number) (Some (record { number = number; held = held }))
+by_kind a f (frame.Retire number held) =
+    on_submission a f (Retiring number) (Some (record { number = number; held = held }))
 by_kind a f (frame.Proof share) = on_proof a f share
 by_kind a f body = refuses_bytes a (refusal.Malformed 5)
 

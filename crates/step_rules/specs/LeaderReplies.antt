@@ -24,7 +24,9 @@ acknowledged a = record a { outstanding = drop 1 a.outstanding }
 
 -- a reply for the lane, which its row keeps
 abbrev pub keeps : Leader → PlainFrame → Stage → PlainBody → AckTurn
-keeps a c stage body = record { leader = with_row (acknowledged a) c.lane (row c.serial stage); ack = ToLane c.lane (answer c body) }
+keeps a c stage body =
+    record { leader = with_row (acknowledged a) c.lane (row c.serial stage);
+    ack = ToLane c.lane (answer c body) }
 
 abbrev pub done : Leader → PlainFrame → Want → PlainBody → AckTurn
 done a c want body = keeps a c (Done want body) body
@@ -33,8 +35,10 @@ done a c want body = keeps a c (Done want body) body
 
 unfoldable pub registered : Leader → PlainFrame → ℕ → Stage → ℕ → Option AckTurn
 registered a c address (Waiting number (Registering own key)) n =
-    if (n == length a.boxes) && (is_none (place_of address a.boxes) && not (nat_le a.settings.boxes (length a.boxes)))
-    then Some (done (record a { boxes = with_new a.settings.width address key a.boxes }) c Register (frame.Registered n))
+    if (n == length a.boxes)
+    && (is_none (place_of address a.boxes) && not (nat_le a.settings.boxes (length a.boxes)))
+    then Some (done (record a { boxes = with_new a.settings.width address key a.boxes }) c Register
+    (frame.Registered n))
     else None
 registered a c address stage n = None
 
@@ -48,7 +52,9 @@ challenges a c w = keeps a c (Challenged w (frame.Challenge w.ckey)) (frame.Chal
 
 unfoldable pub began : Leader → PlainFrame → Stage → ℕ → List ℕ → Option AckTurn
 began a c (Waiting number (Writing root part drawn)) count helpers =
-    if count == length a.boxes then Some (challenges a c (begun root part (ckey_of drawn helpers) count)) else None
+    if count == length a.boxes
+    then Some (challenges a c (begun root part (ckey_of drawn helpers) count))
+    else None
 began a c stage count helpers = None
 
 -- ---- LinkAudit
@@ -58,7 +64,10 @@ abbrev pub settles : Leader → PlainFrame → PlainBody → Stage → AckTurn
 settles a c body stage =
     let command = on_link c a.next body in
     record {
-      leader = record (with_row a c.lane (row c.serial stage)) { outstanding = drop 1 a.outstanding ++ command ∷ []; next = a.next + 1 };
+      leader = record (with_row a c.lane (row c.serial stage)) {
+        outstanding = drop 1 a.outstanding ++ command ∷ [];
+        next = a.next + 1;
+      };
       ack = Settles a.next command;
     }
 
@@ -78,12 +87,15 @@ abbrev pub settled : Leader → Write → Leader
 settled a w = record a { boxes = with_write w.part 0 w.root w.count a.boxes }
 
 unfoldable pub accepted : Leader → PlainFrame → Stage → Option AckTurn
-accepted a c (Settling number w own other) = if accepts own other then Some (done (settled a w) c Writes frame.Accepted) else None
+accepted a c (Settling number w own other) =
+    if accepts own other then Some (done (settled a w) c Writes frame.Accepted) else None
 accepted a c stage = None
 
 unfoldable pub rejected : Leader → PlainFrame → Stage → Option AckTurn
 rejected a c (Settling number w own other) =
-    if accepts own other then None else Some (done a c Writes (frame.Refused (refusal.Rejected own.o other.o own.tau other.tau)))
+    if accepts own other
+    then None
+    else Some (done a c Writes (frame.Refused (refusal.Rejected own.o other.o own.tau other.tau)))
 rejected a c stage = None
 
 -- ---- LinkRead and LinkRetire
@@ -95,7 +107,8 @@ masked a c box = xor_bytes box.share (mask box.key c.lane c.serial a.settings.wi
 unfoldable pub read : Leader → PlainFrame → Bool → ℕ → Option Box → List ℕ → Option AckTurn
 read a c live number None helpers = None
 read a c live number (Some box) helpers =
-    Some (done (record a { boxes = with_read a.settings.width live number box a.boxes }) c Read (frame.Message (masked a c box) helpers))
+    Some (done (record a { boxes = with_read a.settings.width live number box a.boxes }) c Read
+    (frame.Message (masked a c box) helpers))
 
 -- ---- any reply that is no refusal, by its command
 
@@ -123,7 +136,8 @@ if_settled a c stage body = None
 
 -- a box that was retired before keeps being so
 abbrev pub if_read : Leader → PlainFrame → Bool → ℕ → PlainBody → Option AckTurn
-if_read a c stays number (frame.LinkReply (frame.ReplyMasked share)) = read a c stays number (slice_get a.boxes number) share
+if_read a c stays number (frame.LinkReply (frame.ReplyMasked share)) =
+    read a c stays number (slice_get a.boxes number) share
 if_read a c stays number body = None
 
 unfoldable pub by_command : Leader → PlainFrame → PlainBody → Stage → PlainBody → Option AckTurn
@@ -163,7 +177,9 @@ if_fits a None = ignored a
 unfoldable pub answers : Leader → PlainFrame → Option PlainFrame → AckTurn
 answers a f None = ignored a
 answers a f (Some c) =
-    if (f.link == c.link) && ((f.lane == c.lane) && (f.serial == c.serial)) then if_fits a (fits a c f.body (refusal_in f.body)) else ignored a
+    if (f.link == c.link) && ((f.lane == c.lane) && (f.serial == c.serial))
+    then if_fits a (fits a c f.body (refusal_in f.body))
+    else ignored a
 
 unfoldable pub if_reply : Leader → Option PlainFrame → AckTurn
 if_reply a (Some f) = answers a f (slice_get a.outstanding 0)

@@ -1,0 +1,5 @@
+mod RowLemmas
+mod CommandLemmas
+mod RegisterLemmas
+mod AuditLemmas
+mod LinkLemmas

@@ -1,0 +1,54 @@
+use Rattle.std.proofs.Common.{◌≡◌, ◌<◌, ◌+◌, ◌≤◌, ℕ, List, Some, None, refl, set, sym, ap, subst, ◌∙◌, length, take, map, arith}
+use Rattle.std.proofs.lemmas.List.{set-get_or, length-map}
+use Rattle.std.specs.Prelude.{option_map}
+use Rattle.frame_rules.specs.Frames.{plain}
+use Rattle.express_words.specs.declared.refusal.Refusal.TheVariants as refusal
+use Rattle.step_rules.specs.Boxes.{Box, addresses_of}
+use Rattle.step_rules.specs.Helper as steps
+use Rattle.server_boxes.specs.Held.{Held}
+use Rattle.helper_core.specs.declared.slot.Slot.{Slot}
+use Rattle.helper_core.specs.declared.said.Said.{Said}
+use Rattle.helper_core.specs.declared.said.Said.TheVariants as said
+use Rattle.helper_core.specs.Said.{effect_in}
+use Rattle.helper_core.specs.Slots.{IsSlot}
+use Rattle.helper_core.specs.State.{server_in}
+use Rattle.helper_core.proofs.RowLemmas.{is_of}
+use Rattle.helper_core.proofs.CommandLemmas.{held_there}
+use Rattle.step_rules.specs.HelperCommands.{begin, held_root, no_deposit}
+use Rattle.helper_core.proofs.CommandLemmas.{begin_is}
+use Rattle.helper_core.proofs.RegisterLemmas.{slot_set}
+use Rattle.helper_core.proofs.server.Server.begin.Goals as goal
+
+pub returns-in-None-clause-effect : goal.returns-in-None-clause-effect
+unfolding begin
+returns-in-None-clause-effect c masked =
+    let i = c.self.inside in
+    let h = c.args.self.now in
+    let inside : c.from.result < length i.slots.items = omega (arith, c.self.invariant.lanes, ap (λ (s : steps.Server). s.settings.lanes) c.self.view_is) in
+    let key = held_there held_root h i.settings.lanes i.slots.items c.from.result c.args.frame.now.lane c.args.frame.now.serial c.index_mut-slot.result.now c.root_for.result
+    (is_of h i.settings i.boxes i.slots.items i.slots.items i.draws i.seed c.self.view_is refl) inside c.from.ensures c.index_mut-slot.ensures.value c.root_for.ensures in
+    let same : set i.slots.items c.from.result c.index_mut-slot.result.now ≡ i.slots.items =
+    ap (set i.slots.items c.from.result) c.index_mut-slot.ensures.value ∙ set-get_or i.slots.items c.from.result c.index_mut-slot.result.now in
+    ap (begin h (plain c.args.frame.now) c.args.leaders.now c.args.part.now) (key ∙ c.in-None.is)
+    ∙ (ap no_deposit (sym c.self.view_is)
+    ∙ ap (λ (xs : List Slot). effect_in (server_in i.settings i.boxes xs i.draws i.seed) (said.Refused refusal.NoDeposit) masked) (sym same))
+
+pub returns-in-Some-clause-effect : goal.returns-in-Some-clause-effect
+returns-in-Some-clause-effect c masked =
+    let i = c.self.inside in
+    let h = c.args.self.now in
+    let inside : c.from.result < length i.slots.items = omega (arith, c.self.invariant.lanes, ap (λ (s : steps.Server). s.settings.lanes) c.self.view_is) in
+    let key = held_there held_root h i.settings.lanes i.slots.items c.from.result c.args.frame.now.lane c.args.frame.now.serial c.index_mut-slot.result.now c.root_for.result
+    (is_of h i.settings i.boxes i.slots.items i.slots.items i.draws i.seed c.self.view_is refl) inside c.from.ensures c.index_mut-slot.ensures.value c.root_for.ensures in
+    ap (begin h (plain c.args.frame.now) c.args.leaders.now c.args.part.now) (key ∙ c.in-Some.is)
+    ∙ (ap (λ (s : steps.Server). begin s (plain c.args.frame.now) c.args.leaders.now c.args.part.now (Some c.in-Some.root)) (sym c.self.view_is)
+    ∙ begin_is i.settings i.boxes i.slots.items i.draws i.seed (plain c.args.frame.now) c.args.leaders.now c.args.part.now c.in-Some.root c.count-count.result c.joined-ckey.result c.draw32-draw.result
+    c.from.result c.begin.new.self masked c.from.ensures c.count-count.ensures.count c.draw32-draw.ensures c.joined-ckey.ensures c.begin.ensures.row)
+
+pub invariant_of-self-in-Some : goal.invariant_of-self-in-Some
+invariant_of-self-in-Some c =
+    let i = c.self.inside in
+    let inside : c.from.result < length i.slots.items = omega (arith, c.self.invariant.lanes, ap (λ (s : steps.Server). s.settings.lanes) c.self.view_is) in
+    slot_set i.settings i.boxes i.slots.items i.draws i.seed c.self.invariant c.from.result c.begin.new.self
+    (c.begin.ensures.is_slot i.settings.width i.settings.boxes (addresses_of i.boxes.boxes) (omega (arith, c.count-count.ensures.count, length-map i.boxes.boxes (λ (b : Box). b.address)))
+    (subst (IsSlot i.settings.width i.settings.boxes (addresses_of i.boxes.boxes)) (sym c.index_mut-slot.ensures.value) (c.self.invariant.rows c.from.result c.index_mut-slot.result.now inside)))

@@ -1,0 +1,47 @@
+-- The helper's state, read from its stores.
+use Rattle.std.specs.Prelude.{◌≡◌, ℕ, ◌≤◌, List, length, slice_get, All}
+use Rattle.express_words.specs.declared.settings.Settings.{Settings}
+use Rattle.express_words.specs.Limits.{KeepsLimits}
+use Rattle.link_order.specs.Link.{Carried, IsCarried}
+use Rattle.frame_rules.specs.Spelling.{spelling}
+use Rattle.server_boxes.specs.Held.{Held, share_of}
+use Rattle.step_rules.specs.Boxes.{addresses_of}
+use Rattle.step_rules.specs.Helper as steps
+use Rattle.helper_core.specs.declared.helper.LinkTurn.{LinkTurn}
+use Rattle.helper_core.specs.declared.helper.LinkTurn.TheVariants as turn
+use Rattle.helper_core.specs.declared.slot.Slot.{Slot}
+use Rattle.helper_core.specs.Slots.{rows_in, IsSlot}
+
+abbrev pub server_in : Settings → Held → List Slot → ℕ → List ℕ → steps.Server
+server_in settings held slots draws seed =
+    record { settings = settings; boxes = held.boxes; rows = rows_in slots; draws = draws; seed = seed }
+
+-- the boxes and the slots have the settings' sizes, and a slot for each lane
+pub record IsServer (settings : Settings) (held : Held) (slots : List Slot) : Type 0 where
+  pub limits : KeepsLimits settings.width settings.boxes settings.lanes settings.window
+  pub limit : held.limit ≡ settings.boxes
+  pub within : length held.boxes ≤ settings.boxes
+  pub width : held.width ≡ settings.width
+  pub lanes : length slots ≡ settings.lanes
+  pub rows : All (IsSlot settings.width settings.boxes (addresses_of held.boxes)) slots
+
+-- the link keeps replies of frames up to the window, and no more draws were taken than commands carried
+pub record IsHelper (server : steps.Server) (link : Carried) (masked : List ℕ) : Type 0 where
+  pub window : link.window ≡ server.settings.window
+  pub size : link.size ≡ 8213
+  pub kept : IsCarried link
+  pub draws : server.draws ≤ link.carried
+  pub mask : length masked ≡ server.settings.width
+
+abbrev pub helper_in : steps.Server → Carried → steps.Helper
+helper_in server link = record { server = server; carried = link.carried; replies = link.replies }
+
+-- the share of a box; zeros where there is none
+abbrev pub share_in : steps.Server → ℕ → List ℕ
+share_in h number = share_of h.settings.width (slice_get h.boxes number)
+
+-- an answer to the leader, by its kind and its length
+abbrev pub turned : steps.Answer → LinkTurn
+turned (steps.Carried reply) = turn.Carried (length (spelling reply))
+turned (steps.Repeated bytes) = turn.Repeated (length bytes)
+turned steps.Ignored = turn.Ignored

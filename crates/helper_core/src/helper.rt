@@ -1,0 +1,159 @@
+//! The helper over its stores and its link.
+ghost use Rattle.std.specs.Prelude.{◌≡◌, ◌+◌, ◌<◌, ◌≤◌, ◌^◌, IfOk, Some, true, length, take, drop, option_map, slice_get};
+ghost use Rattle.express_words.specs.Limits.{KeepsLimits};
+ghost use Rattle.frame_rules.specs.Spelling.{spelling, IsFrame};
+ghost use Rattle.frame_rules.specs.Frames.{plain, plain_body};
+ghost use Rattle.frame_rules.specs.Whole.{has_width, is_command};
+ghost use Rattle.step_rules.specs.Helper.{opened_helper, written};
+ghost use Rattle.step_rules.specs.HelperClients.{on_client};
+ghost use Rattle.step_rules.specs.HelperCommands.{on_link_bytes, link_steps, carried_with, carries_out, carry_steps};
+ghost use Rattle.helper_core.specs.State.{share_in, turned};
+
+use crate::server::Server;
+use dpf_eval::Steps;
+use express_words::{NoMemory, Settings};
+use frame_rules::{FRAME_MAX, Frame};
+use link_order::{Arrival, Incoming};
+use std::alloc::Global;
+use std::marker::Model;
+use std::sync::ledger::Ledger;
+use wire_frames::{command_in, encode_into, on_link};
+
+/// What the helper did with bytes of the leader.
+#[derive(Clone, Copy, Debug, PartialEq, Eq)]
+pub enum LinkTurn {
+    /// The command was carried out now; its reply has so many bytes.
+    Carried(usize),
+    /// The command was carried out before; its kept reply has so many bytes.
+    Repeated(usize),
+    /// The bytes aren't one command of the width, or its number is neither the next nor one that is kept.
+    Ignored,
+}
+
+/// Server 1: its boxes, its shares, what it holds of each lane, and its link. All of its memory is taken when it is
+/// opened.
+#[derive(Drop)]
+pub struct Helper {
+    server: Server,
+    link: Incoming,
+    masked: Vec<u8>,
+}
+
+impl Model for Helper {
+    ghost use Rattle.step_rules.specs.Helper.{Helper as Steps};
+    ghost use Rattle.helper_core.specs.State.{helper_in, IsHelper};
+
+    ghost Value = { Steps };
+
+    ghost view = { λ h. helper_in h.server h.link };
+
+    ghost invariant = { λ h. IsHelper h.server h.link h.masked.items };
+}
+
+impl Helper {
+    /// A helper with no boxes, which has carried nothing out. Its draws come from `seed`.
+    pub fn open(alloc: Global, settings: &Settings, seed: &[u8; 32]) -> Result<Helper, NoMemory>
+        requires limits { KeepsLimits settings.now.width settings.now.boxes settings.now.lanes settings.now.window }
+        ensures { IfOk result (λ h. h ≡ opened_helper settings.now seed.now) }
+    {
+        let server = Server::open(alloc, settings, seed)?;
+        let link = Incoming::open(alloc, settings.window, FRAME_MAX as u32)?;
+        match vec![in alloc; 0u8; settings.width as usize] {
+            Ok(masked) => Ok(Helper {
+                server,
+                link,
+                masked,
+            }),
+            Err(_) => Err(NoMemory),
+        }
+    }
+
+    /// A frame of a client: writes one reply to the front of `out`, and gives its length. Any bytes get a reply.
+    pub fn on_client(&mut self, frame: &[u8], out: &mut [u8]) -> usize
+        requires room { 8213 ≤ length out.old }
+        ensures helper { self.new ≡ (on_client self.old frame.now).helper }
+        ensures length { result ≡ length (spelling (on_client self.old frame.now).reply) }
+        ensures written { take result out.new ≡ spelling (on_client self.old frame.now).reply }
+        ensures rest { drop result out.new ≡ drop result out.old }
+    {
+        self.server.on_client(frame, out)
+    }
+
+    /// Bytes of the leader: carries a command out in the order of the link's numbers, or gives the kept reply, which is
+    /// written to the front of `out`. `steps` counts each node that an audit expands.
+    pub fn on_link<L: Ledger>(
+        &mut self,
+        frame: &[u8],
+        out: &mut [u8],
+        steps: &mut Steps<L>,
+    ) -> LinkTurn
+        requires room { 8213 ≤ length out.old }
+        ensures helper { self.new ≡ (on_link_bytes self.old frame.now).helper }
+        ensures answer { result ≡ turned (on_link_bytes self.old frame.now).answer }
+        ensures written { take (length (written (on_link_bytes self.old frame.now).answer)) out.new ≡ written (on_link_bytes self.old frame.now).answer }
+        ensures rest { drop (length (written (on_link_bytes self.old frame.now).answer)) out.new ≡ drop (length (written (on_link_bytes self.old frame.now).answer)) out.old }
+        ensures steps { steps.new ≡ steps.old + link_steps self.old frame.now }
+    {
+        let Some(command) = command_in(frame, self.server.width()) else {
+            return LinkTurn::Ignored;
+        };
+        match self.link.arrival(command.link) {
+            Arrival::Passed => LinkTurn::Ignored,
+            Arrival::Kept(reply) => {
+                out[..reply.len()].copy_from_slice(reply);
+                LinkTurn::Repeated(reply.len())
+            }
+            Arrival::Next => LinkTurn::Carried(self.carry(&command, out, steps)),
+        }
+    }
+
+    /// Carries the next command out and keeps its reply, which has the length that is given.
+    #[tactic(auto, using(frame_rules::proofs::GrammarLaws::spelling_limit))]
+    fn carry<L: Ledger>(
+        &mut self,
+        command: &Frame<'_>,
+        out: &mut [u8],
+        steps: &mut Steps<L>,
+    ) -> usize
+        requires room { 8213 ≤ length out.old }
+        requires is_frame { IsFrame (plain command.now) }
+        requires class { is_command (plain_body command.now.body) ≡ true }
+        requires width { has_width self.old.server.settings.width (plain_body command.now.body) ≡ true }
+        requires next { command.now.link ≡ self.old.carried + 1 }
+        ensures helper { self.new ≡ (carried_with self.old (plain command.now) (carries_out self.old.server (plain command.now))).helper }
+        ensures length { result ≡ length (written (carried_with self.old (plain command.now) (carries_out self.old.server (plain command.now))).answer) }
+        ensures written { take result out.new ≡ written (carried_with self.old (plain command.now) (carries_out self.old.server (plain command.now))).answer }
+        ensures rest { drop result out.new ≡ drop result out.old }
+        ensures steps { steps.new ≡ steps.old + carry_steps self.old.server (plain command.now) }
+    {
+        let said = self.server.carry_out(command, &mut self.masked, steps);
+        let body = said.body(&self.masked);
+        let reply = on_link(command, command.link, &body);
+        let length = encode_into(&reply, out);
+        self.link.carry(&out[..length]);
+        length
+    }
+
+    /// How many boxes stand.
+    pub fn count(&self) -> u32
+        ensures { result ≡ length self.now.server.boxes }
+    {
+        self.server.count()
+    }
+
+    /// The address of a box.
+    pub fn address_of(&self, box_number: u32) -> u128
+        requires { box_number < length self.now.server.boxes }
+        ensures { option_map (λ found. found.address) (slice_get self.now.server.boxes box_number) ≡ Some result }
+    {
+        self.server.address_of(box_number)
+    }
+
+    /// The share of a box; zeros where there is no box of this number yet.
+    pub fn share(&self, box_number: u32) -> &[u8]
+        requires { box_number < self.now.server.settings.boxes }
+        ensures { result.now ≡ share_in self.now.server box_number }
+    {
+        self.server.share(box_number)
+    }
+}

@@ -1,0 +1,273 @@
+//! What the helper holds of a lane.
+ghost use Rattle.std.specs.Prelude.{◌≡◌, ◌+◌, ◌≤◌, ℕ, List, length, take, map, option_map, IfSome, [], All, IfOk, replicate};
+ghost use Rattle.frame_rules.specs.Frames.{plain_body, Refused};
+ghost use Rattle.frame_rules.specs.Whole.{IsAnswer};
+ghost use Rattle.dpf_rules.specs.Walk.{leaf_of};
+ghost use Rattle.server_boxes.specs.Held.{write_in};
+ghost use Rattle.step_rules.specs.Helper.{door, idle, row, Done, Begun as Begins, Audited as Audits};
+ghost use Rattle.step_rules.specs.HelperCommands.{stage_for, held_key, held_root, held_token, held_proof, held_closing};
+ghost use Rattle.step_rules.specs.HelperClients.{deposit_row, proof_row, proof_in};
+ghost use Rattle.helper_core.specs.Slots.{row_in, rows_in, stage_in, stage_with, IsSlot};
+
+use crate::taken::want_in;
+use express_words::{Closing, NoMemory, ProofShare, Refusal, Settings};
+use frame_rules::{Body, DepositBody};
+use lane_table::{Gate, Row, Want, closing, opening, phase};
+use server_boxes::{Begun, Room};
+use std::alloc::Global;
+
+/// How far a lane's request has come, with what is held for it.
+#[derive(Clone, Copy)]
+pub(crate) enum Stage {
+    Idle,
+    Deposited(DepositBody),
+    Begun(Begun),
+    Proved(Begun, ProofShare),
+    Audited(Begun, Closing),
+    Done(Want),
+}
+
+/// A lane's request, with room for a write.
+#[derive(Drop)]
+pub(crate) struct Slot {
+    pub(crate) serial: u32,
+    pub(crate) stage: Stage,
+    pub(crate) room: Room,
+}
+
+fn refused(refusal: Refusal) -> Body<'static>
+    ensures { plain_body result ≡ Refused refusal }
+{
+    Body::Refused(refusal)
+}
+
+impl Slot {
+    /// What of the slot lets frames in.
+    fn door(&self) -> Row
+        ensures { result ≡ door (row_in self.now) }
+    {
+        let (phase, want) = match self.stage {
+            Stage::Idle => (phase::IDLE, Want::Nothing),
+            Stage::Deposited(held) => (phase::DEPOSITED, want_in(&held)),
+            Stage::Begun(_) => (phase::BEGUN, Want::Write),
+            Stage::Proved(_, _) => (phase::PROVED, Want::Write),
+            Stage::Audited(_, _) => (phase::AUDITED, Want::Write),
+            Stage::Done(want) => (phase::DONE, want),
+        };
+        Row {
+            serial: self.serial,
+            phase,
+            want,
+        }
+    }
+
+    /// The stage, where the slot's request has this serial.
+    fn stage_for(&self, serial: u32) -> Stage
+        ensures { stage_with result self.now.room.part.items ≡ stage_for (row_in self.now) serial }
+    {
+        if self.serial == serial {
+            self.stage
+        } else {
+            Stage::Idle
+        }
+    }
+
+    /// The key that waits for a register of this serial.
+    pub(crate) fn key_for(&self, serial: u32) -> Option<[u8; 32]>
+        ensures { result ≡ held_key (stage_for (row_in self.now) serial) }
+    {
+        match self.stage_for(serial) {
+            Stage::Deposited(DepositBody::Register(key)) => Some(key),
+            Stage::Deposited(DepositBody::Write(_)) => None,
+            Stage::Deposited(DepositBody::Read(_)) => None,
+            Stage::Idle => None,
+            Stage::Begun(_) => None,
+            Stage::Proved(_, _) => None,
+            Stage::Audited(_, _) => None,
+            Stage::Done(_) => None,
+        }
+    }
+
+    /// The root that waits for a begin of this serial.
+    pub(crate) fn root_for(&self, serial: u32) -> Option<u128>
+        ensures { result ≡ held_root (stage_for (row_in self.now) serial) }
+    {
+        match self.stage_for(serial) {
+            Stage::Deposited(DepositBody::Write(root)) => Some(root),
+            Stage::Deposited(DepositBody::Register(_)) => None,
+            Stage::Deposited(DepositBody::Read(_)) => None,
+            Stage::Idle => None,
+            Stage::Begun(_) => None,
+            Stage::Proved(_, _) => None,
+            Stage::Audited(_, _) => None,
+            Stage::Done(_) => None,
+        }
+    }
+
+    /// The token that waits for a read of this serial.
+    pub(crate) fn token_for(&self, serial: u32) -> Option<u128>
+        ensures { result ≡ held_token (stage_for (row_in self.now) serial) }
+    {
+        match self.stage_for(serial) {
+            Stage::Deposited(DepositBody::Read(token)) => Some(token),
+            Stage::Deposited(DepositBody::Register(_)) => None,
+            Stage::Deposited(DepositBody::Write(_)) => None,
+            Stage::Idle => None,
+            Stage::Begun(_) => None,
+            Stage::Proved(_, _) => None,
+            Stage::Audited(_, _) => None,
+            Stage::Done(_) => None,
+        }
+    }
+
+    /// The write that waits for a settle of this serial, and the helper's closing.
+    pub(crate) fn closing_for(&self, serial: u32) -> Option<(Begun, Closing)>
+        ensures held { option_map (λ x. (write_in x.0 self.now.room.part.items, x.1)) result ≡ held_closing (stage_for (row_in self.now) serial) }
+        ensures leaves { (width limit : ℕ) (addresses : List ℕ) → IsSlot width limit addresses self.now → IfSome result (λ x. (x.0.count ≤ length addresses) × (take x.0.count self.now.room.leaves.items ≡ map (leaf_of self.now.room.part.items 1 x.0.root) (take x.0.count addresses))) }
+    {
+        if self.serial != serial {
+            return None;
+        }
+        match self.stage {
+            Stage::Audited(begun, own) => Some((begun, own)),
+            Stage::Idle => None,
+            Stage::Deposited(_) => None,
+            Stage::Begun(_) => None,
+            Stage::Proved(_, _) => None,
+            Stage::Done(_) => None,
+        }
+    }
+
+    /// The write that waits for an audit of this serial, with its proof share if that has come.
+    pub(crate) fn proof_for(&self, serial: u32) -> Option<Option<(Begun, ProofShare)>>
+        ensures held { option_map (option_map (λ x. (write_in x.0 self.now.room.part.items, x.1))) result ≡ held_proof (stage_for (row_in self.now) serial) }
+        ensures count { (width limit : ℕ) (addresses : List ℕ) → IsSlot width limit addresses self.now → IfSome result (λ found. IfSome found (λ x. x.0.count ≤ length addresses)) }
+    {
+        if self.serial != serial {
+            return None;
+        }
+        match self.stage {
+            Stage::Begun(_) => Some(None),
+            Stage::Proved(begun, share) => Some(Some((begun, share))),
+            Stage::Idle => None,
+            Stage::Deposited(_) => None,
+            Stage::Audited(_, _) => None,
+            Stage::Done(_) => None,
+        }
+    }
+
+    /// A write is audited: its leaves stand, and this is the helper's closing.
+    pub(crate) fn audited(&mut self, serial: u32, begun: Begun, own: Closing)
+        ensures row { row_in self.new ≡ row serial (Audits (write_in begun self.old.room.part.items) own) }
+        ensures is_slot { (width limit : ℕ) (addresses : List ℕ) → length self.old.room.part.items ≡ 2064 + width → length self.old.room.leaves.items ≡ limit → begun.count ≤ length addresses → take begun.count self.old.room.leaves.items ≡ map (leaf_of self.old.room.part.items 1 begun.root) (take begun.count addresses) → IsSlot width limit addresses self.new }
+    {
+        self.serial = serial;
+        self.stage = Stage::Audited(begun, own);
+    }
+
+    /// The request of this serial is done.
+    pub(crate) fn finish(&mut self, serial: u32, want: Want)
+        ensures row { row_in self.new ≡ row serial (Done want) }
+        ensures room { self.new.room ≡ self.old.room }
+        ensures is_slot { (width limit : ℕ) (addresses : List ℕ) → IsSlot width limit addresses self.old → IsSlot width limit addresses self.new }
+    {
+        self.serial = serial;
+        self.stage = Stage::Done(want);
+    }
+
+    /// A write begins, with this public part.
+    pub(crate) fn begin(&mut self, serial: u32, begun: Begun, part: &[u8])
+        requires part { length part.now ≡ length self.old.room.part.items }
+        ensures row { row_in self.new ≡ row serial (Begins (write_in begun part.now)) }
+        ensures is_slot { (width limit : ℕ) (addresses : List ℕ) → begun.count ≤ length addresses → IsSlot width limit addresses self.old → IsSlot width limit addresses self.new }
+    {
+        self.room.part.copy_from_slice(part);
+        self.serial = serial;
+        self.stage = Stage::Begun(begun);
+    }
+
+    /// A deposit of a client: the first one of a serial stands.
+    #[tactic(auto, unfolding(step_rules::specs::HelperClients::deposit_row, step_rules::specs::HelperClients::deposit_at))]
+    pub(crate) fn deposit(&mut self, serial: u32, held: DepositBody) -> Body<'static>
+        ensures row { row_in self.new ≡ (deposit_row (row_in self.old) serial held).row }
+        ensures body { plain_body result ≡ (deposit_row (row_in self.old) serial held).body }
+        ensures answer { IsAnswer (plain_body result) }
+        ensures is_slot { (width limit : ℕ) (addresses : List ℕ) → IsSlot width limit addresses self.old → IsSlot width limit addresses self.new }
+    {
+        match opening(&self.door(), serial, want_in(&held)) {
+            Gate::Stale(serial) => refused(Refusal::Stale(serial)),
+            Gate::Phase(phase) => refused(Refusal::Phase(phase)),
+            Gate::Same => Body::Held { proof: false },
+            Gate::New => {
+                self.serial = serial;
+                self.stage = Stage::Deposited(held);
+                Body::Held { proof: false }
+            }
+        }
+    }
+
+    /// A proof share of a client: the first one stands.
+    #[tactic(auto, unfolding(step_rules::specs::HelperClients::proof_row, step_rules::specs::HelperClients::proof_at))]
+    pub(crate) fn prove(&mut self, serial: u32, share: ProofShare) -> Body<'static>
+        ensures row { row_in self.new ≡ (proof_row (row_in self.old) serial share).row }
+        ensures body { plain_body result ≡ (proof_row (row_in self.old) serial share).body }
+        ensures answer { IsAnswer (plain_body result) }
+        ensures is_slot { (width limit : ℕ) (addresses : List ℕ) → IsSlot width limit addresses self.old → IsSlot width limit addresses self.new }
+    {
+        match closing(&self.door(), serial) {
+            Gate::Stale(serial) => refused(Refusal::Stale(serial)),
+            Gate::Phase(phase) => refused(Refusal::Phase(phase)),
+            Gate::Same => self.take_share(share),
+            Gate::New => self.take_share(share),
+        }
+    }
+
+    #[tactic(auto, unfolding(step_rules::specs::HelperClients::proof_in))]
+    fn take_share(&mut self, share: ProofShare) -> Body<'static>
+        ensures row { row_in self.new ≡ (proof_in (row_in self.old) share (stage_in self.old)).row }
+        ensures body { plain_body result ≡ (proof_in (row_in self.old) share (stage_in self.old)).body }
+        ensures answer { IsAnswer (plain_body result) }
+        ensures is_slot { (width limit : ℕ) (addresses : List ℕ) → IsSlot width limit addresses self.old → IsSlot width limit addresses self.new }
+    {
+        match self.stage {
+            Stage::Idle => refused(Refusal::Phase(phase::IDLE)),
+            Stage::Deposited(_) => refused(Refusal::Phase(phase::DEPOSITED)),
+            Stage::Begun(begun) => {
+                self.stage = Stage::Proved(begun, share);
+                Body::Held { proof: true }
+            }
+            Stage::Proved(_, _) => Body::Held { proof: true },
+            Stage::Audited(_, _) => Body::Held { proof: true },
+            Stage::Done(_) => Body::Held { proof: true },
+        }
+    }
+}
+
+/// A slot for each lane, of which no frame has come.
+pub(crate) fn idle_slots(alloc: Global, settings: &Settings) -> Result<Vec<Slot>, NoMemory>
+    ensures rows { IfOk result (λ slots. rows_in slots.items ≡ replicate settings.now.lanes idle) }
+    ensures slots { IfOk result (λ slots. All (IsSlot settings.now.width settings.now.boxes []) slots.items) }
+{
+    let Ok(mut slots) = Vec::with_capacity(alloc, usize::from(settings.lanes)) else {
+        return Err(NoMemory);
+    };
+    for _ in 0..settings.lanes {
+        let slot = idle_slot(alloc, settings.width, settings.boxes)?;
+        if slots.push(slot).is_err() {
+            return Err(NoMemory);
+        }
+    }
+    Ok(slots)
+}
+
+fn idle_slot(alloc: Global, width: u32, boxes: u32) -> Result<Slot, NoMemory>
+    ensures row { IfOk result (λ slot. row_in slot ≡ idle) }
+    ensures slot { IfOk result (λ slot. IsSlot width boxes [] slot) }
+{
+    let room = Room::open(alloc, width, boxes)?;
+    Ok(Slot {
+        serial: 0,
+        stage: Stage::Idle,
+        room,
+    })
+}
