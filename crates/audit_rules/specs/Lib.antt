@@ -1,14 +1,15 @@
 pub mod Sketch
 pub mod Passing
-pub mod Seen
 pub mod Points
 pub mod Shares
 pub mod Honest
 pub mod Audit
 pub mod Transfer
-pub mod Soundness
+pub mod BadWrites
 pub mod Ranges
 pub mod Whole
 pub mod Accepted
 pub mod InRange
 pub mod Rows
+pub mod Challenges
+pub mod Values

@@ -7,7 +7,8 @@ mod ranges;
 mod sums;
 
 pub use laws::{
-    bad_writes_are_caught, honest_proofs_pass, servers_accept_what_passes, sums_add_up,
+    bad_values_are_fixed, bad_values_hide, bad_writes_are_caught, honest_proofs_pass,
+    servers_accept_what_passes, sums_add_up,
 };
 pub use ranges::{read_share, read_sums, read_words};
 pub use sums::Sums;

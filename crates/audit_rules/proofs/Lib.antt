@@ -1,0 +1,5 @@
+pub mod ChallengeLemmas
+pub mod LeafLemmas
+pub mod Places
+pub mod Seen
+pub mod Soundness
