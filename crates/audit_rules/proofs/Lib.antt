@@ -3,3 +3,4 @@ pub mod LeafLemmas
 pub mod Places
 pub mod Seen
 pub mod Soundness
+pub mod ValueLemmas

@@ -36,8 +36,7 @@ unfolding first_place
 first_is w i n =
     let most = zeros_before w i n in
     let there = inside_is w i n in
-    let inside : prefix_len is_zero w < length w = omega arith in
-    (
+    let inside : prefix_len is_zero w < length w = omega arith in (
       record {
         inside = inside;
         apart = apart_is (get_or w (prefix_len is_zero w) 0) (prefix_len_stops is_zero w 0 inside);
@@ -57,8 +56,7 @@ last_is w j n =
     let mirrored : slice_index back (length w - 1 - j) ≢ 0 =
     λ e. n (ap (slice_index w) (sym twice) ∙ sym (get_or-reverse w (length w - 1 - j) 0 (omega arith)) ∙ e) in
     let most : zeros ≤ length w - 1 - j = zeros_before back (length w - 1 - j) mirrored in
-    let inside : zeros < length back = omega arith in
-    (
+    let inside : zeros < length back = omega arith in (
       record {
         inside = omega arith;
         apart = λ e. apart_is (get_or back zeros 0) (prefix_len_stops is_zero back 0 inside) (get_or-reverse w zeros 0 (omega arith) ∙ e);

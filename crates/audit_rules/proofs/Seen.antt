@@ -53,8 +53,7 @@ module _ {F : Type 0} {z o : F} {add mul : F → F → F} {inverse : F → F} {e
       let inner = add (dot z add mul w s) moved in
       let line : add (add others moved) (mul sb wb) ≡ inner =
       solve laws (others ∷ (moved ∷ (wb ∷ (sb ∷ [])))) (var 0 ⊕ var 1 ⊕ var 3 ⊗ var 2) (var 0 ⊕ var 2 ⊗ var 3 ⊕ var 1) refl
-      ∙ sym (ap (λ y. add y moved) (dot_split w s b hb hs)) in
-      (
+      ∙ sym (ap (λ y. add y moved) (dot_split w s b hb hs)) in (
         λ h. root_of (add others moved) sb wb nb (line ∙ product_zero laws wa inner na h),
         λ bad. ap (mul wa) (sym line ∙ ap (λ t. add (add others moved) (mul t wb)) bad ∙ root_back (add others moved) wb nb) ∙ mul_zero laws wa,
       )

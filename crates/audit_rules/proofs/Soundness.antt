@@ -17,7 +17,7 @@ use Rattle.audit_rules.specs.Ranges.{IsProofShare}
 use Rattle.audit_rules.specs.Audit.{product, value, through_three, sums_of, bad_s, bad_r_divisor, bad_r, PassesAt}
 use Rattle.audit_rules.specs.BadWrites.{IsFirst, IsLast, HasTwo, first_place, last_place, IsBadChallenge}
 use Rattle.audit_rules.proofs.Places.{first_is, last_is}
-use Rattle.audit_rules.specs.Transfer.{E, z, add, mul, inverse, element, elements, values-elements, length-values, get_or-values, get_or-default, dot-values, total-values, dot3-values, sums-values, bad_s-values, divisor-values, bad_r-values, value-values}
+use Rattle.audit_rules.specs.Transfer.{E, z, add, mul, inverse, element, elements, values-elements, length-values, get_or-values, get_or-default, sums-values, bad_s-values, divisor-values, bad_r-values, value-values}
 
 -- neither bad value depends on the place of the challenge at which it's bad
 pub bad_r-fixed : (w r s : List ℕ) (a v : ℕ) → bad_r w (set r a v) s a ≡ bad_r w r s a
@@ -142,8 +142,7 @@ divides w s a b first last ls =
     let size = length-values w in
     let na : get_or w a z ≢ z = λ e. first.apart (get_or-values w a ∙ ap (λ x. x.value) e) in
     let nb : get_or w b z ≢ z = λ e. last.apart (get_or-values w b ∙ ap (λ x. x.value) e) in
-    let zero = divisor_zero (level_laws 7).0 w s a b (omega (arith, last.inside)) (omega (arith, last.inside)) na nb in
-    (
+    let zero = divisor_zero (level_laws 7).0 w s a b (omega (arith, last.inside)) (omega (arith, last.inside)) na nb in (
       λ h. get_or-values s b ∙ ap (λ x. x.value) (zero.0 (from_value _ z (sym (divisor-values w s a) ∙ h))) ∙ sym (bad_s-values w s a b),
       λ h. divisor-values w s a ∙ ap (λ x. x.value) (zero.1 (from_value _ _ (sym (get_or-values s b) ∙ h ∙ bad_s-values w s a b))),
     )

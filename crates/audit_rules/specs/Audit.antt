@@ -1,6 +1,7 @@
--- The audit of a write on numbers of the field of 2^128 elements. The sketch with two challenge vectors is this
--- project's own; its proof is a client's, in the manner of Prio (Corrigan-Gibbs and Boneh, NSDI 2017, section 4), with
--- two multiplication gates, x·y and M·z, and one multiplication triple. A sum of field values is their XOR.
+-- The audit of a write on numbers of the field of 2^128 elements. The sketch with two challenge vectors is
+-- this project's own; its proof is a client's, in the manner of Prio (Corrigan-Gibbs and Boneh, NSDI 2017,
+-- section 4), with two multiplication gates, x·y and M·z, and one multiplication triple. A sum of field
+-- values is their XOR.
 use Rattle.std.specs.Prelude.{◌≡◌, ℕ, ◌==◌, ◌&&◌, Bool, if◌then◌else◌, List, [], ◌∷◌, slice_index, bit_xor}
 use Rattle.tower_field.specs.Levels.{product_at, inverse_at}
 use Rattle.poly_roots.specs.Polynomials.{value_at, plus_of, times_of}
@@ -56,7 +57,8 @@ f_of sums proof = through_three proof.u sums.x sums.m
 abbrev pub g_of : Sums → ProofShare → List ℕ
 g_of sums proof = through_three proof.v sums.y sums.z
 
--- the proof passes at the point sigma: h(1) + h(2) = 0 and sigma·(f(sigma)·g(sigma) + h(sigma)) + (a·b + c) = 0
+-- the proof passes at the point sigma: h(1) + h(2) = 0 and sigma·(f(sigma)·g(sigma) + h(sigma)) + (a·b + c)
+-- = 0
 unfoldable pub PassesAt : Sums → ProofShare → ℕ → Type 0
 PassesAt sums proof sigma =
     Passes 0 1 bit_xor product (f_of sums proof) (g_of sums proof) proof.h 2
@@ -82,8 +84,8 @@ closing_of server share sigma opened =
       o = bit_xor (value share.h 1) (value share.h 2);
       tau = bit_xor
           (bit_xor
-              (bit_xor (bit_xor (product opened.d share.b) (product opened.e share.a)) share.c)
-              (product sigma (value share.h sigma)))
+          (bit_xor (bit_xor (product opened.d share.b) (product opened.e share.a)) share.c)
+          (product sigma (value share.h sigma)))
           (if server == 0 then product opened.d opened.e else 0);
     }
 
@@ -146,7 +148,8 @@ honest_f m r words = through_three (bit_xor (slice_index words 2) (slice_index w
 
 abbrev pub honest_g : ℕ → ℕ → ℕ → List ℕ → List ℕ
 honest_g m r s words =
-    through_three (bit_xor (slice_index words 4) (slice_index words 5)) (product m s) (product (product m r) s)
+    let masks = bit_xor (slice_index words 4) (slice_index words 5) in
+    through_three masks (product m s) (product (product m r) s)
 
 -- server 1's h is f·g plus server 0's, and its c is a·b plus server 0's
 unfoldable pub one_share : ℕ → ℕ → ℕ → List ℕ → ProofShare
@@ -161,7 +164,7 @@ one_share m r s words =
       b = slice_index words 14;
       c = bit_xor
           (product
-              (bit_xor (slice_index words 11) (slice_index words 12))
-              (bit_xor (slice_index words 13) (slice_index words 14)))
+          (bit_xor (slice_index words 11) (slice_index words 12))
+          (bit_xor (slice_index words 13) (slice_index words 14)))
           (slice_index words 15);
     }

@@ -1,5 +1,5 @@
 -- Difference vectors with two places or more that aren't zero, and the challenges that can hide them.
-use Rattle.std.specs.Prelude.{◌≡◌, ◌≢◌, ℕ, ◌-◌, ◌<◌, ◌==◌, ◌⊎◌, List, length, slice_index, slice_set}
+use Rattle.std.specs.Prelude.{◌≡◌, ◌≢◌, ℕ, ◌-◌, ◌<◌, ◌==◌, ◌⊎◌, List, length, slice_index}
 use Rattle.std.specs.List.{prefix_len, suffix_len}
 use Rattle.audit_rules.specs.Audit.{bad_r, bad_s}
 
@@ -33,11 +33,3 @@ IsBadChallenge w r s =
     let a = first_place w in
     let b = last_place w in
     (slice_index r a ≡ bad_r w r s a) ⊎ (slice_index s b ≡ bad_s w s a b)
-
--- the bad value of r at a place doesn't depend on r there
-abbrev pub BadRIsFixed : Type 0
-BadRIsFixed = (w r s : List ℕ) (a v : ℕ) → bad_r w (slice_set r a v) s a ≡ bad_r w r s a
-
--- the bad value of s at a place doesn't depend on s there
-abbrev pub BadSIsFixed : Type 0
-BadSIsFixed = (w s : List ℕ) (a b v : ℕ) → a ≢ b → bad_s w (slice_set s b v) a b ≡ bad_s w s a b

@@ -74,19 +74,26 @@ zero-in_range words h = record {
 pub times-in_range : (f g : List E) → All (λ n. n < 2 ^ 128) (times_of 0 bit_xor product (values f) (values g))
 times-in_range f g = subst (All (λ n. n < 2 ^ 128)) (sym (times-values f g)) (values-in_range (times_of z add mul f g))
 
-pub one-in_range : (m r s : ℕ) (words : List ℕ) → m < 2 ^ 128 → r < 2 ^ 128 → s < 2 ^ 128 → All (λ n. n < 2 ^ 128) words → IsProofShare (one_share m r s words)
-unfolding one_share zero_share
-one-in_range m r s words hm hr hs h =
+-- the product of the polynomials f and g of a client's proof
+pub honest_h-in_range : (m r s : ℕ) (words : List ℕ) → m < 2 ^ 128 → r < 2 ^ 128 → s < 2 ^ 128 → All (λ n. n < 2 ^ 128) words →
+    All (λ n. n < 2 ^ 128) (times_of 0 bit_xor product (honest_f m r words) (honest_g m r s words))
+honest_h-in_range m r s words hm hr hs h =
     let word : ℕ → E = λ k. element (slice_index words k) (word_in_range words h k) in
     let em = element m hm in
     let er = element r hr in
     let es = element s hs in
     let f = through add mul (gf 2) (add (word 2) (word 3)) (mul em er) em in
     let g = through add mul (gf 2) (add (word 4) (word 5)) (mul em es) (mul (mul em er) es) in
+    times-in_range f g
+
+pub one-in_range : (m r s : ℕ) (words : List ℕ) → m < 2 ^ 128 → r < 2 ^ 128 → s < 2 ^ 128 → All (λ n. n < 2 ^ 128) words → IsProofShare (one_share m r s words)
+unfolding one_share zero_share
+one-in_range m r s words hm hr hs h =
+    let word : ℕ → E = λ k. element (slice_index words k) (word_in_range words h k) in
     record {
       u = word_in_range words h 3;
       v = word_in_range words h 5;
-      h = plus-in_range (times_of 0 bit_xor product (honest_f m r words) (honest_g m r s words)) (zero_share words).h (times-in_range f g) (words_of_h words h);
+      h = plus-in_range (times_of 0 bit_xor product (honest_f m r words) (honest_g m r s words)) (zero_share words).h (honest_h-in_range m r s words hm hr hs h) (words_of_h words h);
       size = refl;
       a = word_in_range words h 12;
       b = word_in_range words h 14;

@@ -13,3 +13,4 @@ pub mod InRange
 pub mod Rows
 pub mod Challenges
 pub mod Values
+pub mod Laws

@@ -1,5 +1,5 @@
--- The sketch of a difference vector w with two challenge vectors r and s, over the operations of any field, and the two
--- values of a challenge that hide a bad vector.
+-- The sketch of a difference vector w with two challenge vectors r and s, over the operations of any field,
+-- and the two values of a challenge that hide a bad vector.
 use Rattle.std.specs.Prelude.{ℕ, List, [], ◌∷◌}
 use Rattle.std.proofs.Common.{get_or, set}
 

@@ -7,10 +7,11 @@ use Rattle.express_words.specs.declared.audit.Openings.{Openings}
 use Rattle.express_words.specs.declared.audit.Closing.{Closing}
 use Rattle.audit_rules.specs.declared.sums.Sums.{Sums}
 use Rattle.audit_rules.specs.Audit.{opening_of, opened_of, closing_of}
+unfoldable pub use Rattle.audit_rules.specs.Audit.{accepts}
 use Rattle.audit_rules.specs.Challenges.{sums_under}
 
--- what the audit of a write needs of a server: its root, the public part, how many boxes there were when the write began, and
--- the key of the challenges
+-- what the audit of a write needs of a server: its root, the public part, how many boxes there were when
+-- the write began, and the key of the challenges
 pub record Write : Type 0 where
   pub root : ℕ
   pub part : List ℕ

@@ -1,16 +1,18 @@
-//! Laws over the definitions. The functions only read their arguments, from which a proof learns that they are in
-//! range: their contracts are the laws.
+//! Laws over the definitions. The functions only read their arguments, from which a proof learns that they
+//! are in range: their contracts are the laws.
 ghost use Rattle.std.specs.Prelude.{◌≡◌, ◌≢◌, ℕ, ◌<◌, ◌≤◌, ◌↔◌, ◌⊎◌, length, All, AllPairs, slice_index};
 ghost use Rattle.audit_rules.specs.Audit.{sums_of, bad_r_divisor, bad_s, PassesAt, ServersAccept, whole_sums, whole_proof, difference, zero_share, one_share};
-ghost use Rattle.audit_rules.specs.BadWrites.{HasTwo, first_place, last_place, IsFirst, IsLast, IsBadChallenge, BadRIsFixed, BadSIsFixed};
+ghost use Rattle.audit_rules.specs.BadWrites.{HasTwo, first_place, last_place, IsFirst, IsLast, IsBadChallenge};
+ghost use Rattle.audit_rules.specs.Laws.{BadRIsFixed, BadSIsFixed, ChangesAreSeen, ValuesInRange, ValuesAccept, AcceptedPasses};
 ghost use Rattle.audit_rules.specs.Accepted.{IsAlone, sums_alone};
 
 use crate::ranges::{read_share, read_sums, read_words};
 use crate::sums::Sums;
 use express_words::ProofShare;
 
-/// The two values of a challenge that can hide a vector. Where `w` has two places or more that aren't zero, `a` the first
-/// and `b` the last of them, what divides in the bad value of r at a is zero exactly where s at b is its bad value.
+/// The two values of a challenge that can hide a vector. Where `w` has two places or more that aren't zero,
+/// `a` the first and `b` the last of them, what divides in the bad value of r at a is zero exactly where s
+/// at b is its bad value.
 pub fn bad_values_hide(w: &[u128], s: &[u128])
     requires s { length s.now ≡ length w.now }
     requires two { HasTwo w.now }
@@ -31,8 +33,14 @@ pub fn bad_values_are_fixed()
     ensures s { BadSIsFixed }
 {}
 
-/// The soundness law. Where `w` has two places or more that aren't zero, a proof passes at five points at most, unless r
-/// at the first of them or s at the last is the one bad value.
+/// A write whose bytes differ between the servers at two boxes or more has two places or more in its
+/// difference vector that aren't zero.
+pub fn changed_boxes_are_seen()
+    ensures { ChangesAreSeen }
+{}
+
+/// The soundness law. Where `w` has two places or more that aren't zero, a proof passes at five points at
+/// most, unless r at the first of them or s at the last is the one bad value.
 pub fn bad_writes_are_caught(
     w: &[u128],
     r: &[u128],
@@ -54,8 +62,8 @@ pub fn bad_writes_are_caught(
     read_words(points);
 }
 
-/// What two servers accept at a point: both closings add up to zero exactly where the whole proof passes for the whole
-/// sums.
+/// What two servers accept at a point: both closings add up to zero exactly where the whole proof passes
+/// for the whole sums.
 pub fn servers_accept_what_passes(
     sums0: &Sums,
     sums1: &Sums,
@@ -72,6 +80,14 @@ pub fn servers_accept_what_passes(
     read_share(share1);
 }
 
+/// What both servers' values of an audit are: numbers of the field, by which the closings accept exactly
+/// where both servers accept, and so where the whole proof passes for the difference vector.
+pub fn values_accept()
+    ensures in_range { ValuesInRange }
+    ensures accept { ValuesAccept }
+    ensures passes { AcceptedPasses }
+{}
+
 /// The sums of both servers' vectors add up to those of the difference vector.
 pub fn sums_add_up(zero: &[u128], one: &[u128], r: &[u128], s: &[u128])
     requires { length zero.now ≡ length one.now }
@@ -84,8 +100,8 @@ pub fn sums_add_up(zero: &[u128], one: &[u128], r: &[u128], s: &[u128])
     read_words(s);
 }
 
-/// A client's proof passes at every point: for a vector that is zero everywhere but at `place`, with the value and the
-/// challenge of that place.
+/// A client's proof passes at every point: for a vector that is zero everywhere but at `place`, with the
+/// value and the challenge of that place.
 pub fn honest_proofs_pass(
     w: &[u128],
     r: &[u128],

@@ -1,5 +1,5 @@
 -- What equal leaves write.
-use Rattle.std.proofs.Common.{◌≡◌, ℕ, ◌%◌, List, length, replicate, sym, ap, ◌∙◌, arith, inl, inr}
+use Rattle.std.proofs.Common.{◌≡◌, ℕ, ◌%◌, List, length, sym, ap, ◌∙◌, arith, inl, inr}
 use Rattle.std.proofs.lemmas.Bool.{cases_eq}
 use Rattle.dpf_rules.specs.Bytes.{xor_bytes}
 use Rattle.dpf_rules.specs.Expansion.{block}

@@ -10,8 +10,10 @@ use Rattle.dpf_rules.specs.Ideal.{HasStates, IsExpansions, own_at, ideal_keys, g
 -- the viewer walks through the states that its keys were made from
 abbrev pub OwnWalks : Type 0
 OwnWalks =
-    (target : ℕ) (message : List ℕ) (viewer root : ℕ) (other : Expansions) (i : ℕ) → HasStates other → i ≤ 128 →
-    state_at (ideal_keys target message viewer root other) viewer root target i ≡ own_at target viewer root other i
+    (target : ℕ) (message : List ℕ) (viewer root : ℕ) (other : Expansions) (i : ℕ) →
+    HasStates other → i ≤ 128 →
+    let part = ideal_keys target message viewer root other in
+    state_at part viewer root target i ≡ own_at target viewer root other i
 
 -- a server whose given pairs are those of its own states walks through the states that they give
 abbrev pub GivenWalks : Type 0
@@ -40,8 +42,9 @@ HonestKeys =
     (target : ℕ) (message : List ℕ) (root0 root1 : ℕ) →
     let path = path_at target root0 root1 in
     let width = length message in
-    (ideal_keys target message 0 root0 (honest (λ j. (path j).1) width) ≡ honest_keys target message root0 root1)
-    × (ideal_keys target message 1 root1 (honest (λ j. (path j).0) width) ≡ honest_keys target message root0 root1)
+    let part = honest_keys target message root0 root1 in
+    (ideal_keys target message 0 root0 (honest (λ j. (path j).1) width) ≡ part)
+    × (ideal_keys target message 1 root1 (honest (λ j. (path j).0) width) ≡ part)
 
 -- ---- ranges
 
@@ -85,5 +88,6 @@ EqualLeavesKeepBox =
     (part : List ℕ) (root0 root1 address : ℕ) (share0 share1 : List ℕ) →
     leaf_of part 0 root0 address ≡ leaf_of part 1 root1 address →
     length share0 ≡ length (last_of part) → length share1 ≡ length (last_of part) →
-    xor_bytes (xor_bytes share0 (write_bytes part 0 root0 address)) (xor_bytes share1 (write_bytes part 1 root1 address))
-    ≡ xor_bytes share0 share1
+    let zero = write_bytes part 0 root0 address in
+    let one = write_bytes part 1 root1 address in
+    xor_bytes (xor_bytes share0 zero) (xor_bytes share1 one) ≡ xor_bytes share0 share1

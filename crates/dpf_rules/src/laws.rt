@@ -14,15 +14,16 @@ ghost use Rattle.dpf_rules.specs.Laws.{
   EqualLeavesKeepBox,
 };
 
-/// Whatever the other server's expansions are, either viewer walks to the target through the states that its keys were
-/// made from. A server whose given pairs are those of its own states walks through the states that they give.
+/// Whatever the other server's expansions are, either viewer walks to the target through the states that
+/// its keys were made from. A server whose given pairs are those of its own states walks through the states
+/// that they give.
 pub fn ideal_walks()
     ensures own { OwnWalks }
     ensures given { GivenWalks }
 {}
 
-/// Where the other server's expansions are the honest ones, either viewer's states are those of the path, and the keys
-/// are the honest keys.
+/// Where the other server's expansions are the honest ones, either viewer's states are those of the path,
+/// and the keys are the honest keys.
 pub fn honest_lists_give_honest_keys()
     ensures form { HonestForm }
     ensures paths { HonestPaths }

@@ -1,4 +1,5 @@
-//! The definitions of the expansion and of the point function, and the code on bytes that the crates above share.
+//! The definitions of the expansion and of the point function, and the code on bytes that the crates above
+//! share.
 #![tactic(auto)]
 
 mod laws;

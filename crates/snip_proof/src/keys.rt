@@ -1,5 +1,5 @@
-//! The two laws for the keys of a write: what both servers accept where their leaves are those of one public part. The
-//! functions only read their arguments: their contracts are the laws.
+//! The two laws for the keys of a write: what both servers accept where their leaves are those of one
+//! public part. The functions only read their arguments: their contracts are the laws.
 ghost use Rattle.std.specs.Prelude.{◌≡◌, ◌≢◌, ℕ, ◌^◌, ◌<◌, ◌≤◌, ◌⊎◌, length, All, AllPairs, Contains};
 ghost use Rattle.dpf_rules.specs.Expansion.{challenge_r, challenge_s};
 ghost use Rattle.dpf_rules.specs.Walk.{leaf_of};
@@ -11,9 +11,9 @@ ghost use Rattle.audit_rules.specs.Challenges.{challenge_rs, challenge_ss, sums_
 use audit_rules::{read_share, read_words};
 use express_words::ProofShare;
 
-/// The soundness law for any public part and any two roots. Where the difference vector has two places or more that
-/// aren't zero, a proof is accepted at five points at most, unless r at the first of them or s at the last is the one bad
-/// value.
+/// The soundness law for any public part and any two roots. Where the difference vector has two places or
+/// more that aren't zero, a proof is accepted at five points at most, unless r at the first of them or s at
+/// the last is the one bad value.
 pub fn bad_keys_are_caught(
     part: &[u8],
     root0: u128,
@@ -40,8 +40,8 @@ pub fn bad_keys_are_caught(
     read_words(points);
 }
 
-/// Honest keys are accepted. Where both servers' leaves are equal at every address but the target, which is one of distinct
-/// addresses, the client's proof is accepted at every point.
+/// Honest keys are accepted. Where both servers' leaves are equal at every address but the target, which is
+/// one of distinct addresses, the client's proof is accepted at every point.
 pub fn honest_keys_are_accepted(
     part: &[u8],
     target: u128,

@@ -1,5 +1,5 @@
-//! Both servers' audit of a write as one call, and the two laws on what they accept. The laws' functions only read
-//! their arguments: their contracts are the laws.
+//! Both servers' audit of a write as one call, and the two laws on what they accept. The laws' functions
+//! only read their arguments: their contracts are the laws.
 ghost use Rattle.std.specs.Prelude.{◌≡◌, ◌≢◌, ℕ, ◌<◌, ◌≤◌, ◌↔◌, ◌⊎◌, length, All, AllPairs, IsTrue, slice_index, bit_xor};
 ghost use Rattle.dpf_rules.specs.Expansion.{challenge_r, challenge_s};
 ghost use Rattle.audit_rules.specs.Audit.{difference, whole_proof, zero_share, one_share, PassesAt, ServersAccept};
@@ -11,9 +11,9 @@ use audit_rules::{read_share, read_words, servers_accept_what_passes};
 use express_words::{Openings, ProofShare};
 use write_sketch::sums;
 
-/// Whether both servers accept at the point `sigma` a write with these leaves at the registered addresses, `zero` at
-/// server 0 and `one` at server 1: exactly where the whole proof passes for the sums of the difference of their
-/// leaves.
+/// Whether both servers accept at the point `sigma` a write with these leaves at the registered addresses,
+/// `zero` at server 0 and `one` at server 1: exactly where the whole proof passes for the sums of the
+/// difference of their leaves.
 pub fn servers_accept(
     zero: &[u128],
     one: &[u128],
@@ -47,9 +47,9 @@ pub fn servers_accept(
     judge(&closing0, &closing1)
 }
 
-/// The soundness law on what the servers accept. Where the difference of both servers' leaves has two places or more
-/// that aren't zero, a proof is accepted at five points at most, unless r at the first of them or s at the last is the
-/// one bad value.
+/// The soundness law on what the servers accept. Where the difference of both servers' leaves has two
+/// places or more that aren't zero, a proof is accepted at five points at most, unless r at the first of
+/// them or s at the last is the one bad value.
 pub fn accepted_points_are_few(
     zero: &[u128],
     one: &[u128],
@@ -77,8 +77,8 @@ pub fn accepted_points_are_few(
     read_words(points);
 }
 
-/// Honest writes are accepted. Where both servers' leaves are equal at every address but the target's, which stands at
-/// `place` of distinct addresses, the client's proof is accepted at every point.
+/// Honest writes are accepted. Where both servers' leaves are equal at every address but the target's,
+/// which stands at `place` of distinct addresses, the client's proof is accepted at every point.
 pub fn honest_writes_are_accepted(
     zero: &[u128],
     one: &[u128],
