@@ -51,7 +51,9 @@ abbrev pub joined : ℕ → ℕ → ℕ → ℕ → List (List ℕ) → Result (
 joined id count index zero boxes = Ok []
 joined id count index (suc n) [] = Err index
 joined id count index (suc n) (box ∷ boxes) =
-    if is_part id count index box then before (content_in box) (joined id count (index + 1) n boxes) else Err index
+    if is_part id count index box
+    then before (content_in box) (joined id count (index + 1) n boxes)
+    else Err index
 
 -- box 0 says the id and the count; a count of 0 is no part's
 unfoldable pub join : List (List ℕ) → Result (List ℕ) ℕ

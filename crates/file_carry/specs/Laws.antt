@@ -10,7 +10,8 @@ CanBeCut file id width = (id < 2 ^ 64) × IsPartWidth width × (count_of (length
 -- the parts of a file join to the file, whatever boxes come behind them
 abbrev pub CutFilesJoin : Type 0
 CutFilesJoin =
-    (file : List ℕ) (id width : ℕ) (more : List (List ℕ)) → CanBeCut file id width → join (cut file id width ++ more) ≡ Ok file
+    (file : List ℕ) (id width : ℕ) (more : List (List ℕ)) → CanBeCut file id width →
+    join (cut file id width ++ more) ≡ Ok file
 
 -- boxes of this width, each byte below 256
 abbrev pub AreBoxes : ℕ → List (List ℕ) → Type 0

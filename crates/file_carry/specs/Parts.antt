@@ -7,7 +7,7 @@ use Rattle.express_words.specs.Limits.{IsWidth}
 abbrev pub IsPartWidth : ℕ → Type 0
 IsPartWidth width = (32 ≤ width) × IsWidth width
 
--- how many parts a file of so many bytes has, where a part has room for so many of them; an empty file has one
+-- how many parts a file of so many bytes has, where a part has room for so many; an empty file has one
 unfoldable pub count_of : ℕ → ℕ → ℕ
 count_of len room = max 1 (div_ceil len room)
 

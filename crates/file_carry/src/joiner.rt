@@ -36,7 +36,11 @@ impl Model for Joiner {
 
     ghost Value = { Joining };
 
-    ghost view = { λ j. record { width = j.width; most = j.boxes; taken = rows j.width j.taken j.bytes.items } };
+    ghost view = { λ j. record {
+      width = j.width;
+      most = j.boxes;
+      taken = rows j.width j.taken j.bytes.items;
+    } };
 
     ghost invariant = { λ j. (32 ≤ j.width) × (j.width ≤ 4096) × (j.taken ≤ j.boxes) × (j.boxes ≤ 4096)
         × (length j.bytes.items ≡ j.taken * j.width)
@@ -46,8 +50,8 @@ impl Model for Joiner {
 impl Joiner {
     ghost use Rattle.file_carry.specs.Resting.{Stays};
 
-    /// Room for so many boxes of `width` bytes, 1 to 4,096 of them, and for the file that they join to. The width is a
-    /// multiple of 16 from 32 to 4,096. No other call takes memory.
+    /// Room for 1 to 4,096 boxes of `width` bytes, and for the file that they join to. The width is a multiple of 16
+    /// from 32 to 4,096. No other call takes memory.
     pub fn open(alloc: Global, boxes: u32, width: u32) -> Result<Joiner, NoMemory>
         requires least { 1 ≤ boxes }
         requires most { boxes ≤ 4096 }

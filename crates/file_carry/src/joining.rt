@@ -12,7 +12,9 @@ pub fn join_into(bytes: &[u8], width: usize, taken: u32, file: &mut Vec<u8>) -> 
     requires boxes { taken ≤ 4096 }
     requires whole { length bytes.now ≡ taken * width }
     requires room { taken * width ≤ vec_capacity file.old }
-    ensures answer { MatchResult result (λ _. join (rows width taken bytes.now) ≡ Ok file.new.items) (λ i. join (rows width taken bytes.now) ≡ Err i) }
+    ensures answer { MatchResult result
+        (λ _. join (rows width taken bytes.now) ≡ Ok file.new.items)
+        (λ i. join (rows width taken bytes.now) ≡ Err i) }
     ensures capacity { vec_capacity file.old ≤ vec_capacity file.new }
 {
     file.clear();
@@ -50,7 +52,9 @@ fn join_parts(
     requires whole { length bytes.now ≡ taken * width }
     requires room { taken * width ≤ vec_capacity file.old }
     requires empty { file.old.items ≡ [] }
-    ensures answer { MatchResult result (λ _. joined id count 0 (max 1 count) (rows width taken bytes.now) ≡ Ok file.new.items) (λ i. joined id count 0 (max 1 count) (rows width taken bytes.now) ≡ Err i) }
+    ensures answer { MatchResult result
+        (λ _. joined id count 0 (max 1 count) (rows width taken bytes.now) ≡ Ok file.new.items)
+        (λ i. joined id count 0 (max 1 count) (rows width taken bytes.now) ≡ Err i) }
     ensures capacity { vec_capacity file.old ≤ vec_capacity file.new }
 {
     let total = u32::from(count).max(1);
