@@ -1,6 +1,7 @@
--- Many writes judged by one closing of each server: closings are summed with the powers of a random field value rho.
--- Pair i is closing i of server 0 and closing i of server 1; it is good where both together accept (`accepts`), that
--- is, where both of its sums are 0. So batches are verified by a random linear combination of what they hold.
+-- Many writes judged by one closing of each server: closings are summed with the powers of a random field
+-- value rho. Pair i is closing i of server 0 and closing i of server 1; it is good where both together accept
+-- (`accepts`), that is, where both of its sums are 0. So batches are verified by a random linear combination
+-- of what they hold.
 use Rattle.std.specs.Prelude.{◌≡◌, ℕ, ◌+◌, if◌then◌else◌, true, List, [], ◌∷◌, take}
 use Rattle.dpf_rules.specs.Bytes.{number_of}
 use Rattle.dpf_rules.specs.Expansion.{draw32}

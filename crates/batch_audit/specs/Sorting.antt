@@ -4,8 +4,9 @@ use Rattle.express_words.specs.declared.audit.Closing.{Closing}
 use Rattle.audit_rules.specs.Audit.{accepts}
 use Rattle.batch_audit.specs.Batch.{count_bad, BatchPasses, rho_at}
 
--- A range of pairs at whose start n ranges were judged, and at whose end m. Where its batch passes, all its pairs pass.
--- Else one pair alone is rejected, and a longer range is worked as its first half, rounded down, and then the rest.
+-- A range of pairs at whose start n ranges were judged, and at whose end m. Where its batch passes, all its
+-- pairs pass. Else one pair alone is rejected, and a longer range is worked as its first half, rounded down,
+-- and then the rest.
 pub data Sorted (seed : List ℕ) : List Closing → List Closing → List Bool → ℕ → ℕ → Type 0 where
   empty : {zero one : List Closing} {rejected : List Bool} {n m : ℕ} →
       length zero ≡ 0 → m ≡ n → Sorted seed zero one rejected n m

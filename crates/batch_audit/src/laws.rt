@@ -1,5 +1,5 @@
-//! Laws over the definitions. The functions only read their arguments, from which a proof learns that they are
-//! in range: their contracts are the laws.
+//! Laws over the definitions. The functions only read their arguments, from which a proof learns that they
+//! are in range: their contracts are the laws.
 ghost use Rattle.std.specs.Prelude.{◌≡◌, ◌≢◌, ℕ, ◌+◌, ◌*◌, ◌^◌, ◌<◌, ◌≤◌, length, All, AllPairs};
 ghost use Rattle.batch_audit.specs.Batch.{os, taus, count_bad, BatchPasses};
 ghost use Rattle.batch_audit.specs.Sorting.{Sorted, RejectedAreBad, OthersAreGoodOrMissed, SortsAreOne};
@@ -25,8 +25,8 @@ fn read_closing(closing: &Closing)
     let _tau = closing.tau;
 }
 
-/// The law of bad values. Where one of k pairs isn't good, at most k - 1 distinct values of rho let their batch
-/// pass. So a pair alone that isn't good passes at none.
+/// The law of bad values. Where one of k pairs isn't good, at most k - 1 distinct values of rho let their
+/// batch pass. So a pair alone that isn't good passes at none.
 pub fn bad_values_are_few(zero: &[Closing], one: &[Closing], values: &[u128])
     requires lengths { length one.now ≡ length zero.now }
     requires bad { 0 < count_bad zero.now one.now }
@@ -57,7 +57,8 @@ pub fn rejected_pairs_are_bad(
     read_closings(one);
 }
 
-/// The bound on the ranges that a sort judges: of at most 2^c pairs, m of which aren't good, 1 + 2·m·c at most.
+/// The bound on the ranges that a sort judges: of at most 2^c pairs, m of which aren't good, 1 + 2·m·c at
+/// most.
 pub fn judged_ranges_are_few(
     zero: &[Closing],
     one: &[Closing],
@@ -75,8 +76,8 @@ pub fn judged_ranges_are_few(
     read_closings(one);
 }
 
-/// Every pair that a sort doesn't reject is good, or it stands in a judged range that has a pair that isn't good
-/// and passed, at one of the few bad values of that range.
+/// Every pair that a sort doesn't reject is good, or it stands in a judged range that has a pair that isn't
+/// good and passed, at one of the few bad values of that range.
 pub fn other_pairs_are_good_or_missed(
     zero: &[Closing],
     one: &[Closing],

@@ -67,8 +67,22 @@ fn sort_range(
     )
 }
 
-/// Says of each of at most 2^20 pairs whether it is rejected, and how many ranges were judged. The values of rho are
-/// drawn from `seed`, one for each range. It takes no memory.
+// Sorts all pairs.
+fn sort_all(zero: &[Closing], one: &[Closing], seed: &[u8; 32], rejected: &mut [bool]) -> u32
+    requires one { length one.now ≡ length zero.now }
+    requires rejected { length rejected.old ≡ length zero.now }
+    requires room { length zero.now ≤ 2 ^ 20 }
+    ensures sorted { Sorted seed.now zero.now one.now rejected.new 0 result }
+    ensures none { length zero.now ≡ 0 → result ≡ 0 }
+{
+    if zero.is_empty() {
+        return 0;
+    }
+    sort_range(zero, one, seed, 0, rejected)
+}
+
+/// Says of each of at most 2^20 pairs whether it is rejected, and how many ranges were judged. The values of
+/// rho are drawn from `seed`, one for each range. It takes no memory.
 pub fn sort_out(zero: &[Closing], one: &[Closing], seed: &[u8; 32], rejected: &mut [bool]) -> u32
     requires one { length one.now ≡ length zero.now }
     requires rejected { length rejected.old ≡ length zero.now }
@@ -79,11 +93,7 @@ pub fn sort_out(zero: &[Closing], one: &[Closing], seed: &[u8; 32], rejected: &m
     ensures few { FewAreJudged zero.now one.now result }
     ensures none { length zero.now ≡ 0 → result ≡ 0 }
 {
-    let judged = if zero.is_empty() {
-        0
-    } else {
-        sort_range(zero, one, seed, 0, rejected)
-    };
+    let judged = sort_all(zero, one, seed, rejected);
     rejected_pairs_are_bad(zero, one, seed, 0, judged, rejected);
     judged_ranges_are_few(zero, one, seed, 0, judged, rejected);
     other_pairs_are_good_or_missed(zero, one, seed, 0, judged, rejected);

@@ -7,8 +7,8 @@ use express_words::limits::{MOST_BOXES, MOST_WIDTH};
 /// A part begins with so many bytes that aren't the file's.
 pub const HEADER: usize = 16;
 
-/// How many parts a file of `length` bytes has in messages of `width` bytes: None where the width isn't a multiple
-/// of 16 from 32 to 4,096, or where there are more than 4,096 parts.
+/// How many parts a file of `length` bytes has in messages of `width` bytes: None where the width isn't a
+/// multiple of 16 from 32 to 4,096, or where there are more than 4,096 parts.
 #[tactic(auto, unfolding(crate::specs::Parts::count_of))]
 pub fn parts(length: u32, width: u32) -> Option<u32>
     ensures limits { IsSome result ↔ (IsPartWidth width × (count_of length (width - 16) ≤ 4096)) }
@@ -26,9 +26,9 @@ pub fn parts(length: u32, width: u32) -> Option<u32>
     }
 }
 
-/// Writes the part of this index into `out`, which is as long as a message. A part is, big-endian, the file's id
-/// (8 bytes), its index (2), how many parts there are (2), how many of its bytes are the file's (2) and two zeros;
-/// then those bytes, and zeros behind them.
+/// Writes the part of this index into `out`, which is as long as a message. A part is, big-endian, the file's
+/// id (8 bytes), its index (2), how many parts there are (2), how many of its bytes are the file's (2) and
+/// two zeros; then those bytes, and zeros behind them.
 pub fn cut_into(file: &[u8], id: u64, index: u32, out: &mut [u8])
     requires width { IsPartWidth (length out.old) }
     requires count { count_of (length file.now) (length out.old - 16) ≤ 4096 }

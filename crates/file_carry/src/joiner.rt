@@ -50,8 +50,8 @@ impl Model for Joiner {
 impl Joiner {
     ghost use Rattle.file_carry.specs.Resting.{Stays};
 
-    /// Room for 1 to 4,096 boxes of `width` bytes, and for the file that they join to. The width is a multiple of 16
-    /// from 32 to 4,096. No other call takes memory.
+    /// Room for 1 to 4,096 boxes of `width` bytes, and for the file that they join to. The width is a
+    /// multiple of 16 from 32 to 4,096. No other call takes memory.
     pub fn open(alloc: Global, boxes: u32, width: u32) -> Result<Joiner, NoMemory>
         requires least { 1 ≤ boxes }
         requires most { boxes ≤ 4096 }

@@ -6,8 +6,8 @@ pub fn cut_files_join()
     ensures { CutFilesJoin }
 {}
 
-/// Boxes that join to a file begin with the parts of that file: no part has two spellings, and no box is taken
-/// that cutting doesn't give.
+/// Boxes that join to a file begin with the parts of that file: no part has two spellings, and no box is
+/// taken that cutting doesn't give.
 pub fn joined_files_are_cut()
     ensures { JoinedFilesAreCut }
 {}
