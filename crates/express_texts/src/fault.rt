@@ -1,0 +1,34 @@
+//! Why a text isn't read.
+ghost use Rattle.std.specs.Prelude.{◌≡◌};
+ghost use Rattle.express_texts.specs.declared.fault.TextFault.TheVariants.{NoMemory};
+
+use std::alloc::AllocFailed;
+use std::fmt;
+
+/// Why a text isn't read.
+#[derive(Debug, Drop)]
+pub enum TextFault {
+    /// The first line that isn't of the grammar, counted from 1.
+    Wrong(u32),
+    /// The first key of a text of settings that is missing or breaks a rule.
+    WrongKey(String),
+    NoMemory,
+}
+
+impl fmt::Display for TextFault {
+    fn fmt<W: fmt::Write>(&self, f: &mut fmt::Formatter<W>) -> fmt::Result {
+        match self {
+            TextFault::Wrong(line) => write!(f, "bad line {line}"),
+            TextFault::WrongKey(key) => write!(f, "bad settings {key}"),
+            TextFault::NoMemory => write!(f, "out of memory"),
+        }
+    }
+}
+
+impl<T: Drop> From<AllocFailed<T>> for TextFault {
+    ghost from_gives = { λ _ e. e ≡ NoMemory };
+
+    fn from(_: AllocFailed<T>) -> Self {
+        TextFault::NoMemory
+    }
+}
