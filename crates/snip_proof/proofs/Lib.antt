@@ -1,2 +1,2 @@
 mod Steps
-mod Writes
+pub mod Writes

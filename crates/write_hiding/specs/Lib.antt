@@ -1,0 +1,5 @@
+pub mod Choices
+pub mod Views
+pub mod Moved
+pub mod Writes
+pub mod Laws
