@@ -55,7 +55,7 @@ alone_is w r s p hw hr hs =
 -- ---- the proof
 
 -- what is added twice goes
-plus_back : (q p : List ℕ) → length q ≡ length p → plus_of bit_xor q (plus_of bit_xor p q) ≡ p
+pub plus_back : (q p : List ℕ) → length q ≡ length p → plus_of bit_xor q (plus_of bit_xor p q) ≡ p
 plus_back [] [] h = refl
 plus_back [] (y ∷ p) h = cc
 plus_back (x ∷ q) [] h = cc
@@ -64,7 +64,7 @@ plus_back (x ∷ q) (y ∷ p) h =
     let tail = plus_back q p (omega arith) in
     cc
 
-number_back : (x y : ℕ) → bit_xor x (bit_xor y x) ≡ y
+pub number_back : (x y : ℕ) → bit_xor x (bit_xor y x) ≡ y
 number_back x y = ap (bit_xor x) (xor_comm y x) ∙ sym (xor_assoc x x y) ∙ ap (λ n. bit_xor n y) (xor_self x) ∙ xor_zero_l y
 
 passes_down : (x y m k u v alpha sigma : E) (h : List E) →

@@ -1,7 +1,8 @@
--- The audit of a write on numbers of the field of 2^128 elements. The sketch with two challenge vectors is this project's own;
--- its proof is a client's, in the manner of Prio (Corrigan-Gibbs and Boneh, NSDI 2017, section 4), with two multiplication
--- gates, x·y and M·z, and one multiplication triple. A sum of field values is their XOR.
-use Rattle.std.specs.Prelude.{◌≡◌, ℕ, ◌==◌, if◌then◌else◌, List, [], ◌∷◌, slice_index, bit_xor}
+-- The audit of a write on numbers of the field of 2^128 elements. The sketch with two challenge vectors is
+-- this project's own; its proof is a client's, in the manner of Prio (Corrigan-Gibbs and Boneh, NSDI 2017,
+-- section 4), with two multiplication gates, x·y and M·z, and one multiplication triple. A sum of field
+-- values is their XOR.
+use Rattle.std.specs.Prelude.{◌≡◌, ℕ, ◌==◌, ◌&&◌, Bool, if◌then◌else◌, List, [], ◌∷◌, slice_index, bit_xor}
 use Rattle.tower_field.specs.Levels.{product_at, inverse_at}
 use Rattle.poly_roots.specs.Polynomials.{value_at, plus_of, times_of}
 use Rattle.poly_roots.specs.Through.{through}
@@ -32,6 +33,10 @@ sums_of w r s =
 unfoldable pub bad_s : List ℕ → List ℕ → ℕ → ℕ → ℕ
 bad_s w s a b = sketch.bad_s 0 bit_xor product (inverse_at 7) w s a b
 
+-- what divides in the bad value of r: w_a·(y + M·s_a)
+unfoldable pub bad_r_divisor : List ℕ → List ℕ → ℕ → ℕ
+bad_r_divisor w s a = sketch.divisor 0 bit_xor product w s a
+
 -- the one value of r at place a that can hide such a vector, where s at b isn't bad
 unfoldable pub bad_r : List ℕ → List ℕ → List ℕ → ℕ → ℕ
 bad_r w r s a = sketch.bad_r 0 bit_xor product (inverse_at 7) w r s a
@@ -52,9 +57,12 @@ f_of sums proof = through_three proof.u sums.x sums.m
 abbrev pub g_of : Sums → ProofShare → List ℕ
 g_of sums proof = through_three proof.v sums.y sums.z
 
--- the proof passes at the point sigma: h(1) + h(2) = 0 and sigma·(f(sigma)·g(sigma) + h(sigma)) + (a·b + c) = 0
+-- the proof passes at the point sigma: h(1) + h(2) = 0 and sigma·(f(sigma)·g(sigma) + h(sigma)) + (a·b + c)
+-- = 0
 unfoldable pub PassesAt : Sums → ProofShare → ℕ → Type 0
-PassesAt sums proof sigma = Passes 0 1 bit_xor product (f_of sums proof) (g_of sums proof) proof.h 2 (bit_xor (product proof.a proof.b) proof.c) sigma
+PassesAt sums proof sigma =
+    Passes 0 1 bit_xor product (f_of sums proof) (g_of sums proof) proof.h 2
+    (bit_xor (product proof.a proof.b) proof.c) sigma
 
 -- ---- what one server opens and closes
 
@@ -75,11 +83,17 @@ closing_of server share sigma opened =
     record {
       o = bit_xor (value share.h 1) (value share.h 2);
       tau = bit_xor
-          (bit_xor (bit_xor (bit_xor (product opened.d share.b) (product opened.e share.a)) share.c) (product sigma (value share.h sigma)))
+          (bit_xor
+          (bit_xor (bit_xor (product opened.d share.b) (product opened.e share.a)) share.c)
+          (product sigma (value share.h sigma)))
           (if server == 0 then product opened.d opened.e else 0);
     }
 
--- both sums over the servers are 0
+-- whether both closings together accept: both sums over the servers are 0
+unfoldable pub accepts : Closing → Closing → Bool
+accepts zero one = (bit_xor zero.o one.o == 0) && (bit_xor zero.tau one.tau == 0)
+
+-- the same as a statement
 unfoldable pub IsAccepted : Closing → Closing → Type 0
 IsAccepted zero one = (bit_xor zero.o one.o ≡ 0) × (bit_xor zero.tau one.tau ≡ 0)
 
@@ -92,7 +106,13 @@ ServersAccept sums0 sums1 share0 share1 sigma =
 -- ---- both servers together
 
 unfoldable pub whole_sums : Sums → Sums → Sums
-whole_sums zero one = record { x = bit_xor zero.x one.x; y = bit_xor zero.y one.y; m = bit_xor zero.m one.m; z = bit_xor zero.z one.z }
+whole_sums zero one =
+    record {
+      x = bit_xor zero.x one.x;
+      y = bit_xor zero.y one.y;
+      m = bit_xor zero.m one.m;
+      z = bit_xor zero.z one.z;
+    }
 
 unfoldable pub whole_proof : ProofShare → ProofShare → ProofShare
 whole_proof zero one =
@@ -109,14 +129,15 @@ whole_proof zero one =
 abbrev pub difference : List ℕ → List ℕ → List ℕ
 difference zero one = sketch.both bit_xor zero one
 
--- ---- a client's proof for the difference m at a place with the challenge r and s, from the sixteen words that it draws
+-- ---- a client's proof for the difference m at a place with the challenge r and s, from its sixteen words
 
 unfoldable pub zero_share : List ℕ → ProofShare
 zero_share words =
     record {
       u = slice_index words 2;
       v = slice_index words 4;
-      h = slice_index words 6 ∷ (slice_index words 7 ∷ (slice_index words 8 ∷ (slice_index words 9 ∷ (slice_index words 10 ∷ []))));
+      h = slice_index words 6 ∷ (slice_index words 7 ∷ (slice_index words 8
+          ∷ (slice_index words 9 ∷ (slice_index words 10 ∷ []))));
       a = slice_index words 11;
       b = slice_index words 13;
       c = slice_index words 15;
@@ -126,7 +147,9 @@ abbrev pub honest_f : ℕ → ℕ → List ℕ → List ℕ
 honest_f m r words = through_three (bit_xor (slice_index words 2) (slice_index words 3)) (product m r) m
 
 abbrev pub honest_g : ℕ → ℕ → ℕ → List ℕ → List ℕ
-honest_g m r s words = through_three (bit_xor (slice_index words 4) (slice_index words 5)) (product m s) (product (product m r) s)
+honest_g m r s words =
+    let masks = bit_xor (slice_index words 4) (slice_index words 5) in
+    through_three masks (product m s) (product (product m r) s)
 
 -- server 1's h is f·g plus server 0's, and its c is a·b plus server 0's
 unfoldable pub one_share : ℕ → ℕ → ℕ → List ℕ → ProofShare
@@ -134,8 +157,14 @@ one_share m r s words =
     record {
       u = slice_index words 3;
       v = slice_index words 5;
-      h = plus_of bit_xor (times_of 0 bit_xor product (honest_f m r words) (honest_g m r s words)) (zero_share words).h;
+      h = plus_of bit_xor
+          (times_of 0 bit_xor product (honest_f m r words) (honest_g m r s words))
+          (zero_share words).h;
       a = slice_index words 12;
       b = slice_index words 14;
-      c = bit_xor (product (bit_xor (slice_index words 11) (slice_index words 12)) (bit_xor (slice_index words 13) (slice_index words 14))) (slice_index words 15);
+      c = bit_xor
+          (product
+          (bit_xor (slice_index words 11) (slice_index words 12))
+          (bit_xor (slice_index words 13) (slice_index words 14)))
+          (slice_index words 15);
     }

@@ -1,4 +1,5 @@
--- The sketch of a difference vector w with two challenge vectors r and s, over the operations of any field, and the two values of a challenge that hide a bad vector.
+-- The sketch of a difference vector w with two challenge vectors r and s, over the operations of any field,
+-- and the two values of a challenge that hide a bad vector.
 use Rattle.std.specs.Prelude.{ℕ, List, [], ◌∷◌}
 use Rattle.std.proofs.Common.{get_or, set}
 
@@ -22,16 +23,21 @@ dot3 z add mul (x ∷ w) (y ∷ r) (k ∷ s) = add (mul (mul x y) k) (dot3 z add
 
 -- what is zero where w is zero everywhere but at one place
 abbrev pub verdict : {F : Type 0} → F → (F → F → F) → (F → F → F) → List F → List F → List F → F
-verdict z add mul w r s = add (mul (dot z add mul w r) (dot z add mul w s)) (mul (total z add w) (dot3 z add mul w r s))
+verdict z add mul w r s =
+    add (mul (dot z add mul w r) (dot z add mul w s)) (mul (total z add w) (dot3 z add mul w r s))
 
+-- the value of s at b that hides w, from the other places
 abbrev pub bad_s : {F : Type 0} → F → (F → F → F) → (F → F → F) → (F → F) → List F → List F → ℕ → ℕ → F
-bad_s z add mul inverse w s a b = mul (inverse (get_or w b z)) (add (dot z add mul w (set s b z)) (mul (total z add w) (get_or s a z)))
+bad_s z add mul inverse w s a b =
+    mul (inverse (get_or w b z)) (add (dot z add mul w (set s b z)) (mul (total z add w) (get_or s a z)))
 
-abbrev pub key : {F : Type 0} → F → (F → F → F) → (F → F → F) → List F → List F → ℕ → F
-key z add mul w s a = mul (get_or w a z) (add (dot z add mul w s) (mul (total z add w) (get_or s a z)))
+-- what divides in the bad value of r
+abbrev pub divisor : {F : Type 0} → F → (F → F → F) → (F → F → F) → List F → List F → ℕ → F
+divisor z add mul w s a = mul (get_or w a z) (add (dot z add mul w s) (mul (total z add w) (get_or s a z)))
 
+-- the value of r at a that hides w, from the other places
 abbrev pub bad_r : {F : Type 0} → F → (F → F → F) → (F → F → F) → (F → F) → List F → List F → List F → ℕ → F
-bad_r z add mul inverse w r s a = mul (inverse (key z add mul w s a)) (verdict z add mul w (set r a z) s)
+bad_r z add mul inverse w r s a = mul (inverse (divisor z add mul w s a)) (verdict z add mul w (set r a z) s)
 
 -- the sum of two lists, place by place
 abbrev pub both : {F : Type 0} → (F → F → F) → List F → List F → List F

@@ -8,7 +8,7 @@ use Rattle.tower_field.specs.Elements.{Element, element_zero, element_add, eleme
 use Rattle.tower_field.specs.Gf.{values}
 use Rattle.poly_roots.specs.Polynomials.{value_at, plus_of, scaled_of, times_of}
 use Rattle.audit_rules.specs.Sketch as sketch
-use Rattle.audit_rules.specs.Audit.{product, value, bad_s, bad_r, difference}
+use Rattle.audit_rules.specs.Audit.{product, value, sums_of, bad_s, bad_r_divisor, bad_r, difference}
 
 abbrev pub E : Type 0
 E = Element 7
@@ -71,6 +71,11 @@ dot3-values (x ∷ w) [] s = refl
 dot3-values (x ∷ w) (y ∷ r) [] = refl
 dot3-values (x ∷ w) (y ∷ r) (k ∷ s) = ap (bit_xor (product (product x.value y.value) k.value)) (dot3-values w r s)
 
+pub sums-values : (w r s : List E) →
+    sums_of (values w) (values r) (values s) ≡ record { x = (sketch.dot z add mul w r).value; y = (sketch.dot z add mul w s).value; m = (sketch.total z add w).value; z = (sketch.dot3 z add mul w r s).value }
+unfolding sums_of
+sums-values w r s = let x = dot-values w r in let y = dot-values w s in let m = total-values w in let k = dot3-values w r s in cc
+
 pub both-values : (v w : List E) → difference (values v) (values w) ≡ values (sketch.both add v w)
 both-values [] w = refl
 both-values (x ∷ v) [] = refl
@@ -92,19 +97,20 @@ verdict-values w r s =
     ∙ ap (λ n. bit_xor (product (sketch.dot z add mul w r).value (sketch.dot z add mul w s).value) (product n (sketch.dot3 0 bit_xor product (values w) (values r) (values s)))) (total-values w)
     ∙ ap (λ n. bit_xor (product (sketch.dot z add mul w r).value (sketch.dot z add mul w s).value) (product (sketch.total z add w).value n)) (dot3-values w r s)
 
-key-values : (w s : List E) (a : ℕ) → sketch.key 0 bit_xor product (values w) (values s) a ≡ (sketch.key z add mul w s a).value
-key-values w s a =
+pub divisor-values : (w s : List E) (a : ℕ) → bad_r_divisor (values w) (values s) a ≡ (sketch.divisor z add mul w s a).value
+unfolding bad_r_divisor
+divisor-values w s a =
     ap (λ n. product n (bit_xor (sketch.dot 0 bit_xor product (values w) (values s)) (product (sketch.total 0 bit_xor (values w)) (get_or (values s) a 0)))) (get_or-values w a)
     ∙ ap (λ n. product (get_or w a z).value (bit_xor n (product (sketch.total 0 bit_xor (values w)) (get_or (values s) a 0)))) (dot-values w s)
     ∙ ap (λ n. product (get_or w a z).value (bit_xor (sketch.dot z add mul w s).value (product n (get_or (values s) a 0)))) (total-values w)
     ∙ ap (λ n. product (get_or w a z).value (bit_xor (sketch.dot z add mul w s).value (product (sketch.total z add w).value n))) (get_or-values s a)
 
 pub bad_r-values : (w r s : List E) (a : ℕ) → bad_r (values w) (values r) (values s) a ≡ (sketch.bad_r z add mul inverse w r s a).value
-unfolding bad_r
+unfolding bad_r bad_r_divisor
 bad_r-values w r s a =
-    ap (λ l. product (inverse_at 7 (sketch.key 0 bit_xor product (values w) (values s) a)) (sketch.verdict 0 bit_xor product (values w) l (values s))) (set-values r a)
-    ∙ ap (λ n. product (inverse_at 7 n) (sketch.verdict 0 bit_xor product (values w) (values (set r a z)) (values s))) (key-values w s a)
-    ∙ ap (λ n. product (inverse_at 7 (sketch.key z add mul w s a).value) n) (verdict-values w (set r a z) s)
+    ap (λ l. product (inverse_at 7 (sketch.divisor 0 bit_xor product (values w) (values s) a)) (sketch.verdict 0 bit_xor product (values w) l (values s))) (set-values r a)
+    ∙ ap (λ n. product (inverse_at 7 n) (sketch.verdict 0 bit_xor product (values w) (values (set r a z)) (values s))) (divisor-values w s a)
+    ∙ ap (λ n. product (inverse_at 7 (sketch.divisor z add mul w s a).value) n) (verdict-values w (set r a z) s)
 
 pub value-values : (p : List E) (x : E) → value (values p) x.value ≡ (value_at z add mul p x).value
 value-values [] x = refl

@@ -1,40 +1,59 @@
-//! Laws over the definitions. The functions only read their arguments, from which a proof learns that they are in
-//! range: their contracts are the laws.
-ghost use Rattle.std.specs.Prelude.{◌≡◌, ◌≢◌, ℕ, ◌<◌, ◌≤◌, ◌↔◌, ◌⊎◌, length, All, AllPairs, slice_index, slice_set};
-ghost use Rattle.audit_rules.specs.Audit.{sums_of, bad_r, bad_s, PassesAt, ServersAccept, whole_sums, whole_proof, difference, zero_share, one_share};
-ghost use Rattle.audit_rules.specs.Soundness.{IsFirst, IsLast};
+//! Laws over the definitions. The functions only read their arguments, from which a proof learns that they
+//! are in range: their contracts are the laws.
+ghost use Rattle.std.specs.Prelude.{◌≡◌, ◌≢◌, ℕ, ◌<◌, ◌≤◌, ◌↔◌, ◌⊎◌, length, All, AllPairs, slice_index};
+ghost use Rattle.audit_rules.specs.Audit.{sums_of, bad_r_divisor, bad_s, PassesAt, ServersAccept, whole_sums, whole_proof, difference, zero_share, one_share};
+ghost use Rattle.audit_rules.specs.BadWrites.{HasTwo, first_place, last_place, IsFirst, IsLast, IsBadChallenge};
+ghost use Rattle.audit_rules.specs.Laws.{BadRIsFixed, BadSIsFixed, ChangesAreSeen, ValuesInRange, ValuesAccept, AcceptedPasses};
 ghost use Rattle.audit_rules.specs.Accepted.{IsAlone, sums_alone};
 
 use crate::ranges::{read_share, read_sums, read_words};
 use crate::sums::Sums;
 use express_words::ProofShare;
 
-/// The soundness law. Where `w` has two places or more that aren't zero, `a` the first and `b` the last of them, a
-/// proof passes at five points at most, unless r at a or s at b is the one bad value, which doesn't depend on that
-/// place.
+/// The two values of a challenge that can hide a vector. Where `w` has two places or more that aren't zero,
+/// `a` the first and `b` the last of them, what divides in the bad value of r at a is zero exactly where s
+/// at b is its bad value.
+pub fn bad_values_hide(w: &[u128], s: &[u128])
+    requires s { length s.now ≡ length w.now }
+    requires two { HasTwo w.now }
+    ensures first { IsFirst w.now (first_place w.now) }
+    ensures last { IsLast w.now (last_place w.now) }
+    ensures apart { first_place w.now < last_place w.now }
+    ensures divisor { let a = first_place w.now in
+        let b = last_place w.now in
+        bad_r_divisor w.now s.now a ≡ 0 ↔ slice_index s.now b ≡ bad_s w.now s.now a b }
+{
+    read_words(w);
+    read_words(s);
+}
+
+/// Neither bad value depends on the challenge at its own place.
+pub fn bad_values_are_fixed()
+    ensures r { BadRIsFixed }
+    ensures s { BadSIsFixed }
+{}
+
+/// A write whose bytes differ between the servers at two boxes or more has two places or more in its
+/// difference vector that aren't zero.
+pub fn changed_boxes_are_seen()
+    ensures { ChangesAreSeen }
+{}
+
+/// The soundness law. Where `w` has two places or more that aren't zero, a proof passes at five points at
+/// most, unless r at the first of them or s at the last is the one bad value.
 pub fn bad_writes_are_caught(
     w: &[u128],
     r: &[u128],
     s: &[u128],
-    a: usize,
-    b: usize,
     proof: &ProofShare,
     points: &[u128],
 )
     requires r { length r.now ≡ length w.now }
     requires s { length s.now ≡ length w.now }
-    requires first { IsFirst w.now a }
-    requires last { IsLast w.now b }
-    requires two { a < b }
+    requires two { HasTwo w.now }
     requires distinct { AllPairs (λ p q. p ≢ q) points.now }
     requires passes { All (PassesAt (sums_of w.now r.now s.now) proof.now) points.now }
-    ensures caught { (slice_index r.now a ≡ bad_r w.now r.now s.now a)
-        ⊎ (slice_index s.now b ≡ bad_s w.now s.now a b)
-        ⊎ (length points.now ≤ 5) }
-    ensures bad_r_is_fixed { (v : ℕ) →
-        bad_r w.now (slice_set r.now a v) s.now a ≡ bad_r w.now r.now s.now a }
-    ensures bad_s_is_fixed { (v : ℕ) →
-        bad_s w.now (slice_set s.now b v) a b ≡ bad_s w.now s.now a b }
+    ensures caught { IsBadChallenge w.now r.now s.now ⊎ (length points.now ≤ 5) }
 {
     read_words(w);
     read_words(r);
@@ -43,8 +62,8 @@ pub fn bad_writes_are_caught(
     read_words(points);
 }
 
-/// What two servers accept at a point: both closings add up to zero exactly where the whole proof passes for the whole
-/// sums.
+/// What two servers accept at a point: both closings add up to zero exactly where the whole proof passes
+/// for the whole sums.
 pub fn servers_accept_what_passes(
     sums0: &Sums,
     sums1: &Sums,
@@ -61,6 +80,14 @@ pub fn servers_accept_what_passes(
     read_share(share1);
 }
 
+/// What both servers' values of an audit are: numbers of the field, by which the closings accept exactly
+/// where both servers accept, and so where the whole proof passes for the difference vector.
+pub fn values_accept()
+    ensures in_range { ValuesInRange }
+    ensures accept { ValuesAccept }
+    ensures passes { AcceptedPasses }
+{}
+
 /// The sums of both servers' vectors add up to those of the difference vector.
 pub fn sums_add_up(zero: &[u128], one: &[u128], r: &[u128], s: &[u128])
     requires { length zero.now ≡ length one.now }
@@ -73,8 +100,8 @@ pub fn sums_add_up(zero: &[u128], one: &[u128], r: &[u128], s: &[u128])
     read_words(s);
 }
 
-/// A client's proof passes at every point: for a vector that is zero everywhere but at `place`, with the value and the
-/// challenge of that place.
+/// A client's proof passes at every point: for a vector that is zero everywhere but at `place`, with the
+/// value and the challenge of that place.
 pub fn honest_proofs_pass(
     w: &[u128],
     r: &[u128],

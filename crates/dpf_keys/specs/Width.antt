@@ -1,9 +1,6 @@
--- The widths of a message and the lengths of a public part.
-use Rattle.std.specs.Prelude.{◌≡◌, ℕ, ◌-◌, ◌%◌, ◌≤◌, List, length}
-
--- a message's width in bytes
-abbrev pub IsWidth : ℕ → Type 0
-IsWidth width = (16 ≤ width) × (width ≤ 4096) × (width % 16 ≡ 0)
+-- The lengths of a public part.
+use Rattle.std.specs.Prelude.{ℕ, ◌-◌, ◌≤◌, List, length}
+pub use Rattle.express_words.specs.Limits.{IsWidth}
 
 -- bytes as many as a public part of some width has
 abbrev pub IsPart : List ℕ → Type 0

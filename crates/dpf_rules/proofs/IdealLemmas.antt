@@ -1,27 +1,27 @@
 -- Keys whose other expansions are any: each server walks to the target through the states that its expansions give.
-use Rattle.std.proofs.Common.{◌≡◌, ℕ, zero, suc, ◌-◌, ◌≤◌, List, [], ◌∷◌, length, refl, arith, inl, inr}
+use Rattle.std.proofs.Common.{◌≡◌, ℕ, zero, suc, ◌-◌, ◌≤◌, List, [], ◌∷◌, length, refl, sym, ap, ◌∙◌, arith, inl, inr}
 use Rattle.std.specs.Int.Bits.{xor_comm}
 use Rattle.std.proofs.lemmas.Nat.Bits.{bit_at-lt}
 use Rattle.std.proofs.lemmas.Bool.Decides.{eqb_tells}
 use Rattle.dpf_rules.specs.Bytes.{xor_bytes}
 use Rattle.dpf_rules.specs.Walk.{side_at, step, state_at}
-use Rattle.dpf_rules.specs.Keys.{Expansions, pair_at, on_side, level_word, level_right, keys, honest, path_at}
+use Rattle.dpf_rules.specs.Keys.{Expansions, pair_at, on_side, level_word, level_right, keys, raw_pair, honest, path_at, honest_keys}
 use Rattle.dpf_rules.specs.Ideal.{HasStates, own_at, ideal_keys, given_at}
-use Rattle.dpf_rules.proofs.KeysLemmas.{HasStates-honest, honest-pair, word_of-keys, right_of-keys, words_same, bits_same}
+use Rattle.dpf_rules.proofs.KeysLemmas.{HasStates-honest, honest-pair, honest_same, word_of-keys, right_of-keys, words_same, bits_same}
 use Rattle.dpf_rules.proofs.PointLemmas.{on_side-raw_pair}
 
 -- ---- the keys do not tell which server's list is which
 
-level_word_comm : (p q : ℕ × ℕ) (side : ℕ) → level_word p q side ≡ level_word q p side
+pub level_word_comm : (p q : ℕ × ℕ) (side : ℕ) → level_word p q side ≡ level_word q p side
 unfolding level_word
 level_word_comm p q side =
     rw (xor_comm (on_side p (1 - side)) (on_side q (1 - side))) (omega arith)
 
-level_right_comm : (p q : ℕ × ℕ) (side : ℕ) → level_right p q side ≡ level_right q p side
+pub level_right_comm : (p q : ℕ × ℕ) (side : ℕ) → level_right p q side ≡ level_right q p side
 unfolding level_right
 level_right_comm p q side = omega arith
 
-xor_bytes_comm : (xs ys : List ℕ) → xor_bytes xs ys ≡ xor_bytes ys xs
+pub xor_bytes_comm : (xs ys : List ℕ) → xor_bytes xs ys ≡ xor_bytes ys xs
 unfolding xor_bytes
 xor_bytes_comm [] [] = refl
 xor_bytes_comm [] (y ∷ ys) = refl
@@ -66,13 +66,59 @@ module _ (target : ℕ) (message : List ℕ) (viewer root : ℕ) (other : Expans
         let right = right_of-keys target message own other small states i (omega arith) in
         rw (here, own_first, word, right, pair) refl
 
--- where the other server is honest too, the viewer's states are those of the path
+-- where server 1 is honest too, server 0's states are those of the path
 pub own_path : (target root0 root1 width i : ℕ) → i ≤ 128
     → own_at target 0 root0 (honest (λ i. (path_at target root0 root1 i).1) width) i ≡ (path_at target root0 root1 i).0
 unfolding own_at path_at
 own_path target root0 root1 width zero h = refl
 own_path target root0 root1 width (suc i) h =
     rw (own_path target root0 root1 width i (omega arith), honest-pair (λ i. (path_at target root0 root1 i).1) width i (omega arith)) refl
+
+-- where server 0 is honest too, server 1's states are those of the path
+pub own_path1 : (target root0 root1 width i : ℕ) → i ≤ 128
+    → own_at target 1 root1 (honest (λ i. (path_at target root0 root1 i).0) width) i ≡ (path_at target root0 root1 i).1
+unfolding own_at path_at
+own_path1 target root0 root1 width zero h = refl
+own_path1 target root0 root1 width (suc i) h =
+    let s0 = raw_pair (path_at target root0 root1 i).0 in
+    let s1 = raw_pair (path_at target root0 root1 i).1 in
+    rw (
+      own_path1 target root0 root1 width i (omega arith),
+      honest-pair (λ i. (path_at target root0 root1 i).0) width i (omega arith),
+      level_word_comm s1 s0 (side_at target i),
+      level_right_comm s1 s0 (side_at target i),
+    ) refl
+
+-- ---- both servers honest
+
+module _ (target : ℕ) (message : List ℕ) (root0 root1 : ℕ) where
+  abbrev side0 : Expansions
+  side0 = honest (λ i. (path_at target root0 root1 i).0) (length message)
+
+  abbrev side1 : Expansions
+  side1 = honest (λ i. (path_at target root0 root1 i).1) (length message)
+
+  honest_is : honest_keys target message root0 root1 ≡ keys target message side0 side1
+  unfolding honest_keys
+  honest_is = refl
+
+  -- server 0's keys are the honest ones
+  pub honest_other1 : ideal_keys target message 0 root0 side1 ≡ honest_keys target message root0 root1
+  honest_other1 =
+      let n = length message in
+      own_first target message 0 root0 side1
+      ∙ ap (λ e. keys target message e side1)
+      (honest_same (own_at target 0 root0 side1) (λ i. (path_at target root0 root1 i).0) n (λ i h. own_path target root0 root1 n i h))
+      ∙ sym honest_is
+
+  -- and so are server 1's
+  pub honest_other0 : ideal_keys target message 1 root1 side0 ≡ honest_keys target message root0 root1
+  honest_other0 =
+      let n = length message in
+      own_first target message 1 root1 side0
+      ∙ ap (λ e. keys target message e side0)
+      (honest_same (own_at target 1 root1 side0) (λ i. (path_at target root0 root1 i).1) n (λ i h. own_path1 target root0 root1 n i h))
+      ∙ keys_comm target message side1 side0 ∙ sym honest_is
 
 -- ---- the other server's walk
 

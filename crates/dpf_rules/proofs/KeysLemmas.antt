@@ -58,7 +58,7 @@ bit_of-bits_number f (suc n) i small h =
 
 -- ---- bounds
 
-stream_number_lt : (key : List ℕ) (stream a n : ℕ) → value_in 256 (map (stream_byte key stream) (range_with_len a n)) < 256 ^ n
+pub stream_number_lt : (key : List ℕ) (stream a n : ℕ) → value_in 256 (map (stream_byte key stream) (range_with_len a n)) < 256 ^ n
 unfolding value_in stream_byte
 stream_number_lt key stream a zero = omega arith
 stream_number_lt key stream a (suc n) = rw (pow-suc 256 n) (omega (arith, stream_number_lt key stream (a + 1) n))
@@ -67,7 +67,7 @@ pub child_lt : (state side : ℕ) → child state side < 2 ^ 128
 unfolding child stream_bytes
 child_lt state side = stream_number_lt (node_key state) 0 (16 * side) 16
 
-cond_lt : (b : Bool) (x y k : ℕ) → x < k → y < k → cond b x y < k
+pub cond_lt : (b : Bool) (x y k : ℕ) → x < k → y < k → cond b x y < k
 cond_lt true x y k h l = h
 cond_lt false x y k h l = l
 
@@ -210,7 +210,7 @@ HasStates-honest states width i = elim (cases_lt i 128) [
   | inr h ↦ rw (honest_past states width i h) (omega arith, omega arith)
 ]
 
-level_word_lt : (p q : ℕ × ℕ) (side : ℕ) → p.0 < 2 ^ 128 → p.1 < 2 ^ 128 → q.0 < 2 ^ 128 → q.1 < 2 ^ 128 → level_word p q side < 2 ^ 128
+pub level_word_lt : (p q : ℕ × ℕ) (side : ℕ) → p.0 < 2 ^ 128 → p.1 < 2 ^ 128 → q.0 < 2 ^ 128 → q.1 < 2 ^ 128 → level_word p q side < 2 ^ 128
 unfolding level_word
 level_word_lt p q side p0 p1 q0 q1 =
     let lose = 1 - side in
@@ -218,7 +218,7 @@ level_word_lt p q side p0 p1 q0 q1 =
     let b = cond_lt (eqb lose 0) q.0 q.1 (2 ^ 128) q0 q1 in
     omega (arith, xor_lt 128 (on_side p lose) (on_side q lose) a b)
 
-level_right_lt : (p q : ℕ × ℕ) (side : ℕ) → level_right p q side < 2
+pub level_right_lt : (p q : ℕ × ℕ) (side : ℕ) → level_right p q side < 2
 unfolding level_right
 level_right_lt p q side = omega arith
 

@@ -5,3 +5,5 @@ pub mod WriteLemmas
 pub mod StandardFacts
 pub mod IdealLemmas
 pub mod DifferenceLemmas
+pub mod RangeLemmas
+pub mod BoxLemmas

@@ -1,5 +1,9 @@
 -- Numbers as lists of digits with the lowest first, and the sum of two lists of bytes.
-use Rattle.std.specs.Prelude.{ℕ, zero, suc, ◌+◌, ◌*◌, ◌/◌, ◌%◌, ◌^◌, List, [], ◌∷◌, ◌++◌, bit_xor}
+use Rattle.std.specs.Prelude.{ℕ, zero, suc, ◌+◌, ◌*◌, ◌/◌, ◌%◌, ◌^◌, ◌<◌, List, [], ◌∷◌, ◌++◌, All, bit_xor}
+
+-- each number is a byte
+abbrev pub AreBytes : List ℕ → Type 0
+AreBytes xs = All (λ b. b < 256) xs
 
 -- the number that digits spell in a base, the lowest digit first
 unfoldable pub value_in : ℕ → List ℕ → ℕ

@@ -3,6 +3,10 @@ use Rattle.std.specs.Prelude.{ℕ, zero, suc, ◌+◌, ◌-◌, ◌/◌, ◌^◌
 use Rattle.std.specs.Set.{distinct_count}
 use Rattle.dpf_rules.specs.Walk.{leaf_of}
 
+-- a server's leaves at a list of addresses
+abbrev pub leaves : List ℕ → ℕ → ℕ → List ℕ → List ℕ
+leaves part server root addresses = map (leaf_of part server root) addresses
+
 -- the sum of both servers' leaves at an address
 unfoldable pub difference_at : List ℕ → ℕ → ℕ → ℕ → ℕ
 difference_at part root0 root1 address = bit_xor (leaf_of part 0 root0 address) (leaf_of part 1 root1 address)

@@ -1,5 +1,6 @@
--- What ChaCha20 (RFC 8439, sections 2.1 to 2.3) expands a key of 32 bytes into: slices of its whole stream of bytes, with
--- Bernstein's layout of the last four words, a 64-bit block counter and a 64-bit stream number.
+-- What ChaCha20 (RFC 8439, sections 2.1 to 2.3) expands a key of 32 bytes into: slices of its whole stream
+-- of bytes, with Bernstein's layout of the last four words, a 64-bit block counter and a 64-bit stream
+-- number.
 use Rattle.std.specs.Prelude.{ℕ, ◌+◌, ◌*◌, ◌/◌, ◌%◌, ◌^◌, List, ◌++◌, map, replicate}
 use Rattle.std.specs.List.{range_with_len}
 use Rattle.rand_chacha.specs.ChaCha.{word_at, key_of}

@@ -1,5 +1,5 @@
--- Keys where the expansions of one server, the viewer, are honest, and those of the other are any list of that form: what
--- the viewer can tell of a write if the other server's expansions look ideal to it.
+-- Keys where the expansions of one server, the viewer, are honest, and those of the other are any list of
+-- that form: what the viewer can tell of a write if the other server's expansions look ideal to it.
 use Rattle.std.specs.Prelude.{◌≡◌, ℕ, zero, suc, ◌^◌, ◌<◌, ◌==◌, List, length, All, if◌then◌else◌}
 use Rattle.dpf_rules.specs.Expansion.{with_bit}
 use Rattle.dpf_rules.specs.Walk.{word_of, right_of, side_at, corrected, step}
@@ -16,13 +16,15 @@ pub record IsExpansions (width : ℕ) (e : Expansions) : Type 0 where
   pub size : length e.block ≡ width
   pub bytes : All (λ b. b < 256) e.block
 
--- the viewer's state at level i of the path to the target: each level is corrected by what it makes with the other's pair
+-- the viewer's state at level i of the path to the target: each level is corrected by what it makes with
+-- the other's pair
 unfoldable pub own_at : ℕ → ℕ → ℕ → Expansions → ℕ → ℕ
 own_at target viewer root other zero = with_bit root viewer
 own_at target viewer root other (suc i) =
     let side = side_at target i in
     let own = own_at target viewer root other i in
-    step (level_word (raw_pair own) (pair_at other i) side) (level_right (raw_pair own) (pair_at other i) side) side own
+    let raw = raw_pair own in
+    step (level_word raw (pair_at other i) side) (level_right raw (pair_at other i) side) side own
 
 -- the public part, each server's list in its place
 unfoldable pub ideal_keys : ℕ → List ℕ → ℕ → ℕ → Expansions → List ℕ
@@ -35,4 +37,5 @@ unfoldable pub given_at : List ℕ → ℕ → ℕ → ℕ → Expansions → �
 given_at part target server root e zero = with_bit root server
 given_at part target server root e (suc i) =
     let side = side_at target i in
-    corrected (word_of part i) (right_of part i) side (on_side (pair_at e i) side) (given_at part target server root e i)
+    let state = given_at part target server root e i in
+    corrected (word_of part i) (right_of part i) side (on_side (pair_at e i) side) state

@@ -1,6 +1,7 @@
--- The public part of a point function that is a message at a target and zeros at every other address, from what both
--- servers' states expand to on the path to the target.
--- Source: Boyle, Gilboa and Ishai, "Function Secret Sharing: Improvements and Extensions", CCS 2016, section 3.
+-- The public part of a point function that is a message at a target and zeros at every other address, from
+-- what both servers' states expand to on the path to the target.
+-- Source: Boyle, Gilboa and Ishai, "Function Secret Sharing: Improvements and Extensions", CCS 2016,
+-- section 3.
 use Rattle.std.specs.Prelude.{ℕ, zero, suc, ◌+◌, ◌-◌, ◌%◌, ◌==◌, List, ◌++◌, map, length, slice_index_or, bit_xor, if◌then◌else◌}
 use Rattle.std.specs.List.{range_with_len}
 use Rattle.dpf_rules.specs.Bytes.{bytes_of, words_bytes, bits_number, xor_bytes}
@@ -51,7 +52,8 @@ honest states width = record {
   block = block width (states 128);
 }
 
--- both servers' states on the path to the target: each level is corrected by the word and right bit that it makes
+-- both servers' states on the path to the target: each level is corrected by the word and right bit that it
+-- makes
 unfoldable pub path_at : ℕ → ℕ → ℕ → ℕ → ℕ × ℕ
 path_at target root0 root1 zero = (with_bit root0 0, with_bit root1 1)
 path_at target root0 root1 (suc i) =

@@ -4,3 +4,4 @@ pub mod Walk
 pub mod Keys
 pub mod Ideal
 pub mod Evaluation
+pub mod Laws

@@ -1,5 +1,7 @@
--- The walk of one server down the tree of a distributed point function to the leaf of an address, and its write bytes.
--- Source: Boyle, Gilboa and Ishai, "Function Secret Sharing: Improvements and Extensions", CCS 2016, section 3.
+-- The walk of one server down the tree of a distributed point function to the leaf of an address, and its
+-- write bytes.
+-- Source: Boyle, Gilboa and Ishai, "Function Secret Sharing: Improvements and Extensions", CCS 2016,
+-- section 3.
 use Rattle.std.specs.Prelude.{ℕ, zero, suc, ◌+◌, ◌-◌, ◌*◌, ◌%◌, ◌==◌, List, length, drop, slice_range, bit_xor, if◌then◌else◌}
 use Rattle.std.specs.Int.{bit_at}
 use Rattle.dpf_rules.specs.Bytes.{number_of, xor_bytes}

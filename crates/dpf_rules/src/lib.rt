@@ -1,8 +1,15 @@
-//! The definitions of the expansion and of the point function, and the code on bytes that the crates above share.
+//! The definitions of the expansion and of the point function, and the code on bytes that the crates above
+//! share.
 #![tactic(auto)]
+
+mod laws;
 
 ghost use Rattle.std.specs.Prelude.{◌≡◌, length};
 ghost use Rattle.dpf_rules.specs.Bytes.{number_of, bytes_of, xor_bytes};
+
+pub use laws::{
+    equal_leaves_keep_boxes, honest_lists_give_honest_keys, ideal_walks, states_are_in_range,
+};
 
 /// The number that 16 bytes spell, the lowest byte first.
 pub fn read_number(bytes: &[u8]) -> u128

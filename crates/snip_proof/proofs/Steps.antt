@@ -41,6 +41,3 @@ judged sums0 sums1 share0 share1 sigma {opening0} {opening1} {closing0} {closing
     let opened : opened_of opening0 opening1 ≡ opened_of (opening_of sums0 share0 sigma) (opening_of sums1 share1 sigma) = cc in
     ap (λ k. IsAccepted k closing1) (c0 ∙ ap (closing_of 0 share0 sigma) opened)
     ∙ ap (IsAccepted (closing_of 0 share0 sigma (opened_of (opening_of sums0 share0 sigma) (opening_of sums1 share1 sigma)))) (c1 ∙ ap (closing_of 1 share1 sigma) opened)
-
-pub through_both : {A B C : Type 0} → (A → B) × (B → A) → (B → C) × (C → B) → (A → C) × (C → A)
-through_both p q = (λ a. q.0 (p.0 a), λ c. p.1 (q.1 c))

@@ -8,13 +8,15 @@ use Rattle.std.proofs.lemmas.List.Elements.{All-nil, All-cons, All-head, All-tai
 use Rattle.std.proofs.lemmas.Nat.{xor_lt}
 use Rattle.express_words.specs.declared.audit.ProofShare.{ProofShare}
 use Rattle.audit_rules.specs.Ranges.{IsProofShare, IsSums, word_in_range}
-use Rattle.audit_rules.specs.Audit.{whole_sums, whole_proof, bad_r, bad_s, zero_share, one_share, difference, PassesAt, ServersAccept}
+use Rattle.audit_rules.specs.Audit.{whole_sums, whole_proof, zero_share, one_share, difference, PassesAt, ServersAccept}
 use Rattle.audit_rules.specs.Whole.{whole_is, servers_pass}
 use Rattle.audit_rules.specs.InRange.{sums-in_range, whole-in_range, zero-in_range, one-in_range}
-use Rattle.audit_rules.specs.Soundness.{IsFirst, IsLast, caught_numbers}
+use Rattle.audit_rules.specs.BadWrites.{HasTwo, IsBadChallenge}
+use Rattle.audit_rules.proofs.Soundness.{caught_two}
 use Rattle.audit_rules.specs.Accepted.{alone_passes}
 use Rattle.dpf_rules.specs.Expansion.{challenge_r, challenge_s}
-use Rattle.write_sketch.specs.Challenges.{challenge_rs, challenge_ss, sums_under, rs-in_range, ss-in_range, length-challenge_rs, length-challenge_ss, r_at, s_at}
+use Rattle.audit_rules.specs.Challenges.{challenge_rs, challenge_ss, sums_under}
+use Rattle.audit_rules.proofs.ChallengeLemmas.{rs-in_range, ss-in_range, length-challenge_rs, length-challenge_ss, r_at, s_at}
 
 -- both servers' sums are those of the difference of their leaves
 pub whole_under : (ckey addresses v w : List ℕ) → All (λ n. n < 2 ^ 128) v → All (λ n. n < 2 ^ 128) w → length v ≡ length w →
@@ -75,19 +77,17 @@ alone v w addresses p lv lw inside distinct equal i apart =
     difference_at v w i size ∙ ap (λ n. bit_xor n (slice_index w i)) both ∙ xor_self (slice_index w i)
 
 -- the soundness law over both servers' leaves
-pub few_points : (ckey places v w : List ℕ) (a b : ℕ) (share0 share1 : ProofShare) (points : List ℕ) → All (λ n. n < 2 ^ 128) v → All (λ n. n < 2 ^ 128) w → length v ≡ length places → length w ≡ length places →
+pub few_points : (ckey places v w : List ℕ) (share0 share1 : ProofShare) (points : List ℕ) → All (λ n. n < 2 ^ 128) v → All (λ n. n < 2 ^ 128) w → length v ≡ length places → length w ≡ length places →
     IsProofShare share0 → IsProofShare share1 → All (λ n. n < 2 ^ 128) points → AllPairs (λ p q. p ≢ q) points → All (ServersAccept (sums_under ckey places v) (sums_under ckey places w) share0 share1) points →
-    IsFirst (difference v w) a → IsLast (difference v w) b →
-    (slice_index (challenge_rs ckey places) a ≡ bad_r (difference v w) (challenge_rs ckey places) (challenge_ss ckey places) a)
-    ⊎ (slice_index (challenge_ss ckey places) b ≡ bad_s (difference v w) (challenge_ss ckey places) a b) ⊎ (length points ≤ 5)
-few_points ckey places v w a b share0 share1 points in_v in_w lv lw in_0 in_1 in_points distinct accepted first last =
+    HasTwo (difference v w) → IsBadChallenge (difference v w) (challenge_rs ckey places) (challenge_ss ckey places) ⊎ (length points ≤ 5)
+few_points ckey places v w share0 share1 points in_v in_w lv lw in_0 in_1 in_points distinct accepted two =
     let size : length v ≡ length w = lv ∙ sym lw in
     let whole : length (difference v w) ≡ length places = length-difference v w size ∙ lv in
     let passes : All (PassesAt (sums_under ckey places (difference v w)) (whole_proof share0 share1)) points =
     λ k d h. (accept_passes ckey places v w share0 share1 (get_or points k d) in_v in_w size in_0 in_1 (in_points k d h)).0 (accepted k d h) in
-    caught_numbers (difference v w) (challenge_rs ckey places) (challenge_ss ckey places) a b (whole_proof share0 share1) points
+    caught_two (difference v w) (challenge_rs ckey places) (challenge_ss ckey places) (whole_proof share0 share1) points
     (difference-in_range v w in_v in_w) (rs-in_range ckey places) (ss-in_range ckey places) (whole-in_range share0 share1 in_0 in_1) in_points
-    first last (length-challenge_rs ckey places ∙ sym whole) (length-challenge_ss ckey places ∙ sym whole) distinct passes
+    two (length-challenge_rs ckey places ∙ sym whole) (length-challenge_ss ckey places ∙ sym whole) distinct passes
 
 -- honest writes over both servers' leaves
 pub honest_accepted : (ckey places v w words : List ℕ) (p sigma : ℕ) → All (λ n. n < 2 ^ 128) v → All (λ n. n < 2 ^ 128) w → All (λ n. n < 2 ^ 128) words → sigma < 2 ^ 128 →

@@ -1,35 +1,30 @@
-//! The two laws for the keys of a write: what both servers accept where their leaves are those of one public part. The
-//! functions only read their arguments: their contracts are the laws.
-ghost use Rattle.std.specs.Prelude.{◌≡◌, ◌≢◌, ℕ, ◌^◌, ◌<◌, ◌≤◌, ◌⊎◌, length, All, AllPairs, Contains, slice_index};
+//! The two laws for the keys of a write: what both servers accept where their leaves are those of one
+//! public part. The functions only read their arguments: their contracts are the laws.
+ghost use Rattle.std.specs.Prelude.{◌≡◌, ◌≢◌, ℕ, ◌^◌, ◌<◌, ◌≤◌, ◌⊎◌, length, All, AllPairs, Contains};
 ghost use Rattle.dpf_rules.specs.Expansion.{challenge_r, challenge_s};
 ghost use Rattle.dpf_rules.specs.Walk.{leaf_of};
-ghost use Rattle.dpf_rules.specs.Evaluation.{difference_at, difference_vector};
-ghost use Rattle.audit_rules.specs.Audit.{bad_r, bad_s, zero_share, one_share, ServersAccept};
-ghost use Rattle.audit_rules.specs.Soundness.{IsFirst, IsLast};
-ghost use Rattle.write_sketch.specs.Challenges.{challenge_rs, challenge_ss, sums_under};
-ghost use Rattle.write_sketch.specs.Leaves.{leaves};
+ghost use Rattle.dpf_rules.specs.Evaluation.{difference_at, difference_vector, leaves};
+ghost use Rattle.audit_rules.specs.Audit.{zero_share, one_share, ServersAccept};
+ghost use Rattle.audit_rules.specs.BadWrites.{HasTwo, IsBadChallenge};
+ghost use Rattle.audit_rules.specs.Challenges.{challenge_rs, challenge_ss, sums_under};
 
 use audit_rules::{read_share, read_words};
 use express_words::ProofShare;
 
-/// The soundness law for any public part and any two roots. Where the difference vector has two places or more that aren't
-/// zero, `a` the first and `b` the last of them, a proof is accepted at five points at most, unless r at a or s at b is the
-/// one bad value.
+/// The soundness law for any public part and any two roots. Where the difference vector has two places or
+/// more that aren't zero, a proof is accepted at five points at most, unless r at the first of them or s at
+/// the last is the one bad value.
 pub fn bad_keys_are_caught(
     part: &[u8],
     root0: u128,
     root1: u128,
     addresses: &[u128],
     ckey: &[u8; 32],
-    a: usize,
-    b: usize,
     share0: &ProofShare,
     share1: &ProofShare,
     points: &[u128],
 )
-    requires first { IsFirst (difference_vector part.now root0 root1 addresses.now) a }
-    requires last { IsLast (difference_vector part.now root0 root1 addresses.now) b }
-    requires two { a < b }
+    requires two { HasTwo (difference_vector part.now root0 root1 addresses.now) }
     requires distinct { AllPairs (λ p q. p ≢ q) points.now }
     requires accepted { let sums0 = sums_under ckey.now addresses.now (leaves part.now 0 root0 addresses.now) in
         let sums1 = sums_under ckey.now addresses.now (leaves part.now 1 root1 addresses.now) in
@@ -37,9 +32,7 @@ pub fn bad_keys_are_caught(
     ensures caught { let w = difference_vector part.now root0 root1 addresses.now in
         let r = challenge_rs ckey.now addresses.now in
         let s = challenge_ss ckey.now addresses.now in
-        (slice_index r a ≡ bad_r w r s a)
-        ⊎ (slice_index s b ≡ bad_s w s a b)
-        ⊎ (length points.now ≤ 5) }
+        IsBadChallenge w r s ⊎ (length points.now ≤ 5) }
 {
     read_bytes(part);
     read_share(share0);
@@ -47,8 +40,8 @@ pub fn bad_keys_are_caught(
     read_words(points);
 }
 
-/// Honest keys are accepted. Where both servers' leaves are equal at every address but the target, which is one of distinct
-/// addresses, the client's proof is accepted at every point.
+/// Honest keys are accepted. Where both servers' leaves are equal at every address but the target, which is
+/// one of distinct addresses, the client's proof is accepted at every point.
 pub fn honest_keys_are_accepted(
     part: &[u8],
     target: u128,

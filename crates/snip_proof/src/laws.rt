@@ -1,19 +1,19 @@
-//! Both servers' audit of a write as one call, and the two laws on what they accept. The laws' functions only read
-//! their arguments: their contracts are the laws.
+//! Both servers' audit of a write as one call, and the two laws on what they accept. The laws' functions
+//! only read their arguments: their contracts are the laws.
 ghost use Rattle.std.specs.Prelude.{◌≡◌, ◌≢◌, ℕ, ◌<◌, ◌≤◌, ◌↔◌, ◌⊎◌, length, All, AllPairs, IsTrue, slice_index, bit_xor};
 ghost use Rattle.dpf_rules.specs.Expansion.{challenge_r, challenge_s};
-ghost use Rattle.audit_rules.specs.Audit.{bad_r, bad_s, difference, whole_proof, zero_share, one_share, PassesAt, ServersAccept};
-ghost use Rattle.audit_rules.specs.Soundness.{IsFirst, IsLast};
-ghost use Rattle.write_sketch.specs.Challenges.{challenge_rs, challenge_ss, sums_under};
+ghost use Rattle.audit_rules.specs.Audit.{difference, whole_proof, zero_share, one_share, PassesAt, ServersAccept};
+ghost use Rattle.audit_rules.specs.BadWrites.{HasTwo, IsBadChallenge};
+ghost use Rattle.audit_rules.specs.Challenges.{challenge_rs, challenge_ss, sums_under};
 
 use crate::servers::{close_share, judge, open_share};
 use audit_rules::{read_share, read_words, servers_accept_what_passes};
 use express_words::{Openings, ProofShare};
 use write_sketch::sums;
 
-/// Whether both servers accept at the point `sigma` a write with these leaves at the registered addresses, `zero` at
-/// server 0 and `one` at server 1: exactly where the whole proof passes for the sums of the difference of their
-/// leaves.
+/// Whether both servers accept at the point `sigma` a write with these leaves at the registered addresses,
+/// `zero` at server 0 and `one` at server 1: exactly where the whole proof passes for the sums of the
+/// difference of their leaves.
 pub fn servers_accept(
     zero: &[u128],
     one: &[u128],
@@ -47,34 +47,28 @@ pub fn servers_accept(
     judge(&closing0, &closing1)
 }
 
-/// The soundness law on what the servers accept. Where the difference of both servers' leaves has two places or more
-/// that aren't zero, `a` the first and `b` the last of them, a proof is accepted at five points at most, unless r at a
-/// or s at b is the one bad value.
+/// The soundness law on what the servers accept. Where the difference of both servers' leaves has two
+/// places or more that aren't zero, a proof is accepted at five points at most, unless r at the first of
+/// them or s at the last is the one bad value.
 pub fn accepted_points_are_few(
     zero: &[u128],
     one: &[u128],
     addresses: &[u128],
     ckey: &[u8; 32],
-    a: usize,
-    b: usize,
     share0: &ProofShare,
     share1: &ProofShare,
     points: &[u128],
 )
     requires zero { length zero.now ≡ length addresses.now }
     requires one { length one.now ≡ length addresses.now }
-    requires first { IsFirst (difference zero.now one.now) a }
-    requires last { IsLast (difference zero.now one.now) b }
-    requires two { a < b }
+    requires two { HasTwo (difference zero.now one.now) }
     requires distinct { AllPairs (λ p q. p ≢ q) points.now }
     requires accepted { let sums = sums_under ckey.now addresses.now in
         All (ServersAccept (sums zero.now) (sums one.now) share0.now share1.now) points.now }
     ensures caught { let w = difference zero.now one.now in
         let r = challenge_rs ckey.now addresses.now in
         let s = challenge_ss ckey.now addresses.now in
-        (slice_index r a ≡ bad_r w r s a)
-        ⊎ (slice_index s b ≡ bad_s w s a b)
-        ⊎ (length points.now ≤ 5) }
+        IsBadChallenge w r s ⊎ (length points.now ≤ 5) }
 {
     read_words(zero);
     read_words(one);
@@ -83,8 +77,8 @@ pub fn accepted_points_are_few(
     read_words(points);
 }
 
-/// Honest writes are accepted. Where both servers' leaves are equal at every address but the target's, which stands at
-/// `place` of distinct addresses, the client's proof is accepted at every point.
+/// Honest writes are accepted. Where both servers' leaves are equal at every address but the target's,
+/// which stands at `place` of distinct addresses, the client's proof is accepted at every point.
 pub fn honest_writes_are_accepted(
     zero: &[u128],
     one: &[u128],

@@ -1,7 +1,7 @@
 //! What two servers work out of a proof at a point. Neither learns more than its own share, and the other's openings
 //! and closing.
 ghost use Rattle.std.specs.Prelude.{◌≡◌, ◌≤◌, ◌↔◌, IsTrue};
-ghost use Rattle.audit_rules.specs.Audit.{opening_of, closing_of, IsAccepted};
+ghost use Rattle.audit_rules.specs.Audit.{opening_of, closing_of, accepts, IsAccepted};
 
 use crate::polynomials::{through, value_of};
 use express_words::{Closing, Openings, ProofShare};
@@ -50,6 +50,7 @@ pub fn close_share(
 
 /// Whether a write is accepted: exactly where both sums over the servers are 0.
 pub fn judge(zero: &Closing, one: &Closing) -> bool
+    ensures judged { result ≡ accepts zero.now one.now }
     ensures accepted { IsTrue result ↔ IsAccepted zero.now one.now }
 {
     zero.o ^ one.o == 0 && zero.tau ^ one.tau == 0

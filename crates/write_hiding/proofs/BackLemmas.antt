@@ -21,7 +21,7 @@ same_choice c d o r e w =
     ∙ ap (λ e. record d { other = e; words = c.words }) e ∙ ap (λ w. record d { words = w }) w
 
 -- a list of fourteen words by its places
-fourteen : (w : List ℕ) → length w ≡ 14 → map (slice_index w) (0 ∷ (1 ∷ (2 ∷ (3 ∷ (4 ∷ (5 ∷ (6 ∷ (7 ∷ (8 ∷ (9 ∷ (10 ∷ (11 ∷ (12 ∷ (13 ∷ [])))))))))))))) ≡ w
+pub fourteen : (w : List ℕ) → length w ≡ 14 → map (slice_index w) (0 ∷ (1 ∷ (2 ∷ (3 ∷ (4 ∷ (5 ∷ (6 ∷ (7 ∷ (8 ∷ (9 ∷ (10 ∷ (11 ∷ (12 ∷ (13 ∷ [])))))))))))))) ≡ w
 fourteen w h = map_is (slice_index w) w 0 14 0 h (λ i l. let place : 0 + i ≡ i = omega arith in rw place refl)
 
 -- what is opened again gives a and b

@@ -1,5 +1,5 @@
 -- What ideal choices give is in range, and both servers accept it; the moved choice is one of them.
-use Rattle.std.proofs.Common.{◌≡◌, ℕ, ◌+◌, ◌-◌, ◌*◌, ◌/◌, ◌%◌, ◌^◌, ◌<◌, List, [], ◌∷◌, ◌++◌, map, length, refl, arith, bit_xor, eqb, cond, Bool, true, false, lit<}
+use Rattle.std.proofs.Common.{◌≡◌, ℕ, ◌+◌, ◌-◌, ◌*◌, ◌/◌, ◌%◌, ◌^◌, ◌<◌, List, [], ◌∷◌, ◌++◌, map, length, refl, arith, bit_xor, eqb, lit<}
 use Rattle.std.specs.Prelude.{All, slice_index}
 use Rattle.std.proofs.lemmas.Bool.{cond_both}
 use Rattle.std.proofs.lemmas.Nat.{xor_lt}
@@ -13,19 +13,22 @@ use Rattle.audit_rules.specs.InRange.{sums-in_range, zero-in_range, one-in_range
 use Rattle.audit_rules.specs.Transfer.{E, element}
 use Rattle.tower_field.specs.Gf.{values}
 use Rattle.poly_roots.specs.Polynomials.{times_of}
-use Rattle.write_sketch.specs.Challenges.{challenge_rs, challenge_ss, stream_word_lt, all_map, rs-in_range, ss-in_range}
-use Rattle.write_sketch.specs.Leaves.{leaves-in_range}
+use Rattle.dpf_rules.proofs.RangeLemmas.{stream_word_lt}
+use Rattle.audit_rules.specs.Challenges.{challenge_rs, challenge_ss}
+use Rattle.audit_rules.proofs.ChallengeLemmas.{all_map, rs-in_range, ss-in_range}
+use Rattle.audit_rules.proofs.LeafLemmas.{leaves-in_range}
 use Rattle.write_hiding.specs.Choices.{PlainChoice, PlainAim, PlainGame, IsChoice, IsAim, IsGame}
 use Rattle.write_hiding.specs.Views.{public_part, own_leaf, other_end, other_leaf, own_sums, other_sums, drawn, value_of, share_of, other_opening}
 use Rattle.write_hiding.specs.Moved.{walked, moved_a, moved_b, moved_h, moved_words, moved}
 use Rattle.write_hiding.proofs.PartLemmas.{size-last}
-use Rattle.write_hiding.proofs.FormLemmas.{AreBytes, part-bytes, given_lt, moved-form}
+use Rattle.dpf_rules.specs.Bytes.{AreBytes}
+use Rattle.dpf_rules.proofs.KeysLemmas.{cond_lt}
+use Rattle.dpf_rules.proofs.RangeLemmas.{part-bytes, given_lt}
+use Rattle.write_hiding.proofs.FormLemmas.{moved-form}
 use Rattle.write_hiding.proofs.AuditLemmas.{own_first, other_first}
-use Rattle.write_hiding.proofs.RangeLemmas.{product_lt, value_lt, opening_lt, in_range, plus-in_range, length-plus, times-in_range}
-
-cond_lt : (b : Bool) (x y n : ℕ) → x < n → y < n → cond b x y < n
-cond_lt true x y n h k = h
-cond_lt false x y n h k = k
+use Rattle.audit_rules.specs.Ranges.{IsOpenings}
+use Rattle.audit_rules.specs.InRange.{values-in_range, plus-in_range, length-plus, honest_h-in_range}
+use Rattle.audit_rules.proofs.ValueLemmas.{product_lt, value_lt, opening-in_range}
 
 module _ (width viewer : ℕ) (hv : viewer < 2) (choice : PlainChoice) (aim : PlainAim) (game : PlainGame) (good : IsChoice width choice) (aimed : IsAim width game aim) (fair : IsGame game) where
   pub bytes : AreBytes (public_part viewer choice aim)
@@ -65,8 +68,8 @@ module _ (width viewer : ℕ) (hv : viewer < 2) (choice : PlainChoice) (aim : Pl
       IsProofShare (λ e. zero-in_range (drawn choice) drawn_lt)
       (λ e. one-in_range (value_of viewer choice aim) (challenge_r game.ckey aim.target) (challenge_s game.ckey aim.target) (drawn choice) differ_lt r_lt s_lt drawn_lt)
 
-  pub opened_in : ((other_opening viewer choice aim game).d < 2 ^ 128) × ((other_opening viewer choice aim game).e < 2 ^ 128)
-  opened_in = opening_lt (other_sums viewer choice aim game) (share_of (1 - viewer) viewer choice aim game) game.sigma sums_in (share_in (1 - viewer)) fair.sigma
+  pub opened_in : IsOpenings (other_opening viewer choice aim game)
+  opened_in = opening-in_range (other_sums viewer choice aim game) (share_of (1 - viewer) viewer choice aim game) game.sigma sums_in (share_in (1 - viewer)) fair.sigma
 
   -- both servers accept, where the viewer is server 0, and where it is server 1
   pub accept_own : ServersAccept (own_sums viewer choice aim game) (other_sums viewer choice aim game) (zero_share (drawn choice))
@@ -100,11 +103,11 @@ module _ (width viewer : ℕ) (hv : viewer < 2) (choice : PlainChoice) (from to 
   sums'_in = sums_in width viewer hv (walked viewer choice from to) to game walked_good aimed' fair
 
   pub a_lt : moved_a viewer choice from to game < 2 ^ 128
-  a_lt = xor_lt 128 _ _ (opened_in width viewer hv choice from game good aimed fair).0
+  a_lt = xor_lt 128 _ _ (opened_in width viewer hv choice from game good aimed fair).d
       (value_lt _ _ _ _ (word_in_range choice.words good.words (1 - viewer)) sums'_in.x sums'_in.m fair.sigma)
 
   pub b_lt : moved_b viewer choice from to game < 2 ^ 128
-  b_lt = xor_lt 128 _ _ (opened_in width viewer hv choice from game good aimed fair).1
+  b_lt = xor_lt 128 _ _ (opened_in width viewer hv choice from game good aimed fair).e
       (product_lt _ _ fair.sigma (value_lt _ _ _ _ (word_in_range choice.words good.words (2 + (1 - viewer))) sums'_in.y sums'_in.z fair.sigma))
 
 module _ (width : ℕ) (choice : PlainChoice) (from to : PlainAim) (game : PlainGame) (good : IsChoice width choice) (aimed : IsAim width game from) (aimed' : IsAim width game to) (fair : IsGame game) where
@@ -117,7 +120,7 @@ module _ (width : ℕ) (choice : PlainChoice) (from to : PlainAim) (game : Plain
   zero_words =
       let a : E = element (moved_a 0 choice from to game) (a_lt width 0 (lit< tt) choice from to game good aimed aimed' fair) in
       let b : E = element (moved_b 0 choice from to game) (b_lt width 0 (lit< tt) choice from to game good aimed aimed' fair) in
-      in_range (word 0 ∷ (word 1 ∷ (word 2 ∷ (word 3 ∷ (word 4 ∷ (word 5 ∷ (word 6 ∷ (word 7 ∷ (word 8 ∷ (word 9 ∷ (a ∷ (word 11 ∷ (b ∷ (word 13 ∷ []))))))))))))))
+      values-in_range (word 0 ∷ (word 1 ∷ (word 2 ∷ (word 3 ∷ (word 4 ∷ (word 5 ∷ (word 6 ∷ (word 7 ∷ (word 8 ∷ (word 9 ∷ (a ∷ (word 11 ∷ (b ∷ (word 13 ∷ []))))))))))))))
 
   pub zero_good : IsChoice width (moved 0 choice from to game)
   unfolding moved moved_words
@@ -146,7 +149,7 @@ module _ (width : ℕ) (choice : PlainChoice) (from to : PlainAim) (game : Plain
 
   t_range : All (λ n. n < 2 ^ 128) t
   t_range =
-      times-in_range m (challenge_r game.ckey to.target) (challenge_s game.ckey to.target) (drawn choice)
+      honest_h-in_range m (challenge_r game.ckey to.target) (challenge_s game.ckey to.target) (drawn choice)
       (differ_lt width 1 (lit< tt) walk to game walk_good aimed' fair) (r_lt width 1 (lit< tt) walk to game walk_good aimed' fair) (s_lt width 1 (lit< tt) walk to game walk_good aimed' fair)
       (drawn_lt width 1 (lit< tt) choice from game good aimed fair)
 
@@ -167,8 +170,8 @@ module _ (width : ℕ) (choice : PlainChoice) (from to : PlainAim) (game : Plain
       let c : E = element _ (xor_lt 128 share.c _ share_range.c by) in
       let masks : List E = word 0 ∷ (word 1 ∷ (word 2 ∷ (word 3 ∷ []))) in
       let triple : List E = a ∷ (word 10 ∷ (b ∷ (word 12 ∷ (c ∷ [])))) in
-      All-append (λ n. n < 2 ^ 128) (values masks) (moved_h choice from to game ++ values triple) (in_range masks)
-      (All-append (λ n. n < 2 ^ 128) (moved_h choice from to game) (values triple) h_range (in_range triple))
+      All-append (λ n. n < 2 ^ 128) (values masks) (moved_h choice from to game ++ values triple) (values-in_range masks)
+      (All-append (λ n. n < 2 ^ 128) (moved_h choice from to game) (values triple) h_range (values-in_range triple))
 
   one_size : length (moved_words 1 choice from to game) ≡ 14
   unfolding moved_words one_share zero_share

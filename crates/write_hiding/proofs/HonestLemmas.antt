@@ -1,66 +1,33 @@
 -- A client's write is an ideal choice, and its view is what the viewer gets.
-use Rattle.std.proofs.Common.{◌≡◌, ◌≢◌, ℕ, zero, suc, ◌-◌, ◌^◌, ◌<◌, ◌≤◌, inl, inr, List, [], ◌∷◌, map, length, refl, sym, ap, ◌∙◌, arith, bit_xor}
+use Rattle.std.proofs.Common.{◌≡◌, ◌≢◌, ℕ, ◌^◌, ◌<◌, ◌≤◌, inl, inr, List, [], ◌∷◌, map, length, refl, sym, ap, ◌∙◌, arith, bit_xor}
 use Rattle.std.specs.Prelude.{All}
 use Rattle.std.specs.Int.Bits.{xor_comm}
 use Rattle.std.proofs.lemmas.Bool.Decides.{eqb_tells}
 use Rattle.std.proofs.lemmas.List.Elements.{All-head, All-tail, All-contains}
-use Rattle.std.proofs.lemmas.List.FromFn.{length-map-range_with_len}
 use Rattle.dpf_rules.specs.Expansion.{challenge_r, challenge_s}
-use Rattle.dpf_rules.specs.Walk.{side_at, state_at, leaf_of}
-use Rattle.dpf_rules.specs.Keys.{Expansions, on_side, level_word, level_right, keys, raw_pair, honest, path_at, honest_keys}
+use Rattle.dpf_rules.specs.Walk.{state_at, leaf_of}
+use Rattle.dpf_rules.specs.Keys.{Expansions, honest, path_at, honest_keys}
 use Rattle.dpf_rules.specs.Evaluation.{difference_at}
-use Rattle.dpf_rules.specs.Ideal.{IsExpansions, own_at, ideal_keys, given_at}
-use Rattle.dpf_rules.proofs.KeysLemmas.{HasStates-honest, honest-pair, honest_same, follows, length-block}
+use Rattle.dpf_rules.specs.Ideal.{ideal_keys, given_at}
+use Rattle.dpf_rules.proofs.KeysLemmas.{honest_same, follows}
 use Rattle.dpf_rules.proofs.PointLemmas.{along, leaves_equal}
-use Rattle.dpf_rules.proofs.IdealLemmas.{own_first, own_path, keys_comm, given_walk}
+use Rattle.dpf_rules.proofs.IdealLemmas.{honest_other0, honest_other1, given_walk}
 use Rattle.express_words.specs.declared.audit.ProofShare.{ProofShare}
 use Rattle.audit_rules.specs.declared.sums.Sums.{Sums}
 use Rattle.audit_rules.specs.Audit.{zero_share, one_share, opening_of, opened_of, closing_of}
-use Rattle.write_sketch.specs.Challenges.{sums_under}
-use Rattle.write_sketch.specs.Leaves.{leaves}
+use Rattle.audit_rules.specs.Challenges.{sums_under}
+use Rattle.dpf_rules.specs.Evaluation.{leaves}
 use Rattle.write_hiding.specs.Choices.{PlainChoice, PlainAim, PlainGame, IsChoice, IsAim}
 use Rattle.write_hiding.specs.Views.{other_leaf, other_end, own_leaf, own_sums, other_sums, value_of, share_of, own_opening, other_opening, other_closing, view}
 use Rattle.write_hiding.specs.Writes.{Drawn, IsDrawn, choice_of, write_view}
-use Rattle.write_hiding.proofs.FormLemmas.{block-bytes}
-use Rattle.write_hiding.proofs.AuditLemmas.{opened_comm}
+use Rattle.dpf_rules.proofs.RangeLemmas.{honest-form}
+use Rattle.audit_rules.specs.Values.{values, opens, sums_at}
 use Rattle.write_hiding.proofs.ViewLemmas.{same_view}
-
-word_comm : (p q : ℕ × ℕ) (side : ℕ) → level_word p q side ≡ level_word q p side
-unfolding level_word
-word_comm p q side = rw (xor_comm (on_side p (1 - side)) (on_side q (1 - side))) (omega arith)
-
-right_comm : (p q : ℕ × ℕ) (side : ℕ) → level_right p q side ≡ level_right q p side
-unfolding level_right
-right_comm p q side = omega arith
-
--- where server 0 is honest, server 1's states are those of the path
-own_path1 : (target root0 root1 width i : ℕ) → i ≤ 128
-    → own_at target 1 root1 (honest (λ i. (path_at target root0 root1 i).0) width) i ≡ (path_at target root0 root1 i).1
-unfolding own_at path_at
-own_path1 target root0 root1 width zero h = refl
-own_path1 target root0 root1 width (suc i) h =
-    let s0 = raw_pair (path_at target root0 root1 i).0 in
-    let s1 = raw_pair (path_at target root0 root1 i).1 in
-    rw (
-      own_path1 target root0 root1 width i (omega arith),
-      honest-pair (λ i. (path_at target root0 root1 i).0) width i (omega arith),
-      word_comm s1 s0 (side_at target i),
-      right_comm s1 s0 (side_at target i),
-    ) refl
 
 map_same : (f g : ℕ → ℕ) (n : ℕ) (xs : List ℕ) → All (λ x. x < n) xs → ((x : ℕ) → x < n → f x ≡ g x) → map f xs ≡ map g xs
 map_same f g n [] h same = refl
 map_same f g n (x ∷ xs) h same =
     rw (same x (All-head (λ x. x < n) x xs h), map_same f g n xs (All-tail (λ x. x < n) x xs h) same) refl
-
-honest-form : (width : ℕ) (states : ℕ → ℕ) → IsExpansions width (honest states width)
-unfolding honest
-honest-form width states = record {
-  levels = length-map-range_with_len (λ i. raw_pair (states i)) 0 128;
-  states = HasStates-honest states width;
-  size = length-block width (states 128);
-  bytes = block-bytes width (states 128);
-}
 
 module _ (width : ℕ) (d : Drawn) (aim : PlainAim) (game : PlainGame) (is_drawn : IsDrawn d) (places : All (λ n. n < 2 ^ 128) game.addresses) (aimed : IsAim width game aim) where
   abbrev root0 : ℕ
@@ -90,20 +57,11 @@ module _ (width : ℕ) (d : Drawn) (aim : PlainAim) (game : PlainGame) (is_drawn
   small : q < 2 ^ 128
   small = All-contains (λ n. n < 2 ^ 128) game.addresses q places aimed.registered
 
-  part_is : part ≡ keys q aim.message side0 side1
-  unfolding honest_keys
-  part_is = refl
-
   keys0 : ideal_keys q aim.message 0 root0 side1 ≡ part
-  keys0 =
-      own_first q aim.message 0 root0 side1
-      ∙ ap (λ e. keys q aim.message e side1) (honest_same (own_at q 0 root0 side1) (λ i. (path_at q root0 root1 i).0) n (λ i h. own_path q root0 root1 n i h)) ∙ sym part_is
+  keys0 = honest_other1 q aim.message root0 root1
 
   keys1 : ideal_keys q aim.message 1 root1 side0 ≡ part
-  keys1 =
-      own_first q aim.message 1 root1 side0
-      ∙ ap (λ e. keys q aim.message e side0) (honest_same (own_at q 1 root1 side0) (λ i. (path_at q root0 root1 i).1) n (λ i h. own_path1 q root0 root1 n i h))
-      ∙ keys_comm q aim.message side1 side0 ∙ sym part_is
+  keys1 = honest_other0 q aim.message root0 root1
 
   walks : (i : ℕ) → i ≤ 128 → (state_at part 0 root0 q i ≡ (path_at q root0 root1 i).0) × (state_at part 1 root1 q i ≡ (path_at q root0 root1 i).1)
   walks i h = along part q root0 root1 (follows q aim.message root0 root1) q i h (λ k l. refl)
@@ -192,7 +150,7 @@ module _ (width : ℕ) (d : Drawn) (aim : PlainAim) (game : PlainGame) (is_drawn
       ∙ ap (λ o. closing_of 1 (made m) game.sigma (opened_of (opening_of sums0 (zero_share (root0 ∷ (root1 ∷ words))) game.sigma) o)) opened0
 
   pub view0 : view 0 c0 aim game ≡ write_view 0 d aim game
-  unfolding view write_view choice_of
+  unfolding view write_view choice_of values opens sums_at
   view0 = same_view (view 0 c0 aim game) (write_view 0 d aim game) refl keys0 proof0 opened0 closed0
 
   -- ---- the viewer is server 1
@@ -249,13 +207,12 @@ module _ (width : ℕ) (d : Drawn) (aim : PlainAim) (game : PlainGame) (is_drawn
   own_opened1 : own_opening 1 c1 aim game ≡ opening_of sums1 (made m) game.sigma
   own_opened1 = ap (λ s. opening_of s (share_of 1 1 c1 aim game) game.sigma) own_sums1 ∙ ap (λ p. opening_of sums1 p game.sigma) proof1
 
-  closed1 : other_closing 1 c1 aim game ≡ closing_of 0 (zero_share (root0 ∷ (root1 ∷ words))) game.sigma (opened_of (opening_of sums0 (zero_share (root0 ∷ (root1 ∷ words))) game.sigma) (opening_of sums1 (made m) game.sigma))
+  closed1 : other_closing 1 c1 aim game ≡ closing_of 0 (zero_share (root0 ∷ (root1 ∷ words))) game.sigma (opened_of (opening_of sums1 (made m) game.sigma) (opening_of sums0 (zero_share (root0 ∷ (root1 ∷ words))) game.sigma))
   closed1 =
       ap (λ p. closing_of 0 p game.sigma (opened_of (own_opening 1 c1 aim game) (other_opening 1 c1 aim game))) share1
       ∙ ap (λ o. closing_of 0 (zero_share (root0 ∷ (root1 ∷ words))) game.sigma (opened_of o (other_opening 1 c1 aim game))) own_opened1
       ∙ ap (λ o. closing_of 0 (zero_share (root0 ∷ (root1 ∷ words))) game.sigma (opened_of (opening_of sums1 (made m) game.sigma) o)) opened1
-      ∙ ap (closing_of 0 (zero_share (root0 ∷ (root1 ∷ words))) game.sigma) (opened_comm (opening_of sums1 (made m) game.sigma) (opening_of sums0 (zero_share (root0 ∷ (root1 ∷ words))) game.sigma))
 
   pub view1 : view 1 c1 aim game ≡ write_view 1 d aim game
-  unfolding view write_view choice_of
+  unfolding view write_view choice_of values opens sums_at
   view1 = same_view (view 1 c1 aim game) (write_view 1 d aim game) refl keys1 proof1 opened1 closed1

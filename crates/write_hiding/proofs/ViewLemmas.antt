@@ -7,13 +7,14 @@ use Rattle.express_words.specs.declared.audit.Openings.{Openings}
 use Rattle.audit_rules.specs.declared.sums.Sums.{Sums}
 use Rattle.audit_rules.specs.Audit.{product, value, through_three, zero_share, one_share, opening_of, honest_f, honest_g}
 use Rattle.poly_roots.specs.Polynomials.{times_of}
-use Rattle.write_sketch.specs.Challenges.{sums_under}
+use Rattle.audit_rules.specs.Challenges.{sums_under}
 use Rattle.write_hiding.specs.declared.choice.View.{View}
 use Rattle.write_hiding.specs.Choices.{PlainChoice, PlainAim, PlainGame, IsChoice, IsAim, IsGame}
 use Rattle.write_hiding.specs.Views.{public_part, own_sums, other_sums, drawn, value_of, share_of, other_opening, other_closing, view}
 use Rattle.write_hiding.specs.Moved.{walked, moved_words, moved}
 use Rattle.write_hiding.proofs.PartLemmas.{public_part_stays}
-use Rattle.write_hiding.proofs.AuditLemmas.{number_back, plus_back, one_closes, zero_closes}
+use Rattle.audit_rules.specs.Accepted.{plus_back, number_back}
+use Rattle.write_hiding.proofs.AuditLemmas.{one_closes, zero_closes}
 use Rattle.write_hiding.proofs.ChoiceLemmas.{accept_own, accept_other, zero_good, one_good}
 
 pub same_view : (v w : View) → v.own_root ≡ w.own_root → v.public ≡ w.public → v.proof ≡ w.proof → v.opened ≡ w.opened → v.closed ≡ w.closed → v ≡ w

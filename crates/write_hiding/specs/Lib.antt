@@ -1,4 +1,5 @@
 pub mod Choices
+pub mod Levels
 pub mod Views
 pub mod Moved
 pub mod Writes

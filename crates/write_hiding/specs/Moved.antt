@@ -23,16 +23,20 @@ moved_pair word right raw pair from to =
       with_bit (if to == 0 then lost else kept) ((right + raw.1 + to) % 2),
     )
 
+-- the pair of level i along the viewer's walk to the address `to`, where the other server's walk went to
+-- `from`
+abbrev pub moved_at : List ℕ → ℕ → ℕ → Expansions → ℕ → ℕ → ℕ → ℕ × ℕ
+moved_at part viewer root other from to i =
+    let raw = raw_pair (state_at part viewer root to i) in
+    moved_pair (word_of part i) (right_of part i) raw (pair_at other i) (side_at from i) (side_at to i)
+
 -- the expansions that make a public part along the viewer's walk to an address
 unfoldable pub moved_list : List ℕ → ℕ → ℕ → Expansions → ℕ → ℕ → List ℕ → Expansions
 moved_list part viewer root other from to message =
-    let own = state_at part viewer root to in
+    let end = state_at part viewer root to 128 in
     record {
-      pairs =
-          map (λ i. moved_pair (word_of part i) (right_of part i) (raw_pair (own i)) (pair_at other i)
-          (side_at from i) (side_at to i))
-          (range_with_len 0 128);
-      block = xor_bytes (xor_bytes (last_of part) (block (length message) (own 128))) message;
+      pairs = map (moved_at part viewer root other from to) (range_with_len 0 128);
+      block = xor_bytes (xor_bytes (last_of part) (block (length message) end)) message;
     }
 
 -- ---- the words

@@ -11,7 +11,7 @@ use Rattle.express_words.specs.declared.audit.Openings.{Openings}
 use Rattle.express_words.specs.declared.audit.Closing.{Closing}
 use Rattle.audit_rules.specs.declared.sums.Sums.{Sums}
 use Rattle.audit_rules.specs.Audit.{zero_share, one_share, opening_of, opened_of, closing_of}
-use Rattle.write_sketch.specs.Challenges.{sums_under}
+use Rattle.audit_rules.specs.Challenges.{sums_under}
 use Rattle.write_hiding.specs.declared.choice.View.{View}
 use Rattle.write_hiding.specs.Choices.{PlainChoice, PlainAim, PlainGame}
 

@@ -3,9 +3,8 @@ use Rattle.std.specs.Prelude.{◌≡◌, ℕ, ◌^◌, ◌<◌, ◌==◌, List, 
 use Rattle.dpf_rules.specs.Expansion.{challenge_r, challenge_s}
 use Rattle.dpf_rules.specs.Keys.{honest, path_at, honest_keys}
 use Rattle.dpf_rules.specs.Evaluation.{difference_at}
-use Rattle.audit_rules.specs.Audit.{zero_share, one_share, opening_of, opened_of, closing_of}
-use Rattle.write_sketch.specs.Challenges.{sums_under}
-use Rattle.write_sketch.specs.Leaves.{leaves}
+use Rattle.audit_rules.specs.Audit.{zero_share, one_share}
+use Rattle.audit_rules.specs.Values.{Write, opens, values}
 use Rattle.write_hiding.specs.declared.choice.View.{View}
 use Rattle.write_hiding.specs.Choices.{PlainChoice, PlainAim, PlainGame}
 
@@ -30,8 +29,8 @@ choice_of viewer d aim =
     if viewer == 0 then record { own_root = d.root0; other_root = d.root1; other = one; words = d.words }
     else record { own_root = d.root1; other_root = d.root0; other = zero; words = d.words }
 
--- what the viewer gets: the keys and its share of the proof from the client, and what the other server
--- opens and closes, each server with the sums of its own leaves
+-- what the viewer gets: the keys and its share of the proof from the client, and from the other server that
+-- one's values of the audit, each server with its own leaves
 unfoldable pub write_view : ℕ → Drawn → PlainAim → PlainGame → View
 write_view viewer d aim game =
     let part = honest_keys aim.target aim.message d.root0 d.root1 in
@@ -39,13 +38,24 @@ write_view viewer d aim game =
     let m = difference_at part d.root0 d.root1 aim.target in
     let share0 = zero_share drawn in
     let share1 = one_share m (challenge_r game.ckey aim.target) (challenge_s game.ckey aim.target) drawn in
-    let sums0 = sums_under game.ckey game.addresses (leaves part 0 d.root0 game.addresses) in
-    let sums1 = sums_under game.ckey game.addresses (leaves part 1 d.root1 game.addresses) in
-    let opening0 = opening_of sums0 share0 game.sigma in
-    let opening1 = opening_of sums1 share1 game.sigma in
-    let opened = opened_of opening0 opening1 in
-    let closing0 = closing_of 0 share0 game.sigma opened in
-    let closing1 = closing_of 1 share1 game.sigma opened in
-    if viewer == 0
-    then record { own_root = d.root0; public = part; proof = share0; opened = opening1; closed = closing1 }
-    else record { own_root = d.root1; public = part; proof = share1; opened = opening0; closed = closing0 }
+    let count = length game.addresses in
+    let write0 : Write = record { root = d.root0; part = part; count = count; ckey = game.ckey } in
+    let write1 : Write = record { root = d.root1; part = part; count = count; ckey = game.ckey } in
+    let opened0 = opens 0 write0 game.addresses share0 game.sigma in
+    let opened1 = opens 1 write1 game.addresses share1 game.sigma in
+    let values0 = values 0 write0 game.addresses share0 game.sigma opened1 in
+    let values1 = values 1 write1 game.addresses share1 game.sigma opened0 in
+    if viewer == 0 then record {
+      own_root = d.root0;
+      public = part;
+      proof = share0;
+      opened = values1.opened;
+      closed = values1.closing;
+    }
+    else record {
+      own_root = d.root1;
+      public = part;
+      proof = share1;
+      opened = values0.opened;
+      closed = values0.closing;
+    }

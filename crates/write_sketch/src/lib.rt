@@ -3,7 +3,7 @@
 
 ghost use Rattle.std.specs.Prelude.{◌≡◌, length, bit_xor};
 ghost use Rattle.audit_rules.specs.Audit.{product};
-ghost use Rattle.write_sketch.specs.Challenges.{sums_under};
+ghost use Rattle.audit_rules.specs.Challenges.{sums_under};
 
 pub use audit_rules::Sums;
 use chacha_expand::challenge;

@@ -1,7 +1,8 @@
 use Rattle.std.proofs.Common.{◌≡◌, ◌<◌, length, get_or, take, refl, sym, ◌∙◌, ap, add-one, arith}
 use Rattle.std.specs.Prelude.{bit_xor}
 use Rattle.audit_rules.specs.Audit.{product, sums_of}
-use Rattle.write_sketch.specs.Challenges.{challenge_rs, challenge_ss, length-challenge_rs, length-challenge_ss, r_at, s_at}
+use Rattle.audit_rules.specs.Challenges.{challenge_rs, challenge_ss}
+use Rattle.audit_rules.proofs.ChallengeLemmas.{length-challenge_rs, length-challenge_ss, r_at, s_at}
 use Rattle.write_sketch.proofs.Prefixes.{sums_more, sums_whole}
 use Rattle.write_sketch.proofs.sums.Goals as goal
 

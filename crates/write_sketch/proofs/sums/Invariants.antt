@@ -1,6 +1,6 @@
 use Rattle.std.proofs.Common.{◌≡◌, take}
 use Rattle.audit_rules.specs.Audit.{sums_of}
-use Rattle.write_sketch.specs.Challenges.{challenge_rs, challenge_ss}
+use Rattle.audit_rules.specs.Challenges.{challenge_rs, challenge_ss}
 use Rattle.write_sketch.proofs.sums.Given as goal
 
 abbrev pub invariant-loop-i : goal.invariant-loop-i

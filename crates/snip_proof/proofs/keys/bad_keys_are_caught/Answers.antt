@@ -1,11 +1,10 @@
-use Rattle.std.proofs.Common.{◌≡◌, ◌≤◌, List, ℕ, length, subst, lit<}
-use Rattle.std.specs.Prelude.{◌⊎◌, slice_index}
+use Rattle.std.proofs.Common.{◌≤◌, ◌⊎◌, ℕ, List, length, subst, lit<}
 use Rattle.std.proofs.lemmas.List.{length-map}
 use Rattle.dpf_rules.specs.Walk.{leaf_of}
-use Rattle.audit_rules.specs.Audit.{bad_r, bad_s}
-use Rattle.audit_rules.specs.Soundness.{IsFirst, IsLast}
-use Rattle.write_sketch.specs.Challenges.{challenge_rs, challenge_ss}
-use Rattle.write_sketch.specs.Leaves.{leaves, leaves-in_range, difference-leaves}
+use Rattle.dpf_rules.specs.Evaluation.{leaves}
+use Rattle.audit_rules.specs.BadWrites.{HasTwo, IsBadChallenge}
+use Rattle.audit_rules.specs.Challenges.{challenge_rs, challenge_ss}
+use Rattle.audit_rules.proofs.LeafLemmas.{leaves-in_range, difference-leaves}
 use Rattle.snip_proof.proofs.Writes.{few_points}
 use Rattle.snip_proof.proofs.keys.bad_keys_are_caught.Goals as goal
 
@@ -15,17 +14,15 @@ returns c =
     let places = c.args.addresses.now in
     let rs = challenge_rs c.args.ckey.now places in
     let ss = challenge_ss c.args.ckey.now places in
-    let a = c.args.a in
-    let b = c.args.b in
     let points = c.args.points.now in
-    let Goal : List ℕ → Type 0 = λ w. IsFirst w a → IsLast w b → (slice_index rs a ≡ bad_r w rs ss a) ⊎ (slice_index ss b ≡ bad_s w ss a b) ⊎ (length points ≤ 5) in
+    let Goal : List ℕ → Type 0 = λ w. HasTwo w → IsBadChallenge w rs ss ⊎ (length points ≤ 5) in
     record {
       caught =
           subst Goal (difference-leaves part c.args.root0 c.args.root1 places)
-          (few_points c.args.ckey.now places (leaves part 0 c.args.root0 places) (leaves part 1 c.args.root1 places) a b c.args.share0.now c.args.share1.now points
+          (few_points c.args.ckey.now places (leaves part 0 c.args.root0 places) (leaves part 1 c.args.root1 places) c.args.share0.now c.args.share1.now points
           (leaves-in_range part 0 c.args.root0 places c.read_bytes.ensures.in_range (lit< tt) c.ranges.root0.fits)
           (leaves-in_range part 1 c.args.root1 places c.read_bytes.ensures.in_range (lit< tt) c.ranges.root1.fits)
           (length-map places (leaf_of part 0 c.args.root0)) (length-map places (leaf_of part 1 c.args.root1))
           c.read_share.ensures.in_range c.read_share-2.ensures.in_range c.read_words.ensures.in_range c.requires.distinct c.requires.accepted)
-          c.requires.first c.requires.last;
+          c.requires.two;
     }

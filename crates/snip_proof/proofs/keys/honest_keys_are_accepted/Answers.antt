@@ -4,11 +4,11 @@ use Rattle.std.proofs.lemmas.Grind.{get_or_default_zero}
 use Rattle.std.proofs.lemmas.List.{length-map, get_or-map}
 use Rattle.dpf_rules.specs.Expansion.{challenge_r, challenge_s}
 use Rattle.dpf_rules.specs.Walk.{leaf_of}
-use Rattle.dpf_rules.specs.Evaluation.{difference_at}
+use Rattle.dpf_rules.specs.Evaluation.{difference_at, leaves}
 use Rattle.audit_rules.specs.Audit.{ServersAccept, zero_share, one_share}
 use Rattle.audit_rules.specs.Ranges.{word_in_range}
-use Rattle.write_sketch.specs.Challenges.{sums_under}
-use Rattle.write_sketch.specs.Leaves.{leaves, leaves-in_range}
+use Rattle.audit_rules.specs.Challenges.{sums_under}
+use Rattle.audit_rules.proofs.LeafLemmas.{leaves-in_range}
 use Rattle.snip_proof.proofs.Writes.{honest_accepted}
 use Rattle.snip_proof.proofs.keys.honest_keys_are_accepted.Goals as goal
 

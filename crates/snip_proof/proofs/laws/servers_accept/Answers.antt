@@ -2,8 +2,9 @@ use Rattle.std.proofs.Common.{◌≡◌, ◌∙◌, ap, sym, subst}
 use Rattle.std.specs.Prelude.{IsTrue}
 use Rattle.audit_rules.specs.declared.sums.Sums.{Sums}
 use Rattle.audit_rules.specs.Audit.{IsAccepted, PassesAt, ServersAccept, difference, whole_sums, whole_proof}
-use Rattle.write_sketch.specs.Challenges.{sums_under}
-use Rattle.snip_proof.proofs.Steps.{judged, through_both}
+use Rattle.audit_rules.specs.Challenges.{sums_under}
+use Rattle.audit_rules.proofs.ValueLemmas.{through_both}
+use Rattle.snip_proof.proofs.Steps.{judged}
 use Rattle.snip_proof.proofs.Writes.{whole_under}
 use Rattle.snip_proof.proofs.laws.servers_accept.Goals as goal
 

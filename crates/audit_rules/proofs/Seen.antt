@@ -2,9 +2,9 @@
 use Rattle.std.specs.Prelude.{◌≡◌, ◌≢◌, ℕ, ◌<◌, Bool, List, [], ◌∷◌, length, refl}
 use Rattle.std.proofs.Common.{zero, suc, sym, ◌∙◌, ap, get_or, set, arith}
 use Rattle.tower_field.specs.Laws.{FieldLaws}
-use Rattle.tower_field.specs.Rings.{var, nil, ◌⊕◌, ◌⊗◌, solve}
+use Rattle.tower_field.specs.Rings.{var, nil, ◌⊕◌, ◌⊗◌, solve, mul_zero}
 use Rattle.poly_roots.specs.Roots.{sum_zero, product_zero}
-use Rattle.audit_rules.specs.Sketch.{total, dot, dot3, verdict, bad_s, key, bad_r}
+use Rattle.audit_rules.specs.Sketch.{total, dot, dot3, verdict, bad_s, divisor, bad_r}
 
 module _ {F : Type 0} {z o : F} {add mul : F → F → F} {inverse : F → F} {eq : F → F → Bool} (laws : FieldLaws z o add mul inverse eq) where
   dot_split : (w s : List F) (i : ℕ) → i < length w → i < length s → dot z add mul w s ≡ add (dot z add mul w (set s i z)) (mul (get_or w i z) (get_or s i z))
@@ -35,17 +35,31 @@ module _ {F : Type 0} {z o : F} {add mul : F → F → F} {inverse : F → F} {e
       let once : mul k (inverse k) ≡ o = laws.inverts k n in
       sym (ap (mul (inverse k)) same ∙ solve laws (r ∷ (k ∷ (inverse k ∷ []))) (var 2 ⊗ (var 0 ⊗ var 1)) (var 0 ⊗ (var 1 ⊗ var 2)) refl ∙ ap (mul r) once ∙ laws.mul_one r)
 
-  key_apart : (w s : List F) (a b : ℕ) → a < length w → b < length w → b < length s → get_or w a z ≢ z → get_or w b z ≢ z → get_or s b z ≢ bad_s z add mul inverse w s a b → key z add mul w s a ≢ z
-  key_apart w s a b ha hb hs na nb good h =
-      let inner : add (dot z add mul w s) (mul (total z add w) (get_or s a z)) ≡ z = product_zero laws (get_or w a z) (add (dot z add mul w s) (mul (total z add w) (get_or s a z))) na h in
+  -- and it gives zero there
+  root_back : (e k : F) → k ≢ z → add e (mul (mul (inverse k) e) k) ≡ z
+  root_back e k n =
+      let once : mul k (inverse k) ≡ o = laws.inverts k n in
+      ap (add e) (solve laws (e ∷ (k ∷ (inverse k ∷ []))) (var 2 ⊗ var 0 ⊗ var 1) (var 0 ⊗ (var 1 ⊗ var 2)) refl ∙ ap (mul e) once ∙ laws.mul_one e) ∙ laws.add_self e
+
+  -- what divides in the bad value of r is zero exactly where s at b is the bad value
+  pub divisor_zero : (w s : List F) (a b : ℕ) → b < length w → b < length s → get_or w a z ≢ z → get_or w b z ≢ z →
+      (divisor z add mul w s a ≡ z → get_or s b z ≡ bad_s z add mul inverse w s a b) × (get_or s b z ≡ bad_s z add mul inverse w s a b → divisor z add mul w s a ≡ z)
+  divisor_zero w s a b hb hs na nb =
       let others = dot z add mul w (set s b z) in
       let moved = mul (total z add w) (get_or s a z) in
+      let wa = get_or w a z in
       let wb = get_or w b z in
       let sb = get_or s b z in
-      let line : add (add others moved) (mul sb wb) ≡ z =
+      let inner = add (dot z add mul w s) moved in
+      let line : add (add others moved) (mul sb wb) ≡ inner =
       solve laws (others ∷ (moved ∷ (wb ∷ (sb ∷ [])))) (var 0 ⊕ var 1 ⊕ var 3 ⊗ var 2) (var 0 ⊕ var 2 ⊗ var 3 ⊕ var 1) refl
-      ∙ sym (ap (λ y. add y moved) (dot_split w s b hb hs)) ∙ inner in
-      good (root_of (add others moved) sb wb nb line)
+      ∙ sym (ap (λ y. add y moved) (dot_split w s b hb hs)) in (
+        λ h. root_of (add others moved) sb wb nb (line ∙ product_zero laws wa inner na h),
+        λ bad. ap (mul wa) (sym line ∙ ap (λ t. add (add others moved) (mul t wb)) bad ∙ root_back (add others moved) wb nb) ∙ mul_zero laws wa,
+      )
+
+  divisor_apart : (w s : List F) (a b : ℕ) → b < length w → b < length s → get_or w a z ≢ z → get_or w b z ≢ z → get_or s b z ≢ bad_s z add mul inverse w s a b → divisor z add mul w s a ≢ z
+  divisor_apart w s a b hb hs na nb good h = good ((divisor_zero w s a b hb hs na nb).0 h)
 
   -- where neither challenge is bad, a vector with two places that are not zero is seen
   pub seen : (w r s : List F) (a b : ℕ) → a < length w → a < length r → a < length s → b < length w → b < length s → get_or w a z ≢ z → get_or w b z ≢ z →
@@ -58,7 +72,7 @@ module _ {F : Type 0} {z o : F} {add mul : F → F → F} {inverse : F → F} {e
       let wa = get_or w a z in
       let ra = get_or r a z in
       let sa = get_or s a z in
-      let line : add (verdict z add mul w (set r a z) s) (mul ra (key z add mul w s a)) ≡ z =
+      let line : add (verdict z add mul w (set r a z) s) (mul ra (divisor z add mul w s a)) ≡ z =
       solve laws (x0 ∷ (y ∷ (m ∷ (z0 ∷ (wa ∷ (ra ∷ (sa ∷ []))))))) (var 0 ⊗ var 1 ⊕ var 2 ⊗ var 3 ⊕ var 5 ⊗ (var 4 ⊗ (var 1 ⊕ var 2 ⊗ var 6))) ((var 0 ⊕ var 4 ⊗ var 5) ⊗ var 1 ⊕ var 2 ⊗ (var 3 ⊕ var 4 ⊗ var 5 ⊗ var 6)) refl
       ∙ sym (ap (λ x. add (mul x y) (mul m (dot3 z add mul w r s))) (dot_split w r a haw har) ∙ ap (λ k. add (mul (add x0 (mul wa ra)) y) (mul m k)) (dot3_split w r s a haw har has)) ∙ h in
-      good_r (root_of (verdict z add mul w (set r a z) s) ra (key z add mul w s a) (key_apart w s a b haw hbw hbs na nb good_s) line)
+      good_r (root_of (verdict z add mul w (set r a z) s) ra (divisor z add mul w s a) (divisor_apart w s a b hbw hbs na nb good_s) line)

@@ -1,35 +1,10 @@
--- The two challenge vectors that a key draws at a list of addresses.
+-- Challenges at a list of addresses, place by place.
 use Rattle.std.specs.Prelude.{◌≡◌, ℕ, ◌+◌, ◌*◌, ◌/◌, ◌%◌, ◌^◌, ◌<◌, List, [], ◌∷◌, length, map, All, slice_index}
-use Rattle.std.specs.List.{range_with_len}
-use Rattle.std.proofs.Common.{zero, suc, arith}
-use Rattle.std.proofs.Math.Nat.{pow-suc}
 use Rattle.std.proofs.lemmas.List.{get_or-map, length-map}
 use Rattle.std.proofs.lemmas.List.Elements.{All-nil, All-cons}
-use Rattle.dpf_rules.specs.Bytes.{value_in}
-use Rattle.dpf_rules.specs.Expansion.{stream_byte, stream_bytes, stream_number, challenge_r, challenge_s}
-use Rattle.audit_rules.specs.declared.sums.Sums.{Sums}
-use Rattle.audit_rules.specs.Audit.{sums_of}
-
-unfoldable pub challenge_rs : List ℕ → List ℕ → List ℕ
-challenge_rs ckey addresses = map (challenge_r ckey) addresses
-
-unfoldable pub challenge_ss : List ℕ → List ℕ → List ℕ
-challenge_ss ckey addresses = map (challenge_s ckey) addresses
-
--- the sums of a vector under a key's challenges at a list of addresses
-abbrev pub sums_under : List ℕ → List ℕ → List ℕ → Sums
-sums_under ckey addresses w = sums_of w (challenge_rs ckey addresses) (challenge_ss ckey addresses)
-
--- ---- what follows for each place
-
-stream_number_lt : (key : List ℕ) (stream a n : ℕ) → value_in 256 (map (stream_byte key stream) (range_with_len a n)) < 256 ^ n
-unfolding value_in stream_byte
-stream_number_lt key stream a zero = omega arith
-stream_number_lt key stream a (suc n) = rw (pow-suc 256 n) (omega (arith, stream_number_lt key stream (a + 1) n))
-
-pub stream_word_lt : (key : List ℕ) (stream a : ℕ) → stream_number key stream a < 2 ^ 128
-unfolding stream_bytes
-stream_word_lt key stream a = stream_number_lt key stream a 16
+use Rattle.dpf_rules.specs.Expansion.{challenge_r, challenge_s}
+use Rattle.dpf_rules.proofs.RangeLemmas.{stream_word_lt}
+use Rattle.audit_rules.specs.Challenges.{challenge_rs, challenge_ss}
 
 pub all_map : (f : ℕ → ℕ) (n : ℕ) → ((x : ℕ) → f x < n) → (xs : List ℕ) → All (λ y. y < n) (map f xs)
 all_map f n h [] = All-nil (λ y. y < n)

@@ -11,37 +11,26 @@ use Rattle.poly_roots.specs.Through.{through}
 use Rattle.express_words.specs.declared.audit.ProofShare.{ProofShare}
 use Rattle.audit_rules.specs.Sketch as sketch
 use Rattle.audit_rules.specs.Passing.{Passes}
-use Rattle.audit_rules.specs.Seen.{seen}
+use Rattle.audit_rules.proofs.Seen.{seen, divisor_zero}
 use Rattle.audit_rules.specs.Points.{six_points}
 use Rattle.audit_rules.specs.Ranges.{IsProofShare}
-use Rattle.audit_rules.specs.Audit.{product, value, through_three, sums_of, bad_s, bad_r, PassesAt}
-use Rattle.audit_rules.specs.Transfer.{E, z, add, mul, inverse, element, elements, values-elements, length-values, get_or-values, get_or-default, dot-values, total-values, dot3-values, bad_s-values, bad_r-values, value-values}
-
--- a is the first place of w that isn't zero
-pub record IsFirst (w : List ℕ) (a : ℕ) : Type 0 where
-  pub inside : a < length w
-  pub apart : slice_index w a ≢ 0
-  pub before : (k : ℕ) → k < a → slice_index w k ≡ 0
-
--- b is the last place of w that isn't zero
-pub record IsLast (w : List ℕ) (b : ℕ) : Type 0 where
-  pub inside : b < length w
-  pub apart : slice_index w b ≢ 0
-  pub after : (k : ℕ) → b < k → slice_index w k ≡ 0
+use Rattle.audit_rules.specs.Audit.{product, value, through_three, sums_of, bad_s, bad_r_divisor, bad_r, PassesAt}
+use Rattle.audit_rules.specs.BadWrites.{IsFirst, IsLast, HasTwo, first_place, last_place, IsBadChallenge}
+use Rattle.audit_rules.proofs.Places.{first_is, last_is}
+use Rattle.audit_rules.specs.Transfer.{E, z, add, mul, inverse, element, elements, values-elements, length-values, get_or-values, get_or-default, sums-values, bad_s-values, divisor-values, bad_r-values, value-values}
 
 -- neither bad value depends on the place of the challenge at which it's bad
 pub bad_r-fixed : (w r s : List ℕ) (a v : ℕ) → bad_r w (set r a v) s a ≡ bad_r w r s a
 unfolding bad_r
-bad_r-fixed w r s a v = ap (λ l. product (inverse_at 7 (sketch.key 0 bit_xor product w s a)) (sketch.verdict 0 bit_xor product w l s)) (set-set r a v 0)
+bad_r-fixed w r s a v = ap (λ l. product (inverse_at 7 (sketch.divisor 0 bit_xor product w s a)) (sketch.verdict 0 bit_xor product w l s)) (set-set r a v 0)
 
-pub bad_s-fixed : (w s : List ℕ) (a b v : ℕ) → a < b → bad_s w (set s b v) a b ≡ bad_s w s a b
+pub bad_s-fixed : (w s : List ℕ) (a b v : ℕ) → a ≢ b → bad_s w (set s b v) a b ≡ bad_s w s a b
 unfolding bad_s
 bad_s-fixed w s a b v h =
-    let apart : a ≢ b = omega arith in
     let others = sketch.dot 0 bit_xor product w in
     let sum = sketch.total 0 bit_xor w in
     ap (λ l. product (inverse_at 7 (get_or w b 0)) (bit_xor (others l) (product sum (get_or (set s b v) a 0)))) (set-set s b v 0)
-    ∙ ap (λ n. product (inverse_at 7 (get_or w b 0)) (bit_xor (others (set s b 0)) (product sum n))) (get_or-set_other s b a v 0 apart)
+    ∙ ap (λ n. product (inverse_at 7 (get_or w b 0)) (bit_xor (others (set s b 0)) (product sum n))) (get_or-set_other s b a v 0 h)
 
 one : E
 one = element_one 7
@@ -86,11 +75,6 @@ caught w r s a b ha hb lr ls na nb u v alpha h points five apart passes =
           ]
     ]
 
-pub sums-values : (w r s : List E) →
-    sums_of (values w) (values r) (values s) ≡ record { x = (sketch.dot z add mul w r).value; y = (sketch.dot z add mul w s).value; m = (sketch.total z add w).value; z = (sketch.dot3 z add mul w r s).value }
-unfolding sums_of
-sums-values w r s = let x = dot-values w r in let y = dot-values w s in let m = total-values w in let k = dot3-values w r s in cc
-
 -- the law on the numbers of elements
 caught_values : (w r s : List E) (a b : ℕ) → IsFirst (values w) a → IsLast (values w) b → length r ≡ length w → length s ≡ length w →
     (u v ta tb tc : E) (h points : List E) → length h ≡ 5 → AllPairs (λ p q. p ≢ q) (values points) →
@@ -134,3 +118,43 @@ caught_numbers w r s a b proof points hw hr hs hp hq =
     (sym (length-values (elements r hr)) ∙ lr ∙ length-values (elements w hw)) (sym (length-values (elements s hs)) ∙ ls ∙ length-values (elements w hw))
     (element proof.u hp.u) (element proof.v hp.v) (element proof.a hp.a) (element proof.b hp.b) (element proof.c hp.c) (elements proof.h hp.h) (elements points hq)
     (sym (length-values (elements proof.h hp.h)) ∙ ap length (values-elements proof.h hp.h) ∙ hp.size) apart passes)))))
+
+-- ---- the first and the last place of two or more
+
+-- the law on the first and the last place
+pub caught_two : (w r s : List ℕ) (proof : ProofShare) (points : List ℕ) →
+    All (λ n. n < 2 ^ 128) w → All (λ n. n < 2 ^ 128) r → All (λ n. n < 2 ^ 128) s → IsProofShare proof → All (λ n. n < 2 ^ 128) points →
+    HasTwo w → length r ≡ length w → length s ≡ length w → AllPairs (λ p q. p ≢ q) points → All (PassesAt (sums_of w r s) proof) points →
+    IsBadChallenge w r s ⊎ (length points ≤ 5)
+caught_two w r s proof points hw hr hs hp hq two lr ls apart passes =
+    let first = (first_is w two.0 two.3).0 in
+    let last = (last_is w two.1 two.4).0 in
+    elim (caught_numbers w r s (first_place w) (last_place w) proof points hw hr hs hp hq first last lr ls apart passes) [
+      | inl bad ↦ inl (inl bad)
+      | inr (inl bad) ↦ inl (inr bad)
+      | inr (inr few) ↦ inr few
+    ]
+
+divides : (w s : List E) (a b : ℕ) → IsFirst (values w) a → IsLast (values w) b → length s ≡ length w →
+    (bad_r_divisor (values w) (values s) a ≡ 0 → slice_index (values s) b ≡ bad_s (values w) (values s) a b)
+    × (slice_index (values s) b ≡ bad_s (values w) (values s) a b → bad_r_divisor (values w) (values s) a ≡ 0)
+divides w s a b first last ls =
+    let size = length-values w in
+    let na : get_or w a z ≢ z = λ e. first.apart (get_or-values w a ∙ ap (λ x. x.value) e) in
+    let nb : get_or w b z ≢ z = λ e. last.apart (get_or-values w b ∙ ap (λ x. x.value) e) in
+    let zero = divisor_zero (level_laws 7).0 w s a b (omega (arith, last.inside)) (omega (arith, last.inside)) na nb in (
+      λ h. get_or-values s b ∙ ap (λ x. x.value) (zero.0 (from_value _ z (sym (divisor-values w s a) ∙ h))) ∙ sym (bad_s-values w s a b),
+      λ h. divisor-values w s a ∙ ap (λ x. x.value) (zero.1 (from_value _ _ (sym (get_or-values s b) ∙ h ∙ bad_s-values w s a b))),
+    )
+
+abbrev Divides : List ℕ → List ℕ → ℕ → ℕ → Type 0
+Divides w s a b =
+    IsFirst w a → IsLast w b → length s ≡ length w →
+    (bad_r_divisor w s a ≡ 0 → slice_index s b ≡ bad_s w s a b) × (slice_index s b ≡ bad_s w s a b → bad_r_divisor w s a ≡ 0)
+
+-- what divides in the bad value of r is zero exactly where s is bad
+pub divides_numbers : (w s : List ℕ) (a b : ℕ) → All (λ n. n < 2 ^ 128) w → All (λ n. n < 2 ^ 128) s → Divides w s a b
+divides_numbers w s a b hw hs =
+    subst (λ w. Divides w s a b) (values-elements w hw)
+    (subst (λ s. Divides (values (elements w hw)) s a b) (values-elements s hs)
+    (λ first last ls. divides (elements w hw) (elements s hs) a b first last (sym (length-values (elements s hs)) ∙ ls ∙ length-values (elements w hw))))

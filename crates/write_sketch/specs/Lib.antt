@@ -1,2 +1,0 @@
-pub mod Challenges
-pub mod Leaves
