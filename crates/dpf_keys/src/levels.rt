@@ -1,7 +1,7 @@
 //! One level of the tree: the step of a walk, and the word and right bit of the keys.
 ghost use Rattle.std.specs.Prelude.{◌≡◌, ◌<◌};
 ghost use Rattle.dpf_rules.specs.Expansion.{with_bit};
-ghost use Rattle.dpf_rules.specs.Walk.{side_at, correction, step};
+ghost use Rattle.dpf_rules.specs.Walk.{side_at, correction, corrected, step};
 ghost use Rattle.dpf_rules.specs.Keys.{raw_pair, on_side, level_word, level_right};
 
 /// A number with bit 0 replaced.
@@ -21,8 +21,8 @@ pub fn side_at(address: u128, level: u8) -> u128
     (address >> (127 - level)) % 2
 }
 
-// The member of a pair on a side.
-fn on_side(pair: (u128, u128), side: u128) -> u128
+/// The member of a pair on a side.
+pub fn on_side(pair: (u128, u128), side: u128) -> u128
     ensures { result ≡ on_side pair side }
 {
     if side == 0 { pair.0 } else { pair.1 }
@@ -40,6 +40,18 @@ fn correction(word: u128, right: u128, side: u128) -> u128
     }
 }
 
+/// A raw child of a state on a side, corrected where the state's control bit is 1.
+pub fn corrected(word: u128, right: u128, side: u128, raw: u128, state: u128) -> u128
+    requires { right < 2 }
+    ensures { result ≡ corrected word right side raw state }
+{
+    if state % 2 == 1 {
+        raw ^ correction(word, right, side)
+    } else {
+        raw
+    }
+}
+
 /// The next state on a side, from the raw children of the present one.
 pub fn step(word: u128, right: u128, side: u128, state: u128, pair: (u128, u128)) -> u128
     requires raw { pair ≡ raw_pair state }
@@ -47,12 +59,7 @@ pub fn step(word: u128, right: u128, side: u128, state: u128, pair: (u128, u128)
     requires side_bound { side < 2 }
     ensures { result ≡ step word right side state }
 {
-    let raw = on_side(pair, side);
-    if state % 2 == 1 {
-        raw ^ correction(word, right, side)
-    } else {
-        raw
-    }
+    corrected(word, right, side, on_side(pair, side), state)
 }
 
 /// The word of a level of the keys, from both servers' raw pairs: the sum of the seeds on the side that is lost, with the

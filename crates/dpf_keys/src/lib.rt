@@ -3,7 +3,7 @@
 #![tactic(auto)]
 
 mod generation;
-mod levels;
+pub mod levels;
 mod part;
 mod walking;
 

@@ -1,0 +1,181 @@
+-- The opposite move of a moved choice is the choice.
+use Rattle.std.proofs.Common.{◌≡◌, ℕ, ◌+◌, List, [], ◌∷◌, ◌++◌, map, length, refl, ap, ◌∙◌, arith, bit_xor}
+use Rattle.std.specs.Prelude.{slice_index}
+use Rattle.dpf_rules.specs.Expansion.{challenge_r, challenge_s}
+use Rattle.express_words.specs.declared.audit.ProofShare.{ProofShare}
+use Rattle.express_words.specs.declared.audit.Openings.{Openings}
+use Rattle.audit_rules.specs.declared.sums.Sums.{Sums}
+use Rattle.audit_rules.specs.Audit.{product, value, through_three, zero_share, one_share, opening_of, honest_f, honest_g}
+use Rattle.poly_roots.specs.Polynomials.{plus_of, times_of}
+use Rattle.write_hiding.specs.Choices.{PlainChoice, PlainAim, PlainGame, IsChoice, IsAim, IsGame}
+use Rattle.write_hiding.specs.Views.{public_part, other_sums, drawn, value_of, share_of, other_opening}
+use Rattle.write_hiding.specs.Moved.{moved_list, walked, moved_a, moved_b, moved_h, moved_words, moved}
+use Rattle.write_hiding.proofs.PartLemmas.{public_part_stays}
+use Rattle.write_hiding.proofs.ReturnLemmas.{map_is, returns}
+use Rattle.write_hiding.proofs.AuditLemmas.{number_forth, plus_forth}
+use Rattle.write_hiding.proofs.ViewLemmas.{zero_opened, one_opened, one_proof}
+
+same_choice : (c d : PlainChoice) → c.own_root ≡ d.own_root → c.other_root ≡ d.other_root → c.other ≡ d.other → c.words ≡ d.words → c ≡ d
+same_choice c d o r e w =
+    ap (λ o. record c { own_root = o }) o ∙ ap (λ r. record c { own_root = d.own_root; other_root = r }) r
+    ∙ ap (λ e. record d { other = e; words = c.words }) e ∙ ap (λ w. record d { words = w }) w
+
+-- a list of fourteen words by its places
+pub fourteen : (w : List ℕ) → length w ≡ 14 → map (slice_index w) (0 ∷ (1 ∷ (2 ∷ (3 ∷ (4 ∷ (5 ∷ (6 ∷ (7 ∷ (8 ∷ (9 ∷ (10 ∷ (11 ∷ (12 ∷ (13 ∷ [])))))))))))))) ≡ w
+fourteen w h = map_is (slice_index w) w 0 14 0 h (λ i l. let place : 0 + i ≡ i = omega arith in rw place refl)
+
+-- what is opened again gives a and b
+a_again : (sums sums' : Sums) (share : ProofShare) (sigma : ℕ) (o : Openings) → o ≡ opening_of sums share sigma → sums' ≡ sums →
+    bit_xor o.d (value (through_three share.u sums'.x sums'.m) sigma) ≡ share.a
+unfolding opening_of
+a_again sums sums' share sigma o ho hs =
+    ap (λ s. bit_xor o.d (value (through_three share.u s.x s.m) sigma)) hs
+    ∙ ap (λ o. bit_xor o.d (value (through_three share.u sums.x sums.m) sigma)) ho
+    ∙ number_forth (value (through_three share.u sums.x sums.m) sigma) share.a
+
+b_again : (sums sums' : Sums) (share : ProofShare) (sigma : ℕ) (o : Openings) → o ≡ opening_of sums share sigma → sums' ≡ sums →
+    bit_xor o.e (product sigma (value (through_three share.v sums'.y sums'.z) sigma)) ≡ share.b
+unfolding opening_of
+b_again sums sums' share sigma o ho hs =
+    ap (λ s. bit_xor o.e (product sigma (value (through_three share.v s.y s.z) sigma))) hs
+    ∙ ap (λ o. bit_xor o.e (product sigma (value (through_three share.v sums.y sums.z) sigma))) ho
+    ∙ number_forth (product sigma (value (through_three share.v sums.y sums.z) sigma)) share.b
+
+module _ (width viewer : ℕ) (choice : PlainChoice) (from to : PlainAim) (game : PlainGame) (good : IsChoice width choice) (aimed : IsAim width game from) (aimed' : IsAim width game to) where
+  abbrev gone : PlainChoice
+  gone = moved viewer choice from to game
+
+  part_stays : public_part viewer gone to ≡ public_part viewer choice from
+  unfolding moved
+  part_stays = public_part_stays width viewer choice from to game good aimed.size aimed'.size
+
+  list_back : (walked viewer gone to from).other ≡ choice.other
+  unfolding moved
+  list_back =
+      ap (λ part. moved_list part viewer choice.own_root (walked viewer choice from to).other to.target from.target from.message) part_stays
+      ∙ returns width viewer choice.own_root choice.other good.other.levels good.other.states good.other.size from.target from.message aimed.size to.target to.message
+
+  sums_back : other_sums viewer (walked viewer gone to from) from game ≡ other_sums viewer choice from game
+  unfolding moved
+  sums_back = ap (λ e. other_sums viewer (record gone { other = e }) from game) list_back
+
+  value_back : value_of viewer (walked viewer gone to from) from ≡ value_of viewer choice from
+  unfolding moved
+  value_back = ap (λ e. value_of viewer (record gone { other = e }) from) list_back
+
+  choice_back : moved_words viewer gone to from game ≡ choice.words → moved viewer gone to from game ≡ choice
+  unfolding moved
+  choice_back words = same_choice (moved viewer gone to from game) choice refl refl list_back words
+
+module _ (width : ℕ) (choice : PlainChoice) (from to : PlainAim) (game : PlainGame) (good : IsChoice width choice) (aimed : IsAim width game from) (aimed' : IsAim width game to) (fair : IsGame game) where
+  abbrev word : ℕ → ℕ
+  word = slice_index choice.words
+
+  -- ---- the viewer is server 0
+  abbrev gone0 : PlainChoice
+  gone0 = moved 0 choice from to game
+
+  zero_a : moved_a 0 gone0 to from game ≡ word 10
+  unfolding moved moved_words one_share
+  zero_a =
+      a_again (other_sums 0 choice from game) (other_sums 0 (walked 0 gone0 to from) from game) (share_of 1 0 choice from game) game.sigma (other_opening 0 gone0 to game)
+      (zero_opened width choice from to game good aimed aimed' fair) (sums_back width 0 choice from to game good aimed aimed')
+
+  zero_b : moved_b 0 gone0 to from game ≡ word 12
+  unfolding moved moved_words one_share
+  zero_b =
+      b_again (other_sums 0 choice from game) (other_sums 0 (walked 0 gone0 to from) from game) (share_of 1 0 choice from game) game.sigma (other_opening 0 gone0 to game)
+      (zero_opened width choice from to game good aimed aimed' fair) (sums_back width 0 choice from to game good aimed aimed')
+
+  abbrev zero_list : ℕ → ℕ → List ℕ
+  zero_list a b = word 0 ∷ (word 1 ∷ (word 2 ∷ (word 3 ∷ (word 4 ∷ (word 5 ∷ (word 6 ∷ (word 7 ∷ (word 8 ∷ (word 9 ∷ (a ∷ (word 11 ∷ (b ∷ (word 13 ∷ [])))))))))))))
+
+  zero_made : moved_words 0 gone0 to from game ≡ zero_list (moved_a 0 gone0 to from game) (moved_b 0 gone0 to from game)
+  unfolding moved moved_words
+  zero_made = refl
+
+  zero_words : moved_words 0 gone0 to from game ≡ choice.words
+  zero_words =
+      zero_made ∙ ap (λ a. zero_list a (moved_b 0 gone0 to from game)) zero_a ∙ ap (zero_list (word 10)) zero_b ∙ fourteen choice.words good.size
+
+  pub zero_back : moved 0 gone0 to from game ≡ choice
+  zero_back = choice_back width 0 choice from to game good aimed aimed' zero_words
+
+  -- ---- the viewer is server 1
+  abbrev gone1 : PlainChoice
+  gone1 = moved 1 choice from to game
+
+  one_a : moved_a 1 gone1 to from game ≡ word 9
+  unfolding moved moved_words zero_share
+  one_a =
+      a_again (other_sums 1 choice from game) (other_sums 1 (walked 1 gone1 to from) from game) (share_of 0 1 choice from game) game.sigma (other_opening 1 gone1 to game)
+      (one_opened width choice from to game good aimed aimed' fair) (sums_back width 1 choice from to game good aimed aimed')
+
+  one_b : moved_b 1 gone1 to from game ≡ word 11
+  unfolding moved moved_words zero_share
+  one_b =
+      b_again (other_sums 1 choice from game) (other_sums 1 (walked 1 gone1 to from) from game) (share_of 0 1 choice from game) game.sigma (other_opening 1 gone1 to game)
+      (one_opened width choice from to game good aimed aimed' fair) (sums_back width 1 choice from to game good aimed aimed')
+
+  abbrev r : ℕ
+  r = challenge_r game.ckey from.target
+
+  abbrev s : ℕ
+  s = challenge_s game.ckey from.target
+
+  abbrev by : ℕ → List ℕ
+  by m = times_of 0 bit_xor product (honest_f m r (drawn choice)) (honest_g m r s (drawn choice))
+
+  abbrev own : ProofShare
+  own = share_of 1 1 choice from game
+
+  one_h_made : moved_h gone1 to from game ≡ plus_of bit_xor (share_of 1 1 gone1 to game).h (by (value_of 1 (walked 1 gone1 to from) from))
+  unfolding moved moved_words
+  one_h_made = refl
+
+  own_h : own.h ≡ plus_of bit_xor (by (value_of 1 choice from)) (zero_share (drawn choice)).h
+  unfolding one_share
+  own_h = refl
+
+  forth_h : plus_of bit_xor (plus_of bit_xor (by (value_of 1 choice from)) (zero_share (drawn choice)).h) (by (value_of 1 choice from)) ≡ (zero_share (drawn choice)).h
+  unfolding zero_share
+  forth_h = plus_forth (by (value_of 1 choice from)) (zero_share (drawn choice)).h refl
+
+  one_h : moved_h gone1 to from game ≡ (zero_share (drawn choice)).h
+  one_h =
+      one_h_made
+      ∙ ap (λ p. plus_of bit_xor p.h (by (value_of 1 (walked 1 gone1 to from) from))) (one_proof width choice from to game good aimed aimed' fair)
+      ∙ ap (λ m. plus_of bit_xor own.h (by m)) (value_back width 1 choice from to game good aimed aimed')
+      ∙ ap (λ h. plus_of bit_xor h (by (value_of 1 choice from))) own_h ∙ forth_h
+
+  abbrev one_list : List ℕ → ℕ → ℕ → ℕ → List ℕ
+  one_list h a b c = word 0 ∷ (word 1 ∷ (word 2 ∷ (word 3 ∷ (h ++ (a ∷ (word 10 ∷ (b ∷ (word 12 ∷ (c ∷ [])))))))))
+
+  abbrev c_of : ProofShare → ℕ → ℕ → ℕ
+  c_of share a b = bit_xor share.c (product (bit_xor a (word 10)) (bit_xor b (word 12)))
+
+  one_made : moved_words 1 gone1 to from game ≡ one_list (moved_h gone1 to from game) (moved_a 1 gone1 to from game) (moved_b 1 gone1 to from game)
+      (c_of (share_of 1 1 gone1 to game) (moved_a 1 gone1 to from game) (moved_b 1 gone1 to from game))
+  unfolding moved moved_words zero_share one_share
+  one_made = refl
+
+  own_c : c_of own (word 9) (word 11) ≡ word 13
+  unfolding one_share
+  own_c = number_forth (product (bit_xor (word 9) (word 10)) (bit_xor (word 11) (word 12))) (word 13)
+
+  list_made : one_list (zero_share (drawn choice)).h (word 9) (word 11) (word 13) ≡ choice.words
+  unfolding zero_share
+  list_made = fourteen choice.words good.size
+
+  one_words : moved_words 1 gone1 to from game ≡ choice.words
+  one_words =
+      one_made
+      ∙ ap (λ p. one_list (moved_h gone1 to from game) (moved_a 1 gone1 to from game) (moved_b 1 gone1 to from game) (c_of p (moved_a 1 gone1 to from game) (moved_b 1 gone1 to from game)))
+      (one_proof width choice from to game good aimed aimed' fair)
+      ∙ ap (λ a. one_list (moved_h gone1 to from game) a (moved_b 1 gone1 to from game) (c_of own a (moved_b 1 gone1 to from game))) one_a
+      ∙ ap (λ b. one_list (moved_h gone1 to from game) (word 9) b (c_of own (word 9) b)) one_b
+      ∙ ap (λ c. one_list (moved_h gone1 to from game) (word 9) (word 11) c) own_c
+      ∙ ap (λ h. one_list h (word 9) (word 11) (word 13)) one_h ∙ list_made
+
+  pub one_back : moved 1 gone1 to from game ≡ choice
+  one_back = choice_back width 1 choice from to game good aimed aimed' one_words

@@ -1,0 +1,83 @@
+-- What the code of a move computes is the move.
+use Rattle.std.proofs.Common.{◌≡◌, ℕ, ◌+◌, List, [], ◌∷◌, ◌++◌, map, length, refl, ap, ◌∙◌, add-one, bit_xor}
+use Rattle.std.specs.Prelude.{slice_index}
+use Rattle.std.specs.List.{range_with_len}
+use Rattle.dpf_rules.specs.Bytes.{xor_bytes}
+use Rattle.dpf_rules.specs.Expansion.{block, challenge_r, challenge_s}
+use Rattle.dpf_rules.specs.Walk.{word_of, right_of, last_of, side_at, step, state_at}
+use Rattle.dpf_rules.specs.Keys.{Expansions, pair_at, raw_pair}
+use Rattle.dpf_rules.proofs.IdealLemmas.{xor_bytes_comm}
+use Rattle.poly_roots.specs.Polynomials.{plus_of, times_of}
+use Rattle.audit_rules.specs.declared.sums.Sums.{Sums}
+use Rattle.audit_rules.specs.Audit.{product, value, through_three, honest_f, honest_g}
+use Rattle.write_hiding.specs.declared.choice.View.{View}
+use Rattle.write_hiding.specs.Choices.{PlainChoice, PlainAim, PlainGame}
+use Rattle.write_hiding.specs.Views.{public_part, value_of, other_sums, drawn, view}
+use Rattle.write_hiding.specs.Moved.{moved_pair, moved_at, moved_list, walked, moved_words, moved}
+
+-- one level
+module _ (part : List ℕ) (viewer root : ℕ) (other : Expansions) (from to i state word right f t : ℕ) (raw pair : ℕ × ℕ)
+    (state_is : state ≡ state_at part viewer root to i) (word_is : word ≡ word_of part i) (right_is : right ≡ right_of part i)
+    (raw_is : raw ≡ raw_pair state) (pair_is : pair ≡ pair_at other i) (from_is : f ≡ side_at from i) (to_is : t ≡ side_at to i) where
+  pub pair_on_walk : moved_pair word right raw pair f t ≡ moved_at part viewer root other from to i
+  pair_on_walk = rw (word_is, right_is, raw_is, pair_is, state_is, from_is, to_is) refl
+
+  pub next_on_walk : step word right t state ≡ state_at part viewer root to (i + 1)
+  unfolding state_at
+  next_on_walk = rw (add-one i, word_is, right_is, state_is, to_is) refl
+
+-- the whole walk, and the last block
+module _ (viewer : ℕ) (choice : PlainChoice) (from to : PlainAim) (part bytes : List ℕ) (pairs : List (ℕ × ℕ)) (end : ℕ)
+    (part_is : part ≡ public_part viewer choice from)
+    (pairs_are : pairs ≡ map (moved_at part viewer choice.own_root choice.other from.target to.target) (range_with_len 0 128))
+    (end_is : end ≡ state_at part viewer choice.own_root to.target 128)
+    (bytes_are : bytes ≡ xor_bytes (xor_bytes (block (length to.message) end) (last_of part)) to.message) where
+  pub walked_is : record { own_root = choice.own_root; other_root = choice.other_root; other = record { pairs = pairs; block = bytes }; words = choice.words }
+      ≡ walked viewer choice from to
+  unfolding moved_list
+  walked_is = rw (bytes_are, xor_bytes_comm (block (length to.message) end) (last_of part), pairs_are, end_is, part_is) refl
+
+-- ---- the words
+
+module _ (choice : PlainChoice) (from to : PlainAim) (game : PlainGame) (seen : View) (sums : Sums) (m a b : ℕ) where
+  abbrev word : ℕ → ℕ
+  word = slice_index choice.words
+
+  abbrev masks : List ℕ
+  masks = word 0 ∷ (word 1 ∷ (word 2 ∷ (word 3 ∷ [])))
+
+  pub words_of_zero : seen ≡ view 0 choice from game → sums ≡ other_sums 0 (walked 0 choice from to) to game →
+      a ≡ bit_xor seen.opened.d (value (through_three (word 1) sums.x sums.m) game.sigma) →
+      b ≡ bit_xor seen.opened.e (product game.sigma (value (through_three (word 3) sums.y sums.z) game.sigma)) →
+      masks ++ ((word 4 ∷ (word 5 ∷ (word 6 ∷ (word 7 ∷ (word 8 ∷ []))))) ++ (word 9 ∷ (a ∷ (word 11 ∷ (b ∷ (word 13 ∷ []))))))
+      ≡ moved_words 0 choice from to game
+  unfolding view moved_words
+  words_of_zero seen_is sums_are a_is b_is = rw (a_is, b_is, seen_is, sums_are) refl
+
+  pub words_of_one : seen ≡ view 1 choice from game → sums ≡ other_sums 1 (walked 1 choice from to) to game → m ≡ value_of 1 (walked 1 choice from to) to →
+      a ≡ bit_xor seen.opened.d (value (through_three (word 0) sums.x sums.m) game.sigma) →
+      b ≡ bit_xor seen.opened.e (product game.sigma (value (through_three (word 2) sums.y sums.z) game.sigma)) →
+      let r = challenge_r game.ckey to.target in
+      let s = challenge_s game.ckey to.target in
+      let fg = times_of 0 bit_xor product (honest_f m r (drawn choice)) (honest_g m r s (drawn choice)) in
+      masks ++ (plus_of bit_xor seen.proof.h fg ++ (a ∷ (word 10 ∷ (b ∷ (word 12 ∷ (bit_xor seen.proof.c (product (bit_xor a (word 10)) (bit_xor b (word 12))) ∷ []))))))
+      ≡ moved_words 1 choice from to game
+  unfolding view moved_words
+  words_of_one seen_is sums_are m_is a_is b_is = rw (a_is, b_is, seen_is, sums_are, m_is) refl
+
+-- ---- the whole choice
+
+module _ (viewer viewer' : ℕ) (choice : PlainChoice) (from to : PlainAim) (game : PlainGame) (gone : PlainChoice)
+    (viewer_is : viewer' ≡ viewer) (gone_is : gone ≡ walked viewer choice from to) where
+  pub part_of_walked : public_part viewer' gone to ≡ public_part viewer (walked viewer choice from to) to
+  part_of_walked = rw (viewer_is, gone_is) refl
+
+  pub sums_of_walked : (sums : Sums) → sums ≡ other_sums viewer' gone to game → sums ≡ other_sums viewer (walked viewer choice from to) to game
+  sums_of_walked sums h = h ∙ rw (viewer_is, gone_is) refl
+
+  pub value_of_walked : (m : ℕ) → m ≡ value_of viewer' gone to → m ≡ value_of viewer (walked viewer choice from to) to
+  value_of_walked m h = h ∙ rw (viewer_is, gone_is) refl
+
+  pub moved_is : (words : List ℕ) → words ≡ moved_words viewer choice from to game → record gone { words = words } ≡ moved viewer choice from to game
+  unfolding moved
+  moved_is words h = ap (λ (ws : List ℕ). record gone { words = ws }) h ∙ ap (λ (c : PlainChoice). record c { words = moved_words viewer choice from to game }) gone_is

@@ -1,0 +1,14 @@
+-- The word and the right bit of a level of the keys of the viewer's honest and the other server's chosen
+-- expansions.
+use Rattle.std.specs.Prelude.{ℕ}
+use Rattle.dpf_rules.specs.Walk.{side_at}
+use Rattle.dpf_rules.specs.Keys.{Expansions, pair_at, level_word, level_right, raw_pair}
+use Rattle.dpf_rules.specs.Ideal.{own_at}
+
+unfoldable pub own_word : ℕ → ℕ → ℕ → Expansions → ℕ → ℕ
+own_word target viewer root other i =
+    level_word (raw_pair (own_at target viewer root other i)) (pair_at other i) (side_at target i)
+
+unfoldable pub own_right : ℕ → ℕ → ℕ → Expansions → ℕ → ℕ
+own_right target viewer root other i =
+    level_right (raw_pair (own_at target viewer root other i)) (pair_at other i) (side_at target i)

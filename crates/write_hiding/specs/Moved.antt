@@ -1,0 +1,90 @@
+-- The choice by which another write gives the viewer the same view.
+use Rattle.std.specs.Prelude.{ℕ, ◌+◌, ◌-◌, ◌%◌, ◌==◌, List, [], ◌∷◌, ◌++◌, map, length, slice_index, bit_xor}
+use Rattle.std.specs.Prelude.{if◌then◌else◌}
+use Rattle.std.specs.List.{range_with_len}
+use Rattle.dpf_rules.specs.Bytes.{xor_bytes}
+use Rattle.dpf_rules.specs.Expansion.{with_bit, block, challenge_r, challenge_s}
+use Rattle.dpf_rules.specs.Walk.{word_of, right_of, last_of, side_at, state_at}
+use Rattle.dpf_rules.specs.Keys.{Expansions, pair_at, on_side, raw_pair}
+use Rattle.audit_rules.specs.Audit.{product, value, through_three, honest_f, honest_g}
+use Rattle.poly_roots.specs.Polynomials.{plus_of, times_of}
+use Rattle.write_hiding.specs.Choices.{PlainChoice, PlainAim, PlainGame}
+use Rattle.write_hiding.specs.Views.{public_part, value_of, other_sums, drawn, share_of, other_opening}
+
+-- ---- the expansions
+
+-- the pair that makes a level's word and right bit with the viewer's raw pair. The seed bits that a pair
+-- had on the side `from`, which was kept, stand on the side `to`, which is kept now
+unfoldable pub moved_pair : ℕ → ℕ → ℕ × ℕ → ℕ × ℕ → ℕ → ℕ → ℕ × ℕ
+moved_pair word right raw pair from to =
+    let kept = on_side pair from in
+    let lost = bit_xor word (on_side raw (1 - to)) in (
+      with_bit (if to == 0 then kept else lost) ((word + raw.0 + to + 1) % 2),
+      with_bit (if to == 0 then lost else kept) ((right + raw.1 + to) % 2),
+    )
+
+-- the pair of level i along the viewer's walk to the address `to`, where the other server's walk went to
+-- `from`
+abbrev pub moved_at : List ℕ → ℕ → ℕ → Expansions → ℕ → ℕ → ℕ → ℕ × ℕ
+moved_at part viewer root other from to i =
+    let raw = raw_pair (state_at part viewer root to i) in
+    moved_pair (word_of part i) (right_of part i) raw (pair_at other i) (side_at from i) (side_at to i)
+
+-- the expansions that make a public part along the viewer's walk to an address
+unfoldable pub moved_list : List ℕ → ℕ → ℕ → Expansions → ℕ → ℕ → List ℕ → Expansions
+moved_list part viewer root other from to message =
+    let end = state_at part viewer root to 128 in
+    record {
+      pairs = map (moved_at part viewer root other from to) (range_with_len 0 128);
+      block = xor_bytes (xor_bytes (last_of part) (block (length message) end)) message;
+    }
+
+-- ---- the words
+
+-- the choice with its expansions moved, and its words as they were
+abbrev pub walked : ℕ → PlainChoice → PlainAim → PlainAim → PlainChoice
+walked viewer choice from to =
+    let part = public_part viewer choice from in
+    record choice {
+      other = moved_list part viewer choice.own_root choice.other from.target to.target to.message;
+    }
+
+-- the other server's a and b, by which it opens what it opened
+abbrev pub moved_a : ℕ → PlainChoice → PlainAim → PlainAim → PlainGame → ℕ
+moved_a viewer choice from to game =
+    let sums = other_sums viewer (walked viewer choice from to) to game in
+    let f = through_three (slice_index choice.words (1 - viewer)) sums.x sums.m in
+    bit_xor (other_opening viewer choice from game).d (value f game.sigma)
+
+abbrev pub moved_b : ℕ → PlainChoice → PlainAim → PlainAim → PlainGame → ℕ
+moved_b viewer choice from to game =
+    let sums = other_sums viewer (walked viewer choice from to) to game in
+    let g = through_three (slice_index choice.words (2 + (1 - viewer))) sums.y sums.z in
+    bit_xor (other_opening viewer choice from game).e (product game.sigma (value g game.sigma))
+
+-- server 0's h, where the viewer is server 1: the viewer's, and f·g
+abbrev pub moved_h : PlainChoice → PlainAim → PlainAim → PlainGame → List ℕ
+moved_h choice from to game =
+    let m = value_of 1 (walked 1 choice from to) to in
+    let r = challenge_r game.ckey to.target in
+    let s = challenge_s game.ckey to.target in
+    plus_of bit_xor (share_of 1 1 choice from game).h
+    (times_of 0 bit_xor product (honest_f m r (drawn choice)) (honest_g m r s (drawn choice)))
+
+-- where the viewer is server 1, server 0's c is the viewer's, and a·b
+unfoldable pub moved_words : ℕ → PlainChoice → PlainAim → PlainAim → PlainGame → List ℕ
+moved_words viewer choice from to game =
+    let word = slice_index choice.words in
+    let a = moved_a viewer choice from to game in
+    let b = moved_b viewer choice from to game in
+    let masks = word 0 ∷ (word 1 ∷ (word 2 ∷ (word 3 ∷ []))) in
+    let h0 = word 4 ∷ (word 5 ∷ (word 6 ∷ (word 7 ∷ (word 8 ∷ [])))) in
+    let ab = product (bit_xor a (word 10)) (bit_xor b (word 12)) in
+    let c0 = bit_xor (share_of 1 1 choice from game).c ab in
+    if viewer == 0 then masks ++ (h0 ++ (word 9 ∷ (a ∷ (word 11 ∷ (b ∷ (word 13 ∷ []))))))
+    else masks ++ (moved_h choice from to game ++ (a ∷ (word 10 ∷ (b ∷ (word 12 ∷ (c0 ∷ []))))))
+
+-- the moved choice: the roots stay
+unfoldable pub moved : ℕ → PlainChoice → PlainAim → PlainAim → PlainGame → PlainChoice
+moved viewer choice from to game =
+    record (walked viewer choice from to) { words = moved_words viewer choice from to game }

@@ -1,0 +1,110 @@
+//! The words of the proof that open and close the same with moved expansions.
+ghost use Rattle.std.specs.Prelude.{◌≡◌, ◌+◌, ◌-◌, ◌≤◌, [], ◌∷◌, ◌++◌, length, slice_index, bit_xor};
+ghost use Rattle.poly_roots.specs.Polynomials.{plus_of, times_of};
+ghost use Rattle.audit_rules.specs.Audit.{product, value, through_three, honest_f, honest_g};
+ghost use Rattle.write_hiding.specs.Choices.{PlainAim, plain_choice, plain_aim, plain_game};
+ghost use Rattle.write_hiding.specs.Views.{value_of, other_sums, drawn, view};
+ghost use Rattle.write_hiding.specs.Moved.{walked, moved_words};
+
+use crate::audit::Audited;
+use crate::choice::{Aim, Game, IdealChoice, View};
+use crate::views::drawn;
+use chacha_expand::challenge;
+use express_words::{Openings, ProofShare};
+use snip_proof::{open_share, prove};
+use write_sketch::Sums;
+
+// The other server's a and b, by which it opens what it opened.
+fn moved_masks(choice: &IdealChoice, opened: &Openings, sums: &Sums, sigma: u128) -> (u128, u128)
+    requires viewer { choice.now.viewer ≤ 1 }
+    ensures a { let f = through_three (slice_index choice.now.words (1 - choice.now.viewer)) sums.now.x sums.now.m in
+        result.0 ≡ bit_xor opened.now.d (value f sigma) }
+    ensures b { let g = through_three (slice_index choice.now.words (2 + (1 - choice.now.viewer))) sums.now.y sums.now.z in
+        result.1 ≡ bit_xor opened.now.e (product sigma (value g sigma)) }
+{
+    let other = usize::from(1 - choice.viewer);
+    let unmasked = ProofShare {
+        u: choice.words[other],
+        v: choice.words[2 + other],
+        h: [0; 5],
+        a: 0,
+        b: 0,
+        c: 0,
+    };
+    let values = open_share(sums, &unmasked, sigma);
+    (opened.d ^ values.d, opened.e ^ values.e)
+}
+
+// The words with server 1's a and b replaced.
+fn with_one(words: &[u128; 14], a: u128, b: u128) -> [u128; 14]
+    ensures { let word = slice_index words.now in
+        let masks = word 0 ∷ (word 1 ∷ (word 2 ∷ (word 3 ∷ []))) in
+        let h = word 4 ∷ (word 5 ∷ (word 6 ∷ (word 7 ∷ (word 8 ∷ [])))) in
+        result ≡ masks ++ (h ++ (word 9 ∷ (a ∷ (word 11 ∷ (b ∷ (word 13 ∷ [])))))) }
+{
+    let [u0, u1, v0, v1, h0, h1, h2, h3, h4, a0, _, b0, _, c0] = *words;
+    [u0, u1, v0, v1, h0, h1, h2, h3, h4, a0, a, b0, b, c0]
+}
+
+// The words with server 0's h, a, b and c replaced.
+fn with_zero(words: &[u128; 14], h: &[u128; 5], a: u128, b: u128, c: u128) -> [u128; 14]
+    ensures { let word = slice_index words.now in
+        let masks = word 0 ∷ (word 1 ∷ (word 2 ∷ (word 3 ∷ []))) in
+        result ≡ masks ++ (h.now ++ (a ∷ (word 10 ∷ (b ∷ (word 12 ∷ (c ∷ [])))))) }
+{
+    let [u0, u1, v0, v1, _, _, _, _, _, _, a1, _, b1, _] = *words;
+    let [h0, h1, h2, h3, h4] = *h;
+    [u0, u1, v0, v1, h0, h1, h2, h3, h4, a, a1, b, b1, c]
+}
+
+// The words by which server 0's share and f·g and a·b make up server 1's share, where server 0 has these a and b, and server 1
+// these h and c.
+fn zero_words(choice: &IdealChoice, own: &ProofShare, value: u128, r: u128, s: u128) -> [u128; 14]
+    requires size { length own.now.h ≡ 5 }
+    ensures { let words = drawn (plain_choice choice.now) in
+        let word = slice_index choice.now.words in
+        let masks = word 0 ∷ (word 1 ∷ (word 2 ∷ (word 3 ∷ []))) in
+        let fg = times_of 0 bit_xor product (honest_f value r words) (honest_g value r s words) in
+        let ab = product (bit_xor own.now.a (word 10)) (bit_xor own.now.b (word 12)) in
+        result ≡ masks ++ (plus_of bit_xor own.now.h fg
+        ++ (own.now.a ∷ (word 10 ∷ (own.now.b ∷ (word 12 ∷ (bit_xor own.now.c ab ∷ [])))))) }
+{
+    let words = with_zero(&choice.words, &own.h, own.a, own.b, own.c);
+    let (_, one) = prove(
+        value,
+        r,
+        s,
+        &drawn(choice.own_root, choice.other_root, &words),
+    );
+    with_zero(&choice.words, &one.h, own.a, own.b, one.c)
+}
+
+/// The words of the moved choice, from what the viewer saw and what both servers audit of the moved expansions.
+pub fn moved_words(
+    choice: &IdealChoice,
+    seen: &View,
+    audited: &Audited,
+    to: &Aim,
+    game: &Game,
+) -> [u128; 14]
+    requires viewer { choice.now.viewer ≤ 1 }
+    requires size { length seen.now.proof.h ≡ 5 }
+    ensures { (from : PlainAim) →
+        let viewer = choice.now.viewer in
+        let c = plain_choice choice.now in
+        let g = plain_game game.now in
+        let gone = walked viewer c from (plain_aim to.now) in
+        seen.now ≡ view viewer c from g →
+        audited.now.other ≡ other_sums viewer gone (plain_aim to.now) g →
+        audited.now.value ≡ value_of viewer gone (plain_aim to.now) →
+        result ≡ moved_words viewer c from (plain_aim to.now) g }
+{
+    let (a, b) = moved_masks(choice, &seen.opened, &audited.other, game.sigma);
+    if choice.viewer == 0 {
+        with_one(&choice.words, a, b)
+    } else {
+        let (r, s) = challenge(&game.ckey, to.target);
+        let own = ProofShare { a, b, ..seen.proof };
+        zero_words(choice, &own, audited.value, r, s)
+    }
+}
