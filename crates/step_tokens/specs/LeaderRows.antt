@@ -98,7 +98,7 @@ pub record HasRoom (a : Leader) (f : PlainFrame) : Type 0 where
 pub record IsSubmission (a : Leader) (f : PlainFrame) (asked : Asked) (named : Option Named) : Type 0 where
   pub room : HasRoom a f
   pub one : f.serial ≡ (row_at a f.lane).serial →
-  same_want (want_in asked) (want_of (row_at a f.lane).stage) ≡ true
+      same_want (want_in asked) (want_of (row_at a f.lane).stage) ≡ true
   pub over : (row_at a f.lane).serial < f.serial → IsOver (row_at a f.lane).stage
   pub taken : IsTaken a f named
 
