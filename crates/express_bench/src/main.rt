@@ -2,6 +2,7 @@
 //! a piece's name and how often it is done.
 #![tactic(auto)]
 
+mod closings;
 mod nodes;
 mod passes;
 mod products;

@@ -1,5 +1,5 @@
 //! The pieces of work.
-use crate::{nodes, passes, products, stores};
+use crate::{closings, nodes, passes, products, stores};
 use express_words::NoMemory;
 use std::alloc::Global;
 use std::fmt;
@@ -23,6 +23,10 @@ pub enum Work {
     Walks(u32),
     /// The number of nodes that such a pass expands.
     Nodes(u32),
+    /// The closings of 1,024 writes sorted out, so many of which are bad.
+    Sorts(u32),
+    /// The same closings, none of them bad but one, judged one by one.
+    Judges,
     /// The shares of the largest settings, opened and cleared once, however often that is asked.
     Shares,
     /// The kept replies of the largest settings, likewise.
@@ -37,15 +41,17 @@ impl Work {
             "product" => Some(Work::Product),
             "mul_fast" => Some(Work::MulFast),
             "tables" => Some(Work::Tables),
+            "judges" => Some(Work::Judges),
             "shares" => Some(Work::Shares),
             "replies" => Some(Work::Replies),
             _ => {
-                let (kind, boxes) = name.split_once('_')?;
-                let boxes = boxes.parse::<u32>().ok()?;
+                let (kind, count) = name.split_once('_')?;
+                let count = count.parse::<u32>().ok()?;
                 match kind {
-                    "pass" => Some(Work::Pass(boxes)),
-                    "walks" => Some(Work::Walks(boxes)),
-                    "nodes" => Some(Work::Nodes(boxes)),
+                    "pass" => Some(Work::Pass(count)),
+                    "walks" => Some(Work::Walks(count)),
+                    "nodes" => Some(Work::Nodes(count)),
+                    "sorts" => Some(Work::Sorts(count)),
                     _ => None,
                 }
             }
@@ -63,6 +69,8 @@ impl Work {
             Work::Pass(boxes) => passes::by_passes(alloc, boxes, times),
             Work::Walks(boxes) => passes::by_walks(alloc, boxes, times),
             Work::Nodes(boxes) => passes::nodes(alloc, boxes),
+            Work::Sorts(bad) => closings::sorts(alloc, bad, times),
+            Work::Judges => closings::judges(alloc, times),
             Work::Shares => stores::shares(alloc),
             Work::Replies => stores::replies(alloc),
         }
@@ -80,6 +88,8 @@ impl fmt::Display for Work {
             Work::Pass(boxes) => write!(f, "pass_{boxes}"),
             Work::Walks(boxes) => write!(f, "walks_{boxes}"),
             Work::Nodes(boxes) => write!(f, "nodes_{boxes}"),
+            Work::Sorts(bad) => write!(f, "sorts_{bad}"),
+            Work::Judges => write!(f, "judges"),
             Work::Shares => write!(f, "shares"),
             Work::Replies => write!(f, "replies"),
         }
