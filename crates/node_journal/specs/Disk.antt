@@ -2,7 +2,6 @@
 use Rattle.std.specs.Prelude.{◌≡◌, ◌⊎◌, ℕ, ◌+◌, ◌-◌, ◌^◌, ◌≤◌, max, min, List, ◌++◌, length, take, drop, Result, OnOk, OnErr}
 pub use Rattle.express_words.specs.Causes.{CountsFault}
 
-
 -- new is old with these bytes at this offset
 abbrev pub Holds : ℕ → List ℕ → List ℕ → List ℕ → Type 0
 Holds at bytes old new = new ≡ take at old ++ bytes ++ drop (at + length bytes) old

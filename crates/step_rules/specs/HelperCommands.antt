@@ -195,8 +195,11 @@ last n xs = drop (length xs - n) xs
 -- the reply is kept among the last ones, as many as the window
 abbrev pub keeps : Helper → Server → PlainFrame → Helper
 keeps h server reply =
-    record { server = server; carried = h.carried + 1;
-    replies = last h.server.settings.window (h.replies ++ spelling reply ∷ []) }
+    record {
+      server = server;
+      carried = h.carried + 1;
+      replies = last h.server.settings.window (h.replies ++ spelling reply ∷ []);
+    }
 
 abbrev pub carried_with : Helper → PlainFrame → Effect → LinkTurn
 carried_with h f e =
@@ -212,9 +215,9 @@ unfoldable pub arrives : Helper → PlainFrame → LinkTurn
 arrives h f =
     if f.link == h.carried + 1 then carried_with h f (carries_out h.server f) else
     if nat_le f.link h.carried then
-        (if nat_le (h.carried + 1) (f.link + length h.replies)
-        then record { helper = h; answer = Repeated (kept_for h f.link) }
-        else record { helper = h; answer = Ignored })
+    (if nat_le (h.carried + 1) (f.link + length h.replies)
+    then record { helper = h; answer = Repeated (kept_for h f.link) }
+    else record { helper = h; answer = Ignored })
     else record { helper = h; answer = Ignored }
 
 unfoldable pub if_command : Helper → Option PlainFrame → LinkTurn

@@ -55,8 +55,15 @@ pub record Leader : Type 0 where
 
 unfoldable pub opened_leader : Settings → List ℕ → Leader
 opened_leader settings seed =
-    record { settings = settings; boxes = []; rows = replicate settings.lanes idle; outstanding = [];
-    next = 1; draws = 0; seed = seed }
+    record {
+      settings = settings;
+      boxes = [];
+      rows = replicate settings.lanes idle;
+      outstanding = [];
+      next = 1;
+      draws = 0;
+      seed = seed;
+    }
 
 abbrev pub row_at : Leader → ℕ → Row
 row_at a lane = slice_index_or a.rows lane idle

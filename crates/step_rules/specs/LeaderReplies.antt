@@ -25,8 +25,10 @@ acknowledged a = record a { outstanding = drop 1 a.outstanding }
 -- a reply for the lane, which its row keeps
 abbrev pub keeps : Leader → PlainFrame → Stage → PlainBody → AckTurn
 keeps a c stage body =
-    record { leader = with_row (acknowledged a) c.lane (row c.serial stage);
-    ack = ToLane c.lane (answer c body) }
+    record {
+      leader = with_row (acknowledged a) c.lane (row c.serial stage);
+      ack = ToLane c.lane (answer c body);
+    }
 
 abbrev pub done : Leader → PlainFrame → Want → PlainBody → AckTurn
 done a c want body = keeps a c (Done want body) body
