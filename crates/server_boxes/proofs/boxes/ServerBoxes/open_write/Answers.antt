@@ -38,7 +38,7 @@ returns-clause-opened g c =
     let n = c.args.begun.now.count in
     let same : registry.addresses_of i.registry.boxes ≡ addresses_of c.args.self.now.boxes =
     sym (addresses-boxes_in i.registry.boxes i.shares.boxes (fits i.registry i.shares c.self.invariant)) ∙ ap (λ (h : Held). addresses_of h.boxes) c.self.view_is in
-    let first = c.first-addresses.ensures ∙ (ap (λ (b : registry.Boxes). take n (registry.addresses_of b.boxes)) c.fill.ensures.same ∙ ap (take n) same) in
+    let first = c.first-addresses.ensures.first ∙ (ap (λ (b : registry.Boxes). take n (registry.addresses_of b.boxes)) c.fill.ensures.same ∙ ap (take n) same) in
     let own = c.fill.ensures.leaves ∙ ap (λ xs. map (leaf_of c.args.room.now.part.items c.args.server c.args.begun.now.root) (take n xs)) same in
     c.open_share.ensures.openings
     ∙ ap (λ (x : Sums). opening_of x c.args.proof.now.share c.args.proof.now.sigma)

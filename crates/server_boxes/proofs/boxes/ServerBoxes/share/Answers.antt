@@ -6,6 +6,6 @@ use Rattle.server_boxes.proofs.boxes.ServerBoxes.share.Goals as goal
 pub returns : goal.returns
 returns c =
     let i = c.self.inside in
-    c.share.ensures
+    c.share.ensures.bytes
     ∙ (share_is i.registry i.shares c.self.invariant c.args.number (omega (arith, c.requires, ap (λ (h : Held). h.limit) c.self.view_is))
     ∙ ap (λ (h : Held). share_at h c.args.number) c.self.view_is)
