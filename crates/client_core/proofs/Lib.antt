@@ -1,0 +1,4 @@
+mod FrameLemmas
+mod AskLemmas
+mod ReplyLemmas
+mod WriteLemmas

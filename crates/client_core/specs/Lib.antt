@@ -1,0 +1,7 @@
+pub mod Texts
+pub mod Requests
+pub mod Stages
+pub mod States
+pub mod Heard
+pub mod Answers
+pub mod Writes

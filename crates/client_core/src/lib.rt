@@ -1,0 +1,20 @@
+//! The client: what it sends for a request, and what it does with the servers' replies.
+#![tactic(auto)]
+
+mod asking;
+mod client;
+mod drawing;
+mod frames;
+mod hearing;
+mod progress;
+mod replying;
+mod request;
+mod stage;
+mod state;
+
+pub use client::Client;
+pub use progress::{Outcome, Progress};
+pub use request::{AskFault, Request};
+
+#[cfg(test)]
+mod tests;
