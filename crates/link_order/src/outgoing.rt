@@ -1,5 +1,5 @@
 //! The commands that wait for their replies.
-ghost use Rattle.std.specs.Prelude.{◌≡◌, ◌+◌, ◌-◌, ◌<◌, ◌≤◌, ◌^◌, ◌↔◌, IfOk, OnOk, OnErr, IfErr, IsErr, IsNone, IsTrue, IfSome, Some, [], ◌∷◌, ◌++◌, length, drop, slice_get};
+ghost use Rattle.std.specs.Prelude.{◌≡◌, ◌+◌, ◌-◌, ◌<◌, ◌≤◌, ◌^◌, ◌↔◌, IfOk, OnOk, OnErr, IfErr, IsErr, IsNone, IsSome, IsTrue, IfSome, Some, [], ◌∷◌, ◌++◌, length, drop, slice_get};
 ghost use Rattle.std.specs.Bool.{OnTrue, OnFalse};
 ghost use Rattle.link_order.specs.Link.{IsOldest, IsOutstanding};
 
@@ -78,6 +78,20 @@ impl Outgoing {
             return None;
         }
         Some((self.oldest_number(), self.ring.get(0)))
+    }
+
+    /// The oldest outstanding command's number, exactly where `window` commands are outstanding.
+    pub fn full(&self) -> Option<u64>
+        ensures full { IsSome result ↔ (length self.now.frames ≡ self.now.window) }
+        ensures oldest { IfSome result (IsOldest self.now) }
+        ensures link { IsOutstanding self.now }
+    {
+        let is_full = self.ring.is_full();
+        if is_full {
+            Some(self.oldest_number())
+        } else {
+            None
+        }
     }
 
     /// Removes the oldest outstanding command if this is its number, and says whether it is.

@@ -1,0 +1,9 @@
+mod ClientLemmas
+mod DoesLemmas
+mod FitLemmas
+mod IssueLemmas
+mod KeepLemmas
+mod LinkLemmas
+mod OpenLemmas
+mod OrderLemmas
+mod SlotLemmas

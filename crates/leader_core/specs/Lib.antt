@@ -1,0 +1,5 @@
+pub mod Asked
+pub mod Replies
+pub mod Slots
+pub mod State
+pub mod Told

@@ -1,0 +1,102 @@
+-- The leader's state, read from its stores.
+use Rattle.std.specs.Prelude.{◌≡◌, ℕ, ◌+◌, ◌-◌, ◌^◌, ◌<◌, ◌≤◌, Bool, true, false, Result, Ok, Err}
+use Rattle.std.specs.Prelude.{List, ◌∷◌, [], ◌++◌, length, map, filter, slice_get, slice_index_or, All}
+use Rattle.express_words.specs.declared.settings.Settings.{Settings}
+use Rattle.express_words.specs.declared.refusal.Refusal.{Refusal}
+use Rattle.express_words.specs.Limits.{KeepsLimits}
+use Rattle.link_order.specs.Link.{Outstanding, IsOutstanding}
+use Rattle.frame_rules.specs.Frames as frame
+use Rattle.frame_rules.specs.Frames.{PlainFrame, PlainBody}
+use Rattle.frame_rules.specs.Spelling.{Spells}
+use Rattle.frame_rules.specs.Whole.{whole, refused_bytes}
+use Rattle.server_boxes.specs.Held.{Held, share_of}
+use Rattle.step_rules.specs.Boxes.{addresses_of}
+use Rattle.step_rules.specs.Leader as steps
+use Rattle.leader_core.specs.declared.slot.Slot.{Slot}
+use Rattle.leader_core.specs.declared.stores.Core.{Core}
+use Rattle.leader_core.specs.Slots.{rows_in, IsSlot}
+
+-- ---- the outstanding commands, which are kept as bytes
+
+abbrev pub frame_or : Result PlainFrame Refusal → PlainFrame
+frame_or (Ok f) = f
+frame_or (Err r) = refused_bytes r
+
+abbrev pub frame_at : List ℕ → PlainFrame
+frame_at bytes = frame_or (whole bytes)
+
+abbrev pub commands_in : List (List ℕ) → List PlainFrame
+commands_in frames = map frame_at frames
+
+abbrev pub is_audit : PlainBody → Bool
+is_audit (frame.LinkAudit sigma opened) = true
+is_audit body = false
+
+-- how many of them are audits, each of which a settle may follow
+abbrev pub audits_in : List (List ℕ) → ℕ
+audits_in frames = length (filter (λ bytes. is_audit (frame_at bytes).body) frames)
+
+-- one command more
+abbrev pub with_command : Outstanding → List ℕ → Outstanding
+with_command link bytes = record {
+  next = link.next + 1;
+  window = link.window;
+  size = link.size;
+  frames = link.frames ++ bytes ∷ [];
+}
+
+-- ---- the leader
+
+abbrev pub leader_of : Settings → Held → List Slot → Outstanding → ℕ → List ℕ → steps.Leader
+leader_of settings held slots link draws seed =
+    record {
+      settings = settings;
+      boxes = held.boxes;
+      rows = rows_in slots;
+      outstanding = commands_in link.frames;
+      next = link.next;
+      draws = draws;
+      seed = seed;
+    }
+
+abbrev pub leader_in : Core → steps.Leader
+leader_in c = leader_of c.settings c.boxes c.slots.items c.link c.draws c.seed
+
+-- the oldest outstanding command, where one is outstanding
+abbrev pub oldest_in : Core → PlainFrame
+oldest_in c = frame_at (slice_index_or c.link.frames 0 [])
+
+-- ---- what holds of it
+
+-- the boxes and the slots have the settings' sizes, and a slot for each lane
+pub record IsServer (settings : Settings) (held : Held) (slots : List Slot) : Type 0 where
+  pub limits : KeepsLimits settings.width settings.boxes settings.lanes settings.window
+  pub limit : held.limit ≡ settings.boxes
+  pub within : length held.boxes ≤ settings.boxes
+  pub width : held.width ≡ settings.width
+  pub lanes : length slots ≡ settings.lanes
+  pub rows : All (IsSlot settings.width settings.boxes (addresses_of held.boxes)) slots
+
+-- the spelling of a frame for a lane that is there
+pub record IsCommand (lanes : ℕ) (bytes : List ℕ) : Type 0 where
+  pub spelled : Spells (frame_at bytes) bytes
+  pub lane : (frame_at bytes).lane < lanes
+  pub serial : 1 ≤ (frame_at bytes).serial
+
+-- each outstanding command is one, numbers are left for the settles of those that are audits, and a draw goes
+-- with a command
+pub record IsLink (settings : Settings) (link : Outstanding) (draws : ℕ) : Type 0 where
+  pub window : link.window ≡ settings.window
+  pub size : link.size ≡ 8213
+  pub order : IsOutstanding link
+  pub commands : All (IsCommand settings.lanes) link.frames
+  pub last : link.next + audits_in link.frames ≤ 2 ^ 64 - 32
+  pub drawn : draws < link.next
+
+pub record IsCore (c : Core) : Type 0 where
+  pub server : IsServer c.settings c.boxes c.slots.items
+  pub link : IsLink c.settings c.link c.draws
+
+-- the share of a box; zeros where there is none
+abbrev pub share_in : steps.Leader → ℕ → List ℕ
+share_in a number = share_of a.settings.width (slice_get a.boxes number)

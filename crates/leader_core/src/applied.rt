@@ -1,0 +1,162 @@
+//! What a reply of the helper does, by the command that it answers.
+ghost use Rattle.std.specs.Prelude.{true, ◌≡◌, ◌<◌, Option, Some, if◌then◌else◌};
+ghost use Rattle.frame_rules.specs.Frames.{PlainFrame, plain_body};
+ghost use Rattle.frame_rules.specs.Spelling.{IsBody};
+ghost use Rattle.frame_rules.specs.Whole.{has_width};
+ghost use Rattle.step_rules.specs.Leader.{row_at};
+ghost use Rattle.step_rules.specs.LeaderReplies.{fits, if_audited, if_begun, if_read, if_registered, if_settled, refusal_in, registered_in};
+ghost use Rattle.leader_core.specs.Replies.{applied_as, IsAuditFor, IsIssued};
+ghost use Rattle.leader_core.specs.declared.issued.Order.{Order as Ordered};
+ghost use Rattle.leader_core.specs.State.{leader_in, IsCore};
+
+use crate::issued::{Issued, Order};
+use crate::replies::{audited_in, begun_in, masked_in, refusal_in, registered_in, verdict_in};
+use crate::stores::Core;
+use express_words::Closing;
+use frame_rules::Body;
+
+/// What a reply of the helper does at the leader.
+#[derive(Clone, Copy)]
+pub(crate) enum Applied {
+    /// It doesn't fit; nothing has changed.
+    Nothing,
+    /// The lane's slot keeps the reply for its client.
+    Kept,
+    /// The lane's slot waits for the settle, which carries the leader's closing.
+    Settles(Closing),
+}
+
+fn kept(fits: bool) -> Applied
+    ensures { result ≡ if fits then Applied.Kept else Applied.Nothing }
+{
+    if fits {
+        Applied::Kept
+    } else {
+        Applied::Nothing
+    }
+}
+
+impl Core {
+    /// A reply to a register.
+    fn to_register(&mut self, command: &Issued, address: u128, said: &Body<'_>) -> Applied
+        requires is { IsCore self.old }
+        requires lane { command.now.lane < self.old.settings.lanes }
+        ensures fits { (c : PlainFrame) → IsIssued c command.now → if_registered (leader_in self.old) c address (row_at (leader_in self.old) c.lane).stage (registered_in (plain_body said.now)) ≡ applied_as (leader_in self.new) c result }
+        ensures same { result ≡ Applied.Nothing → leader_in self.new ≡ leader_in self.old }
+        ensures link { self.new.link ≡ self.old.link }
+        ensures settings { self.new.settings ≡ self.old.settings }
+        ensures is { IsCore self.new }
+        ensures audit { (order : Option Ordered) → IsAuditFor order result }
+    {
+        match registered_in(said) {
+            Some(number) => kept(self.registered(command, address, number)),
+            None => Applied::Nothing,
+        }
+    }
+
+    /// A reply to a begin.
+    fn to_begin(&mut self, command: &Issued, said: &Body<'_>) -> Applied
+        requires is { IsCore self.old }
+        requires lane { command.now.lane < self.old.settings.lanes }
+        ensures fits { (c : PlainFrame) → IsIssued c command.now → if_begun (leader_in self.old) c (row_at (leader_in self.old) c.lane).stage (plain_body said.now) ≡ applied_as (leader_in self.new) c result }
+        ensures same { result ≡ Applied.Nothing → leader_in self.new ≡ leader_in self.old }
+        ensures link { self.new.link ≡ self.old.link }
+        ensures settings { self.new.settings ≡ self.old.settings }
+        ensures is { IsCore self.new }
+        ensures audit { (order : Option Ordered) → IsAuditFor order result }
+    {
+        match begun_in(said) {
+            Some(begun) => {
+                let (count, draw) = begun;
+                kept(self.began(command, count, &draw))
+            }
+            None => Applied::Nothing,
+        }
+    }
+
+    /// A reply to an audit.
+    fn to_audit(&mut self, command: &Issued, said: &Body<'_>) -> Applied
+        requires is { IsCore self.old }
+        requires lane { command.now.lane < self.old.settings.lanes }
+        ensures fits { (c : PlainFrame) → IsIssued c command.now → if_audited (leader_in self.old) c (row_at (leader_in self.old) c.lane).stage (plain_body said.now) ≡ applied_as (leader_in self.new) c result }
+        ensures same { result ≡ Applied.Nothing → leader_in self.new ≡ leader_in self.old }
+        ensures link { self.new.link ≡ self.old.link }
+        ensures settings { self.new.settings ≡ self.old.settings }
+        ensures is { IsCore self.new }
+    {
+        let Some((opened, closing)) = audited_in(said) else {
+            return Applied::Nothing;
+        };
+        match self.audited(command, &opened, &closing) {
+            Some(own) => Applied::Settles(own),
+            None => Applied::Nothing,
+        }
+    }
+
+    /// A reply to a settle.
+    fn to_settle(&mut self, command: &Issued, said: &Body<'_>) -> Applied
+        requires is { IsCore self.old }
+        requires lane { command.now.lane < self.old.settings.lanes }
+        ensures fits { (c : PlainFrame) → IsIssued c command.now → if_settled (leader_in self.old) c (row_at (leader_in self.old) c.lane).stage (plain_body said.now) ≡ applied_as (leader_in self.new) c result }
+        ensures same { result ≡ Applied.Nothing → leader_in self.new ≡ leader_in self.old }
+        ensures link { self.new.link ≡ self.old.link }
+        ensures settings { self.new.settings ≡ self.old.settings }
+        ensures is { IsCore self.new }
+        ensures audit { (order : Option Ordered) → IsAuditFor order result }
+    {
+        match verdict_in(said) {
+            Some(true) => kept(self.accepted(command)),
+            Some(false) => kept(self.rejected(command)),
+            None => Applied::Nothing,
+        }
+    }
+
+    /// A reply to a read, or to a retire.
+    fn to_read(&mut self, command: &Issued, stays: bool, number: u32, said: &Body<'_>) -> Applied
+        requires is { IsCore self.old }
+        requires lane { command.now.lane < self.old.settings.lanes }
+        requires width { has_width self.old.settings.width (plain_body said.now) ≡ true }
+        ensures fits { (c : PlainFrame) → IsIssued c command.now → if_read (leader_in self.old) c stays number (plain_body said.now) ≡ applied_as (leader_in self.new) c result }
+        ensures same { result ≡ Applied.Nothing → leader_in self.new ≡ leader_in self.old }
+        ensures link { self.new.link ≡ self.old.link }
+        ensures settings { self.new.settings ≡ self.old.settings }
+        ensures is { IsCore self.new }
+        ensures audit { (order : Option Ordered) → IsAuditFor order result }
+    {
+        match masked_in(said) {
+            Some(share) => kept(self.read(command, stays, number, share)),
+            None => Applied::Nothing,
+        }
+    }
+
+    /// Does what the helper's reply to this command says, where it fits.
+    pub(crate) fn apply(&mut self, command: &Issued, said: &Body<'_>) -> Applied
+        requires is { IsCore self.old }
+        requires lane { command.now.lane < self.old.settings.lanes }
+        requires body { IsBody (plain_body said.now) }
+        requires width { has_width self.old.settings.width (plain_body said.now) ≡ true }
+        ensures fits { (c : PlainFrame) → IsIssued c command.now → fits (leader_in self.old) c (plain_body said.now) (refusal_in (plain_body said.now)) ≡ applied_as (leader_in self.new) c result }
+        ensures same { result ≡ Applied.Nothing → leader_in self.new ≡ leader_in self.old }
+        ensures link { self.new.link ≡ self.old.link }
+        ensures settings { self.new.settings ≡ self.old.settings }
+        ensures is { IsCore self.new }
+        ensures audit { IsAuditFor command.now.order result }
+    {
+        if let Some(refusal) = refusal_in(said) {
+            self.refuse(command, refusal);
+            return Applied::Kept;
+        }
+        let order = command.order;
+        let Some(order) = order else {
+            return Applied::Nothing;
+        };
+        match order {
+            Order::Register(address) => self.to_register(command, address, said),
+            Order::Begin => self.to_begin(command, said),
+            Order::Audit => self.to_audit(command, said),
+            Order::Settle => self.to_settle(command, said),
+            Order::Read(number) => self.to_read(command, true, number, said),
+            Order::Retire(number) => self.to_read(command, false, number, said),
+        }
+    }
+}

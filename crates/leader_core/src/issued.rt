@@ -1,0 +1,81 @@
+//! A command that waits for its reply.
+ghost use Rattle.std.specs.Prelude.{◌≡◌, ◌≤◌, ◌==◌, ◌&&◌};
+ghost use Rattle.frame_rules.specs.Frames.{plain, plain_body};
+ghost use Rattle.frame_rules.specs.Spelling.{IsFrame};
+ghost use Rattle.leader_core.specs.Replies.{header_of, order_in, want_of_order};
+
+use frame_rules::{Body, Frame};
+use lane_table::Want;
+
+/// What a command orders, but for what the lane's slot holds itself.
+#[derive(Clone, Copy)]
+pub(crate) enum Order {
+    Register(u128),
+    Begin,
+    Audit,
+    Settle,
+    Read(u32),
+    Retire(u32),
+}
+
+/// The oldest outstanding command.
+#[derive(Clone, Copy)]
+pub(crate) struct Issued {
+    pub(crate) lane: u16,
+    pub(crate) serial: u32,
+    pub(crate) link: u64,
+    pub(crate) order: Option<Order>,
+}
+
+/// What a command's body orders.
+pub(crate) fn order_in(body: &Body<'_>) -> Option<Order>
+    ensures { result ≡ order_in (plain_body body.now) }
+{
+    match *body {
+        Body::LinkRegister { address } => Some(Order::Register(address)),
+        Body::LinkBegin { .. } => Some(Order::Begin),
+        Body::LinkAudit { .. } => Some(Order::Audit),
+        Body::LinkSettle(_) => Some(Order::Settle),
+        Body::LinkRead { box_number } => Some(Order::Read(box_number)),
+        Body::LinkRetire { box_number } => Some(Order::Retire(box_number)),
+        _ => None,
+    }
+}
+
+/// What the request of a command asks for.
+pub(crate) fn want_of_order(order: Option<Order>) -> Want
+    ensures { result ≡ want_of_order order }
+{
+    match order {
+        Some(Order::Register(_)) => Want::Register,
+        Some(Order::Read(_)) => Want::Read,
+        Some(Order::Retire(_)) => Want::Read,
+        Some(Order::Begin) => Want::Write,
+        Some(Order::Audit) => Want::Write,
+        Some(Order::Settle) => Want::Write,
+        None => Want::Write,
+    }
+}
+
+impl Issued {
+    /// The lane and the serial, in a frame of no other meaning.
+    pub(crate) fn header(self) -> Frame<'static>
+        requires { 1 ≤ self.serial }
+        ensures value { plain result ≡ header_of self }
+        ensures is_frame { IsFrame (plain result) }
+    {
+        Frame {
+            lane: self.lane,
+            serial: self.serial,
+            link: 0,
+            body: Body::Accepted,
+        }
+    }
+
+    /// Whether a reply has the command's number, lane and serial.
+    pub(crate) fn is_answered_by(&self, reply: &Frame<'_>) -> bool
+        ensures { result ≡ ((reply.now.link == self.now.link) && ((reply.now.lane == self.now.lane) && (reply.now.serial == self.now.serial))) }
+    {
+        reply.link == self.link && (reply.lane == self.lane && reply.serial == self.serial)
+    }
+}

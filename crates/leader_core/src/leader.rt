@@ -1,0 +1,122 @@
+//! The leader over its stores.
+ghost use Rattle.std.specs.Prelude.{◌≡◌, ◌↔◌, ◌+◌, ◌<◌, ◌≤◌, IfOk, IfSome, IsNone, None, Some, length, option_map, take, drop};
+ghost use Rattle.express_words.specs.Limits.{KeepsLimits};
+ghost use Rattle.frame_rules.specs.Spelling.{spelling};
+ghost use Rattle.step_rules.specs.Leader.{opened_leader, written};
+ghost use Rattle.step_rules.specs.LeaderClients.{on_client};
+ghost use Rattle.step_rules.specs.LeaderReplies.{on_reply_bytes, resent};
+ghost use Rattle.leader_core.specs.State.{share_in};
+ghost use Rattle.leader_core.specs.Told.{acked, acked_bytes, sent_length, turned, turn_steps};
+
+use crate::slot::idle_slots;
+use crate::stores::Core;
+use crate::turn::{Ack, Turn};
+use dpf_eval::Steps;
+use express_words::{NoMemory, Settings};
+use frame_rules::FRAME_MAX;
+use link_order::Outgoing;
+use server_boxes::ServerBoxes;
+use std::alloc::Global;
+use std::marker::Model;
+use std::sync::ledger::Ledger;
+
+/// Server 0: its boxes, its shares, what it holds of each lane, and its commands that wait for replies. All of its
+/// memory is taken when it is opened.
+#[derive(Drop)]
+pub struct Leader {
+    core: Core,
+}
+
+impl Model for Leader {
+    ghost use Rattle.step_rules.specs.Leader.{Leader as Steps};
+    ghost use Rattle.leader_core.specs.State.{leader_in, IsCore};
+
+    ghost Value = { Steps };
+
+    ghost view = { λ a. leader_in a.core };
+
+    ghost invariant = { λ a. IsCore a.core };
+}
+
+impl Leader {
+    /// A leader with no boxes, which has issued nothing. Its draws come from `seed`.
+    pub fn open(alloc: Global, settings: &Settings, seed: &[u8; 32]) -> Result<Leader, NoMemory>
+        requires limits { KeepsLimits settings.now.width settings.now.boxes settings.now.lanes settings.now.window }
+        ensures { IfOk result (λ a. a ≡ opened_leader settings.now seed.now) }
+    {
+        let boxes = ServerBoxes::open(alloc, settings.boxes, settings.width)?;
+        let slots = idle_slots(alloc, settings)?;
+        let link = Outgoing::open(alloc, settings.window, FRAME_MAX as u32)?;
+        let seed = *seed;
+        Ok(Leader {
+            core: Core {
+                settings: *settings,
+                boxes,
+                slots,
+                link,
+                draws: 0,
+                seed,
+            },
+        })
+    }
+
+    /// A frame of a client: writes one reply or one new command to the front of `out`, or nothing where the lane's own
+    /// command is outstanding. Any bytes get an answer. `steps` counts each node that an audit expands.
+    pub fn on_client<L: Ledger>(
+        &mut self,
+        frame: &[u8],
+        out: &mut [u8],
+        steps: &mut Steps<L>,
+    ) -> Turn
+        requires room { 8213 ≤ length out.old }
+        ensures leader { self.new ≡ (on_client self.old frame.now).leader }
+        ensures answer { result ≡ turned (on_client self.old frame.now).answer }
+        ensures written { take (length (written (on_client self.old frame.now).answer)) out.new ≡ written (on_client self.old frame.now).answer }
+        ensures rest { drop (length (written (on_client self.old frame.now).answer)) out.new ≡ drop (length (written (on_client self.old frame.now).answer)) out.old }
+        ensures steps { steps.new ≡ steps.old + turn_steps self.old (on_client self.old frame.now).answer }
+        ensures settings { self.new.settings ≡ self.old.settings }
+    {
+        self.core.on_client(frame, out, steps)
+    }
+
+    /// Bytes of the helper: where they are one reply that has the oldest outstanding number and fits its command, what it
+    /// says is done, and a reply for the lane's client, or the settle of an audit, is written to the front of `out`.
+    pub fn on_link_reply(&mut self, frame: &[u8], out: &mut [u8]) -> Ack
+        requires room { 8213 ≤ length out.old }
+        ensures leader { self.new ≡ (on_reply_bytes self.old frame.now).leader }
+        ensures answer { result ≡ acked (on_reply_bytes self.old frame.now).ack }
+        ensures written { take (length (acked_bytes (on_reply_bytes self.old frame.now).ack)) out.new ≡ acked_bytes (on_reply_bytes self.old frame.now).ack }
+        ensures rest { drop (length (acked_bytes (on_reply_bytes self.old frame.now).ack)) out.new ≡ drop (length (acked_bytes (on_reply_bytes self.old frame.now).ack)) out.old }
+        ensures settings { self.new.settings ≡ self.old.settings }
+    {
+        self.core.on_reply(frame, out)
+    }
+
+    /// Writes the oldest outstanding command to the front of `out` again, and gives its number and its length; None
+    /// exactly where none is outstanding, and then nothing is written.
+    pub fn resend(&self, out: &mut [u8]) -> Option<(u64, usize)>
+        requires room { 8213 ≤ length out.old }
+        ensures none { IsNone result ↔ (resent self.now ≡ None) }
+        ensures number { IfSome result (λ x. x.0 + length self.now.outstanding ≡ self.now.next) }
+        ensures length { IfSome result (λ x. option_map (λ c. length (spelling c)) (resent self.now) ≡ Some x.1) }
+        ensures written { IfSome result (λ x. option_map spelling (resent self.now) ≡ Some (take x.1 out.new)) }
+        ensures rest { drop (sent_length result) out.new ≡ drop (sent_length result) out.old }
+    {
+        self.core.resend(out)
+    }
+
+    /// How many boxes stand.
+    pub fn count(&self) -> u32
+        ensures { result ≡ length self.now.boxes }
+    {
+        self.core.boxes.count()
+    }
+
+    /// The share of a box; zeros where there is no box of this number yet.
+    pub fn share(&self, box_number: u32) -> &[u8]
+        requires { box_number < self.now.settings.boxes }
+        ensures { result.now ≡ share_in self.now box_number }
+    {
+        self.core.boxes.share(box_number)
+    }
+}

@@ -1,0 +1,20 @@
+//! The leader, server 0: what it does at a frame of a client and at a reply of the helper.
+#![tactic(auto)]
+
+mod answers;
+mod applied;
+mod asked;
+mod clients;
+mod frames;
+mod issued;
+mod leader;
+mod link;
+mod replies;
+mod said;
+mod slot;
+mod stores;
+mod turn;
+mod writing;
+
+pub use leader::Leader;
+pub use turn::{Ack, Turn};

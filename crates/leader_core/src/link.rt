@@ -1,0 +1,130 @@
+//! The link to the helper: the oldest outstanding command, and what follows its reply.
+ghost use Rattle.std.specs.Prelude.{true, ◌≡◌, ◌↔◌, ◌<◌, ◌≤◌, ◌+◌, Some, None, IfSome, IsSome, IsNone, [], length, option_map, take, drop};
+ghost use Rattle.frame_rules.specs.Frames.{PlainFrame};
+ghost use Rattle.frame_rules.specs.Spelling.{spelling};
+ghost use Rattle.link_order.specs.Link.{IsOutstanding};
+ghost use Rattle.step_rules.specs.LeaderReplies.{on_reply_bytes, resent};
+ghost use Rattle.leader_core.specs.Replies.{settled_with, told, IsIssued};
+ghost use Rattle.leader_core.specs.State.{leader_in, is_audit, oldest_in, IsCore};
+ghost use Rattle.leader_core.specs.Told.{sent_length, DoesAck};
+
+use crate::applied::Applied;
+use crate::issued::{Issued, order_in};
+use crate::stores::Core;
+use crate::turn::Ack;
+use crate::writing::{issue, put_frame};
+use express_words::Closing;
+use frame_rules::{Body, Frame};
+use link_order::Outgoing;
+use wire_frames::{reply_in, whole};
+
+/// Removes the oldest outstanding command.
+pub(crate) fn drop_oldest(link: &mut Outgoing)
+    requires some { 0 < length link.old.frames }
+    ensures link { link.new ≡ record { next = link.old.next; window = link.old.window; size = link.old.size; frames = drop 1 link.old.frames } }
+    ensures order { IsOutstanding link.new }
+{
+    match link.oldest() {
+        Some((number, _)) => {
+            link.acknowledge(number);
+        }
+        None => unreachable!(),
+    }
+}
+
+impl Core {
+    /// The oldest outstanding command.
+    pub(crate) fn oldest(&self) -> Option<Issued>
+        requires is { IsCore self.now }
+        ensures none { IsNone result → self.now.link.frames ≡ [] }
+        ensures some { IsSome result → 0 < length self.now.link.frames }
+        ensures issued { IfSome result (IsIssued (oldest_in self.now)) }
+        ensures lane { IfSome result (λ i. i.lane < self.now.settings.lanes) }
+        ensures serial { IfSome result (λ i. 1 ≤ i.serial) }
+    {
+        let (_, bytes) = self.link.oldest()?;
+        match whole(bytes) {
+            Ok(command) => Some(Issued {
+                lane: command.lane,
+                serial: command.serial,
+                link: command.link,
+                order: order_in(&command.body),
+            }),
+            Err(_) => unreachable!(),
+        }
+    }
+
+    /// The oldest command is answered: the reply that the lane keeps is written for its client.
+    fn tell_lane(&mut self, command: &Issued, out: &mut [u8]) -> Ack
+        requires is { IsCore self.old }
+        requires lane { command.now.lane < self.old.settings.lanes }
+        requires serial { 1 ≤ command.now.serial }
+        requires some { 0 < length self.old.link.frames }
+        requires room { 8213 ≤ length out.old }
+        ensures does { (c : PlainFrame) → IsIssued c command.now → DoesAck (told (leader_in self.old) c) self.new result out.old out.new }
+        ensures settings { self.new.settings ≡ self.old.settings }
+    {
+        drop_oldest(&mut self.link);
+        let header = command.header();
+        let body = self.slots[usize::from(command.lane)].kept();
+        let reply = Frame { body, ..header };
+        Ack::Reply(command.lane, put_frame(&reply, out))
+    }
+
+    /// The oldest command, an audit, is answered: the settle is issued in its place.
+    fn settle(&mut self, command: &Issued, own: Closing, out: &mut [u8]) -> Ack
+        requires is { IsCore self.old }
+        requires lane { command.now.lane < self.old.settings.lanes }
+        requires serial { 1 ≤ command.now.serial }
+        requires some { 0 < length self.old.link.frames }
+        requires audit { is_audit (oldest_in self.old).body ≡ true }
+        requires room { 8213 ≤ length out.old }
+        ensures does { (c : PlainFrame) → IsIssued c command.now → DoesAck (settled_with (leader_in self.old) c own) self.new result out.old out.new }
+        ensures settings { self.new.settings ≡ self.old.settings }
+    {
+        drop_oldest(&mut self.link);
+        let number = self.link.next();
+        let header = command.header();
+        let length = issue(&mut self.link, &header, &Body::LinkSettle(own), out);
+        Ack::Link(number, length)
+    }
+
+    /// Bytes of the helper.
+    pub(crate) fn on_reply(&mut self, bytes: &[u8], out: &mut [u8]) -> Ack
+        requires is { IsCore self.old }
+        requires room { 8213 ≤ length out.old }
+        ensures does { DoesAck (on_reply_bytes (leader_in self.old) bytes.now) self.new result out.old out.new }
+        ensures settings { self.new.settings ≡ self.old.settings }
+    {
+        let Some(reply) = reply_in(bytes, self.settings.width) else {
+            return Ack::Ignored;
+        };
+        let Some(command) = self.oldest() else {
+            return Ack::Ignored;
+        };
+        if !command.is_answered_by(&reply) {
+            return Ack::Ignored;
+        }
+        match self.apply(&command, &reply.body) {
+            Applied::Nothing => Ack::Ignored,
+            Applied::Kept => self.tell_lane(&command, out),
+            Applied::Settles(own) => self.settle(&command, own, out),
+        }
+    }
+
+    /// Writes the oldest outstanding command again.
+    pub(crate) fn resend(&self, out: &mut [u8]) -> Option<(u64, usize)>
+        requires is { IsCore self.now }
+        requires room { 8213 ≤ length out.old }
+        ensures none { IsNone result ↔ (resent (leader_in self.now) ≡ None) }
+        ensures number { IfSome result (λ x. x.0 + length (leader_in self.now).outstanding ≡ self.now.link.next) }
+        ensures length { IfSome result (λ x. option_map (λ c. length (spelling c)) (resent (leader_in self.now)) ≡ Some x.1) }
+        ensures written { IfSome result (λ x. option_map spelling (resent (leader_in self.now)) ≡ Some (take x.1 out.new)) }
+        ensures rest { drop (sent_length result) out.new ≡ drop (sent_length result) out.old }
+    {
+        let (number, bytes) = self.link.oldest()?;
+        let length = bytes.len();
+        out[..length].copy_from_slice(bytes);
+        Some((number, length))
+    }
+}

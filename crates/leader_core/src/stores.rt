@@ -1,0 +1,16 @@
+//! The leader's stores.
+use crate::slot::Slot;
+use express_words::Settings;
+use link_order::Outgoing;
+use server_boxes::ServerBoxes;
+
+/// Server 0's boxes and shares, what it holds of each lane, and its outstanding commands.
+#[derive(Drop)]
+pub(crate) struct Core {
+    pub(crate) settings: Settings,
+    pub(crate) boxes: ServerBoxes,
+    pub(crate) slots: Vec<Slot>,
+    pub(crate) link: Outgoing,
+    pub(crate) draws: u64,
+    pub(crate) seed: [u8; 32],
+}
