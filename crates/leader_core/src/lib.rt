@@ -18,3 +18,8 @@ mod writing;
 
 pub use leader::Leader;
 pub use turn::{Ack, Turn};
+
+#[cfg(test)]
+mod run;
+#[cfg(test)]
+mod tests;
