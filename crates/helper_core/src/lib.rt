@@ -10,3 +10,6 @@ mod slot;
 mod taken;
 
 pub use helper::{Helper, LinkTurn};
+
+#[cfg(test)]
+mod tests;
