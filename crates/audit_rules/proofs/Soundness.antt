@@ -13,7 +13,7 @@ use Rattle.audit_rules.specs.Sketch as sketch
 use Rattle.audit_rules.specs.Passing.{Passes}
 use Rattle.audit_rules.proofs.Seen.{seen, divisor_zero}
 use Rattle.audit_rules.specs.Points.{six_points}
-use Rattle.audit_rules.specs.Ranges.{IsProofShare}
+use Rattle.express_words.specs.Ranges.{IsProofShare}
 use Rattle.audit_rules.specs.Audit.{product, value, through_three, sums_of, bad_s, bad_r_divisor, bad_r, PassesAt}
 use Rattle.audit_rules.specs.BadWrites.{IsFirst, IsLast, HasTwo, first_place, last_place, IsBadChallenge}
 use Rattle.audit_rules.proofs.Places.{first_is, last_is}

@@ -20,7 +20,8 @@ use Rattle.audit_rules.specs.declared.sums.Sums.{Sums}
 use Rattle.audit_rules.specs.Audit.{product, value, through_three, opening_of, opened_of, closing_of, accepts, whole_sums, whole_proof, IsAccepted, PassesAt, ServersAccept}
 use Rattle.audit_rules.specs.Challenges.{challenge_rs, challenge_ss, sums_under}
 use Rattle.audit_rules.specs.Whole.{whole_is, servers_pass}
-use Rattle.audit_rules.specs.Ranges.{IsProofShare, IsSums, IsOpenings, IsClosing}
+use Rattle.express_words.specs.Ranges.{IsProofShare, IsOpenings, IsClosing}
+use Rattle.audit_rules.specs.Ranges.{IsSums}
 use Rattle.audit_rules.specs.Transfer.{z, add, mul, element, elements, values-elements, value-values}
 use Rattle.audit_rules.specs.InRange.{sums-in_range}
 use Rattle.audit_rules.specs.Values.{Write, sums_at, opens, values}

@@ -8,7 +8,8 @@ use Rattle.poly_roots.specs.Polynomials.{plus_of, times_of}
 use Rattle.poly_roots.specs.Through.{through}
 use Rattle.express_words.specs.declared.audit.ProofShare.{ProofShare}
 use Rattle.audit_rules.specs.Sketch as sketch
-use Rattle.audit_rules.specs.Ranges.{IsProofShare, IsSums, word_in_range}
+use Rattle.express_words.specs.Ranges.{IsProofShare}
+use Rattle.audit_rules.specs.Ranges.{IsSums, word_in_range}
 use Rattle.audit_rules.specs.Audit.{product, sums_of, whole_proof, zero_share, one_share, honest_f, honest_g}
 use Rattle.audit_rules.specs.Transfer.{E, z, add, mul, element, elements, values-elements, sums-values, times-values}
 

@@ -8,7 +8,7 @@ use Rattle.express_words.specs.declared.audit.Openings.{Openings}
 use Rattle.audit_rules.specs.Audit.{bad_r, bad_s, accepts, whole_proof, PassesAt, ServersAccept}
 use Rattle.audit_rules.specs.Challenges.{sums_under}
 use Rattle.audit_rules.specs.BadWrites.{HasTwo}
-use Rattle.audit_rules.specs.Ranges.{IsProofShare, IsOpenings, IsClosing}
+use Rattle.express_words.specs.Ranges.{IsProofShare, IsOpenings, IsClosing}
 use Rattle.audit_rules.specs.Values.{Write, sums_at, opens, values}
 
 -- ---- bad values

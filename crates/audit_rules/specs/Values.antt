@@ -1,6 +1,7 @@
 -- A server's values in the audit of a write that has begun there.
 use Rattle.std.specs.Prelude.{ℕ, List, take}
-use Rattle.dpf_rules.specs.Bytes.{number_of, xor_bytes}
+use Rattle.express_words.specs.Bytes.{xor_bytes}
+use Rattle.dpf_rules.specs.Bytes.{number_of}
 use Rattle.dpf_rules.specs.Evaluation.{leaves}
 use Rattle.express_words.specs.declared.audit.ProofShare.{ProofShare}
 use Rattle.express_words.specs.declared.audit.Openings.{Openings}

@@ -11,7 +11,8 @@ use Rattle.poly_roots.specs.Values.{value-plus}
 use Rattle.express_words.specs.declared.audit.ProofShare.{ProofShare}
 use Rattle.audit_rules.specs.declared.sums.Sums.{Sums}
 use Rattle.audit_rules.specs.Sketch as sketch
-use Rattle.audit_rules.specs.Ranges.{IsProofShare, IsSums}
+use Rattle.express_words.specs.Ranges.{IsProofShare}
+use Rattle.audit_rules.specs.Ranges.{IsSums}
 use Rattle.audit_rules.specs.Shares.{total-both, dot-both, dot3-both, through-both, closings-both}
 use Rattle.audit_rules.specs.Audit.{product, value, f_of, g_of, sums_of, whole_sums, whole_proof, difference, closing_of, opening_of, IsAccepted, ServersAccept, PassesAt}
 use Rattle.audit_rules.specs.Transfer.{E, z, add, mul, element, elements, values-elements, length-values, dot-values, total-values, dot3-values, both-values, value-values, plus-values}

@@ -1,6 +1,7 @@
 //! That words are numbers of the field, which a proof learns where they are read.
 ghost use Rattle.std.specs.Prelude.{ℕ, ◌<◌, ◌^◌, All};
-ghost use Rattle.audit_rules.specs.Ranges.{IsProofShare, IsSums};
+ghost use Rattle.express_words.specs.Ranges.{IsProofShare};
+ghost use Rattle.audit_rules.specs.Ranges.{IsSums};
 
 use crate::sums::Sums;
 use express_words::ProofShare;

@@ -1,6 +1,6 @@
 //! The token and the mask of a read or a retire, both from the stream `lane * 2^32 + serial` of the box's key.
 ghost use Rattle.std.specs.Prelude.{◌≡◌, ◌≤◌, length};
-ghost use Rattle.dpf_rules.specs.Bytes.{xor_bytes};
+ghost use Rattle.express_words.specs.Bytes.{xor_bytes};
 ghost use Rattle.dpf_rules.specs.Expansion.{read_stream, token, mask};
 
 use crate::stream::{MOST_BYTES, stream_into};

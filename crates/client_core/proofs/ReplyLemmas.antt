@@ -2,14 +2,13 @@
 use Rattle.std.proofs.Common.{◌≡◌, ◌≢◌, ℕ, List, length, Option, Some, None, Result, Ok, Err, refl, ap, subst, ◌∙◌}
 use Rattle.std.specs.Prelude.{IfSome}
 use Rattle.std.proofs.lemmas.Bool.{eq-eqb, ne_eqb}
+use Rattle.express_words.specs.Bytes.{xor_bytes}
+use Rattle.express_words.proofs.Bytes.{xor_bytes_assoc, xor_bytes_comm}
 use Rattle.express_words.specs.declared.refusal.Refusal.{Refusal}
 use Rattle.frame_rules.specs.Frames as frame
 use Rattle.frame_rules.specs.Frames.{PlainFrame}
 use Rattle.frame_rules.specs.Whole.{whole}
-use Rattle.dpf_rules.specs.Bytes.{xor_bytes}
 use Rattle.dpf_rules.specs.Expansion.{mask}
-use Rattle.dpf_rules.proofs.WriteLemmas.{xor_bytes_assoc}
-use Rattle.dpf_rules.proofs.IdealLemmas.{xor_bytes_comm}
 use Rattle.step_rules.specs.Client.{Client, Owned, Current, Turn, Message}
 use Rattle.client_core.specs.declared.stage.Stage.{Stage}
 use Rattle.client_core.specs.declared.state.State.{State}

@@ -41,8 +41,3 @@ write_is c target message Deposits e = ap (sent_at c) e
 write_is c target message Submits e = ap (sent_at c) e
 write_is c target message (ProvesToHelper ckey) e = ap (sent_at c) e
 write_is c target message (ProvesToLeader ckey) e = ap (sent_at c) e
-
--- all of them, place by place and one after another
-pub each_of : (P : ℕ → Type 0) (xs : List ℕ) → All P xs → AllByRecursion P xs
-each_of P [] h = tt
-each_of P (x ∷ xs) h = (All-head P x xs h, each_of P xs (All-tail P x xs h))

@@ -1,10 +1,11 @@
 //! The public part of a point function from both servers' honest expansions, and the theorem of the point function.
 ghost use Rattle.std.specs.Prelude.{◌≡◌, ◌≢◌, ℕ, ◌+◌, ◌%◌, ◌^◌, ◌<◌, ◌++◌, length, replicate};
-ghost use Rattle.dpf_rules.specs.Bytes.{bytes_of, words_bytes, bits_number, xor_bytes};
+ghost use Rattle.express_words.specs.Bytes.{xor_bytes};
+ghost use Rattle.dpf_rules.specs.Bytes.{bytes_of, words_bytes, bits_number};
 ghost use Rattle.dpf_rules.specs.Expansion.{block};
 ghost use Rattle.dpf_rules.specs.Walk.{leaf_of, write_bytes, state_at};
 ghost use Rattle.dpf_rules.specs.Keys.{path_at, path_word, path_right, keys, honest, honest_keys};
-ghost use Rattle.dpf_keys.specs.Width.{IsWidth};
+ghost use Rattle.express_words.specs.Limits.{IsWidth};
 
 use crate::levels::{level_right, level_word, side_at, step, with_bit};
 use chacha_expand::{block_into, children};

@@ -2,7 +2,7 @@
 ghost use Rattle.std.specs.Prelude.{◌≡◌, ◌+◌, ◌<◌, ◌↔◌, IsSome, IfSome, List, ℕ, length};
 ghost use Rattle.std.specs.Int.{from_bool};
 ghost use Rattle.dpf_rules.specs.Walk.{word_of, right_of, last_of};
-ghost use Rattle.dpf_keys.specs.Width.{IsPart, IsWidth};
+ghost use Rattle.express_words.specs.Limits.{IsPart, IsWidth};
 
 use dpf_rules::read_number;
 use std::marker::Model;

@@ -1,6 +1,6 @@
 //! The walk of one server to the leaf of an address, and the write bytes of a leaf.
 ghost use Rattle.std.specs.Prelude.{◌≡◌, ◌<◌, length};
-ghost use Rattle.dpf_rules.specs.Bytes.{xor_bytes};
+ghost use Rattle.express_words.specs.Bytes.{xor_bytes};
 ghost use Rattle.dpf_rules.specs.Walk.{leaf_of, leaf_bytes, last_of};
 
 use crate::levels::{side_at, step, with_bit};

@@ -1,12 +1,12 @@
 -- What equal leaves write.
 use Rattle.std.proofs.Common.{◌≡◌, ℕ, ◌%◌, List, length, sym, ap, ◌∙◌, arith, inl, inr}
 use Rattle.std.proofs.lemmas.Bool.{cases_eq}
-use Rattle.dpf_rules.specs.Bytes.{xor_bytes}
+use Rattle.express_words.specs.Bytes.{xor_bytes}
+use Rattle.express_words.proofs.Bytes.{length-xor_bytes, xor_bytes_exchange, xor_bytes_self, xor_bytes_zeros}
 use Rattle.dpf_rules.specs.Expansion.{block}
 use Rattle.dpf_rules.specs.Walk.{last_of, leaf_of, leaf_bytes, write_bytes}
-use Rattle.dpf_rules.proofs.ByteLemmas.{length-xor_bytes}
 use Rattle.dpf_rules.proofs.KeysLemmas.{length-block}
-use Rattle.dpf_rules.proofs.WriteLemmas.{set_bytes, clear_bytes, xor_bytes_self, xor_bytes_zeros, shares_sum}
+use Rattle.dpf_rules.proofs.WriteLemmas.{set_bytes, clear_bytes}
 
 -- write bytes are as long as the last correction
 pub length-write : (part : List ℕ) (leaf : ℕ) → length (leaf_bytes part leaf) ≡ length (last_of part)
@@ -28,6 +28,6 @@ box_stays part root0 root1 address s t h hs ht =
     let lw : length w ≡ length (last_of part) = length-write part (leaf_of part 1 root1 address) in
     let sizes : length s ≡ length t = hs ∙ sym ht in
     ap (λ v. xor_bytes (xor_bytes s v) (xor_bytes t w)) (write_alike part root0 root1 address h)
-    ∙ shares_sum s t w w sizes (lw ∙ sym hs) (lw ∙ sym hs)
+    ∙ xor_bytes_exchange s w t w
     ∙ ap (xor_bytes (xor_bytes s t)) (xor_bytes_self w)
     ∙ xor_bytes_zeros (xor_bytes s t) (length w) (length-xor_bytes s t sizes ∙ hs ∙ sym lw)

@@ -3,7 +3,8 @@ use Rattle.std.proofs.Common.{◌≡◌, ℕ, zero, suc, ◌-◌, ◌≤◌, Lis
 use Rattle.std.specs.Int.Bits.{xor_comm}
 use Rattle.std.proofs.lemmas.Nat.Bits.{bit_at-lt}
 use Rattle.std.proofs.lemmas.Bool.Decides.{eqb_tells}
-use Rattle.dpf_rules.specs.Bytes.{xor_bytes}
+use Rattle.express_words.specs.Bytes.{xor_bytes}
+use Rattle.express_words.proofs.Bytes.{xor_bytes_comm}
 use Rattle.dpf_rules.specs.Walk.{side_at, step, state_at}
 use Rattle.dpf_rules.specs.Keys.{Expansions, pair_at, on_side, level_word, level_right, keys, raw_pair, honest, path_at, honest_keys}
 use Rattle.dpf_rules.specs.Ideal.{HasStates, own_at, ideal_keys, given_at}
@@ -20,13 +21,6 @@ level_word_comm p q side =
 pub level_right_comm : (p q : ℕ × ℕ) (side : ℕ) → level_right p q side ≡ level_right q p side
 unfolding level_right
 level_right_comm p q side = omega arith
-
-pub xor_bytes_comm : (xs ys : List ℕ) → xor_bytes xs ys ≡ xor_bytes ys xs
-unfolding xor_bytes
-xor_bytes_comm [] [] = refl
-xor_bytes_comm [] (y ∷ ys) = refl
-xor_bytes_comm (x ∷ xs) [] = refl
-xor_bytes_comm (x ∷ xs) (y ∷ ys) = rw (xor_comm x y, xor_bytes_comm xs ys) refl
 
 pub keys_comm : (target : ℕ) (message : List ℕ) (e0 e1 : Expansions) → keys target message e0 e1 ≡ keys target message e1 e0
 unfolding keys

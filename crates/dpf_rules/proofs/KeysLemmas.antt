@@ -8,7 +8,8 @@ use Rattle.std.proofs.lemmas.Nat.{xor_lt}
 use Rattle.std.proofs.lemmas.Nat.Bits.{bit_at_cat_low, bit_at_cat_high}
 use Rattle.std.proofs.lemmas.Bool.{cases_eq, cases_lt}
 use Rattle.std.proofs.Math.Nat.{pow-suc, add_comm, mul-le-mul_right}
-use Rattle.dpf_rules.specs.Bytes.{value_in, number_of, bytes_of, words_bytes, bits_number, xor_bytes}
+use Rattle.express_words.specs.Bytes.{xor_bytes}
+use Rattle.dpf_rules.specs.Bytes.{value_in, number_of, bytes_of, words_bytes, bits_number}
 use Rattle.dpf_rules.specs.Expansion.{stream_byte, stream_bytes, child, block, node_key}
 use Rattle.dpf_rules.specs.Walk.{word_of, right_of, last_of, side_at}
 use Rattle.dpf_rules.specs.Keys.{Expansions, pair_at, on_side, level_word, level_right, keys, raw_pair, path_at, path_word, path_right, honest, honest_keys}

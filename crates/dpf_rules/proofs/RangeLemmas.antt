@@ -7,12 +7,14 @@ use Rattle.std.proofs.lemmas.List.FromFn.{length-map-range_with_len}
 use Rattle.std.proofs.lemmas.List.Elements.{All-nil, All-cons, All-head, All-tail, All-append, All-map, All-drop}
 use Rattle.std.proofs.lemmas.Nat.{xor_lt}
 use Rattle.std.proofs.lemmas.Nat.Bits.{bit_at-lt}
-use Rattle.dpf_rules.specs.Bytes.{AreBytes, value_in, bytes_of, words_bytes, bits_number, xor_bytes}
+use Rattle.express_words.specs.Bytes.{xor_bytes}
+use Rattle.express_words.proofs.Bytes.{length-xor_bytes}
+use Rattle.dpf_rules.specs.Bytes.{AreBytes, value_in, bytes_of, words_bytes, bits_number}
 use Rattle.dpf_rules.specs.Expansion.{with_bit, child, stream_byte, stream_bytes, stream_number, node_key, block}
 use Rattle.dpf_rules.specs.Walk.{word_of, right_of, side_at, correction, corrected, step, state_at}
 use Rattle.dpf_rules.specs.Keys.{Expansions, pair_at, on_side, level_word, level_right, keys, raw_pair, honest}
 use Rattle.dpf_rules.specs.Ideal.{HasStates, IsExpansions, own_at, ideal_keys, given_at}
-use Rattle.dpf_rules.proofs.ByteLemmas.{length-bytes_of, length-xor_bytes}
+use Rattle.dpf_rules.proofs.ByteLemmas.{length-bytes_of}
 use Rattle.dpf_rules.proofs.KeysLemmas.{stream_number_lt, child_lt, cond_lt, level_word_lt, level_right_lt, length-words_bytes, length-block, HasStates-honest}
 use Rattle.dpf_rules.proofs.IdealLemmas.{own_first}
 
@@ -34,8 +36,8 @@ block-bytes n state = All-map (λ b. b < 256) (stream_byte (node_key state) 1) (
 
 pub xor-bytes : (xs ys : List ℕ) → AreBytes xs → AreBytes ys → AreBytes (xor_bytes xs ys)
 unfolding xor_bytes
-xor-bytes [] ys h k = All-nil (λ b. b < 256)
-xor-bytes (x ∷ xs) [] h k = All-nil (λ b. b < 256)
+xor-bytes [] ys h k = k
+xor-bytes (x ∷ xs) [] h k = h
 xor-bytes (x ∷ xs) (y ∷ ys) h k =
     All-cons (λ b. b < 256) (bit_xor x y) (xor_bytes xs ys)
     (xor_lt 8 x y (All-head (λ b. b < 256) x xs h) (All-head (λ b. b < 256) y ys k))

@@ -1,5 +1,5 @@
--- Numbers as lists of digits with the lowest first, and the sum of two lists of bytes.
-use Rattle.std.specs.Prelude.{ℕ, zero, suc, ◌+◌, ◌*◌, ◌/◌, ◌%◌, ◌^◌, ◌<◌, List, [], ◌∷◌, ◌++◌, All, bit_xor}
+-- Numbers as lists of digits with the lowest first.
+use Rattle.std.specs.Prelude.{ℕ, zero, suc, ◌+◌, ◌*◌, ◌/◌, ◌%◌, ◌^◌, ◌<◌, List, [], ◌∷◌, ◌++◌, All}
 
 -- each number is a byte
 abbrev pub AreBytes : List ℕ → Type 0
@@ -18,12 +18,6 @@ number_of bytes = value_in 256 bytes
 unfoldable pub bytes_of : ℕ → ℕ → List ℕ
 bytes_of zero x = []
 bytes_of (suc n) x = x % 256 ∷ bytes_of n (x / 256)
-
--- the sum of two lists of bytes, as long as the shorter
-unfoldable pub xor_bytes : List ℕ → List ℕ → List ℕ
-xor_bytes [] ys = []
-xor_bytes (x ∷ xs) [] = []
-xor_bytes (x ∷ xs) (y ∷ ys) = bit_xor x y ∷ xor_bytes xs ys
 
 -- n numbers, each as 16 bytes
 unfoldable pub words_bytes : (ℕ → ℕ) → ℕ → List ℕ

@@ -4,7 +4,8 @@
 -- section 3.
 use Rattle.std.specs.Prelude.{ℕ, zero, suc, ◌+◌, ◌-◌, ◌%◌, ◌==◌, List, ◌++◌, map, length, slice_index_or, bit_xor, if◌then◌else◌}
 use Rattle.std.specs.List.{range_with_len}
-use Rattle.dpf_rules.specs.Bytes.{bytes_of, words_bytes, bits_number, xor_bytes}
+use Rattle.express_words.specs.Bytes.{xor_bytes}
+use Rattle.dpf_rules.specs.Bytes.{bytes_of, words_bytes, bits_number}
 use Rattle.dpf_rules.specs.Expansion.{with_bit, child, block}
 use Rattle.dpf_rules.specs.Walk.{side_at, step}
 

@@ -1,6 +1,7 @@
 -- What holds of walks and keys whatever the other server's expansions are, and what equal leaves write.
 use Rattle.std.specs.Prelude.{◌≡◌, ℕ, ◌+◌, ◌^◌, ◌<◌, ◌≤◌, List, length}
-use Rattle.dpf_rules.specs.Bytes.{AreBytes, xor_bytes}
+use Rattle.express_words.specs.Bytes.{xor_bytes}
+use Rattle.dpf_rules.specs.Bytes.{AreBytes}
 use Rattle.dpf_rules.specs.Walk.{word_of, last_of, state_at, leaf_of, write_bytes}
 use Rattle.dpf_rules.specs.Keys.{Expansions, honest, path_at, honest_keys}
 use Rattle.dpf_rules.specs.Ideal.{HasStates, IsExpansions, own_at, ideal_keys, given_at}

@@ -4,7 +4,8 @@
 -- section 3.
 use Rattle.std.specs.Prelude.{ℕ, zero, suc, ◌+◌, ◌-◌, ◌*◌, ◌%◌, ◌==◌, List, length, drop, slice_range, bit_xor, if◌then◌else◌}
 use Rattle.std.specs.Int.{bit_at}
-use Rattle.dpf_rules.specs.Bytes.{number_of, xor_bytes}
+use Rattle.express_words.specs.Bytes.{xor_bytes}
+use Rattle.dpf_rules.specs.Bytes.{number_of}
 use Rattle.dpf_rules.specs.Expansion.{with_bit, child, block}
 
 -- ---- a public part, as bytes: 128 words of 16 bytes, 16 bytes of right bits, and the last correction

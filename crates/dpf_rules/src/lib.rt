@@ -5,7 +5,8 @@
 mod laws;
 
 ghost use Rattle.std.specs.Prelude.{◌≡◌, length};
-ghost use Rattle.dpf_rules.specs.Bytes.{number_of, bytes_of, xor_bytes};
+ghost use Rattle.express_words.specs.Bytes.{xor_bytes};
+ghost use Rattle.dpf_rules.specs.Bytes.{number_of, bytes_of};
 
 pub use laws::{
     equal_leaves_keep_boxes, honest_lists_give_honest_keys, ideal_walks, states_are_in_range,

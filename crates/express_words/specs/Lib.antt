@@ -1,7 +1,9 @@
+pub mod Bytes
 pub mod Calls
 pub mod Causes
 pub mod Limits
 pub mod Memory
 pub mod Noted
+pub mod Ranges
 pub mod Streams
 pub mod Texts

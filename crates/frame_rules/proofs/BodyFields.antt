@@ -1,16 +1,19 @@
 -- The fields of each body.
 use Rattle.std.proofs.Common.{◌≡◌, ℕ, zero, suc, ◌-◌, ◌*◌, ◌/◌, ◌%◌, ◌^◌, ◌<◌, ◌≤◌, List, [], ◌∷◌, ◌++◌, length, take, drop, refl, sym, ap, ◌∙◌, subst, arith}
 use Rattle.std.specs.Int.{w32, w128, to_be_bytes, from_be_bytes}
-use Rattle.std.specs.List.{flat_map, AllByRecursion}
+use Rattle.std.specs.List.{flat_map, All, AllByRecursion}
 use Rattle.express_words.specs.Limits.{IsWidth}
 use Rattle.express_words.specs.declared.audit.ProofShare.{ProofShare}
 use Rattle.express_words.specs.declared.audit.Openings.{Openings}
 use Rattle.express_words.specs.declared.audit.Closing.{Closing}
-use Rattle.frame_rules.specs.Spelling.{word, address, openings, closing, proof_share, IsWord, IsKey, IsPart, AreOpenings, IsClosing, IsProofShare}
+use Rattle.express_words.specs.Limits.{IsPart}
+use Rattle.express_words.specs.Ranges.{IsWord, IsOpenings, IsClosing, IsProofShare}
+use Rattle.frame_rules.specs.Spelling.{word, address, openings, closing, proof_share, IsKey}
 use Rattle.frame_rules.specs.Forms.{word_of}
 use Rattle.frame_rules.specs.Bodies.{openings_of, closing_of, words_of, proof_share_of}
 use Rattle.std.proofs.lemmas.List.{take_at, drop_at, take-append-drop, length-append, length-take, length-drop, nil_from_length}
 use Rattle.std.proofs.lemmas.List.Concat.{flat_map-cons}
+use Rattle.std.proofs.lemmas.List.Elements.{All-head, All-tail, All-nil, All-cons}
 use Rattle.frame_rules.proofs.Digits.{IsBytes}
 use Rattle.frame_rules.proofs.Fields.{IsBytes-take, IsBytes-drop, IsField, Is, both, pair, raw_field, u32_field, address_field, word_field}
 
@@ -24,20 +27,23 @@ pub words4 : IsField (λ (p : ℕ × (ℕ × (ℕ × ℕ))). word p.0 ++ (word p
     (λ bytes. (word_of (take 16 bytes), (word_of (take 16 (drop 16 bytes)), (word_of (take 16 (drop 16 (drop 16 bytes))), word_of (drop 16 (drop 16 (drop 16 bytes))))))) (Is 64) (λ p. IsWord p.0 × (IsWord p.1.0 × (IsWord p.1.1.0 × IsWord p.1.1.1)))
 words4 = pair word word_of 16 IsWord (λ (p : ℕ × (ℕ × ℕ)). word p.0 ++ (word p.1.0 ++ word p.1.1)) (λ bytes. (word_of (take 16 bytes), (word_of (take 16 (drop 16 bytes)), word_of (drop 16 (drop 16 bytes))))) 48 (λ p. IsWord p.0 × (IsWord p.1.0 × IsWord p.1.1)) word_field words3
 
-pub openings_field : IsField openings openings_of (Is 32) AreOpenings
+pub openings_field : IsField openings openings_of (Is 32) IsOpenings
 openings_field = record {
-  len = λ x h. words2.len (x.d, x.e) h;
+  len = λ x h. words2.len (x.d, x.e) (h.d, h.e);
   back = λ bytes h len. words2.back bytes h len;
-  fits = λ bytes h len. words2.fits bytes h len;
-  again = λ x h. ap (λ (p : ℕ × ℕ). let o : Openings = record { d = p.0; e = p.1 } in o) (words2.again (x.d, x.e) h);
+  fits = λ bytes h len. let fit = words2.fits bytes h len in record { d = fit.0; e = fit.1 };
+  again = λ x h.
+      ap (λ (p : ℕ × ℕ). let o : Openings = record { d = p.0; e = p.1 } in o) (words2.again (x.d, x.e) (h.d, h.e));
 }
 
 pub closing_field : IsField closing closing_of (Is 32) IsClosing
 closing_field = record {
-  len = λ x h. words2.len (x.o, x.tau) h;
+  len = λ x h. words2.len (x.o, x.tau) (h.o, h.tau);
   back = λ bytes h len. words2.back bytes h len;
-  fits = λ bytes h len. words2.fits bytes h len;
-  again = λ x h. ap (λ (p : ℕ × ℕ). let c : Closing = record { o = p.0; tau = p.1 } in c) (words2.again (x.o, x.tau) h);
+  fits = λ bytes h len. let fit = words2.fits bytes h len in record { o = fit.0; tau = fit.1 };
+  again = λ x h.
+      ap (λ (p : ℕ × ℕ). let c : Closing = record { o = p.0; tau = p.1 } in c)
+      (words2.again (x.o, x.tau) (h.o, h.tau));
 }
 
 pub word_len : (n : ℕ) → length (word n) ≡ 16
@@ -118,12 +124,37 @@ from_u = pair word word_of 16 IsWord (λ (p : ℕ × Proof9). word p.0 ++ write9
 abbrev as_share : ℕ × (ℕ × Proof9) → ProofShare
 as_share p = record { u = p.0; v = p.1.0; h = p.1.1.0; a = p.1.1.1.0; b = p.1.1.1.1.0; c = p.1.1.1.1.1 }
 
+-- all of them, place by place and one after another
+each_of : (xs : List ℕ) → All IsWord xs → AllByRecursion IsWord xs
+each_of [] h = tt
+each_of (x ∷ xs) h = (All-head IsWord x xs h, each_of xs (All-tail IsWord x xs h))
+
+all_of : (xs : List ℕ) → AllByRecursion IsWord xs → All IsWord xs
+all_of [] h = All-nil IsWord
+all_of (x ∷ xs) h = All-cons IsWord x xs h.0 (all_of xs h.1)
+
+abbrev share9 : ProofShare → ℕ × (ℕ × Proof9)
+share9 x = (x.u, (x.v, (x.h, (x.a, (x.b, x.c)))))
+
+share_fits : (x : ProofShare) → IsProofShare x → IsWord x.u × (IsWord x.v × fits9 (x.h, (x.a, (x.b, x.c))))
+share_fits x is = (is.u, (is.v, ((is.size, each_of x.h is.h), (is.a, (is.b, is.c)))))
+
 pub proof_field : IsField proof_share proof_share_of (Is 160) IsProofShare
 proof_field = record {
-  len = λ x h. from_u.len (x.u, (x.v, (x.h, (x.a, (x.b, x.c))))) h;
+  len = λ x h. from_u.len (share9 x) (share_fits x h);
   back = λ bytes h len. from_u.back bytes h len;
-  fits = λ bytes h len. from_u.fits bytes h len;
-  again = λ x h. ap as_share (from_u.again (x.u, (x.v, (x.h, (x.a, (x.b, x.c))))) h);
+  fits = λ bytes h len.
+      let fit = from_u.fits bytes h len in
+      record {
+        u = fit.0;
+        v = fit.1.0;
+        h = all_of (proof_share_of bytes).h fit.1.1.0.1;
+        size = fit.1.1.0.0;
+        a = fit.1.1.1.0;
+        b = fit.1.1.1.1.0;
+        c = fit.1.1.1.1.1;
+      };
+  again = λ x h. ap as_share (from_u.again (share9 x) (share_fits x h));
 }
 
 -- a key behind an address, a word behind a box number, a key behind a count
@@ -136,11 +167,11 @@ box_word = pair (to_be_bytes w32) (from_be_bytes w32) 4 (λ n. n < 2 ^ 32) word 
 pub count_key : IsField (λ (p : ℕ × List ℕ). to_be_bytes w32 p.0 ++ p.1) (λ bytes. (from_be_bytes w32 (take 4 bytes), drop 4 bytes)) (Is 36) (λ p. (p.0 < 2 ^ 32) × IsKey p.1)
 count_key = pair (to_be_bytes w32) (from_be_bytes w32) 4 (λ n. n < 2 ^ 32) (λ bytes. bytes) (λ bytes. bytes) 32 IsKey u32_field (raw_field (Is 32))
 
-pub word_openings : IsField (λ (p : ℕ × Openings). word p.0 ++ openings p.1) (λ bytes. (word_of (take 16 bytes), openings_of (drop 16 bytes))) (Is 48) (λ p. IsWord p.0 × AreOpenings p.1)
-word_openings = pair word word_of 16 IsWord openings openings_of 32 AreOpenings word_field openings_field
+pub word_openings : IsField (λ (p : ℕ × Openings). word p.0 ++ openings p.1) (λ bytes. (word_of (take 16 bytes), openings_of (drop 16 bytes))) (Is 48) (λ p. IsWord p.0 × IsOpenings p.1)
+word_openings = pair word word_of 16 IsWord openings openings_of 32 IsOpenings word_field openings_field
 
-pub openings_closing : IsField (λ (p : Openings × Closing). openings p.0 ++ closing p.1) (λ bytes. (openings_of (take 32 bytes), closing_of (drop 32 bytes))) (Is 64) (λ p. AreOpenings p.0 × IsClosing p.1)
-openings_closing = pair openings openings_of 32 AreOpenings closing closing_of 32 IsClosing openings_field closing_field
+pub openings_closing : IsField (λ (p : Openings × Closing). openings p.0 ++ closing p.1) (λ bytes. (openings_of (take 32 bytes), closing_of (drop 32 bytes))) (Is 64) (λ p. IsOpenings p.0 × IsClosing p.1)
+openings_closing = pair openings openings_of 32 IsOpenings closing closing_of 32 IsClosing openings_field closing_field
 
 -- ---- parts whose length depends on a message's width
 

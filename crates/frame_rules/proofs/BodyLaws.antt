@@ -17,7 +17,8 @@ use Rattle.frame_rules.specs.declared.kind.Kind.TheVariants as kinds
 use Rattle.frame_rules.specs.Frames.{PlainBody, PlainReply, Deposit, Register, Write, Read, Proof, Held, Challenge, Registered, Accepted, Message, Refused, LinkRegister, LinkBegin, LinkAudit, LinkSettle, LinkRead, LinkReply, Retire, LinkRetire, LinkBegun, ReplyRegistered, ReplyBegun, ReplyAudited, ReplyAccepted, ReplyRejected, ReplyMasked, ReplyRefused}
 use Rattle.frame_rules.specs.Kinds.{is_refused}
 use Rattle.frame_rules.specs.Spelling as spell
-use Rattle.frame_rules.specs.Spelling.{kind_of, word, IsWord, IsKey, IsBody, IsRefusal, IsReplyRefusal, IsReply, IsAddressed}
+use Rattle.express_words.specs.Ranges.{IsWord}
+use Rattle.frame_rules.specs.Spelling.{kind_of, word, IsKey, IsBody, IsRefusal, IsReplyRefusal, IsReply, IsAddressed}
 use Rattle.frame_rules.specs.Forms.{◌>>=◌, first_of, Size, Exactly, Wide, has_size, Form, form_of, sized, filled, chosen, tagged, nothing, number}
 use Rattle.frame_rules.specs.Bodies.{deposits, helds, dones, refusals, replies, addressed, refused, reply_refused, replied, body_in}
 use Rattle.frame_rules.proofs.Digits.{IsBytes, IsBytes-rest}

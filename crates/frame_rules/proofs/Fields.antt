@@ -5,7 +5,8 @@ use Rattle.std.proofs.lemmas.Bool.{cases_lt}
 use Rattle.std.proofs.lemmas.List.{take_at, drop_at, take-append-drop, length-append, length-take, length-drop, get_or-drop, get_or-take, get_or_past}
 use Rattle.std.proofs.lemmas.Nat.{be_bytes_2, be_bytes_4, be_bytes_8, from_be_bytes-to_be_bytes_2, from_be_bytes-to_be_bytes_4, from_be_bytes-to_be_bytes_8}
 use Rattle.frame_rules.specs.Forms.{word_of}
-use Rattle.frame_rules.specs.Spelling.{word, address, IsWord}
+use Rattle.express_words.specs.Ranges.{IsWord}
+use Rattle.frame_rules.specs.Spelling.{word, address}
 use Rattle.frame_rules.proofs.Digits.{IsBytes, le_back, le_again, le_below, be_back, be_again, be_below}
 
 pub IsBytes-drop : (n : ℕ) (bytes : List ℕ) → IsBytes bytes → IsBytes (drop n bytes)

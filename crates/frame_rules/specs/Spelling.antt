@@ -1,8 +1,9 @@
 -- What a frame is, and the bytes that spell it.
 use Rattle.std.specs.Prelude.{◌≡◌, ℕ, ◌+◌, ◌-◌, ◌^◌, ◌<◌, ◌≤◌, true, false, List, [], ◌∷◌, ◌++◌, length, MatchBool}
-use Rattle.std.specs.List.{flat_map, AllByRecursion}
+use Rattle.std.specs.List.{flat_map}
 use Rattle.std.specs.Int.{w16, w32, w64, w128, to_be_bytes, to_le_bytes}
-use Rattle.express_words.specs.Limits.{IsWidth}
+use Rattle.express_words.specs.Limits.{IsWidth, IsPart}
+use Rattle.express_words.specs.Ranges.{IsWord, IsProofShare, IsOpenings, IsClosing}
 use Rattle.express_words.specs.declared.audit.ProofShare.{ProofShare}
 use Rattle.express_words.specs.declared.audit.Openings.{Openings}
 use Rattle.express_words.specs.declared.audit.Closing.{Closing}
@@ -121,27 +122,8 @@ spelling f = header (kind_of f.body) f.lane f.serial f.link (length (body f.body
 
 -- ---- which values have a spelling
 
-abbrev pub IsWord : ℕ → Type 0
-IsWord n = n < 2 ^ 128
-
 abbrev pub IsKey : List ℕ → Type 0
 IsKey key = length key ≡ 32
-
--- the bytes of a public part before its last block, which has a message's width
-abbrev pub levels_len : ℕ
-levels_len = 2064
-
-abbrev pub IsPart : List ℕ → Type 0
-IsPart part = (levels_len ≤ length part) × IsWidth (length part - levels_len)
-
-abbrev pub AreOpenings : Openings → Type 0
-AreOpenings o = IsWord o.d × IsWord o.e
-
-abbrev pub IsClosing : Closing → Type 0
-IsClosing c = IsWord c.o × IsWord c.tau
-
-abbrev pub IsProofShare : ProofShare → Type 0
-IsProofShare p = IsWord p.u × (IsWord p.v × (((length p.h ≡ 5) × AllByRecursion IsWord p.h) × (IsWord p.a × (IsWord p.b × IsWord p.c))))
 
 abbrev pub IsRefusal : Refusal → Type 0
 IsRefusal (refusals.Malformed place) = place < 2 ^ 32
@@ -184,7 +166,7 @@ IsReplyRefusal (refusals.LinkDown count) = ⊥
 abbrev pub IsReply : PlainReply → Type 0
 IsReply (ReplyRegistered n) = n < 2 ^ 32
 IsReply (ReplyBegun count) = count < 2 ^ 32
-IsReply (ReplyAudited opened closed) = AreOpenings opened × IsClosing closed
+IsReply (ReplyAudited opened closed) = IsOpenings opened × IsClosing closed
 IsReply ReplyAccepted = Unit {0}
 IsReply ReplyRejected = Unit {0}
 IsReply (ReplyMasked share) = IsWidth (length share)
@@ -204,7 +186,7 @@ IsBody (Message zero one) = (length zero ≡ length one) × IsWidth (length zero
 IsBody (Refused r) = IsRefusal r
 IsBody (LinkRegister a) = IsWord a
 IsBody (LinkBegin ckey part) = IsKey ckey × IsPart part
-IsBody (LinkAudit sigma opened) = IsWord sigma × AreOpenings opened
+IsBody (LinkAudit sigma opened) = IsWord sigma × IsOpenings opened
 IsBody (LinkSettle closed) = IsClosing closed
 IsBody (LinkRead n) = n < 2 ^ 32
 IsBody (LinkReply r) = IsReply r

@@ -8,7 +8,8 @@ use Rattle.frame_rules.specs.declared.fault.FrameFault.TheVariants as fault
 use Rattle.frame_rules.specs.Frames as frame
 use Rattle.frame_rules.specs.Frames.{PlainFrame, PlainBody}
 use Rattle.frame_rules.specs.Kinds.{is_linked}
-use Rattle.frame_rules.specs.Spelling.{levels_len, kind_of, IsAddressed, IsBody}
+use Rattle.express_words.specs.Limits.{levels_len}
+use Rattle.frame_rules.specs.Spelling.{kind_of, IsAddressed, IsBody}
 use Rattle.frame_rules.specs.Reading.{decoded}
 
 -- ---- exactly one frame

@@ -2,6 +2,7 @@
 use Rattle.std.proofs.Common.{◌≡◌, ◌<◌, ◌≤◌, ℕ, Bool, true, false, cond, List, length, take, map, set, Option, Some, None, refl, sym, ap, ◌∙◌, arith}
 use Rattle.std.specs.Prelude.{option_map, slice_get, not}
 use Rattle.std.proofs.lemmas.Bool.{eq-eqb, ne_eqb}
+use Rattle.express_words.specs.Bytes.{xor_bytes}
 use Rattle.express_words.specs.declared.settings.Settings.{Settings}
 use Rattle.express_words.specs.declared.audit.ProofShare.{ProofShare}
 use Rattle.express_words.specs.declared.audit.Openings.{Openings}
@@ -13,7 +14,6 @@ use Rattle.frame_rules.specs.Frames.{PlainFrame}
 use Rattle.audit_rules.specs.Audit.{accepts, closing_of, opened_of}
 use Rattle.audit_rules.specs.Values.{Write, opens, values}
 use Rattle.dpf_rules.specs.Evaluation.{prefix_count}
-use Rattle.dpf_rules.specs.Bytes.{xor_bytes}
 use Rattle.dpf_rules.specs.Expansion.{mask, token}
 use Rattle.server_boxes.specs.Held.{Held, with_boxes}
 use Rattle.step_rules.specs.Boxes.{Box, addresses_of, with_read, with_write}

@@ -9,7 +9,7 @@ ghost use Rattle.step_rules.specs.Leader.{Leader, Asked as Asks, Row as Place, r
 ghost use Rattle.step_rules.specs.LeaderClients.{Named as Names, again_at, new_at, submission_at, proof_at, proof_in, if_named, if_room, issued_for};
 ghost use Rattle.step_rules.specs.Boxes.{addresses_of};
 ghost use Rattle.audit_rules.specs.Values.{opens};
-ghost use Rattle.dpf_keys.specs.Width.{IsPart};
+ghost use Rattle.express_words.specs.Limits.{IsPart};
 ghost use Rattle.dpf_rules.specs.Evaluation.{prefix_count};
 ghost use Rattle.leader_core.specs.Asked.{asked_with, IsAsked};
 ghost use Rattle.leader_core.specs.Replies.{key_at, writing_at, auditing_at, settling_at};

@@ -1,6 +1,7 @@
 -- The table of boxes, changed by the entries of a journal in order, and the result of each entry.
 -- One fold serves the plain table and both servers' shares: they differ in what a write adds to a box.
-use Rattle.std.specs.Prelude.{ℕ, zero, suc, nat_le, nat_eq, ◌==◌, if◌then◌else◌, Bool, true, false, List, [], ◌∷◌, ◌++◌, length, map, position, replicate, Option, Some, None, slice_get, bit_xor}
+use Rattle.std.specs.Prelude.{ℕ, zero, suc, nat_le, nat_eq, ◌==◌, if◌then◌else◌, Bool, true, false, List, [], ◌∷◌, ◌++◌, length, map, position, replicate, Option, Some, None, slice_get}
+use Rattle.express_words.specs.Bytes.{xor_bytes}
 use Rattle.mailbox_rules.specs.Requests.{Request, Write, request_at, Line, Entry, Operation, AddBox, BeginWrite, AuditWrite, SettleWrite, ReadBox, RetireBox, Refuse}
 
 -- A box is live until it is retired. Lane and serial are those of the request that registered it.
@@ -38,12 +39,6 @@ pub data Result : Type 0 where
 
 abbrev pub empty_table : Table
 empty_table = record { boxes = []; got = λ lane. []; count = λ lane. 0 }
-
--- the sum of two lists of bytes, byte by byte; the shorter one is taken to go on with zeros
-unfoldable pub xor_bytes : List ℕ → List ℕ → List ℕ
-xor_bytes [] ys = ys
-xor_bytes (x ∷ xs) [] = x ∷ xs
-xor_bytes (x ∷ xs) (y ∷ ys) = bit_xor x y ∷ xor_bytes xs ys
 
 abbrev pub addresses : List Mailbox → List ℕ
 addresses boxes = map (λ box. box.address) boxes

@@ -1,6 +1,7 @@
 -- Write bytes that are added to all shares.
 use Rattle.std.proofs.Common.{◌≡◌, ℕ, zero, suc, ◌+◌, ◌<◌, ◌≤◌, List, [], ◌∷◌, length, take, slice_index_or, slice_set, arith, refl, sym, ◌∙◌, ap, ap₂, add-one}
-use Rattle.mailbox_rules.specs.Tables.{Mailbox, xor_bytes, boxes_with}
+use Rattle.express_words.specs.Bytes.{xor_bytes}
+use Rattle.mailbox_rules.specs.Tables.{Mailbox, boxes_with}
 use Rattle.box_registry.specs.Boxes.{Box, addresses_of}
 use Rattle.replay_world.specs.Shelf.{box_at, mailboxes, all_added}
 

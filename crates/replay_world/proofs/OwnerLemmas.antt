@@ -1,7 +1,8 @@
 -- The boxes of a server are those of its table, without their owners.
 use Rattle.std.proofs.Common.{◌≡◌, ℕ, zero, suc, ◌+◌, Bool, true, false, cond, List, [], ◌∷◌, ◌++◌, length, replicate, slice_get, refl, ap}
+use Rattle.express_words.specs.Bytes.{xor_bytes}
 use Rattle.mailbox_rules.specs.Requests.{Line}
-use Rattle.mailbox_rules.specs.Tables.{Mailbox, addresses, boxes_cleared, boxes_with, new_box, xor_bytes}
+use Rattle.mailbox_rules.specs.Tables.{Mailbox, addresses, boxes_cleared, boxes_with, new_box}
 use Rattle.mailbox_rules.specs.Laws.{AreShares}
 use Rattle.replay_world.specs.Schedules.{share_or_zeros}
 use Rattle.replay_world.specs.Output.{share_line, share_lines}

@@ -1,11 +1,13 @@
 -- A read follows the run.
 use Rattle.std.proofs.Common.{◌≡◌, ℕ, zero, suc, ◌+◌, ◌<◌, true, Bool, List, [], ◌∷◌, ◌++◌, length, slice_get, replicate, Some, arith, refl, sym, ◌∙◌, ap, ap₂, subst}
 use Rattle.std.proofs.lemmas.List.{length_push}
+use Rattle.express_words.specs.Bytes.{xor_bytes}
+use Rattle.express_words.proofs.Bytes.{zeros_xor_bytes}
 use Rattle.express_words.specs.declared.settings.Settings.{Settings}
 use Rattle.mailbox_rules.specs.Requests as requests
 use Rattle.mailbox_rules.specs.Requests.{Request, Reads, ReadBox, entry, reads_box}
 use Rattle.mailbox_rules.specs.Tables as rules
-use Rattle.mailbox_rules.specs.Tables.{Mailbox, Table, Writes, Result, xor_bytes, addresses, boxes_cleared, after_line, result_of, results_after, given}
+use Rattle.mailbox_rules.specs.Tables.{Mailbox, Table, Writes, Result, addresses, boxes_cleared, after_line, result_of, results_after, given}
 use Rattle.mailbox_rules.specs.Laws.{AreShares, bytes_of}
 use Rattle.schedule_text.specs.declared.schedule.Header.{Header}
 use Rattle.replay_world.specs.declared.state.State.{State}
@@ -17,7 +19,6 @@ use Rattle.replay_world.specs.Requests.{line_at}
 use Rattle.replay_world.specs.Lines.{told_of, message_of, journal_of}
 use Rattle.replay_world.specs.Run.{Run, plain, shared, table_by, table_of, shares_of, results_of, sent_on, outcome_at, carried_out, last_result}
 use Rattle.replay_world.specs.View.{IsAt, AreNumbered, AllBelow, AreFit, shelf_of}
-use Rattle.replay_world.proofs.ByteLemmas.{zeros-sum}
 use Rattle.replay_world.proofs.GrowthLemmas.{IsGrowing, table-next, results-next, numbered-more}
 use Rattle.replay_world.proofs.OwnerLemmas.{without-cleared, without-length, without-shared}
 use Rattle.replay_world.proofs.SharesLemmas.{shares_of_run, same_count, addresses_push, plain_grows, shared_grows}
@@ -108,7 +109,7 @@ read_follows header r old new own box message at own_is zero_has one_has leader 
     let gave : given box (slice_get (table_of settings r).boxes box) ≡ rules.Gave box (xor_bytes zero_has.0.bytes one_has.0.bytes) =
     box_shared box _ _ _ box zero_has.0 one_has.0 (without-shared _ _ _ (shares_of_run header r at.fit at.addresses)) zero_there one_there zero_has.2 in
     let message_sum : message ≡ xor_bytes zero_has.0.bytes one_has.0.bytes =
-    message_is ∙ ap₂ (λ xs ys. xor_bytes (xor_bytes (replicate old.leader.width 0) xs) ys) (ap bytes_of zero_has.1) (ap bytes_of one_has.1) ∙ ap (λ xs. xor_bytes xs one_has.0.bytes) (zeros-sum old.leader.width zero_has.0.bytes zero_has.3) in
+    message_is ∙ ap₂ (λ xs ys. xor_bytes (xor_bytes (replicate old.leader.width 0) xs) ys) (ap bytes_of zero_has.1) (ap bytes_of one_has.1) ∙ ap (λ xs. xor_bytes xs one_has.0.bytes) (zeros_xor_bytes old.leader.width zero_has.0.bytes zero_has.3) in
     let results : results_of settings (sent_on settings r (requests.Read own)) ≡ results_of settings r ++ rules.Gave box message ∷ [] =
     results_read settings r own box at.numbered place ∙ ap (λ result. results_of settings r ++ result ∷ []) (gave ∙ ap (rules.Gave box) (sym message_sum)) in
     let result : last_result (results_of settings (sent_on settings r (requests.Read own))) ≡ rules.Gave box message = ap last_result results ∙ last_result-push (results_of settings r) (rules.Gave box message) in

@@ -1,18 +1,19 @@
 -- The plain table, and the two servers' shares of it.
 use Rattle.std.proofs.Common.{◌≡◌, ℕ, zero, suc, ◌-◌, ◌^◌, ◌<◌, nat_eq, nat_le, cond, true, false, Bool, List, [], ◌∷◌, ◌++◌, length, replicate, slice_get, Option, Some, None, arith, refl, sym, ◌∙◌, ap, ap₂}
 use Rattle.std.proofs.lemmas.List.{length-replicate}
+use Rattle.express_words.specs.Bytes.{xor_bytes}
+use Rattle.express_words.proofs.Bytes.{length-xor_bytes, xor_bytes_zeros, xor_nil}
 use Rattle.express_words.specs.declared.settings.Settings.{Settings}
 use Rattle.dpf_rules.specs.Keys.{honest_keys}
 use Rattle.dpf_rules.specs.Walk.{write_bytes, leaf_of}
 use Rattle.dpf_rules.proofs.WriteLemmas.{write_sum, length-leaf_bytes}
 use Rattle.mailbox_rules.specs.Requests.{Request, Register, Write, Read, Retire, Line, Entry, Operation, AddBox, BeginWrite, AuditWrite, SettleWrite, ReadBox, RetireBox, Refuse, request_at}
-use Rattle.mailbox_rules.specs.Tables.{Mailbox, Table, Writes, empty_table, new_box, box_of, boxes_with, boxes_cleared, after_register, after_line, table_from, table_after, xor_bytes, message_at, sum_of, addresses}
+use Rattle.mailbox_rules.specs.Tables.{Mailbox, Table, Writes, empty_table, new_box, box_of, boxes_with, boxes_cleared, after_register, after_line, table_from, table_after, message_at, sum_of, addresses}
 use Rattle.mailbox_rules.specs.Laws.{AreShares}
 use Rattle.mailbox_rules.proofs.Shares.{shares_add_up}
 use Rattle.schedule_text.specs.declared.schedule.Header.{Header}
 use Rattle.replay_world.specs.Run.{Run, plain, shared, share_of, root_of, table_by, table_of, shares_of}
 use Rattle.replay_world.specs.View.{IsFit, AreFit, HasFitAddress, HaveFitAddresses}
-use Rattle.replay_world.proofs.ByteLemmas.{same_sum, sum-zeros, sum-nil, length-sum}
 use Rattle.replay_world.proofs.GrowthLemmas.{IsGrowing, request-before}
 
 abbrev pub both : Header → List Request → Writes
@@ -45,7 +46,7 @@ write_adds width target message root0 root1 bytes address small wide fits there 
     let zero_length = length-leaf_bytes target message root0 root1 (leaf_of part 0 root0 address) in
     let one_length = length-leaf_bytes target message root0 root1 (leaf_of part 1 root1 address) in
     let sum : xor_bytes (write_bytes part 0 root0 address) (write_bytes part 1 root1 address) ≡ cond (nat_eq address target) message (replicate (length message) 0) =
-    sym (same_sum (write_bytes part 0 root0 address) (write_bytes part 1 root1 address) (zero_length ∙ sym one_length)) ∙ write_sum target message root0 root1 address there small in
+    write_sum target message root0 root1 address there small in
     let flip : nat_eq address target ≡ nat_eq target address = eq_sym address target in
     at_test (nat_eq target address) ∙ ap (xor_bytes bytes) (sym (sum ∙ ap (λ t. cond t message (replicate (length message) 0)) flip))
   where
@@ -54,7 +55,7 @@ write_adds width target message root0 root1 bytes address small wide fits there 
 
     at_test : (t : Bool) → xor_bytes bytes (cond t message []) ≡ xor_bytes bytes (cond t message (replicate (length message) 0))
     at_test true = refl
-    at_test false = sum-nil bytes ∙ sym (sum-zeros bytes (length message) (fits ∙ sym wide))
+    at_test false = xor_nil bytes ∙ sym (xor_bytes_zeros bytes (length message) (fits ∙ sym wide))
 
 adds_same : (header : Header) (serial : ℕ) (request : Option Request) (bytes : List ℕ) (address : ℕ) → IsFitIfAny header.settings.width request → length bytes ≡ header.settings.width → address < 2 ^ 128
     → xor_bytes bytes (message_at request address) ≡ xor_bytes bytes (xor_bytes (share_of header 0 serial request address) (share_of header 1 serial request address))
@@ -67,15 +68,15 @@ adds_same header serial (Some (Read own)) bytes address fit fits there = refl
 adds_same header serial (Some (Retire own)) bytes address fit fits there = refl
 
 adds_length : (width : ℕ) (request : Option Request) (bytes : List ℕ) (address : ℕ) → IsFitIfAny width request → length bytes ≡ width → length (xor_bytes bytes (message_at request address)) ≡ width
-adds_length width None bytes address fit fits = ap length (sum-nil bytes) ∙ fits
-adds_length width (Some (Register a)) bytes address fit fits = ap length (sum-nil bytes) ∙ fits
+adds_length width None bytes address fit fits = ap length (xor_nil bytes) ∙ fits
+adds_length width (Some (Register a)) bytes address fit fits = ap length (xor_nil bytes) ∙ fits
 adds_length width (Some (Write target message)) bytes address fit fits = at_test (nat_eq target address)
   where
     at_test : (t : Bool) → length (xor_bytes bytes (cond t message [])) ≡ width
-    at_test true = length-sum bytes message (fits ∙ sym fit.1) ∙ fits
-    at_test false = ap length (sum-nil bytes) ∙ fits
-adds_length width (Some (Read own)) bytes address fit fits = ap length (sum-nil bytes) ∙ fits
-adds_length width (Some (Retire own)) bytes address fit fits = ap length (sum-nil bytes) ∙ fits
+    at_test true = length-xor_bytes bytes message (fits ∙ sym fit.1) ∙ fits
+    at_test false = ap length (xor_nil bytes) ∙ fits
+adds_length width (Some (Read own)) bytes address fit fits = ap length (xor_nil bytes) ∙ fits
+adds_length width (Some (Retire own)) bytes address fit fits = ap length (xor_nil bytes) ∙ fits
 
 abbrev with_bytes : Mailbox → List ℕ → Mailbox
 with_bytes box bytes = record box { bytes = bytes }

@@ -1,6 +1,7 @@
 -- The boxes of one server, each with the server's share of its bytes.
 use Rattle.std.specs.Prelude.{◌≡◌, ℕ, ◌≤◌, ◌<◌, true, List, [], ◌∷◌, ◌++◌, length, map, replicate, slice_get, Some, None, Result, Ok, Err}
-use Rattle.mailbox_rules.specs.Tables.{Mailbox, box_of, xor_bytes}
+use Rattle.express_words.specs.Bytes.{xor_bytes}
+use Rattle.mailbox_rules.specs.Tables.{Mailbox, box_of}
 use Rattle.box_registry.specs.Boxes.{Box}
 use Rattle.box_registry.specs.declared.fault.RegFault.{RegFault}
 use Rattle.box_registry.specs.declared.fault.RegFault.TheVariants.{Taken, Full}

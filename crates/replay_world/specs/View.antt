@@ -4,7 +4,7 @@ use Rattle.express_words.specs.declared.settings.Settings.{Settings}
 use Rattle.mailbox_rules.specs.Requests.{Request, Register, Write, Read, Retire, Entry, Operation, AddBox}
 use Rattle.mailbox_rules.specs.Tables.{Table}
 use Rattle.dpf_rules.specs.Expansion.{draw32}
-use Rattle.dpf_keys.specs.Width.{IsWidth}
+use Rattle.express_words.specs.Limits.{IsWidth}
 use Rattle.schedule_text.specs.Rules.{IsAskable}
 use Rattle.schedule_text.specs.declared.schedule.Asked.{Asked}
 use Rattle.schedule_text.specs.declared.schedule.Event.{Event}

@@ -1,6 +1,7 @@
 //! One of the two servers: its boxes with their keys, and its shares of their bytes.
 ghost use Rattle.std.specs.Prelude.{◌≡◌, ◌<◌, ◌≤◌, [], length, true, slice_get, IfOk, Some};
-ghost use Rattle.mailbox_rules.specs.Tables.{xor_bytes, boxes_with, boxes_cleared, addresses};
+ghost use Rattle.express_words.specs.Bytes.{xor_bytes};
+ghost use Rattle.mailbox_rules.specs.Tables.{boxes_with, boxes_cleared, addresses};
 ghost use Rattle.dpf_rules.specs.Walk.{write_bytes, last_of};
 ghost use Rattle.mailbox_rules.specs.Laws.{bytes_of};
 ghost use Rattle.replay_world.specs.Shelf.{Registers, HasShare, HaveWidth, all_added};

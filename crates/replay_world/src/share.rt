@@ -1,7 +1,7 @@
 //! One server's share of a box's bytes.
 ghost use Rattle.std.specs.Prelude.{◌≡◌, length, replicate, IfOk};
+ghost use Rattle.express_words.specs.Bytes.{xor_bytes};
 ghost use Rattle.dpf_rules.specs.Walk.{leaf_bytes, last_of};
-ghost use Rattle.mailbox_rules.specs.Tables.{xor_bytes};
 
 use dpf_keys::{PublicPart, output_into};
 use dpf_rules::xor_into;

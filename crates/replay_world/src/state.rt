@@ -1,6 +1,6 @@
 //! The state of a run: the client, the two servers, and what was told and noted so far.
 ghost use Rattle.std.specs.Prelude.{◌≡◌, ℕ, ◌+◌, ◌<◌, ◌≤◌, ◌^◌, [], ◌∷◌, ◌++◌, length, OnOk, IfOk, replicate};
-ghost use Rattle.dpf_keys.specs.Width.{IsWidth};
+ghost use Rattle.express_words.specs.Limits.{IsWidth};
 ghost use Rattle.dpf_rules.specs.Keys.{honest_keys};
 ghost use Rattle.mailbox_rules.specs.Requests.{Registers};
 ghost use Rattle.replay_world.specs.Lines.{entry_of, told_of};
@@ -114,7 +114,7 @@ impl State {
     ghost use Rattle.replay_world.specs.Run.{Run, start, shares_of, carried_out, worked_off, refused_on, asked_on, all_worked_off, finished, happens};
     ghost use Rattle.replay_world.specs.View.{IsAt, IsInRun, Follows, AreAskable, HasAskable, shelf_of};
     ghost use Rattle.schedule_text.specs.Rules.{IsAskable};
-    ghost use Rattle.dpf_keys.specs.Width.{IsWidth};
+    ghost use Rattle.express_words.specs.Limits.{IsWidth};
     ghost use Rattle.schedule_text.specs.declared.schedule.Header.{Header};
 
     pub fn open(alloc: Global, header: &Header) -> State

@@ -1,7 +1,7 @@
 //! The boxes over the registry and the shares.
 ghost use Rattle.std.specs.Prelude.{◌≡◌, ◌+◌, ◌<◌, ◌≤◌, ℕ, IfOk, OnOk, OnErr, IfSome, Some, [], length, map, take, option_map, replicate, slice_get};
-ghost use Rattle.dpf_keys.specs.Width.{IsPart, IsWidth};
-ghost use Rattle.dpf_rules.specs.Bytes.{xor_bytes};
+ghost use Rattle.express_words.specs.Bytes.{xor_bytes};
+ghost use Rattle.express_words.specs.Limits.{IsPart, IsWidth};
 ghost use Rattle.dpf_rules.specs.Evaluation.{prefix_count};
 ghost use Rattle.dpf_rules.specs.Expansion.{mask};
 ghost use Rattle.dpf_rules.specs.Walk.{leaf_of};

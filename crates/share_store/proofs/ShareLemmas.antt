@@ -2,7 +2,7 @@
 use Rattle.std.proofs.Common.{◌≡◌, ℕ, zero, suc, ◌+◌, ◌<◌, Bool, true, false, List, [], ◌∷◌, length, replicate, take, get_or, slice_index, set, refl, sym, ap, ◌∙◌, arith, add-one}
 use Rattle.std.specs.List.{refill}
 use Rattle.std.proofs.lemmas.List.{length-set, get_or-set_same, set-get_or, set-set, append-nil, take_all, drop_all}
-use Rattle.dpf_rules.specs.Bytes.{xor_bytes}
+use Rattle.express_words.specs.Bytes.{xor_bytes}
 use Rattle.dpf_rules.specs.Walk.{leaf_bytes}
 use Rattle.share_store.specs.Shares.{Share, Shares, empty_share, share_at, share_with, shares_of, shares_with, with_cleared}
 use Rattle.share_store.specs.Rows.{shares_in}

@@ -1,6 +1,6 @@
 -- One server's shares as a caller sees them, and what a write leaves.
 use Rattle.std.specs.Prelude.{ℕ, Bool, true, if◌then◌else◌, List, [], ◌∷◌, replicate, slice_index_or, slice_set}
-use Rattle.dpf_rules.specs.Bytes.{xor_bytes}
+use Rattle.express_words.specs.Bytes.{xor_bytes}
 use Rattle.dpf_rules.specs.Walk.{leaf_bytes}
 
 -- a box's share, and whether the box is live

@@ -1,6 +1,6 @@
 //! The shares by box.
 ghost use Rattle.std.specs.Prelude.{◌≡◌, ◌<◌, ◌≤◌, IfOk, false, length, not, replicate, take};
-ghost use Rattle.dpf_rules.specs.Bytes.{xor_bytes};
+ghost use Rattle.express_words.specs.Bytes.{xor_bytes};
 ghost use Rattle.dpf_rules.specs.Walk.{last_of};
 ghost use Rattle.share_store.specs.Shares.{empty_share, share_at, shares_of, shares_with, with_cleared};
 ghost use Rattle.share_store.specs.Rows.{shares_in};

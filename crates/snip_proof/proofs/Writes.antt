@@ -7,7 +7,8 @@ use Rattle.std.proofs.lemmas.List.{get_or_past}
 use Rattle.std.proofs.lemmas.List.Elements.{All-nil, All-cons, All-head, All-tail}
 use Rattle.std.proofs.lemmas.Nat.{xor_lt}
 use Rattle.express_words.specs.declared.audit.ProofShare.{ProofShare}
-use Rattle.audit_rules.specs.Ranges.{IsProofShare, IsSums, word_in_range}
+use Rattle.express_words.specs.Ranges.{IsProofShare}
+use Rattle.audit_rules.specs.Ranges.{IsSums, word_in_range}
 use Rattle.audit_rules.specs.Audit.{whole_sums, whole_proof, zero_share, one_share, difference, PassesAt, ServersAccept}
 use Rattle.audit_rules.specs.Whole.{whole_is, servers_pass}
 use Rattle.audit_rules.specs.InRange.{sums-in_range, whole-in_range, zero-in_range, one-in_range}

@@ -1,10 +1,10 @@
 -- The client's steps at replies. In each function the first line that applies is taken.
 use Rattle.std.specs.Prelude.{ℕ, ◌+◌, ◌==◌, ◌&&◌, if◌then◌else◌, Bool, true, false, List, [], ◌∷◌, ◌++◌, length, Option, Some, None, slice_get, Result, Ok, Err}
+use Rattle.express_words.specs.Bytes.{xor_bytes}
 use Rattle.express_words.specs.declared.refusal.Refusal.{Refusal}
 use Rattle.express_words.specs.declared.refusal.Refusal.TheVariants as refusal
 use Rattle.frame_rules.specs.Frames as frame
 use Rattle.frame_rules.specs.Frames.{PlainFrame, PlainBody}
-use Rattle.dpf_rules.specs.Bytes.{xor_bytes}
 use Rattle.dpf_rules.specs.Expansion.{mask}
 use Rattle.frame_rules.specs.Whole.{whole}
 use Rattle.mailbox_rules.specs.Requests.{Request, Register, Write, Read, Retire}

@@ -1,5 +1,6 @@
 -- The helper's steps at commands of the leader. In each function the first line that applies is taken.
 use Rattle.std.specs.Prelude.{ℕ, ◌+◌, ◌-◌, nat_le, ◌==◌, if◌then◌else◌, Bool, true, false, List, [], ◌∷◌, ◌++◌, length, take, drop, Option, Some, None, slice_get, slice_index_or}
+use Rattle.express_words.specs.Bytes.{xor_bytes}
 use Rattle.express_words.specs.declared.audit.ProofShare.{ProofShare}
 use Rattle.express_words.specs.declared.audit.Openings.{Openings}
 use Rattle.express_words.specs.declared.audit.Closing.{Closing}
@@ -9,7 +10,6 @@ use Rattle.frame_rules.specs.declared.frame.DepositBody.TheVariants as deposit
 use Rattle.frame_rules.specs.Frames as frame
 use Rattle.frame_rules.specs.Frames.{PlainFrame, PlainBody, PlainReply}
 use Rattle.frame_rules.specs.Spelling.{spelling}
-use Rattle.dpf_rules.specs.Bytes.{xor_bytes}
 use Rattle.dpf_rules.specs.Evaluation.{prefix_count}
 use Rattle.dpf_rules.specs.Expansion.{draw32, token, mask}
 use Rattle.lane_table.specs.declared.row.Want.{Want}

@@ -1,5 +1,6 @@
 -- The leader's steps at replies of the helper.
 use Rattle.std.specs.Prelude.{ℕ, ◌+◌, nat_le, ◌==◌, ◌&&◌, not, if◌then◌else◌, Bool, true, false, List, [], ◌∷◌, ◌++◌, length, drop, Option, Some, None, slice_get, is_none}
+use Rattle.express_words.specs.Bytes.{xor_bytes}
 use Rattle.express_words.specs.declared.audit.ProofShare.{ProofShare}
 use Rattle.express_words.specs.declared.audit.Openings.{Openings}
 use Rattle.express_words.specs.declared.audit.Closing.{Closing}
@@ -7,7 +8,6 @@ use Rattle.express_words.specs.declared.refusal.Refusal.{Refusal}
 use Rattle.express_words.specs.declared.refusal.Refusal.TheVariants as refusal
 use Rattle.frame_rules.specs.Frames as frame
 use Rattle.frame_rules.specs.Frames.{PlainFrame, PlainBody, PlainReply}
-use Rattle.dpf_rules.specs.Bytes.{xor_bytes}
 use Rattle.dpf_rules.specs.Expansion.{mask}
 use Rattle.audit_rules.specs.Audit.{closing_of, opened_of, accepts}
 use Rattle.lane_table.specs.declared.row.Want.{Want}

@@ -1,6 +1,7 @@
 -- The bytes of the public part, by the viewer's path.
 use Rattle.std.proofs.Common.{◌≡◌, ℕ, ◌+◌, ◌<◌, List, ◌++◌, length, refl, sym, ap, ◌∙◌, arith, add-one}
-use Rattle.dpf_rules.specs.Bytes.{bytes_of, words_bytes, bits_number, xor_bytes}
+use Rattle.express_words.specs.Bytes.{xor_bytes}
+use Rattle.dpf_rules.specs.Bytes.{bytes_of, words_bytes, bits_number}
 use Rattle.dpf_rules.specs.Expansion.{block}
 use Rattle.dpf_rules.specs.Walk.{step, side_at}
 use Rattle.dpf_rules.specs.Keys.{Expansions, pair_at, level_word, level_right, keys, raw_pair, honest}

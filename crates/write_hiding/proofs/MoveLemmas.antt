@@ -2,11 +2,11 @@
 use Rattle.std.proofs.Common.{◌≡◌, ℕ, ◌+◌, List, [], ◌∷◌, ◌++◌, map, length, refl, ap, ◌∙◌, add-one, bit_xor}
 use Rattle.std.specs.Prelude.{slice_index}
 use Rattle.std.specs.List.{range_with_len}
-use Rattle.dpf_rules.specs.Bytes.{xor_bytes}
+use Rattle.express_words.specs.Bytes.{xor_bytes}
+use Rattle.express_words.proofs.Bytes.{xor_bytes_comm}
 use Rattle.dpf_rules.specs.Expansion.{block, challenge_r, challenge_s}
 use Rattle.dpf_rules.specs.Walk.{word_of, right_of, last_of, side_at, step, state_at}
 use Rattle.dpf_rules.specs.Keys.{Expansions, pair_at, raw_pair}
-use Rattle.dpf_rules.proofs.IdealLemmas.{xor_bytes_comm}
 use Rattle.poly_roots.specs.Polynomials.{plus_of, times_of}
 use Rattle.audit_rules.specs.declared.sums.Sums.{Sums}
 use Rattle.audit_rules.specs.Audit.{product, value, through_three, honest_f, honest_g}

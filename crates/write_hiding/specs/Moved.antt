@@ -2,7 +2,7 @@
 use Rattle.std.specs.Prelude.{ℕ, ◌+◌, ◌-◌, ◌%◌, ◌==◌, List, [], ◌∷◌, ◌++◌, map, length, slice_index, bit_xor}
 use Rattle.std.specs.Prelude.{if◌then◌else◌}
 use Rattle.std.specs.List.{range_with_len}
-use Rattle.dpf_rules.specs.Bytes.{xor_bytes}
+use Rattle.express_words.specs.Bytes.{xor_bytes}
 use Rattle.dpf_rules.specs.Expansion.{with_bit, block, challenge_r, challenge_s}
 use Rattle.dpf_rules.specs.Walk.{word_of, right_of, last_of, side_at, state_at}
 use Rattle.dpf_rules.specs.Keys.{Expansions, pair_at, on_side, raw_pair}

@@ -1,7 +1,7 @@
 //! The other server's expansions, moved to another target and message.
 ghost use Rattle.std.specs.Prelude.{◌≡◌, ◌+◌, ◌<◌, ◌≤◌, length, map, IfOk};
 ghost use Rattle.std.specs.List.{range_with_len};
-ghost use Rattle.dpf_rules.specs.Bytes.{xor_bytes};
+ghost use Rattle.express_words.specs.Bytes.{xor_bytes};
 ghost use Rattle.dpf_rules.specs.Expansion.{block};
 ghost use Rattle.dpf_rules.specs.Walk.{last_of, state_at};
 ghost use Rattle.write_hiding.specs.Choices.{plain_choice, plain_aim};

@@ -1,6 +1,6 @@
 //! The choice by which another write gives the viewer the same view.
 ghost use Rattle.std.specs.Prelude.{◌≡◌, ◌≢◌, ◌≤◌, length, AllPairs, Contains, IfOk};
-ghost use Rattle.dpf_keys.specs.Width.{IsWidth};
+ghost use Rattle.express_words.specs.Limits.{IsWidth};
 ghost use Rattle.write_hiding.specs.Choices.{plain_choice, plain_aim, plain_game};
 ghost use Rattle.write_hiding.specs.Views.{view};
 ghost use Rattle.write_hiding.specs.Moved.{moved};

@@ -1,9 +1,10 @@
 //! The public part of a choice.
 ghost use Rattle.std.specs.Prelude.{◌≡◌, ◌+◌, ◌++◌, ◌≤◌, length, IfOk};
-ghost use Rattle.dpf_rules.specs.Bytes.{bytes_of, words_bytes, bits_number, xor_bytes};
+ghost use Rattle.express_words.specs.Bytes.{xor_bytes};
+ghost use Rattle.dpf_rules.specs.Bytes.{bytes_of, words_bytes, bits_number};
 ghost use Rattle.dpf_rules.specs.Expansion.{block};
 ghost use Rattle.dpf_rules.specs.Ideal.{own_at};
-ghost use Rattle.dpf_keys.specs.Width.{IsWidth};
+ghost use Rattle.express_words.specs.Limits.{IsWidth};
 ghost use Rattle.write_hiding.specs.Choices.{plain_choice, plain_aim};
 ghost use Rattle.write_hiding.specs.Levels.{own_word, own_right};
 ghost use Rattle.write_hiding.specs.Views.{public_part};

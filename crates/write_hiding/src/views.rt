@@ -1,6 +1,6 @@
 //! The view of a choice.
 ghost use Rattle.std.specs.Prelude.{◌≡◌, ◌∷◌, ◌+◌, ◌-◌, ◌≤◌, length, IfOk};
-ghost use Rattle.dpf_keys.specs.Width.{IsWidth};
+ghost use Rattle.express_words.specs.Limits.{IsWidth};
 ghost use Rattle.audit_rules.specs.Audit.{opening_of, opened_of, closing_of};
 ghost use Rattle.write_hiding.specs.Choices.{plain_choice, plain_aim, plain_game};
 ghost use Rattle.write_hiding.specs.Views.{value_of, share_of, view};

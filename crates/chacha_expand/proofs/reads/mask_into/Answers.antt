@@ -1,6 +1,6 @@
 use Rattle.std.proofs.Common.{◌≡◌, ◌∙◌, ap, ℕ, ◌+◌, ◌-◌, List, take, drop, length, refl, arith}
 use Rattle.std.proofs.lemmas.List.{length-take-le}
-use Rattle.dpf_rules.specs.Bytes.{xor_bytes}
+use Rattle.express_words.specs.Bytes.{xor_bytes}
 use Rattle.dpf_rules.specs.Expansion.{stream_bytes}
 use Rattle.chacha_expand.proofs.StreamLemmas.{stream_slice, length-stream_bytes}
 use Rattle.chacha_expand.proofs.reads.mask_into.Goals as goal

@@ -1,7 +1,7 @@
 use Rattle.std.proofs.Common.{◌≡◌, List, Some, None, sym, ap, ◌∙◌, refl}
 use Rattle.std.specs.Prelude.{Bool, true, false, option_map, slice_get, not}
+use Rattle.express_words.specs.Bytes.{xor_bytes}
 use Rattle.frame_rules.specs.Frames.{plain}
-use Rattle.dpf_rules.specs.Bytes.{xor_bytes}
 use Rattle.dpf_rules.specs.Expansion.{mask, token}
 use Rattle.server_boxes.specs.Held.{Held}
 use Rattle.step_rules.specs.Boxes.{Box, with_read}

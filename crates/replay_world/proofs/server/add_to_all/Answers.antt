@@ -1,8 +1,9 @@
 use Rattle.std.proofs.Common.{◌≡◌, ◌<◌, ◌∙◌, ap, sym, length, slice_index_or, List, ℕ, arith}
+use Rattle.express_words.specs.Bytes.{xor_bytes}
+use Rattle.express_words.proofs.Bytes.{length-xor_bytes}
 use Rattle.dpf_rules.specs.Walk.{write_bytes, leaf_bytes, last_of}
-use Rattle.mailbox_rules.specs.Tables.{xor_bytes}
 use Rattle.replay_world.specs.Shelf.{all_added}
-use Rattle.replay_world.proofs.ByteLemmas.{length-sum, length-leaf}
+use Rattle.replay_world.proofs.ByteLemmas.{length-leaf}
 use Rattle.replay_world.proofs.ShelfLemmas.{width-at, width-set}
 use Rattle.replay_world.proofs.AddLemmas.{none_added, added-next, all_taken, get-default}
 use Rattle.replay_world.proofs.server.add_to_all.Goals as goal
@@ -30,7 +31,7 @@ loop-i-preserved c =
       added = added-next (write_bytes c.args.part.now c.args.server c.args.root) c.args.addresses.now c.args.shares.now c.loop-i.shares c.loop-i.i address share c.add.new.self there before
           (get-default c.args.addresses.now c.loop-i.i 0 there) c.loop-i.invariant.added (get-default c.loop-i.shares c.loop-i.i _ within) next;
       width = width-set width c.loop-i.shares c.loop-i.i c.add.new.self c.loop-i.invariant.width
-          (ap length c.add.ensures ∙ length-sum share (leaf_bytes c.args.part.now c.walk-leaf.result) (wide ∙ sym (length-leaf c.args.part.now c.walk-leaf.result)) ∙ wide);
+          (ap length c.add.ensures ∙ length-xor_bytes share (leaf_bytes c.args.part.now c.walk-leaf.result) (wide ∙ sym (length-leaf c.args.part.now c.walk-leaf.result)) ∙ wide);
     }
 
 pub returns : goal.returns

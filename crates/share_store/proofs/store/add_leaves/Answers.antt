@@ -1,7 +1,7 @@
 use Rattle.std.proofs.Common.{◌≡◌, ◌<◌, ◌∙◌, length, get_or, sym, [], ap, ℕ, List, arith}
 use Rattle.std.specs.List.{refill}
 use Rattle.std.proofs.lemmas.List.{length-set}
-use Rattle.dpf_rules.specs.Bytes.{xor_bytes}
+use Rattle.express_words.specs.Bytes.{xor_bytes}
 use Rattle.dpf_rules.specs.Walk.{leaf_bytes}
 use Rattle.block_region.specs.Region.{Blocks}
 use Rattle.share_store.specs.Rows.{shares_in}

@@ -1,7 +1,7 @@
 use Rattle.std.proofs.Common.{ap, arith, sym, ◌∙◌, ◌≡◌, ◌-◌, drop, length, subst, ℕ, List}
 use Rattle.std.proofs.lemmas.List.{take_rest, length-drop}
 use Rattle.dpf_rules.specs.Walk.{last_of}
-use Rattle.dpf_keys.specs.Width.{IsWidth}
+use Rattle.express_words.specs.Limits.{IsWidth}
 use Rattle.dpf_keys.proofs.part.PublicPart.last.Goals as goal
 
 pub returns-clause-value : goal.returns-clause-value

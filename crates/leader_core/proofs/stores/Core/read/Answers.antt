@@ -8,7 +8,7 @@ use Rattle.leader_core.specs.State.{leader_in}
 use Rattle.leader_core.proofs.KeepLemmas.{keeps_is, core_set, same_server, slot_here, box_there, no_box}
 use Rattle.step_rules.specs.LeaderReplies as replies
 use Rattle.std.proofs.Common.{Option, take, drop, ◌++◌}
-use Rattle.dpf_rules.specs.Bytes.{xor_bytes}
+use Rattle.express_words.specs.Bytes.{xor_bytes}
 use Rattle.dpf_rules.specs.Expansion.{mask}
 use Rattle.express_words.specs.Limits.{IsWidth}
 use Rattle.leader_core.proofs.SlotLemmas.{written_whole}

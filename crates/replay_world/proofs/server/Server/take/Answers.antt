@@ -1,7 +1,8 @@
 use Rattle.std.proofs.Common.{◌≡◌, length, List, slice_get, slice_set, replicate, arith, sym, ◌∙◌, ap, subst, true}
 use Rattle.std.proofs.lemmas.List.{length-replicate}
 use Rattle.std.proofs.Math.ListN.{length-set}
-use Rattle.mailbox_rules.specs.Tables.{Mailbox, xor_bytes, boxes_cleared}
+use Rattle.express_words.specs.Bytes.{xor_bytes}
+use Rattle.mailbox_rules.specs.Tables.{Mailbox, boxes_cleared}
 use Rattle.mailbox_rules.specs.Laws.{bytes_of}
 use Rattle.replay_world.specs.Shelf.{Shelf, mailboxes, HasShare}
 use Rattle.replay_world.proofs.ShelfLemmas.{length-mailboxes, bytes-mailboxes, cleared-mailboxes, width-at, width-set, share-there}

@@ -1,7 +1,7 @@
 use Rattle.std.proofs.Common.{◌≡◌, ◌∙◌, length, ap, refl, arith, List, ℕ, take, drop, ◌++◌, replicate}
-use Rattle.mailbox_rules.specs.Tables.{xor_bytes}
 use Rattle.mailbox_rules.specs.Laws.{bytes_of}
 use Rattle.std.specs.Prelude.{slice_get}
+use Rattle.express_words.specs.Bytes.{xor_bytes}
 use Rattle.replay_world.proofs.ByteLemmas.{written-back}
 use Rattle.replay_world.proofs.ReadStep.{read_follows, own_box_within}
 use Rattle.replay_world.proofs.state.State.read.Goals as goal

@@ -1,6 +1,6 @@
 use Rattle.std.proofs.Common.{◌≡◌, ◌<◌, ◌≤◌, ℕ, List, length, replicate, sym, ap, subst, ◌∙◌, arith}
 use Rattle.std.specs.Prelude.{Bool, true, false, ◌&&◌, slice_get, Some}
-use Rattle.dpf_rules.specs.Bytes.{xor_bytes}
+use Rattle.express_words.specs.Bytes.{xor_bytes}
 use Rattle.dpf_rules.specs.Expansion.{mask}
 use Rattle.share_store.specs.Shares.{Share, Shares, share_at}
 use Rattle.step_rules.specs.Boxes.{Box, with_read}
