@@ -1,0 +1,326 @@
+-- At the end of a schedule of clients each outcome and each printed line is that of the plain table.
+use Rattle.std.proofs.Common.{◌≡◌, ◌+◌, ◌-◌, ℕ, zero, suc, Bool, true, false, cond, List, [], ◌∷◌, length, take, Option, Some, None, slice_get, refl, sym, ap, ap₂, ◌∙◌, subst, arith}
+use Rattle.std.specs.Option.{option_map}
+use Rattle.std.proofs.lemmas.Option.{slice_get-map}
+use Rattle.mailbox_rules.specs.Requests.{Request, Register, Write, Read, Retire, Command, Registers, Begins, Audits, Settles, Reads, Retires, Line, Entry, Refuse, lines_of, opening_of, opens_with, operation_of, reads_box, retires_box}
+use Rattle.mailbox_rules.specs.Tables.{Mailbox, Result, Registered, Taken, Full, Began, WasAudited, Settled, Gave, NoBox, Refused, given, result_of, result_outline, result_sum, no_writes, table_after}
+use Rattle.token_rules.specs.Tokens as token
+use Rattle.token_rules.specs.Tokens.{World}
+use Rattle.token_rules.specs.Run.{line_of}
+use Rattle.token_rules.specs.Laws as laws
+use Rattle.token_rules.specs.Laws.{HasLine, HasLines, IsJournaled, last_of, turn}
+use Rattle.token_rules.specs.Invariant.{Backed, state}
+use Rattle.token_rules.specs.Stages.{IsOpening}
+use Rattle.token_rules.proofs.Lists.{get_taken}
+use Rattle.step_rules.specs.Client.{Outcome}
+use Rattle.run_rules.specs.Letters as run
+use Rattle.run_rules.specs.Letters.{Ended, FrameWorld, JournalLine, NoOwnBox, Told, Value}
+use Rattle.run_rules.specs.Book as book
+use Rattle.run_rules.specs.Book.{Book, all_boxes, place, request_of, table_at}
+use Rattle.run_rules.specs.Values.{boxes_at, shares_at, writes_at}
+use Rattle.run_rules.proofs.ReadCommands.{journal_count}
+use Rattle.run_rules.specs.Frames.{answer_at, answer_with, last_at, last_in, line_value, result_at}
+use Rattle.run_rules.specs.Follows.{AreOutcomes, Follows, IsLineOf, IsOutcome, Journals, Sound, TellsSame, Within, given_in, message_told, says}
+use Rattle.run_rules.specs.Known.{IsWhole}
+use Rattle.run_rules.specs.Plain.{IsAnswered, IsClients, IsToldPlain, JournalIsPlain, OutcomesArePlain, SharesAreFolds, outcome_of, plain_result, printed_of}
+use Rattle.run_rules.proofs.Places.{place_is}
+use Rattle.run_rules.proofs.ReadBasics.{asks, holds_box}
+use Rattle.run_rules.proofs.PlainTables.{results_are_plain}
+use Rattle.run_rules.proofs.PlainBoxes.{owned_then}
+use Rattle.run_rules.proofs.PlainOutcomes.{IsOf, NamesSo, comes_to, outlines_agree, prints, tells}
+
+-- ---- the history is one of clients
+
+module _ (b : Book) (v : World) (sound : Sound b) (whole : IsWhole b v) (honest : (c : ℕ) → b.foreign c ≡ false) where
+  hon : (c : ℕ) → v.foreign c ≡ false
+  hon c = ap (λ f. f c) whole.foreign ∙ honest c
+
+  entry_there : (i : ℕ) (e : Entry) → slice_get b.entries i ≡ Some e → slice_get v.journal i ≡ Some e
+  entry_there i e is = ap (λ es. slice_get es i) whole.journal ∙ is
+
+  tables_same : (i : ℕ) → laws.table_at v i ≡ table_at b i
+  tables_same i =
+      ap (λ limit. table_after limit v.width no_writes (take i v.journal)) whole.limit
+      ∙ ap (λ width. table_after b.settings.boxes width no_writes (take i v.journal)) whole.width
+      ∙ ap (λ es. table_after b.settings.boxes b.settings.width no_writes (take i es)) whole.journal
+
+  -- the request that an entry answers
+  pub record Answers (i : ℕ) (e : Entry) : Type 0 where
+    pub request : Request
+    pub asked : request_of b e.line.lane e.line.serial ≡ Some request
+    pub opens : opens_with e.line.command ≡ opening_of request
+    pub does : e.does ≡ operation_of ((table_at b i).got e.line.lane) e.line.command (Some request)
+    pub done : e.does ≡ Refuse → ⊥
+
+  pub answers : (i : ℕ) (e : Entry) → slice_get b.entries i ≡ Some e → Answers i e
+  answers i e is =
+      let by = whole.lawful.operations i e (entry_there i e is) (hon e.line.lane) in
+      record {
+        request = by.sent.request;
+        asked = ap (λ rs. slice_get rs (e.line.serial - 1)) (sym (whole.sent e.line.lane)) ∙ by.sent.is;
+        opens = by.sent.opens;
+        does = by.does ∙ ap (λ t. operation_of (t.got e.line.lane) e.line.command (Some by.sent.request)) (tables_same i);
+        done = by.done;
+      }
+
+  pub clients : IsClients b
+  clients = record {
+    sound = sound;
+    lanes = honest;
+    answers = λ i e is.
+        let a = answers i e is in
+        record { request = a.request; is = a.asked; does = a.does ∙ ap (operation_of ((table_at b i).got e.line.lane) e.line.command) (sym a.asked) };
+  }
+
+  -- ---- an entry's results
+
+  is_of : (i : ℕ) (e : Entry) → slice_get b.entries i ≡ Some e → IsOf e.line.command (result_at b 1 i e.line)
+  unfolding result_at
+  is_of i e is =
+      let a = answers i e is in
+      let got = (table_at b i).got e.line.lane in
+      let t = shares_at b 1 i in
+      subst (λ (r : Option Request). IsOf e.line.command (result_of b.settings.boxes (writes_at b 1) t e.line (operation_of got e.line.command r))) (sym a.asked)
+      (comes_to b.settings.boxes (writes_at b 1) t e.line got e.line.command a.request (λ refuse. a.done (a.does ∙ refuse)))
+
+  -- ---- outcomes
+
+  opening_again : (y : Command) → IsOpening y → opens_with (last_of y) ≡ y
+  opening_again Begins h = refl
+  opening_again Registers h = refl
+  opening_again Reads h = refl
+  opening_again Retires h = refl
+  opening_again Audits h = absurd h
+  opening_again Settles h = absurd h
+
+  not_begin : (y : Command) → last_of y ≡ Begins → ⊥
+  not_begin Begins e = cc e
+  not_begin Registers e = cc e
+  not_begin Reads e = cc e
+  not_begin Retires e = cc e
+  not_begin Audits e = cc e
+  not_begin Settles e = cc e
+
+  not_audit : (y : Command) → IsOpening y → last_of y ≡ Audits → ⊥
+  not_audit Begins h e = cc e
+  not_audit Registers h e = cc e
+  not_audit Reads h e = cc e
+  not_audit Retires h e = cc e
+  not_audit Audits h e = h
+  not_audit Settles h e = cc e
+
+  last_there : (lines : List Line) (c s : ℕ) (y : Command) → HasLines lines c s y → HasLine lines (line_of c s (last_of y))
+  last_there lines c s Begins h = h.2
+  last_there lines c s Registers h = h
+  last_there lines c s Audits h = h
+  last_there lines c s Settles h = h
+  last_there lines c s Reads h = h
+  last_there lines c s Retires h = h
+
+  -- the entry of a line
+  record EntryOf (i : ℕ) (x : Line) : Type 0 where
+    pub entry : Entry
+    pub is : slice_get b.entries i ≡ Some entry
+    pub line : entry.line ≡ x
+
+  entry_of : (i : ℕ) (x : Line) → slice_get (lines_of v.journal) i ≡ Some x → EntryOf i x
+  entry_of i x h = at_place (slice_get v.journal i) refl (sym (slice_get-map (λ (e : Entry). e.line) v.journal i) ∙ h)
+    where
+      at_place : (o : Option Entry) → slice_get v.journal i ≡ o → option_map (λ (e : Entry). e.line) o ≡ Some x → EntryOf i x
+      at_place (Some e) is line =
+          record { entry = e; is = ap (λ es. slice_get es i) (sym whole.journal) ∙ is; line = cc line }
+      at_place None is line = absurd (cc line)
+
+  answer_is : (c s i : ℕ) (y : Command) → last_at b c s ≡ y → place b c s y ≡ i
+      → answer_at b c s ≡ answer_with b i (line_of c s y) (result_at b 0 i (line_of c s y)) (result_at b 1 i (line_of c s y))
+  unfolding answer_at
+  answer_is c s i y last at = rw (last, at) refl
+
+  message_is : (c s i : ℕ) (y : Command) → last_at b c s ≡ y → place b c s y ≡ i
+      → message_told b c s ≡ given_in (result_sum (result_at b 0 i (line_of c s y)) (result_at b 1 i (line_of c s y)))
+  message_is c s i y last at = rw (last, at) refl
+
+  module _ (within : Within b v) where
+    answered : (c s : ℕ) (opening : Command) (outcome : Outcome) → IsOpening opening → HasLines (lines_of v.journal) c s opening
+        → says (answer_at b c s) (message_told b c s) ≡ Some outcome → IsAnswered b c outcome
+    answered c s opening outcome opens has told =
+        let y = last_of opening in
+        let there = last_there (lines_of v.journal) c s opening has in
+        let i = there.0 in
+        let found = entry_of i (line_of c s y) there.1 in
+        let e = found.entry in
+        let a = answers i e found.is in
+        let lane : e.line.lane ≡ c = ap (λ x. x.lane) found.line in
+        let serial : e.line.serial ≡ s = ap (λ x. x.serial) found.line in
+        let command : e.line.command ≡ y = ap (λ x. x.command) found.line in
+        let asked : request_of b c s ≡ Some a.request = ap₂ (request_of b) (sym lane) (sym serial) ∙ a.asked in
+        let opening_is : opening ≡ opening_of a.request = sym (opening_again opening opens) ∙ ap opens_with (sym command) ∙ a.opens in
+        let last : last_at b c s ≡ y = ap last_in asked ∙ ap last_of (sym opening_is) in
+        let issued = get_taken v.commands v.carried i (line_of c s y) (ap (λ xs. slice_get xs i) (sym whole.lawful.coherent.journal) ∙ there.1) in
+        let at = place_is b v whole.lawful.stages c s i y whole.lawful.coherent within (hon c) issued.1 in
+        let says_it = ap₂ says (sym (answer_is c s i y last at)) (sym (message_is c s i y last at)) ∙ told in
+        let kind : IsOf y (result_at b 1 i (line_of c s y)) =
+        subst (λ z. IsOf z (result_at b 1 i (line_of c s y))) command (subst (λ x. IsOf e.line.command (result_at b 1 i x)) found.line (is_of i e found.is)) in
+        let alike : result_outline (result_at b 0 i (line_of c s y)) ≡ result_outline (result_at b 1 i (line_of c s y)) =
+        subst (λ x. result_outline (result_at b 0 i x) ≡ result_outline (result_at b 1 i x)) found.line (outlines_agree b clients i e found.is) in
+        let tells_it = tells b i (line_of c s y) y _ _ kind (not_begin opening) (not_audit opening opens) alike outcome says_it in
+        record {
+          place = i;
+          entry = e;
+          is = found.is;
+          lane = lane;
+          request = a.request;
+          asked = ap (request_of b c) serial ∙ asked;
+          last = command ∙ ap last_of opening_is;
+          told =
+              ap (outcome_of b e.line) (sym (results_are_plain b clients i e found.is))
+              ∙ subst (λ x. outcome_of b x (result_sum (result_at b 0 i x) (result_at b 1 i x)) ≡ Some outcome) (sym found.line) tells_it;
+        }
+
+    outcome_at : (xs : List token.Outcome) (ys : List run.Outcome) (k : ℕ) (y : run.Outcome) → AreOutcomes b xs ys
+        → slice_get ys k ≡ Some y → (x : token.Outcome) × ((slice_get xs k ≡ Some x) × IsOutcome b x y)
+    outcome_at (x ∷ xs) (z ∷ ys) zero y h e = let same : z ≡ y = cc in (x, (refl, subst (IsOutcome b x) same h.0))
+    outcome_at (x ∷ xs) (z ∷ ys) (suc k) y h e = outcome_at xs ys k y h.1 e
+    outcome_at [] [] k y h e = absurd (cc e)
+    outcome_at [] (z ∷ ys) k y h e = absurd h
+    outcome_at (x ∷ xs) [] k y h e = absurd (cc e)
+
+    pub outcomes_are_plain : (f : FrameWorld) → Follows b f v → OutcomesArePlain b f v
+    outcomes_are_plain f h k y e =
+        let at = outcome_at v.outcomes f.outcomes k y h.outcomes e in
+        let x = at.0 in
+        let stands = whole.lawful.outcomes k x at.1.0 in
+        let backed = (whole.lawful.coherent.outcomes k x at.1.0).1 in
+        subst (λ c. IsToldPlain b c y.told) (sym at.1.1.client) (by_told x.client x.told y.told stands backed at.1.1.told)
+      where
+        by_told : (c : ℕ) (t : token.Told) (u : Told) → IsJournaled (lines_of v.journal) c t
+            → Backed (state v whole.lawful.stages) c t → TellsSame b c t u → IsToldPlain b c u
+        by_told c (token.Answered s opening) (Ended outcome) stands backed told = answered c s opening outcome backed.0 stands told
+        by_told c (token.Answered s opening) (NoOwnBox own) stands backed told = absurd told
+        by_told c (token.NoOwnBox own) u stands backed told = subst (λ u. IsToldPlain b c u) (sym told) tt
+
+  -- ---- the journal
+
+  name_of_read : (stays : Bool) (i : ℕ) (e : Entry) (own : ℕ) → slice_get b.entries i ≡ Some e → turn e.line.command ≡ 0
+      → request_of b e.line.lane e.line.serial ≡ Some (asks stays own) → (n : ℕ)
+      → slice_get ((table_at b i).got e.line.lane) own ≡ Some n → book.box_of b e.line.lane e.line.serial ≡ n
+  name_of_read stays i e own is opens q n got =
+      (holds_box b stays e.line.lane e.line.serial own n q
+      (ap (λ ns. slice_get ns own) (owned_then b v whole e.line.lane i e is refl (honest e.line.lane) opens) ∙ got)).named
+
+  given_names : (n m : ℕ) (bytes : List ℕ) (o : Option Mailbox) → given n o ≡ Gave m bytes → n ≡ m
+  given_names n m bytes None e = absurd (cc e)
+  given_names n m bytes (Some box) e = by_life box.live e
+    where
+      by_life : (t : Bool) → cond t (Gave n box.bytes) (NoBox n) ≡ Gave m bytes → n ≡ m
+      by_life true e = cc e
+      by_life false e = absurd (cc e)
+
+  read_names : (i : ℕ) (x : Line) (o : Option ℕ) (m : ℕ) (bytes : List ℕ)
+      → result_of b.settings.boxes (writes_at b 1) (shares_at b 1 i) x (reads_box o) ≡ Gave m bytes → o ≡ Some m
+  unfolding result_of
+  read_names i x (Some n) m bytes e = ap (λ n. Some n) (given_names n m bytes (slice_get (shares_at b 1 i).boxes n) e)
+  read_names i x None m bytes e = absurd (cc e)
+
+  retire_names : (i : ℕ) (x : Line) (o : Option ℕ) (m : ℕ) (bytes : List ℕ)
+      → result_of b.settings.boxes (writes_at b 1) (shares_at b 1 i) x (retires_box o) ≡ Gave m bytes → o ≡ Some m
+  unfolding result_of
+  retire_names i x (Some n) m bytes e = ap (λ n. Some n) (given_names n m bytes (slice_get (shares_at b 1 i).boxes n) e)
+  retire_names i x None m bytes e = absurd (cc e)
+
+  result_is : (i : ℕ) (e : Entry) (a : Answers i e) → result_at b 1 i e.line
+      ≡ result_of b.settings.boxes (writes_at b 1) (shares_at b 1 i) e.line (operation_of ((table_at b i).got e.line.lane) e.line.command (Some a.request))
+  unfolding result_at
+  result_is i e a =
+      ap (λ r. result_of b.settings.boxes (writes_at b 1) (shares_at b 1 i) e.line (operation_of ((table_at b i).got e.line.lane) e.line.command r)) a.asked
+
+  abbrev comes : ℕ → Entry → Command → Request → Result
+  comes i e y r =
+      result_of b.settings.boxes (writes_at b 1) (shares_at b 1 i) e.line (operation_of ((table_at b i).got e.line.lane) y (Some r))
+
+  box_given : (i : ℕ) (e : Entry) (n : ℕ) (bytes : List ℕ) (y : Command) (r : Request) → slice_get b.entries i ≡ Some e
+      → IsOf y (Gave n bytes) → opens_with y ≡ opening_of r → e.line.command ≡ y
+      → request_of b e.line.lane e.line.serial ≡ Some r → comes i e y r ≡ Gave n bytes
+      → book.box_of b e.line.lane e.line.serial ≡ n
+  box_given i e n bytes Reads (Read own) is k opens y q h =
+      name_of_read true i e own is (ap turn y) q n (read_names i e.line (slice_get ((table_at b i).got e.line.lane) own) n bytes h)
+  box_given i e n bytes Retires (Retire own) is k opens y q h =
+      name_of_read false i e own is (ap turn y) q n (retire_names i e.line (slice_get ((table_at b i).got e.line.lane) own) n bytes h)
+  box_given i e n bytes Reads (Register a) is k opens y q h = absurd (cc opens)
+  box_given i e n bytes Reads (Write t m) is k opens y q h = absurd (cc opens)
+  box_given i e n bytes Reads (Retire own) is k opens y q h = absurd (cc opens)
+  box_given i e n bytes Retires (Register a) is k opens y q h = absurd (cc opens)
+  box_given i e n bytes Retires (Write t m) is k opens y q h = absurd (cc opens)
+  box_given i e n bytes Retires (Read own) is k opens y q h = absurd (cc opens)
+  box_given i e n bytes Registers r is k opens y q h = absurd k
+  box_given i e n bytes Begins r is k opens y q h = absurd k
+  box_given i e n bytes Audits r is k opens y q h = absurd k
+  box_given i e n bytes Settles r is k opens y q h = absurd k
+
+  names_so : (i : ℕ) (e : Entry) → slice_get b.entries i ≡ Some e → (r : Result) → result_at b 1 i e.line ≡ r
+      → NamesSo b e.line.lane e.line.serial r
+  names_so i e is (Gave n bytes) gives =
+      let a = answers i e is in
+      box_given i e n bytes e.line.command a.request is (subst (IsOf e.line.command) gives (is_of i e is)) a.opens refl a.asked
+      (sym (result_is i e a) ∙ gives)
+  names_so i e is (Registered n) gives = tt
+  names_so i e is (Taken n) gives = tt
+  names_so i e is (Full n) gives = tt
+  names_so i e is (Began n) gives = tt
+  names_so i e is WasAudited gives = tt
+  names_so i e is (Settled t) gives = tt
+  names_so i e is (NoBox n) gives = tt
+  names_so i e is Refused gives = tt
+
+  line_at : (n : ℕ) (es : List Entry) (ls : List JournalLine) (i : ℕ) (e : Entry) → Journals b n es ls → slice_get es i ≡ Some e
+      → (l : JournalLine) × ((slice_get ls i ≡ Some l) × IsLineOf b (b.foreign e.line.lane) (n + i) e l)
+  line_at n (x ∷ es) (l ∷ ls) zero e h is =
+      let same : x ≡ e = cc in
+      let here : n ≡ n + 0 = omega arith in
+      (l, (refl, subst (λ k. IsLineOf b (b.foreign e.line.lane) k e l) here (subst (λ e. IsLineOf b (b.foreign e.line.lane) n e l) same h.0)))
+  line_at n (x ∷ es) (l ∷ ls) (suc i) e h is =
+      let next = line_at (suc n) es ls i e h.1 is in
+      let there : suc n + i ≡ n + suc i = omega arith in
+      (next.0, (next.1.0, subst (λ k. IsLineOf b (b.foreign e.line.lane) k e next.0) there next.1.1))
+  line_at n [] ls i e h is = absurd (cc is)
+  line_at n (x ∷ es) [] i e h is = absurd h
+
+  same_count : (n : ℕ) (es : List Entry) (ls : List JournalLine) → Journals b n es ls → length ls ≡ length es
+  same_count n [] [] h = refl
+  same_count n (e ∷ es) (l ∷ ls) h = ap suc (same_count (suc n) es ls h.1)
+  same_count n [] (l ∷ ls) h = absurd h
+  same_count n (e ∷ es) [] h = absurd h
+
+  printed_is : (i : ℕ) (e : Entry) → slice_get b.entries i ≡ Some e
+      → line_value b i e.line ≡ record { lane = e.line.lane; serial = e.line.serial; value = printed_of b e.line (plain_result b i e) }
+  printed_is i e is =
+      let value = prints b i e.line.lane e.line.serial e.line.command (result_at b 0 i e.line) (result_at b 1 i e.line) (is_of i e is)
+      (names_so i e is (result_at b 1 i e.line) refl) (outlines_agree b clients i e is) in
+      ap (λ u. journal_of e.line u) (value ∙ ap (printed_of b e.line) (results_are_plain b clients i e is))
+    where
+      journal_of : Line → Value → JournalLine
+      journal_of x u = record { lane = x.lane; serial = x.serial; value = u }
+
+  pub journal_is_plain : (f : FrameWorld) → Follows b f v → JournalIsPlain b f v
+  journal_is_plain f h = record {
+    count = same_count 0 v.journal f.journal h.journal ∙ ap length whole.journal;
+    lines = λ i e is.
+        let at = line_at 0 v.journal f.journal i e h.journal (entry_there i e is) in
+        let none : 0 + i ≡ i = omega arith in
+        let line : at.0 ≡ line_value b i e.line =
+        subst (λ k. at.0 ≡ line_value b k e.line) none (subst (λ t. IsLineOf b t (0 + i) e at.0) (honest e.line.lane) at.1.1) in
+        at.1.0 ∙ ap (λ l. Some l) (line ∙ printed_is i e is);
+  }
+
+  -- ---- the boxes
+
+  pub shares_are_folds : (f : FrameWorld) → Follows b f v → SharesAreFolds b f v
+  shares_are_folds f h =
+      let ok = whole.lawful.coherent in
+      let count = sym (journal_count v whole.lawful.stages ok) ∙ ap length whole.journal in
+      let before = ok.acknowledged in
+      record {
+        helper = h.helper.boxes ∙ ap (boxes_at b 1) count;
+        leader = h.leader.boxes;
+        acknowledged = omega (arith, count, before);
+      }

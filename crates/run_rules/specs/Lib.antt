@@ -1,0 +1,10 @@
+pub mod Letters
+pub mod Run
+pub mod Book
+pub mod Values
+pub mod Frames
+pub mod Follows
+pub mod Known
+pub mod Laws
+pub mod Plain
+pub mod History

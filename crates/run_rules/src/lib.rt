@@ -1,0 +1,36 @@
+//! The run of a schedule over bytes, and how it is the token run with content.
+//!
+//! `specs/Run` is the run over bytes, `specs/Book` to `specs/Frames` the content that follows from the history of a
+//! whole run, `specs/Follows` the relation between the two runs, and `specs/Plain` the plain table of a history.
+//! Each function here is empty: its contract is laws of them.
+#![tactic(auto)]
+
+ghost use Rattle.run_rules.specs.Follows.{Follows};
+ghost use Rattle.run_rules.specs.History.{AtEnd};
+ghost use Rattle.run_rules.specs.Plain.{HistoryIsClients, JournalIsPlain, OutcomesArePlain, RegisteredAreAccepted, ResultsArePlain, SharesAreFolds, SharesArePlain};
+
+/// At the end of every schedule of clients, whatever frames are lost, repeated or reordered, the run over bytes is the
+/// token run with the content that follows from its history: each frame is that of its token, and each actor holds
+/// what the history gives. The history is one of clients alone: each entry of the journal answers a request.
+pub fn runs_agree()
+    ensures follows { AtEnd Follows }
+    ensures clients { AtEnd HistoryIsClients }
+{}
+
+/// Each outcome is what the plain table of mailboxes gives at the place of its request's last entry in the journal, and
+/// each line of the journal is printed with the plain table's result. The servers' boxes are the folds of what each
+/// was sent: the helper's after the whole journal, the leader's after the entries that it has acknowledged.
+pub fn schedules_are_plain()
+    ensures outcomes { AtEnd OutcomesArePlain }
+    ensures journal { AtEnd JournalIsPlain }
+    ensures shares { AtEnd SharesAreFolds }
+{}
+
+/// In every history of clients both servers' shares add up to the plain table, box by box, after each entry; each
+/// entry's result is the plain table's, a read the sum of both servers' shares; and a write whose target stood among
+/// the boxes when it began is accepted.
+pub fn shares_are_plain()
+    ensures boxes { SharesArePlain }
+    ensures results { ResultsArePlain }
+    ensures accepted { RegisteredAreAccepted }
+{}
