@@ -1,12 +1,14 @@
 -- Eight lanes side by side.
-use Rattle.std.proofs.Common.{◌≡◌, ℕ, zero, suc, ◌<◌, ◌+◌, ◌-◌, ◌*◌, ◌/◌, ◌%◌, ◌^◌, List, [], ◌∷◌, length, map, get_or, slice_index, replicate, bit_or, bit_xor, arith, refl, sym, ap, ◌∙◌}
+use Rattle.std.proofs.Common.{◌≡◌, ℕ, zero, suc, ◌<◌, ◌≤◌, ◌+◌, ◌-◌, ◌*◌, ◌/◌, ◌%◌, ◌^◌, List, [], ◌∷◌, length, map, get_or, slice_index, replicate, bit_or, bit_xor, arith, refl, sym, ap, ◌∙◌}
 use Rattle.std.specs.Simd.Lanes.{zip2, Each1}
 use mir.Syntax.{Width, w32, w64}
 use mir.Val.{Fits}
 use Rattle.std.proofs.lemmas.Grind.{same_number_lists}
 use Rattle.std.proofs.lemmas.List.{get_or-map, length-map}
 use Rattle.std.proofs.lemmas.Simd.{length-zip2, get_or-zip2, get_or-replicate, Each1-get_or, Each1-from_get_or}
-use Rattle.rand_chacha.specs.Block.{xor_rotate}
+use Rattle.rand_chacha.specs.Block.{xor_rotate, initial_state, block_word}
+use Rattle.rand_chacha.specs.ChaCha.{word_at}
+use Rattle.chacha_expand.specs.KeyLanes.{state_word}
 
 -- what holds of each of the eight lanes
 pub below_eight : (P : ℕ → Type 0) → P 0 → P 1 → P 2 → P 3 → P 4 → P 5 → P 6 → P 7 → (j : ℕ) → j < 8 → P j
@@ -19,6 +21,21 @@ below_eight P p0 p1 p2 p3 p4 p5 p6 p7 (suc (suc (suc (suc (suc zero))))) h = p5
 below_eight P p0 p1 p2 p3 p4 p5 p6 p7 (suc (suc (suc (suc (suc (suc zero)))))) h = p6
 below_eight P p0 p1 p2 p3 p4 p5 p6 p7 (suc (suc (suc (suc (suc (suc (suc zero))))))) h = p7
 below_eight P p0 p1 p2 p3 p4 p5 p6 p7 (suc (suc (suc (suc (suc (suc (suc (suc n)))))))) h = absurd (omega arith)
+
+-- what holds of each of the sixteen words, by two runs of eight
+abbrev pub eight_more : ℕ → ℕ
+eight_more k = suc (suc (suc (suc (suc (suc (suc (suc k)))))))
+
+pub below_sixteen : (P : ℕ → Type 0) → ((k : ℕ) → k < 8 → P k) → ((k : ℕ) → k < 8 → P (eight_more k)) → (k : ℕ) → k < 16 → P k
+below_sixteen P low high zero h = low 0 (omega arith)
+below_sixteen P low high (suc zero) h = low 1 (omega arith)
+below_sixteen P low high (suc (suc zero)) h = low 2 (omega arith)
+below_sixteen P low high (suc (suc (suc zero))) h = low 3 (omega arith)
+below_sixteen P low high (suc (suc (suc (suc zero)))) h = low 4 (omega arith)
+below_sixteen P low high (suc (suc (suc (suc (suc zero))))) h = low 5 (omega arith)
+below_sixteen P low high (suc (suc (suc (suc (suc (suc zero)))))) h = low 6 (omega arith)
+below_sixteen P low high (suc (suc (suc (suc (suc (suc (suc zero))))))) h = low 7 (omega arith)
+below_sixteen P low high (suc (suc (suc (suc (suc (suc (suc (suc n)))))))) h = high n (omega arith)
 
 -- what holds of each of the four words
 pub below_four : (P : ℕ → Type 0) → P 0 → P 1 → P 2 → P 3 → (k : ℕ) → k < 4 → P k
@@ -167,3 +184,24 @@ module _ (xs ys : List ℕ) (len_x : length xs ≡ 8) (len_y : length ys ≡ 8) 
         get_or-map (λ (x : ℕ). x) xs j 0 0 (omega arith),
         get_or-map (λ (x : ℕ). x) ys j 0 0 (omega arith),
       ) (omega arith)
+
+-- ---- blocks
+
+-- the words of a block are those that its first state begins
+pub begun_word : (key : List ℕ) (counter nonce k : ℕ) → state_word (initial_state key counter nonce) k ≡ block_word 10 key counter nonce k
+unfolding block_word
+begun_word key counter nonce k = refl
+
+-- the words of a block are those of the stream
+pub word_of_block : (key : List ℕ) (stream block k n : ℕ) → k < 16 → n ≡ 16 * block + k → block_word 10 key block stream k ≡ word_at 10 key stream n
+word_of_block key stream block k n h e =
+    let row : n / 16 ≡ block = omega arith in
+    let column : n % 16 ≡ k = omega arith in
+    rw (row, column) refl
+
+-- eight blocks counted from one on
+pub counted : (block : ℕ) → block + 8 ≤ 2 ^ 64 → (j : ℕ) → j < 8
+    → slice_index (zip2 (λ x y. (x + y) % 2 ^ 64) (replicate 8 block) (0 ∷ 1 ∷ 2 ∷ 3 ∷ 4 ∷ 5 ∷ 6 ∷ 7 ∷ [])) j ≡ block + j
+counted block fits =
+    below_eight (λ (j : ℕ). slice_index (zip2 (λ x y. (x + y) % 2 ^ 64) (replicate 8 block) (0 ∷ 1 ∷ 2 ∷ 3 ∷ 4 ∷ 5 ∷ 6 ∷ 7 ∷ [])) j ≡ block + j)
+    (omega arith) (omega arith) (omega arith) (omega arith) (omega arith) (omega arith) (omega arith) (omega arith)

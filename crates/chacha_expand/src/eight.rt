@@ -6,33 +6,9 @@ ghost use Rattle.dpf_rules.specs.Bytes.{value_in};
 ghost use Rattle.dpf_rules.specs.Expansion.{with_bit};
 ghost use Rattle.dpf_rules.specs.Keys.{raw_pair};
 
-use crate::lanes::first_words;
+use crate::halves::{high_words, low_words, numbers};
+use crate::lanes::{first_states, words};
 use std::simd::{u32x8, u64x8};
-
-// The low words of 64 bits.
-#[inline(always)]
-fn low_words(halves: u64x8) -> u32x8
-    ensures { (j : ℕ) → j < 8 → slice_index result j ≡ slice_index halves j % 2 ^ 32 }
-{
-    let shift = u64x8::splat(32);
-    ((halves << shift) >> shift).cast::<u32>()
-}
-
-// The high words of 64 bits.
-#[inline(always)]
-fn high_words(halves: u64x8) -> u32x8
-    ensures { (j : ℕ) → j < 8 → slice_index result j ≡ slice_index halves j / 2 ^ 32 }
-{
-    (halves >> u64x8::splat(32)).cast::<u32>()
-}
-
-// The words of two vectors side by side, as 64 bits.
-#[inline(always)]
-fn joined(low: u32x8, high: u32x8) -> u64x8
-    ensures { (j : ℕ) → j < 8 → slice_index result j ≡ slice_index low j + 2 ^ 32 * slice_index high j }
-{
-    low.cast::<u64>() + (high.cast::<u64>() << u64x8::splat(32))
-}
 
 // The halves of a node's key: of its state without the control bit.
 #[inline(always)]
@@ -83,40 +59,11 @@ fn key_words(states: &[u128; 8]) -> [u32x8; 4]
     ]
 }
 
-// A number by its halves.
-#[inline(always)]
-fn number(low: u64, high: u64) -> u128
-    ensures { result ≡ low + 2 ^ 64 * high }
-{
-    u128::from(low) + (u128::from(high) << 64)
-}
-
-// The number in each lane of four vectors of words, the lowest word first.
-#[inline(always)]
-fn numbers(words: [u32x8; 4]) -> [u128; 8]
-    ensures { (j : ℕ) → j < 8 → slice_index result j
-        ≡ value_in (2 ^ 32) (lane_at words 0 j ∷ lane_at words 1 j ∷ lane_at words 2 j ∷ lane_at words 3 j ∷ []) }
-{
-    let [w0, w1, w2, w3] = words;
-    let [l0, l1, l2, l3, l4, l5, l6, l7] = joined(w0, w1).to_array();
-    let [h0, h1, h2, h3, h4, h5, h6, h7] = joined(w2, w3).to_array();
-    [
-        number(l0, h0),
-        number(l1, h1),
-        number(l2, h2),
-        number(l3, h3),
-        number(l4, h4),
-        number(l5, h5),
-        number(l6, h6),
-        number(l7, h7),
-    ]
-}
-
 /// The raw children of eight states, left and right: what `children` gives for each, several times as fast.
 pub fn children8(states: &[u128; 8]) -> [(u128, u128); 8]
     ensures { result ≡ map raw_pair states.now }
 {
-    let [w0, w1, w2, w3, w4, w5, w6, w7] = first_words(key_words(states));
+    let [w0, w1, w2, w3, w4, w5, w6, w7, ..] = words(first_states(key_words(states)));
     let [l0, l1, l2, l3, l4, l5, l6, l7] = numbers([w0, w1, w2, w3]);
     let [r0, r1, r2, r3, r4, r5, r6, r7] = numbers([w4, w5, w6, w7]);
     [

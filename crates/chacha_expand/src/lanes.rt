@@ -1,11 +1,12 @@
-//! ChaCha20's block function (RFC 8439, section 2.3) under eight keys at once. Each word of the state is a vector with one
-//! lane a key. The shape is for speed; lane by lane it is `rand_chacha`'s specification of the block.
+//! ChaCha20's block function (RFC 8439, section 2.3) on eight states at once. Each word of the state is a vector with one
+//! lane a block. The shape is for speed; lane by lane it is `rand_chacha`'s specification of the block.
 ghost use Rattle.std.specs.Prelude.{◌≡◌, ℕ, ◌<◌, slice_index};
-ghost use Rattle.rand_chacha.specs.Block.{add32, xor_rotate, quarter_round, column_round, diagonal_round, initial_state, block_word};
+ghost use Rattle.rand_chacha.specs.Block.{add32, xor_rotate, quarter_round, column_round, diagonal_round, initial_state};
 ghost use Rattle.rand_chacha.specs.Lanes.{lane, lane_at};
-ghost use Rattle.chacha_expand.specs.KeyLanes.{key_lane};
+ghost use Rattle.chacha_expand.specs.KeyLanes.{key_lane, state_word};
 
-use std::simd::u32x8;
+use crate::halves::{high_words, low_words};
+use std::simd::{u32x8, u64x8};
 
 #[inline(always)]
 fn add(a: u32x8, b: u32x8) -> u32x8
@@ -77,9 +78,9 @@ fn double_round(state: [u32x8; 16]) -> [u32x8; 16]
     ]
 }
 
-// The states that the rounds begin with: the constants, the keys, and zeros for counter and stream.
+/// The states that begin block 0 of stream 0 under eight keys whose last four words are zero.
 #[inline(always)]
-fn first_states(keys: [u32x8; 4]) -> [u32x8; 16]
+pub fn first_states(keys: [u32x8; 4]) -> [u32x8; 16]
     ensures { (j : ℕ) → j < 8 → lane j result ≡ initial_state (key_lane j keys) 0 0 }
 {
     let [k0, k1, k2, k3] = keys;
@@ -104,12 +105,37 @@ fn first_states(keys: [u32x8; 4]) -> [u32x8; 16]
     ]
 }
 
-/// The first eight words of block 0 of stream 0, under eight keys whose last four words are zero.
+/// The states that begin a block of a stream under one key: each lane has its own block and its own stream.
 #[inline(always)]
-pub fn first_words(keys: [u32x8; 4]) -> [u32x8; 8]
-    ensures { (j k : ℕ) → j < 8 → k < 8 → lane_at result k j ≡ block_word 10 (key_lane j keys) 0 0 k }
+pub fn stream_states(key: &[u32; 8], blocks: u64x8, streams: u64x8) -> [u32x8; 16]
+    ensures { (j : ℕ) → j < 8 → lane j result ≡ initial_state key.now (slice_index blocks j) (slice_index streams j) }
 {
-    let first = first_states(keys);
+    let [k0, k1, k2, k3, k4, k5, k6, k7] = *key;
+    [
+        u32x8::splat(0x6170_7865),
+        u32x8::splat(0x3320_646e),
+        u32x8::splat(0x7962_2d32),
+        u32x8::splat(0x6b20_6574),
+        u32x8::splat(k0),
+        u32x8::splat(k1),
+        u32x8::splat(k2),
+        u32x8::splat(k3),
+        u32x8::splat(k4),
+        u32x8::splat(k5),
+        u32x8::splat(k6),
+        u32x8::splat(k7),
+        low_words(blocks),
+        high_words(blocks),
+        low_words(streams),
+        high_words(streams),
+    ]
+}
+
+/// The words of the blocks that eight states begin.
+#[inline(always)]
+pub fn words(first: [u32x8; 16]) -> [u32x8; 16]
+    ensures { (j k : ℕ) → j < 8 → k < 16 → lane_at result k j ≡ state_word (lane j first) k }
+{
     let mut state = first;
     'rounds: for _round in 0..10u32 {
         state = double_round(state);
@@ -123,5 +149,13 @@ pub fn first_words(keys: [u32x8; 4]) -> [u32x8; 8]
         add(state[5], first[5]),
         add(state[6], first[6]),
         add(state[7], first[7]),
+        add(state[8], first[8]),
+        add(state[9], first[9]),
+        add(state[10], first[10]),
+        add(state[11], first[11]),
+        add(state[12], first[12]),
+        add(state[13], first[13]),
+        add(state[14], first[14]),
+        add(state[15], first[15]),
     ]
 }

@@ -2,13 +2,17 @@
 //! servers and clients, and the tokens and masks of reads.
 #![tactic(auto)]
 
+mod blocks;
+mod challenges;
 mod draws;
 mod eight;
+mod halves;
 mod lanes;
 mod reads;
 mod stream;
 mod tree;
 
+pub use challenges::challenge8;
 pub use draws::{challenge, choices, draw32, owner_keys};
 pub use eight::children8;
 pub use reads::{mask_into, token};

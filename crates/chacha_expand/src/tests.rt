@@ -156,6 +156,87 @@ fn challenges(rt: HostRuntime) {
     );
 }
 
+// Two runs of eight blocks, and five blocks more: the bytes at the ends of each.
+#[test]
+fn many_blocks(rt: HostRuntime) {
+    let mut block = [0u8; 1360];
+    block_into(STATES[7], &mut block);
+    assert_eq!(rt;
+        &block[504..520],
+        b"\xcc\x28\x83\xd2\xbe\x09\xbb\xb3\x9a\x85\xc4\x2a\xc0\x29\xbd\x02".as_slice()
+    );
+    assert_eq!(rt;
+        &block[1016..1032],
+        b"\xe8\x99\x93\xca\x47\x14\x08\x29\x91\xe8\xab\x5f\x53\xbd\x9d\xc3".as_slice()
+    );
+    assert_eq!(rt;
+        &block[1344..1360],
+        b"\xfb\xfe\xa0\x00\xd8\x6a\xcf\xf4\x29\x4b\x08\x90\x75\x04\x49\xdd".as_slice()
+    );
+    let mut fewer = [0u8; 1024];
+    block_into(STATES[7], &mut fewer);
+    assert_eq!(rt;
+        &fewer[504..520],
+        b"\xcc\x28\x83\xd2\xbe\x09\xbb\xb3\x9a\x85\xc4\x2a\xc0\x29\xbd\x02".as_slice()
+    );
+    assert_eq!(rt;
+        &fewer[1008..1024],
+        b"\x14\xb8\x96\x12\xda\x5d\xd3\xdd\xe8\x99\x93\xca\x47\x14\x08\x29".as_slice()
+    );
+}
+
+#[test]
+fn eight_challenges(rt: HostRuntime) {
+    let ckey =
+        *b"\xe6\x1f\x10\x02\xd0\x68\xa0\x32\x8b\x71\xda\x43\xe6\x74\xec\xd7\xcd\x84\x55\x2b\x00\xdd\xd3\x01\xbd\x1d\x15\x3d\x0c\x80\x9d\xdc";
+    let addresses = [
+        0x3ef5615c9c144550d7c820396a443a32,
+        0x00000000000000000000000000000000,
+        0x00000000000000000000000000000001,
+        0x00000000000000010000000000000000,
+        0xffffffffffffffffffffffffffffffff,
+        0x0000000000000000ffffffffffffffff,
+        0x5bc8fbbcbde5c0994164d8399f767c45,
+        0xd76d4330f1446beab0c11fdecb91ce37,
+    ];
+    let expected = [
+        (
+            0x8821f7efc0081078ecdb156415161980,
+            0x98bec89ced31ab932fb442465a9f64d6,
+        ),
+        (
+            0x07eeadd6f79526029b493e78ecb7b871,
+            0x1ecc4f750736dfeb9aeebc2820779509,
+        ),
+        (
+            0x063cd8204b6fa4f98ecd84c6cdef727f,
+            0x863f69b66a334327bbc9e61cfdb14238,
+        ),
+        (
+            0x7f0e3e4e9ea77e9c41c69a52f9f3dfe6,
+            0x90f595d75b4d0f284df114827da3f9eb,
+        ),
+        (
+            0xaee7f50c9941156d7e6fd5415f1dc6f9,
+            0x78f65a8907fc77425ca4e06d5126bee3,
+        ),
+        (
+            0x3b5810a396b91e595aca6ec044912ba5,
+            0x8ad9ef45f26e3653b998ea645531b466,
+        ),
+        (
+            0xae1acba9b39aa836ab37c30db734638e,
+            0x8828e44ada14f574d8d63c7e833cded1,
+        ),
+        (
+            0x49d573d79938eeeb1b644b1135801ba7,
+            0x4ee3be1f2c07709f828667dcb84f459a,
+        ),
+    ];
+    assert_eq!(rt; challenge8(&ckey, &addresses), expected);
+    assert_eq!(rt; challenge8(&ZEROS, &[0; 8]), [ZERO_PAIR; 8]);
+}
+
 #[test]
 fn tokens_and_masks(rt: HostRuntime) {
     assert_eq!(rt; token(&ZEROS, 0, 0), ZERO_PAIR.0);

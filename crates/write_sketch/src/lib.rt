@@ -1,12 +1,14 @@
 //! The sums of a server's leaves under a challenge key.
 #![tactic(auto)]
 
+mod eight;
+
 ghost use Rattle.std.specs.Prelude.{◌≡◌, length, bit_xor};
 ghost use Rattle.audit_rules.specs.Audit.{product};
 ghost use Rattle.audit_rules.specs.Challenges.{sums_under};
 
 pub use audit_rules::Sums;
-use chacha_expand::challenge;
+use eight::refresh;
 use field_tables::{Tables, mul_fast};
 
 // The sums with one box more, whose leaf is `w`, by three products.
@@ -40,8 +42,10 @@ pub fn sums(states: &[u128], addresses: &[u128], ckey: &[u8; 32]) -> Sums
         m: 0,
         z: 0,
     };
+    let mut eight = [(0, 0); 8];
     for i in 0..states.len() {
-        let (r, s) = challenge(ckey, addresses[i]);
+        refresh(ckey, addresses, i, &mut eight);
+        let (r, s) = eight[i % 8];
         sums = with_box(&tables, sums, states[i], r, s);
     }
     sums

@@ -1,4 +1,4 @@
-use Rattle.std.proofs.Common.{◌≡◌, ◌∙◌, ap, length, ℕ, ◌*◌, ◌%◌, ◌^◌, refl, arith}
+use Rattle.std.proofs.Common.{◌≡◌, ◌∙◌, ap, length, ℕ, ◌+◌, ◌*◌, ◌/◌, ◌%◌, ◌<◌, ◌^◌, refl, arith}
 use Rattle.rand_core.proofs.StepsLemmas.{fill_bytes-value}
 use Rattle.rand_core.specs.Steps.{fill_via_u32, steps_u32}
 use Rattle.rand_chacha.specs.ChaCha.{ChaCha, next_word, key_of}
@@ -17,7 +17,8 @@ returns c =
     let place : c.set_word_pos.new.self ≡ record { key = key_of key; stream = c.args.stream; word_pos = block * 16 } =
     c.set_word_pos.ensures ∙ rw (begun, word) refl in
     let bytes : 4 * (block * 16) ≡ 64 * block = omega arith in
+    let room : block * 16 + (n + 3) / 4 < 2 ^ 68 = omega arith in
     fill_bytes-value (steps_u32 (next_word 10)) n c.set_word_pos.new.self _ _ c.fill_bytes.ensures
     ∙ ap (λ (g : ChaCha). (fill_via_u32 (next_word 10) n g).0) place
-    ∙ filled_is key c.args.stream (block * 16) n (omega arith)
+    ∙ filled_is key c.args.stream (block * 16) n room
     ∙ ap (λ (x : ℕ). stream_bytes key c.args.stream x n) bytes

@@ -1,5 +1,5 @@
 use Rattle.chacha_expand.proofs.LaneLemmas.{low_fits, low_cast}
-use Rattle.chacha_expand.proofs.eight.low_words.Goals as goal
+use Rattle.chacha_expand.proofs.halves.low_words.Goals as goal
 
 pub overflow_cast-result : goal.overflow_cast-result
 overflow_cast-result c = low_fits c.args.halves c.fits-halves.0 c.fits-halves.1

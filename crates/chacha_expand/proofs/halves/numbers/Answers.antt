@@ -3,7 +3,7 @@ use Rattle.rand_chacha.specs.Lanes.{lane_at}
 use Rattle.dpf_rules.specs.Bytes.{value_in}
 use Rattle.chacha_expand.proofs.LaneLemmas.{below_eight}
 use Rattle.chacha_expand.proofs.NodeLemmas.{four_words}
-use Rattle.chacha_expand.proofs.eight.numbers.Goals as goal
+use Rattle.chacha_expand.proofs.halves.numbers.Goals as goal
 
 pub returns : goal.returns
 returns c j h =

@@ -1,7 +1,7 @@
 use Rattle.std.proofs.Common.{◌≡◌, ℕ, ◌<◌}
 use Rattle.rand_chacha.specs.Block.{double_rounds}
 use Rattle.rand_chacha.specs.Lanes.{lane}
-use Rattle.chacha_expand.proofs.lanes.first_words.Given as goal
+use Rattle.chacha_expand.proofs.lanes.words.Given as goal
 
 abbrev pub invariant-rounds : goal.invariant-rounds
 invariant-rounds l = (j : ℕ) → j < 8 → lane j l.state ≡ double_rounds l._round (lane j l.first)
