@@ -1,8 +1,6 @@
 -- What a client's write is made of.
-use Rattle.std.proofs.Common.{◌≡◌, ◌^◌, ℕ, List, [], ◌∷◌, length, bit_xor, slice_index, take, Option, Some, None, refl, ap, ◌∙◌}
-use Rattle.std.specs.Prelude.{All}
-use Rattle.std.specs.List.{AllByRecursion, range_with_len}
-use Rattle.std.proofs.lemmas.List.Elements.{All-head, All-tail}
+use Rattle.std.proofs.Common.{◌≡◌, ◌^◌, ℕ, List, length, bit_xor, slice_index, take, Option, Some, None, refl, ap, ◌∙◌}
+use Rattle.std.specs.List.{range_with_len}
 use Rattle.dpf_rules.specs.Expansion.{choice}
 use Rattle.dpf_rules.specs.Keys.{honest_keys}
 use Rattle.dpf_rules.specs.Walk.{leaf_of}

@@ -1,5 +1,5 @@
 //! A client over its state.
-ghost use Rattle.std.specs.Prelude.{◌≡◌, ◌≤◌, ℕ, List, length, take, drop, IfOk, IfErr, OnErr, Ok, Err, Some, None, option_map, if◌then◌else◌, false};
+ghost use Rattle.std.specs.Prelude.{◌≡◌, ◌≤◌, ℕ, List, length, take, drop, IfOk, IfErr, OnErr, Ok, Err, Some, None, option_map, is_none, if◌then◌else◌, false};
 ghost use Rattle.express_words.specs.Limits.{IsWidth};
 ghost use Rattle.mailbox_rules.specs.Requests.{Write};
 ghost use Rattle.step_rules.specs.Client.{opened_client, Step};
@@ -71,6 +71,13 @@ impl Client {
         }
         self.state.add_box(box_number, serial);
         true
+    }
+
+    /// Whether no request is current.
+    pub fn is_idle(&self) -> bool
+        ensures { result ≡ is_none self.now.current }
+    {
+        self.state.stage.is_none()
     }
 
     /// Takes a request, which is then current. The first of these that applies is the fault: another request is current,

@@ -15,6 +15,3 @@ mod state;
 pub use client::Client;
 pub use progress::{Outcome, Progress};
 pub use request::{AskFault, Request};
-
-#[cfg(test)]
-mod tests;

@@ -1,6 +1,6 @@
 -- An audit, a settle and a read: what they leave of the helper, and what is said.
-use Rattle.std.proofs.Common.{◌≡◌, ◌<◌, ◌≤◌, ℕ, Bool, true, false, cond, List, length, take, map, set, Option, Some, None, refl, sym, ap, ◌∙◌, arith}
-use Rattle.std.specs.Prelude.{option_map, slice_get, not}
+use Rattle.std.proofs.Common.{◌≡◌, ℕ, Bool, true, false, cond, List, take, set, Option, Some, None, refl, sym, ap, ◌∙◌}
+use Rattle.std.specs.Prelude.{option_map, slice_get}
 use Rattle.std.proofs.lemmas.Bool.{eq-eqb, ne_eqb}
 use Rattle.express_words.specs.Bytes.{xor_bytes}
 use Rattle.express_words.specs.declared.settings.Settings.{Settings}
@@ -13,12 +13,11 @@ use Rattle.frame_rules.specs.Frames as frame
 use Rattle.frame_rules.specs.Frames.{PlainFrame}
 use Rattle.audit_rules.specs.Audit.{accepts, closing_of, opened_of}
 use Rattle.audit_rules.specs.Values.{Write, opens, values}
-use Rattle.dpf_rules.specs.Evaluation.{prefix_count}
 use Rattle.dpf_rules.specs.Expansion.{mask, token}
 use Rattle.server_boxes.specs.Held.{Held, with_boxes}
 use Rattle.step_rules.specs.Boxes.{Box, addresses_of, with_read, with_write}
 use Rattle.step_rules.specs.Helper as steps
-use Rattle.step_rules.specs.HelperCommands.{audit, audited, audit_steps, read, read_at, read_live, settle, replies_with, refuses, done}
+use Rattle.step_rules.specs.HelperCommands.{audit, read, read_at, read_live, settle, replies_with, refuses, done}
 use Rattle.helper_core.specs.declared.slot.Slot.{Slot}
 use Rattle.helper_core.specs.declared.said.Said.{Said}
 use Rattle.helper_core.specs.declared.said.Said.TheVariants as said

@@ -1,11 +1,11 @@
 -- Where a command's number stands on the link.
-use Rattle.std.proofs.Common.{◌≡◌, ◌≢◌, ◌<◌, ◌≤◌, ◌+◌, ◌-◌, ◌⊎◌, ℕ, zero, suc, List, [], ◌∷◌, ◌++◌, length, take, drop, get_or, Some, None, inl, inr, refl, sym, ap, ◌∙◌, arith}
+use Rattle.std.proofs.Common.{◌≡◌, ◌≢◌, ◌<◌, ◌≤◌, ◌+◌, ◌-◌, ◌⊎◌, ℕ, zero, suc, List, [], ◌∷◌, ◌++◌, length, take, drop, get_or, Some, None, inl, inr, refl, ap, ◌∙◌, arith}
 use Rattle.std.specs.Prelude.{slice_get, Option}
 use Rattle.std.proofs.lemmas.Bool.{eq-eqb, ne_eqb, le-leb, lt-leb}
 use Rattle.frame_rules.specs.Frames.{PlainFrame}
 use Rattle.frame_rules.specs.Whole.{is_command, linked}
 use Rattle.step_rules.specs.Helper.{Helper, LinkTurn, Repeated, Ignored}
-use Rattle.step_rules.specs.HelperCommands.{arrives, arrival_steps, if_command, carried_with, carries_out, carry_steps, kept_for, on_link_bytes, link_steps}
+use Rattle.step_rules.specs.HelperCommands.{arrives, arrival_steps, if_command, carried_with, carries_out, carry_steps, on_link_bytes, link_steps}
 
 get_there : (xs : List (List ℕ)) (n : ℕ) (x : List ℕ) → slice_get xs n ≡ Some x → get_or xs n [] ≡ x
 get_there [] n x e = absurd (cc e)

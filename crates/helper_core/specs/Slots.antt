@@ -1,7 +1,6 @@
 -- The rows of the helper, read from the slots that hold them.
 use Rattle.std.specs.Prelude.{◌≡◌, ℕ, ◌+◌, ◌≤◌, List, length, map, take, Option, Some, None}
 use Rattle.dpf_rules.specs.Walk.{leaf_of}
-use Rattle.express_words.specs.declared.audit.ProofShare.{ProofShare}
 use Rattle.frame_rules.specs.declared.frame.DepositBody.{DepositBody}
 use Rattle.frame_rules.specs.Frames as frame
 use Rattle.frame_rules.specs.Frames.{PlainFrame, PlainBody}

@@ -3,7 +3,7 @@ use Rattle.std.specs.Prelude.{◌≡◌, ℕ, ◌≤◌, List, length, slice_get
 use Rattle.express_words.specs.declared.settings.Settings.{Settings}
 use Rattle.express_words.specs.Limits.{KeepsLimits}
 use Rattle.link_order.specs.Link.{Carried, IsCarried}
-use Rattle.frame_rules.specs.Spelling.{spelling}
+use Rattle.frame_rules.specs.Spelling.{spelling, IsFrame}
 use Rattle.server_boxes.specs.Held.{Held, share_of}
 use Rattle.step_rules.specs.Boxes.{addresses_of}
 use Rattle.step_rules.specs.Helper as steps
@@ -45,3 +45,9 @@ abbrev pub turned : steps.Answer → LinkTurn
 turned (steps.Carried reply) = turn.Carried (length (spelling reply))
 turned (steps.Repeated bytes) = turn.Repeated (length bytes)
 turned steps.Ignored = turn.Ignored
+
+-- the reply to a command that is carried out is a frame
+abbrev pub IsCarriedFrame : steps.Answer → Type 0
+IsCarriedFrame (steps.Carried reply) = IsFrame reply
+IsCarriedFrame (steps.Repeated bytes) = Unit {0}
+IsCarriedFrame steps.Ignored = Unit {0}

@@ -4,10 +4,11 @@ ghost use Rattle.express_words.specs.Limits.{KeepsLimits};
 ghost use Rattle.frame_rules.specs.Spelling.{spelling, IsFrame};
 ghost use Rattle.frame_rules.specs.Frames.{plain, plain_body};
 ghost use Rattle.frame_rules.specs.Whole.{has_width, is_command};
+ghost use Rattle.step_rules.specs.Refusals.{IsRefusal, AnswerLeaves};
 ghost use Rattle.step_rules.specs.Helper.{opened_helper, written};
 ghost use Rattle.step_rules.specs.HelperClients.{on_client};
 ghost use Rattle.step_rules.specs.HelperCommands.{on_link_bytes, link_steps, carried_with, carries_out, carry_steps};
-ghost use Rattle.helper_core.specs.State.{share_in, turned};
+ghost use Rattle.helper_core.specs.State.{share_in, turned, IsCarriedFrame};
 
 use crate::server::Server;
 use dpf_eval::Steps;
@@ -72,9 +73,11 @@ impl Helper {
     pub fn on_client(&mut self, frame: &[u8], out: &mut [u8]) -> usize
         requires room { 8213 ≤ length out.old }
         ensures helper { self.new ≡ (on_client self.old frame.now).helper }
+        ensures refused { IsRefusal (on_client self.old frame.now).reply.body → self.new ≡ self.old }
         ensures length { result ≡ length (spelling (on_client self.old frame.now).reply) }
         ensures written { take result out.new ≡ spelling (on_client self.old frame.now).reply }
         ensures rest { drop result out.new ≡ drop result out.old }
+        ensures settings { self.new.server.settings ≡ self.old.server.settings }
     {
         self.server.on_client(frame, out)
     }
@@ -89,10 +92,14 @@ impl Helper {
     ) -> LinkTurn
         requires room { 8213 ≤ length out.old }
         ensures helper { self.new ≡ (on_link_bytes self.old frame.now).helper }
+        ensures refused { AnswerLeaves (on_link_bytes self.old frame.now).answer self.old self.new }
         ensures answer { result ≡ turned (on_link_bytes self.old frame.now).answer }
         ensures written { take (length (written (on_link_bytes self.old frame.now).answer)) out.new ≡ written (on_link_bytes self.old frame.now).answer }
         ensures rest { drop (length (written (on_link_bytes self.old frame.now).answer)) out.new ≡ drop (length (written (on_link_bytes self.old frame.now).answer)) out.old }
         ensures steps { steps.new ≡ steps.old + link_steps self.old frame.now }
+        ensures settings { self.new.server.settings ≡ self.old.server.settings }
+        // The reply to a command that is carried out now is a frame of the grammar.
+        ensures frame { IsCarriedFrame (on_link_bytes self.old frame.now).answer }
     {
         let Some(command) = command_in(frame, self.server.width()) else {
             return LinkTurn::Ignored;
@@ -125,6 +132,8 @@ impl Helper {
         ensures written { take result out.new ≡ written (carried_with self.old (plain command.now) (carries_out self.old.server (plain command.now))).answer }
         ensures rest { drop result out.new ≡ drop result out.old }
         ensures steps { steps.new ≡ steps.old + carry_steps self.old.server (plain command.now) }
+        ensures settings { self.new.server.settings ≡ self.old.server.settings }
+        ensures frame { IsCarriedFrame (carried_with self.old (plain command.now) (carries_out self.old.server (plain command.now))).answer }
     {
         let said = self.server.carry_out(command, &mut self.masked, steps);
         let body = said.body(&self.masked);
@@ -136,7 +145,8 @@ impl Helper {
 
     /// How many boxes stand.
     pub fn count(&self) -> u32
-        ensures { result ≡ length self.now.server.boxes }
+        ensures count { result ≡ length self.now.server.boxes }
+        ensures within { result ≤ self.now.server.settings.boxes }
     {
         self.server.count()
     }

@@ -10,6 +10,3 @@ mod slot;
 mod taken;
 
 pub use helper::{Helper, LinkTurn};
-
-#[cfg(test)]
-mod tests;

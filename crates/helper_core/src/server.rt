@@ -78,7 +78,8 @@ impl Server {
     }
 
     pub(crate) fn count(&self) -> u32
-        ensures { result ≡ length self.now.boxes }
+        ensures count { result ≡ length self.now.boxes }
+        ensures within { result ≤ self.now.settings.boxes }
     {
         self.boxes.count()
     }

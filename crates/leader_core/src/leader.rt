@@ -2,6 +2,7 @@
 ghost use Rattle.std.specs.Prelude.{◌≡◌, ◌↔◌, ◌+◌, ◌<◌, ◌≤◌, IfOk, IfSome, IsNone, None, Some, length, option_map, take, drop};
 ghost use Rattle.express_words.specs.Limits.{KeepsLimits};
 ghost use Rattle.frame_rules.specs.Spelling.{spelling};
+ghost use Rattle.step_rules.specs.Refusals.{TurnLeaves, AckLeaves};
 ghost use Rattle.step_rules.specs.Leader.{opened_leader, written};
 ghost use Rattle.step_rules.specs.LeaderClients.{on_client};
 ghost use Rattle.step_rules.specs.LeaderReplies.{on_reply_bytes, resent};
@@ -70,6 +71,7 @@ impl Leader {
     ) -> Turn
         requires room { 8213 ≤ length out.old }
         ensures leader { self.new ≡ (on_client self.old frame.now).leader }
+        ensures refused { TurnLeaves (on_client self.old frame.now).answer self.old self.new }
         ensures answer { result ≡ turned (on_client self.old frame.now).answer }
         ensures written { take (length (written (on_client self.old frame.now).answer)) out.new ≡ written (on_client self.old frame.now).answer }
         ensures rest { drop (length (written (on_client self.old frame.now).answer)) out.new ≡ drop (length (written (on_client self.old frame.now).answer)) out.old }
@@ -84,6 +86,7 @@ impl Leader {
     pub fn on_link_reply(&mut self, frame: &[u8], out: &mut [u8]) -> Ack
         requires room { 8213 ≤ length out.old }
         ensures leader { self.new ≡ (on_reply_bytes self.old frame.now).leader }
+        ensures refused { AckLeaves (on_reply_bytes self.old frame.now).ack self.old self.new }
         ensures answer { result ≡ acked (on_reply_bytes self.old frame.now).ack }
         ensures written { take (length (acked_bytes (on_reply_bytes self.old frame.now).ack)) out.new ≡ acked_bytes (on_reply_bytes self.old frame.now).ack }
         ensures rest { drop (length (acked_bytes (on_reply_bytes self.old frame.now).ack)) out.new ≡ drop (length (acked_bytes (on_reply_bytes self.old frame.now).ack)) out.old }
@@ -103,6 +106,14 @@ impl Leader {
         ensures rest { drop (sent_length result) out.new ≡ drop (sent_length result) out.old }
     {
         self.core.resend(out)
+    }
+
+    /// How many commands are outstanding.
+    pub fn outstanding(&self) -> usize
+        ensures count { result ≡ length self.now.outstanding }
+        ensures few { result ≤ 32 }
+    {
+        self.core.outstanding()
     }
 
     /// How many boxes stand.

@@ -18,8 +18,3 @@ mod writing;
 
 pub use leader::Leader;
 pub use turn::{Ack, Turn};
-
-#[cfg(test)]
-mod run;
-#[cfg(test)]
-mod tests;

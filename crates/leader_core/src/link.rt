@@ -112,6 +112,18 @@ impl Core {
         }
     }
 
+    /// How many commands are outstanding.
+    pub(crate) fn outstanding(&self) -> usize
+        requires is { IsCore self.now }
+        ensures count { result ≡ length (leader_in self.now).outstanding }
+        ensures few { result ≤ 32 }
+    {
+        match self.link.oldest() {
+            None => 0,
+            Some((number, _)) => (self.link.next() - number) as usize,
+        }
+    }
+
     /// Writes the oldest outstanding command again.
     pub(crate) fn resend(&self, out: &mut [u8]) -> Option<(u64, usize)>
         requires is { IsCore self.now }

@@ -1,6 +1,6 @@
 -- The boxes that the registry and the shares hold together.
 use Rattle.std.proofs.Common.{inl, inr, ◌≡◌, ◌<◌, ◌≤◌, ◌+◌, ◌-◌, ℕ, zero, suc, List, [], ◌∷◌, ◌++◌, length, map, take, drop, get_or, set, replicate, refl, sym, ap, subst, ◌∙◌, arith}
-use Rattle.std.specs.Prelude.{◌&&◌, slice_get, Option, Some, None, option_map, Bool, nat_le, cond, position, ◌==◌, Result, Ok, Err, OnOk, OnErr}
+use Rattle.std.specs.Prelude.{◌&&◌, slice_get, Option, Some, None, option_map, Bool, nat_le, position, ◌==◌, Result, Ok, Err, OnOk, OnErr}
 use Rattle.std.proofs.lemmas.Bool.{cases_lt, cases_Bool, leb-false}
 use Rattle.box_registry.specs.declared.fault.RegFault.{RegFault}
 use Rattle.box_registry.specs.declared.fault.RegFault.TheVariants.{Full}

@@ -1,5 +1,5 @@
 -- The boxes that a registry and the shares hold together.
-use Rattle.std.specs.Prelude.{◌≡◌, ℕ, ◌-◌, ◌≤◌, List, [], ◌∷◌, length, drop, replicate}
+use Rattle.std.specs.Prelude.{◌≡◌, ◌-◌, ◌≤◌, List, [], ◌∷◌, length, drop, replicate}
 use Rattle.share_store.specs.Shares.{Share, Shares, empty_share}
 use Rattle.box_registry.specs.Boxes.{Boxes}
 use Rattle.box_registry.specs.Boxes as registry

@@ -18,7 +18,7 @@ use Rattle.step_rules.specs.Boxes.{Box, addresses_of, place_of, with_new, with_w
 use Rattle.audit_rules.specs.Audit.{accepts}
 use Rattle.audit_rules.specs.Values.{Write, Values, values, ckey_of}
 use Rattle.frame_rules.specs.Whole.{is_command, linked, on_link}
-use Rattle.step_rules.specs.Helper.{Server, Helper, Row, Stage, Idle, Deposited, Begun, Proved, Audited, Done, row, row_at, with_row, Answer, Carried, Repeated, Ignored, LinkTurn}
+use Rattle.step_rules.specs.Helper.{Server, Helper, Row, Stage, Idle, Deposited, Begun, Proved, Audited, Done, row, row_at, with_row, Carried, Repeated, Ignored, LinkTurn}
 
 -- what carrying a command out leaves, before its reply is kept
 pub record Effect : Type 0 where

@@ -1,5 +1,5 @@
 -- What the leader is between two frames, and what it answers.
-use Rattle.std.specs.Prelude.{ℕ, List, [], replicate, slice_index_or, slice_set, Option, Some, None}
+use Rattle.std.specs.Prelude.{ℕ, List, [], replicate, slice_index_or, slice_set}
 use Rattle.express_words.specs.declared.settings.Settings.{Settings}
 use Rattle.express_words.specs.declared.refusal.Refusal.{Refusal}
 use Rattle.express_words.specs.declared.audit.ProofShare.{ProofShare}

@@ -15,7 +15,7 @@ use Rattle.lane_table.specs.declared.row.Want.TheVariants.{Register, Write as Wr
 use Rattle.step_rules.specs.Boxes.{Box, place_of, with_new, with_write, with_read}
 use Rattle.audit_rules.specs.Values.{Write, ckey_of}
 use Rattle.frame_rules.specs.Whole.{is_reply, linked, answer, on_link}
-use Rattle.step_rules.specs.Leader.{Leader, Asked, Registering, Writing, Reading, Retiring, Stage, Idle, Waiting, Challenged, Auditing, Settling, Done, row, row_at, with_row, want_of, ToLane, Settles, Ignored, AckTurn}
+use Rattle.step_rules.specs.Leader.{Leader, Registering, Writing, Stage, Waiting, Challenged, Auditing, Settling, Done, row, row_at, with_row, ToLane, Settles, Ignored, AckTurn}
 
 -- An applied reply: c is its command, which is acknowledged.
 

@@ -8,3 +8,4 @@ pub mod LeaderReplies
 pub mod Client
 pub mod ClientAsks
 pub mod ClientReplies
+pub mod Refusals

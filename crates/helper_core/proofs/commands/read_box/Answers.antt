@@ -1,5 +1,5 @@
-use Rattle.std.proofs.Common.{◌≡◌, List, Some, None, sym, ap, ◌∙◌, refl}
-use Rattle.std.specs.Prelude.{Bool, true, false, option_map, slice_get, not}
+use Rattle.std.proofs.Common.{List, sym, ap, ◌∙◌}
+use Rattle.std.specs.Prelude.{slice_get}
 use Rattle.express_words.specs.Bytes.{xor_bytes}
 use Rattle.frame_rules.specs.Frames.{plain}
 use Rattle.dpf_rules.specs.Expansion.{mask, token}

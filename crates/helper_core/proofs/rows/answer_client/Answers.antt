@@ -1,5 +1,5 @@
 use Rattle.std.proofs.Common.{sym, ap, ◌∙◌}
-use Rattle.frame_rules.specs.Frames.{PlainFrame, plain}
+use Rattle.frame_rules.specs.Frames.{plain}
 use Rattle.step_rules.specs.HelperClients.{on_whole}
 use Rattle.helper_core.specs.Slots.{turn_in}
 use Rattle.helper_core.proofs.RowLemmas.{is_taken, not_taken, same_rows}

@@ -1,11 +1,10 @@
-use Rattle.std.proofs.Common.{sym, ap, ◌∙◌, arith}
+use Rattle.std.proofs.Common.{ap, ◌∙◌, arith}
 use Rattle.std.proofs.lemmas.List.Elements.{All-set}
 use Rattle.frame_rules.specs.Frames.{plain}
-use Rattle.frame_rules.specs.Whole.{answer}
 use Rattle.step_rules.specs.HelperClients.{if_lane}
 use Rattle.helper_core.specs.declared.taken.Brought.{Brought}
 use Rattle.helper_core.specs.declared.taken.Brought.TheVariants as taken
-use Rattle.helper_core.specs.Slots.{row_with, taken_row, turn_in, IsSlot}
+use Rattle.helper_core.specs.Slots.{row_with, taken_row, IsSlot}
 use Rattle.helper_core.proofs.RowLemmas.{lane_refused, lane_turn}
 use Rattle.helper_core.proofs.rows.at_lane.Goals as goal
 

@@ -1,13 +1,10 @@
-use Rattle.std.proofs.Common.{◌≡◌, ◌<◌, ◌+◌, ◌≤◌, ℕ, List, Some, None, refl, set, sym, ap, subst, ◌∙◌, length, take, map, arith}
+use Rattle.std.proofs.Common.{◌≡◌, ◌<◌, List, Some, refl, set, sym, ap, subst, ◌∙◌, length, arith}
 use Rattle.std.proofs.lemmas.List.{set-get_or, length-map}
-use Rattle.std.specs.Prelude.{option_map}
 use Rattle.frame_rules.specs.Frames.{plain}
 use Rattle.express_words.specs.declared.refusal.Refusal.TheVariants as refusal
 use Rattle.step_rules.specs.Boxes.{Box, addresses_of}
 use Rattle.step_rules.specs.Helper as steps
-use Rattle.server_boxes.specs.Held.{Held}
 use Rattle.helper_core.specs.declared.slot.Slot.{Slot}
-use Rattle.helper_core.specs.declared.said.Said.{Said}
 use Rattle.helper_core.specs.declared.said.Said.TheVariants as said
 use Rattle.helper_core.specs.Said.{effect_in}
 use Rattle.helper_core.specs.Slots.{IsSlot}

@@ -3,7 +3,7 @@ use Rattle.frame_rules.specs.declared.frame.Body.{Body}
 use Rattle.frame_rules.specs.Frames.{plain, plain_body}
 use Rattle.express_words.specs.declared.refusal.Refusal.TheVariants as refusal
 use Rattle.step_rules.specs.Helper.{row_at}
-use Rattle.step_rules.specs.HelperCommands.{command, command_steps, carry_steps, stage_for, no_deposit, refuses}
+use Rattle.step_rules.specs.HelperCommands.{command, command_steps, carry_steps, stage_for, refuses}
 use Rattle.helper_core.proofs.CommandLemmas.{lane_above, lane_below, steps_above, steps_below, other_command}
 use Rattle.helper_core.proofs.server.Server.carry_out.Goals as goal
 

@@ -1,4 +1,4 @@
-use Rattle.std.proofs.Common.{◌≡◌, ◌<◌, ◌≤◌, ◌+◌, ℕ, List, length, sym, ap, subst, ◌∙◌, refl, arith}
+use Rattle.std.proofs.Common.{length, sym, ap, ◌∙◌}
 use Rattle.server_boxes.specs.Held.{Held}
 use Rattle.server_boxes.proofs.Both.{length-boxes_in, fits}
 use Rattle.server_boxes.proofs.boxes.ServerBoxes.count.Goals as goal

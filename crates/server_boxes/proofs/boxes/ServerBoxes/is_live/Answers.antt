@@ -1,4 +1,4 @@
-use Rattle.std.proofs.Common.{◌≡◌, ◌<◌, ◌≤◌, ◌+◌, ℕ, List, length, sym, ap, subst, ◌∙◌, refl, arith}
+use Rattle.std.proofs.Common.{◌≡◌, ◌<◌, length, sym, ap, ◌∙◌, refl, arith}
 use Rattle.std.specs.Prelude.{option_map, slice_get, Some, not, Bool, true, false}
 use Rattle.share_store.specs.Shares.{empty_share, share_at}
 use Rattle.step_rules.specs.Boxes.{Box}

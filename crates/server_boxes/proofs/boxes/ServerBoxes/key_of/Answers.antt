@@ -1,5 +1,5 @@
-use Rattle.std.proofs.Common.{◌≡◌, ◌<◌, ◌≤◌, ◌+◌, ℕ, List, length, sym, ap, subst, ◌∙◌, refl, arith}
-use Rattle.std.specs.Prelude.{option_map, slice_get, Some, None}
+use Rattle.std.proofs.Common.{length, sym, ap, ◌∙◌, refl, arith}
+use Rattle.std.specs.Prelude.{option_map, slice_get}
 use Rattle.box_registry.specs.Boxes as registry
 use Rattle.step_rules.specs.Boxes.{Box}
 use Rattle.server_boxes.specs.Held.{Held}

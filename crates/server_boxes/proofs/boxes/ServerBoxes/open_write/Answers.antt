@@ -1,4 +1,4 @@
-use Rattle.std.proofs.Common.{◌≡◌, ◌≤◌, ◌+◌, ℕ, List, length, map, take, sym, ap, ◌∙◌, arith}
+use Rattle.std.proofs.Common.{◌≡◌, ◌+◌, ℕ, List, length, map, take, sym, ap, ◌∙◌, arith}
 use Rattle.dpf_rules.specs.Evaluation.{prefix_count}
 use Rattle.dpf_rules.specs.Walk.{leaf_of}
 use Rattle.audit_rules.specs.declared.sums.Sums.{Sums}
@@ -7,8 +7,7 @@ use Rattle.audit_rules.specs.Challenges.{sums_under}
 use Rattle.box_registry.specs.Boxes as registry
 use Rattle.audit_rules.specs.Values.{opens, sums_at}
 use Rattle.step_rules.specs.Boxes.{addresses_of}
-use Rattle.server_boxes.specs.Held.{Held, write_in}
-use Rattle.server_boxes.specs.Rows.{boxes_in}
+use Rattle.server_boxes.specs.Held.{Held}
 use Rattle.server_boxes.proofs.Both.{length-boxes_in, addresses-boxes_in, fits}
 use Rattle.server_boxes.proofs.boxes.ServerBoxes.open_write.Goals as goal
 

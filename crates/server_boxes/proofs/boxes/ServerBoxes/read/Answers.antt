@@ -1,11 +1,11 @@
-use Rattle.std.proofs.Common.{◌≡◌, ◌<◌, ◌≤◌, ℕ, List, length, replicate, sym, ap, subst, ◌∙◌, arith}
-use Rattle.std.specs.Prelude.{Bool, true, false, ◌&&◌, slice_get, Some}
+use Rattle.std.proofs.Common.{◌≡◌, ◌<◌, ℕ, List, length, sym, ap, subst, ◌∙◌, arith}
+use Rattle.std.specs.Prelude.{Bool, false, ◌&&◌, slice_get}
 use Rattle.express_words.specs.Bytes.{xor_bytes}
 use Rattle.dpf_rules.specs.Expansion.{mask}
-use Rattle.share_store.specs.Shares.{Share, Shares, share_at}
-use Rattle.step_rules.specs.Boxes.{Box, with_read}
+use Rattle.share_store.specs.Shares.{Shares, share_at}
+use Rattle.step_rules.specs.Boxes.{with_read}
 use Rattle.server_boxes.specs.Held.{Held, HasSameAddresses, with_boxes}
-use Rattle.server_boxes.specs.Rows.{boxes_in, held_in}
+use Rattle.server_boxes.specs.Rows.{held_in}
 use Rattle.server_boxes.proofs.Both.{length-boxes_in, fits, found_share, found_key, read_rows, read_boxes, same_addresses}
 use Rattle.server_boxes.proofs.Masks.{masked_is}
 use Rattle.server_boxes.proofs.boxes.ServerBoxes.read.Goals as goal

@@ -1,12 +1,10 @@
-use Rattle.std.proofs.Common.{◌≡◌, ◌<◌, ◌≤◌, ◌+◌, ℕ, List, length, sym, ap, subst, ◌∙◌, refl, arith}
-use Rattle.std.specs.Prelude.{OnOk, OnErr, Ok, Err, Result, position, ◌==◌}
-use Rattle.box_registry.specs.declared.fault.RegFault.{RegFault}
-use Rattle.box_registry.specs.Boxes.{Boxes, answer_at, answer_to, with_box}
-use Rattle.box_registry.specs.Boxes as registry
+use Rattle.std.proofs.Common.{◌≡◌, length, sym, ap, subst, ◌∙◌}
+use Rattle.std.specs.Prelude.{OnOk}
+use Rattle.box_registry.specs.Boxes.{answer_at}
 use Rattle.step_rules.specs.Boxes.{place_of, with_new}
 use Rattle.server_boxes.specs.Held.{Held, with_boxes}
 use Rattle.server_boxes.specs.Rows.{held_in}
-use Rattle.server_boxes.proofs.Both.{fits, length-boxes_in, answer_is, registered_rows, registered_boxes}
+use Rattle.server_boxes.proofs.Both.{answer_is, registered_rows, registered_boxes}
 use Rattle.server_boxes.proofs.boxes.ServerBoxes.register.Goals as goal
 
 pub invariant_of-self : goal.invariant_of-self

@@ -1,4 +1,4 @@
-use Rattle.std.proofs.Common.{◌≡◌, ◌<◌, ◌≤◌, ◌+◌, ℕ, List, length, sym, ap, subst, ◌∙◌, refl, arith}
+use Rattle.std.proofs.Common.{ap, ◌∙◌, arith}
 use Rattle.server_boxes.specs.Held.{Held, share_at}
 use Rattle.server_boxes.proofs.Both.{share_is}
 use Rattle.server_boxes.proofs.boxes.ServerBoxes.share.Goals as goal

@@ -1,0 +1,13 @@
+use Rattle.std.proofs.Common.{sym, ap, subst, ◌∙◌}
+use Rattle.step_rules.specs.Leader.{Leader}
+use Rattle.step_rules.specs.LeaderReplies.{on_reply_bytes}
+use Rattle.step_rules.specs.Refusals.{AckLeaves}
+use Rattle.step_rules.proofs.LeaderRefusals.{requests}
+use Rattle.leader_core.proofs.leader.Leader.on_link_reply.Goals as goal
+
+pub returns-clause-refused : goal.returns-clause-refused
+returns-clause-refused c =
+    let a = c.args.self.now in
+    let bytes = c.args.frame.now in
+    let new = c.on_reply.ensures.does.leader ∙ ap (λ (x : Leader). (on_reply_bytes x bytes).leader) c.self.view_is in
+    subst (λ (x : Leader). AckLeaves (on_reply_bytes a bytes).ack a x) (sym new) (requests a bytes)

@@ -1,0 +1,2 @@
+pub mod HelperRefusals
+pub mod LeaderRefusals
