@@ -173,6 +173,8 @@ start_follows b v k = record {
       there = λ k x e foreign. absurd (cc e);
       still = λ c low foreign. rw (get_or-replicate b.settings.lanes c leader.idle leader.idle low) (λ k e. cc e, λ k e. cc e);
     };
+    begun = λ c low foreign. rw (get_or-replicate b.settings.lanes c leader.idle leader.idle low) tt;
+    awaited = λ k x low e foreign. absurd (cc e);
   };
   clients = λ c. idle_client b v c (b.foreign c) refl k;
   waiting = λ c. refl;

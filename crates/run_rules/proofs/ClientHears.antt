@@ -59,6 +59,8 @@ client_follows b f w c n k h hk =
         outstanding = la.outstanding;
         issued = la.issued;
         foreign = la.foreign;
+        begun = la.begun;
+        awaited = la.awaited;
       };
       clients = put_both (λ d x. ClientAt b d (b.foreign d) x (put w.lanes c lane d).step (put w.lanes c lane d).serial) f.clients c k
           (rw (put_here w.lanes c lane) hk)

@@ -25,14 +25,14 @@ foreign_set b rows commands c r hon h = record {
 }
 
 -- a client's command is issued
-unissued_more : (commands : List Line) (x : Line) (c s : ℕ) (y : Command) → c ≢ x.lane → IsUnissued commands c s y
+pub unissued_more : (commands : List Line) (x : Line) (c s : ℕ) (y : Command) → c ≢ x.lane → IsUnissued commands c s y
     → IsUnissued (commands ++ x ∷ []) c s y
 unissued_more commands x c s y n h k e = elim (get_more commands x k (line_of c s y) e) [
   | inl before ↦ h k before.1
   | inr last ↦ n (sym (ap (λ (z : Line). z.lane) last.1))
 ]
 
-still_more : (commands : List Line) (x : Line) (c s : ℕ) (stage : Stage) → c ≢ x.lane
+pub still_more : (commands : List Line) (x : Line) (c s : ℕ) (stage : Stage) → c ≢ x.lane
     → StillToIssue commands c s stage → StillToIssue (commands ++ x ∷ []) c s stage
 still_more commands x c s (Auditing number write share sigma opened) n h = unissued_more commands x c s Settles n h
 still_more commands x c s (Settling number write own other) n h = tt

@@ -11,6 +11,7 @@ use Rattle.frame_rules.specs.Spelling.{spelling, IsFrame, IsRefusal}
 use Rattle.frame_rules.specs.Reading.{decoded}
 use Rattle.frame_rules.specs.Whole.{whole, whole_of, is_from_client}
 use Rattle.frame_rules.proofs.AnswerLaws.{client_serial}
+use Rattle.run_rules.proofs.FaultLaws.{whole_refused}
 use Rattle.frame_rules.proofs.WholeLaws.{whole_found, malformed_frame, version_frame}
 use Rattle.token_rules.specs.Tokens as token
 use Rattle.token_rules.specs.Tokens.{World, Token, Oracle, Act, no_act, put}
@@ -21,9 +22,9 @@ use Rattle.step_rules.specs.HelperClients as steps
 use Rattle.step_rules.specs.HelperClients.{RowTurn, deposit_row, proof_row}
 use Rattle.run_rules.specs.Letters.{Letter, ToHelper, FrameWorld}
 use Rattle.run_rules.specs.Run as frames
+use Rattle.run_rules.specs.Acts.{act_of, helper_act}
 use Rattle.run_rules.specs.Book.{Book}
 use Rattle.run_rules.specs.Follows.{Carries, OfNoFrame, ForeignHolds, ForeignHelperRow, HelperRowAt, Sound, Follows}
-use Rattle.run_rules.specs.Known.{Known}
 use Rattle.run_rules.proofs.Basics.{whole_spelled}
 use Rattle.run_rules.proofs.LeaderClients.{posts_follow}
 use Rattle.run_rules.proofs.ForeignHelperTurns.{stays, changes, helper_turns, Turns, answered, refused_turns, RowTurns, Came, TakesShare, deposit_turns, proof_turns}
@@ -74,14 +75,14 @@ module _ (b : Book) (f : FrameWorld) (w : World) (sound : Sound b) (h : Follows 
   row_at_lane c foreign low = subst (λ t. HelperRowAt b c t (row_at server c) (w.lanes c).helper) foreign (h.helper.rows c low)
 
   kind_turns : (g : PlainFrame) (body : PlainBody) → Came g.lane g.serial → b.foreign g.lane ≡ true
-      → Brings b (row_at server g.lane) g.lane g.serial body → Turns b w g.lane (steps.by_kind server g body)
+      → (g.lane < b.settings.lanes → Brings b (row_at server g.lane) g.lane g.serial body) → Turns b w g.lane (steps.by_kind server g body)
   unfolding steps.by_kind
   kind_turns g (frame.Deposit held) k foreign brings =
       lane_turns g (deposit_row (row_at server g.lane) g.serial held) k foreign (λ low.
-      deposit_turns b w.carried g.lane g.serial (row_at server g.lane) (w.lanes g.lane).helper held (row_at_lane g.lane foreign low) (h.helper.begun g.lane low foreign) k brings)
+      deposit_turns b w.carried g.lane g.serial (row_at server g.lane) (w.lanes g.lane).helper held (row_at_lane g.lane foreign low) (h.helper.begun g.lane low foreign) k (brings low))
   kind_turns g (frame.Proof share) k foreign brings =
       lane_turns g (proof_row (row_at server g.lane) g.serial share) k foreign (λ low.
-      proof_turns b w.carried g.lane g.serial (row_at server g.lane) (w.lanes g.lane).helper share (row_at_lane g.lane foreign low) (h.helper.begun g.lane low foreign) k brings)
+      proof_turns b w.carried g.lane g.serial (row_at server g.lane) (w.lanes g.lane).helper share (row_at_lane g.lane foreign low) (h.helper.begun g.lane low foreign) k (brings low))
   kind_turns g body k foreign brings = refused_turns b f w g.lane (refusal.Malformed 5) h refl malformed
 
 -- ---- what is no frame of a client
@@ -101,7 +102,7 @@ refused_body h g (frame.Proof share) never = absurd (never refl)
 refused_body h g body never = record { refusal = refusal.Malformed 5; is = refl; why = refl; is_frame = malformed }
 
 -- what is refused of bytes names a place or a version
-named : (count : ℕ) (found : Result (PlainFrame × ℕ) FrameFault) (r : Refusal)
+pub named : (count : ℕ) (found : Result (PlainFrame × ℕ) FrameFault) (r : Refusal)
     → whole_of count found ≡ Err r → OfNoFrame (frame.Refused r)
 unfolding whole_of
 named count (Err (fault.Version version)) r e = let same : refusal.Version version ≡ r = cc in subst (λ r. OfNoFrame (frame.Refused r)) same refl
@@ -114,7 +115,7 @@ named count (Ok found) r e = by_end (found.1 == count) e
     by_end true e = absurd (cc e)
     by_end false e = let same : refusal.Malformed found.1 ≡ r = cc in subst (λ r. OfNoFrame (frame.Refused r)) same refl
 
-refused_frame : (r : Refusal) → OfNoFrame (frame.Refused r) → IsRefusal r
+pub refused_frame : (r : Refusal) → OfNoFrame (frame.Refused r) → IsRefusal r
     → IsFrame (record { lane = 0; serial = 0; link = 0; body = frame.Refused r })
 refused_frame (refusal.Malformed place) of small = malformed_frame place small
 refused_frame (refusal.Version version) of small = version_frame version small
@@ -133,31 +134,24 @@ no_frame h bytes (Ok g) e small never = refused_body h g g.body (never g refl)
 
 -- ---- they come
 
--- the act that a server takes on a token, and that with it the relation is kept
-pub record Acts (b : Book) (f : FrameWorld) (v w : World) (t : Token) (l : Letter) : Type 0 where
-  pub act : Act
-  pub follows : (o : Oracle) → o w.moment ≡ act → Known b v (comes o w t)
-      → Follows b (frames.comes f l.to l.bytes) (comes o w t)
-
--- a turn and its act
-turn_acts : (b : Book) (f : FrameWorld) (v w : World) (c : ℕ) (l : Letter) (t : helper.Turn) → Follows b f w
-    → b.foreign c ≡ true → l.to ≡ ToHelper → steps.client_turn f.helper.server l.bytes ≡ t → Turns b w c t
-    → Acts b f v w (token.Injected false (Some c)) l
+-- a turn with its act
+turn_comes : (b : Book) (o : Oracle) (f : FrameWorld) (w : World) (c : ℕ) (l : Letter) → Follows b f w → b.foreign c ≡ true
+    → l.to ≡ ToHelper → Turns b w c (steps.client_turn f.helper.server l.bytes) → o w.moment ≡ helper_act f c l.bytes
+    → Follows b (frames.comes f l.to l.bytes) (comes o w (token.Injected false (Some c)))
 unfolding comes injected_comes foreign_frame_comes frames.comes
-turn_acts b f v w c l t h foreign at is k = record {
-  act = record no_act { row = k.leaves.row; says = Some t.reply.lane };
-  follows = λ o same after.
-      let other : w.foreign c ≡ true = ap (λ g. g c) h.foreign ∙ foreign in
-      rw (at, is, other, same) (helper_turns b f w c (w.moment + 1) t.server (token.Foreign t.reply.lane ∷ []) _ h k.leaves (answered b w c t k));
-}
+turn_comes b o f w c l h foreign at k act =
+    let t = steps.client_turn f.helper.server l.bytes in
+    let other : w.foreign c ≡ true = ap (λ g. g c) h.foreign ∙ foreign in
+    rw (at, other, act) (helper_turns b f w c (w.moment + 1) t.server (token.Foreign t.reply.lane ∷ []) _ h k.leaves (answered b w c t k))
 
 -- a client's frame of a foreign lane
-pub injected_acts : (b : Book) (f : FrameWorld) (v w : World) (c : ℕ) (l : Letter) → Known b v w → Follows b f w
+pub injected_follows : (b : Book) (o : Oracle) (f : FrameWorld) (w : World) (c : ℕ) (l : Letter) → Sound b → Follows b f w
     → b.foreign c ≡ true → Carries b (token.Injected false (Some c)) l
-    → ((g : PlainFrame) → IsFrame g → l.bytes ≡ spelling g → Brings b (row_at f.helper.server c) c g.serial g.body)
-    → Acts b f v w (token.Injected false (Some c)) l
+    → ((g : PlainFrame) → IsFrame g → l.bytes ≡ spelling g → c < b.settings.lanes → Brings b (row_at f.helper.server c) c g.serial g.body)
+    → o w.moment ≡ helper_act f c l.bytes
+    → Follows b (frames.comes f l.to l.bytes) (comes o w (token.Injected false (Some c)))
 unfolding steps.on_whole
-injected_acts b f v w c l known h foreign k brings =
+injected_follows b o f w c l sound h foreign k brings act =
     let g = k.1.0 in
     let fr : IsFrame g = k.1.1.0 in
     let spelled : l.bytes ≡ spelling g = k.1.1.1.0 in
@@ -165,21 +159,30 @@ injected_acts b f v w c l known h foreign k brings =
     let client : is_from_client g.body ≡ true = k.1.1.1.1.1 in
     let came : Came g.lane g.serial = record { lane = fr.lane; serial = fr.serial; first = client_serial g.body g.lane g.serial client fr.addressed } in
     let here : b.foreign g.lane ≡ true = ap b.foreign lane ∙ foreign in
-    let brought : Brings b (row_at f.helper.server g.lane) g.lane g.serial g.body =
-    subst (λ d. Brings b (row_at f.helper.server d) d g.serial g.body) (sym lane) (brings g fr spelled) in
-    let turn = kind_turns b f w known.sound h g g.body came here brought in
+    let brought : g.lane < b.settings.lanes → Brings b (row_at f.helper.server g.lane) g.lane g.serial g.body =
+    subst (λ d. d < b.settings.lanes → Brings b (row_at f.helper.server d) d g.serial g.body) (sym lane) (brings g fr spelled) in
+    let turn = kind_turns b f w sound h g g.body came here brought in
     let read : whole l.bytes ≡ Ok g = ap whole spelled ∙ whole_spelled g fr in
-    turn_acts b f v w c l (steps.by_kind f.helper.server g g.body) h foreign k.0 (ap (steps.on_whole f.helper.server) read)
-    (subst (λ d. Turns b w d (steps.by_kind f.helper.server g g.body)) lane turn)
+    let is : steps.client_turn f.helper.server l.bytes ≡ steps.by_kind f.helper.server g g.body = ap (steps.on_whole f.helper.server) read in
+    turn_comes b o f w c l h foreign k.0
+    (subst (Turns b w c) (sym is) (subst (λ d. Turns b w d (steps.by_kind f.helper.server g g.body)) lane turn)) act
+
+-- with the act that is read off the helper's turn
+pub injected_follows_act : (b : Book) (f : FrameWorld) (w : World) (c : ℕ) (l : Letter) → Sound b → Follows b f w
+    → b.foreign c ≡ true → Carries b (token.Injected false (Some c)) l
+    → ((g : PlainFrame) → IsFrame g → l.bytes ≡ spelling g → c < b.settings.lanes → Brings b (row_at f.helper.server c) c g.serial g.body)
+    → Follows b (frames.comes f l.to l.bytes) (comes (λ n. act_of f (token.Injected false (Some c)) l) w (token.Injected false (Some c)))
+injected_follows_act b f w c l sound h foreign k brings =
+    injected_follows b (λ n. act_of f (token.Injected false (Some c)) l) f w c l sound h foreign k brings refl
 
 -- bytes that aren't exactly one frame of a client
 pub outside_follows : (b : Book) (o : Oracle) (f : FrameWorld) (w : World) (l : Letter) → Follows b f w
     → Carries b (token.Injected false None) l → All (λ n. n < 256) l.bytes
-    → ((r : Refusal) → whole l.bytes ≡ Err r → IsRefusal r)
+    → length l.bytes < 2 ^ 32
     → Follows b (frames.comes f l.to l.bytes) (comes o w (token.Injected false None))
 unfolding comes injected_comes frames.comes
-outside_follows b o f w l h k bytes small =
-    let none = no_frame f.helper.server l.bytes (whole l.bytes) refl small (λ g e client.
+outside_follows b o f w l h k bytes few =
+    let none = no_frame f.helper.server l.bytes (whole l.bytes) refl (λ r e. whole_refused l.bytes r bytes few e) (λ g e client.
     let s = whole_found l.bytes g bytes e in k.1 g s.is_frame s.spelled client) in
     rw (k.0, none.is) (posts_follow b f w (token.Foreign 0 ∷ []) _ h
     (record { frame = record { lane = 0; serial = 0; link = 0; body = frame.Refused none.refusal }; why = inr none.why; lane = refl; spelled = record { at = refl; bytes = refl; is_frame = none.is_frame } }, tt))

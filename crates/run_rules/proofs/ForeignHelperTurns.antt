@@ -1,7 +1,7 @@
 -- Bytes from outside come to the helper, in both runs: the act that it takes is found from its state and the bytes.
-use Rattle.std.proofs.Common.{◌≡◌, ◌≢◌, ℕ, ◌<◌, ◌≤◌, ◌^◌, ◌⊎◌, cond, nat_eq, nat_lt, true, false, Bool, List, [], ◌∷◌, ◌++◌, length, refl, sym, ap, ◌∙◌, subst, inr, arith}
-use Rattle.std.proofs.lemmas.Bool.{eq-eqb, eqb-true, ltb-false}
-use Rattle.std.proofs.lemmas.List.{length-set}
+use Rattle.std.proofs.Common.{◌≡◌, ◌≢◌, ℕ, ◌<◌, ◌≤◌, ◌^◌, ◌⊎◌, cond, nat_eq, nat_lt, true, false, Bool, List, [], ◌∷◌, ◌++◌, length, refl, sym, ap, ◌∙◌, subst, inl, inr, arith, slice_set}
+use Rattle.std.proofs.lemmas.Bool.{cases_eq, eq-eqb, eqb-true, ltb-false}
+use Rattle.std.proofs.lemmas.List.{get_or-set_same, length-set}
 use Rattle.express_words.specs.declared.audit.ProofShare.{ProofShare}
 use Rattle.express_words.specs.declared.refusal.Refusal.{Refusal}
 use Rattle.express_words.specs.declared.refusal.Refusal.TheVariants as refusal
@@ -29,15 +29,45 @@ use Rattle.run_rules.proofs.Basics.{put_here, put_other, put_part, pools_append}
 use Rattle.run_rules.proofs.HelperClients.{rows_set}
 use Rattle.run_rules.proofs.Counts.{begun_set}
 
+-- ---- the lane's row in the token run is what the server's row is without its content
+
+row_bare : (b : Book) (c : ℕ) (t : Bool) (r : Row) (x : token.Row) → HelperRowAt b c t r x → HelperRowAt b c t r (bare r)
+row_bare b c true r x h = record { bare = refl; small = h.small; holds = h.holds }
+row_bare b c false r x h = record { bare = refl; small = h.small; want = h.want; holds = h.holds }
+
+-- of a lane
+abbrev pub bare_at : Server → ℕ → token.Row
+bare_at h c = bare (row_at h c)
+
+-- no row changed
+pub rows_stay : (b : Book) (h : Server) (lanes : ℕ → Lane) (c : ℕ) → HelperRows b h.rows lanes
+    → HelperRows b h.rows (put lanes c (record (lanes c) { helper = bare_at h c }))
+rows_stay b h lanes c rows d low = elim (cases_eq d c) [
+  | inl s ↦
+      let lane : Lane = record (lanes c) { helper = bare_at h c } in
+      let is : (put lanes c lane d).helper ≡ bare_at h d = ap (λ l. l.helper) (ap (put lanes c lane) s ∙ put_here lanes c lane) ∙ ap (bare_at h) (sym s) in
+      rw is (row_bare b d (b.foreign d) (row_at h d) (lanes d).helper (rows d low))
+  | inr n ↦ let other = ap (λ l. l.helper) (put_other lanes c (record (lanes c) { helper = bare_at h c }) d n) in rw other (rows d low)
+]
+
+-- one row changed
+pub rows_change : (b : Book) (h : Server) (lanes : ℕ → Lane) (c : ℕ) (r : Row) → length h.rows ≡ b.settings.lanes
+    → c < b.settings.lanes → HelperRows b h.rows lanes → HelperRowAt b c (b.foreign c) r (bare r)
+    → HelperRows b (slice_set h.rows c r) (put lanes c (record (lanes c) { helper = bare_at (with_row h c r) c }))
+rows_change b h lanes c r count low rows hr =
+    let lane : Lane = record (lanes c) { helper = bare_at (with_row h c r) c } in
+    let here : bare_at (with_row h c r) c ≡ bare r = ap bare (get_or-set_same h.rows c r helper.idle (omega (arith, count, low))) in
+    rows_set b h.rows lanes (put lanes c lane) c r (bare r) count low rows
+    (ap (λ l. l.helper) (put_here lanes c lane) ∙ here) (λ d n. ap (λ l. l.helper) (put_other lanes c lane d n)) hr
+
 -- ---- what a turn leaves
 
--- the lane's row that the token run has then, and that the server still follows it
+-- the server still follows the token run with the lane's row as it is then
 pub record Leaves (b : Book) (w : World) (c : ℕ) (h : Server) : Type 0 where
-  pub row : token.Row
   pub settings : h.settings ≡ b.settings
   pub seed : h.seed ≡ helper_seed b.seed
   pub count : length h.rows ≡ b.settings.lanes
-  pub rows : HelperRows b h.rows (put w.lanes c (record (w.lanes c) { helper = row }))
+  pub rows : HelperRows b h.rows (put w.lanes c (record (w.lanes c) { helper = bare_at h c }))
   pub boxes : h.boxes ≡ boxes_at b 1 w.carried
   pub draws : h.draws ≡ begun_in w.journal
   pub begun : HaveBegun b h.rows w.carried
@@ -47,11 +77,10 @@ pub stays : (b : Book) (f : FrameWorld) (w : World) (c : ℕ) → Follows b f w 
 stays b f w c h =
     let hh = h.helper in
     record {
-      row = (w.lanes c).helper;
       settings = hh.settings;
       seed = hh.seed;
       count = hh.count;
-      rows = λ d low. rw (put_part (λ l. l.helper) w.lanes c (w.lanes c) refl d) (hh.rows d low);
+      rows = rows_stay b f.helper.server w.lanes c hh.rows;
       boxes = hh.boxes;
       draws = hh.draws;
       begun = hh.begun;
@@ -63,14 +92,11 @@ pub changes : (b : Book) (f : FrameWorld) (w : World) (c : ℕ) (r : Row) → Fo
     → Leaves b w c (with_row f.helper.server c r)
 changes b f w c r h low hr begun =
     let hh = h.helper in
-    let lane : Lane = record (w.lanes c) { helper = bare r } in
     record {
-      row = bare r;
       settings = hh.settings;
       seed = hh.seed;
       count = length-set f.helper.server.rows c r ∙ hh.count;
-      rows = rows_set b f.helper.server.rows w.lanes (put w.lanes c lane) c r (bare r) hh.count low hh.rows
-          (ap (λ l. l.helper) (put_here w.lanes c lane)) (λ d n. ap (λ l. l.helper) (put_other w.lanes c lane d n)) hr;
+      rows = rows_change b f.helper.server w.lanes c r hh.count low hh.rows hr;
       boxes = hh.boxes;
       draws = hh.draws;
       begun = begun_set b f.helper.server.rows w.carried c r hh.count low hh.begun begun;
@@ -80,9 +106,9 @@ changes b f w c r h low hr begun =
 pub helper_turns : (b : Book) (f : FrameWorld) (w : World) (c moment : ℕ) (server : Server) (ts : List Token) (ls : List Letter)
     → Follows b f w → (l : Leaves b w c server) → Pools b ts ls
     → Follows b (frames.posts (record f { helper = record f.helper { server = server } }) ls)
-    (record w { lanes = put w.lanes c (record (w.lanes c) { helper = l.row }); moment = moment; pool = w.pool ++ ts })
+    (record w { lanes = put w.lanes c (record (w.lanes c) { helper = bare_at server c }); moment = moment; pool = w.pool ++ ts })
 helper_turns b f w c moment server ts ls h l said =
-    let lane : Lane = record (w.lanes c) { helper = l.row } in
+    let lane : Lane = record (w.lanes c) { helper = bare_at server c } in
     let hh = h.helper in
     let la = h.leader in
     record {
@@ -114,6 +140,8 @@ helper_turns b f w c moment server ts ls h l said =
         outstanding = la.outstanding;
         issued = la.issued;
         foreign = la.foreign;
+        begun = la.begun;
+        awaited = la.awaited;
       };
       clients = λ d. rw (put_part (λ l. l.step) w.lanes c lane refl d, put_part (λ l. l.serial) w.lanes c lane refl d) (h.clients d);
       waiting = h.waiting;

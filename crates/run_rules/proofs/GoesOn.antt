@@ -146,6 +146,8 @@ takes_follow b f w c r rest h hon low k q =
         outstanding = la.outstanding;
         issued = la.issued;
         foreign = la.foreign;
+        begun = la.begun;
+        awaited = la.awaited;
       };
       clients = put_both (λ d x. ClientAt b d (b.foreign d) x (put w.lanes c lane d).step (put w.lanes c lane d).serial) f.clients c (with_request (f.clients c) r)
           (rw (put_here w.lanes c lane, hon) (taken_client b c (w.lanes c).serial (f.clients c) r low k q))

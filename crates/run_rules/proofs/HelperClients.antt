@@ -88,6 +88,8 @@ turn_follows b f w c s t step h hon low hr said =
         outstanding = la.outstanding;
         issued = la.issued;
         foreign = la.foreign;
+        begun = la.begun;
+        awaited = la.awaited;
       };
       clients = λ d. rw (put_part (λ l. l.step) w.lanes c lane refl d, put_part (λ l. l.serial) w.lanes c lane refl d) (h.clients d);
       waiting = h.waiting;

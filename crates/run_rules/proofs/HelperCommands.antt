@@ -1,5 +1,5 @@
 -- What a command that the helper carries out does, in both runs.
-use Rattle.std.proofs.Common.{◌≡◌, ℕ, zero, suc, ◌<◌, ◌≤◌, ◌+◌, ◌-◌, ◌⊎◌, false, List, [], ◌∷◌, ◌++◌, length, drop, Some, refl, sym, ap, ◌∙◌, subst, inl, inr, arith, length-drop, length-append, slice_get}
+use Rattle.std.proofs.Common.{◌≡◌, ℕ, zero, suc, ◌<◌, ◌≤◌, ◌+◌, ◌-◌, ◌⊎◌, false, List, [], ◌∷◌, ◌++◌, length, drop, Some, refl, sym, ap, ◌∙◌, subst, inl, inr, arith, length-drop, length-append, slice_get, cond, true, Bool, filter}
 use Rattle.std.proofs.lemmas.Bool.{cases_lt}
 use Rattle.std.proofs.lemmas.List.{length-set}
 use Rattle.frame_rules.specs.Frames.{PlainFrame, PlainBody}
@@ -16,7 +16,7 @@ use Rattle.step_rules.specs.Helper.{Server, Row, with_row}
 use Rattle.step_rules.specs.HelperCommands.{effect, carried_with, last}
 use Rattle.run_rules.specs.Letters.{letter, JournalLine, ToLeaderLink, FrameWorld}
 use Rattle.run_rules.specs.Run as frames
-use Rattle.run_rules.specs.Book.{Book, begun_in}
+use Rattle.run_rules.specs.Book.{Book, begun_in, has_begun}
 use Rattle.run_rules.specs.Values.{boxes_at}
 use Rattle.run_rules.specs.Frames.{frame_of, line_value}
 use Rattle.run_rules.specs.Follows.{IsLinked, HelperRow, HelperRowAt, AreReplies, IsLineOf, Journals, Follows}
@@ -81,7 +81,7 @@ lines_length [] = refl
 lines_length (e ∷ es) = ap suc (lines_length es)
 
 -- all of them from a number on, with the next, cut to the window
-kept_more : (b : Book) (window k : ℕ) (lines : List Line) (x : Line) (rs : List (List ℕ)) (bytes : List ℕ)
+pub kept_more : (b : Book) (window k : ℕ) (lines : List Line) (x : Line) (rs : List (List ℕ)) (bytes : List ℕ)
     → length lines ≡ k → length rs ≤ k → length rs ≤ window → 0 < window
     → AreReplies b (suc (k - length rs)) (drop (k - length rs) lines) rs → IsReply b (k + 1) x bytes
     → AreReplies b (suc (k + 1 - length (last window (rs ++ bytes ∷ [])))) (drop (k + 1 - length (last window (rs ++ bytes ∷ []))) (lines ++ x ∷ [])) (last window (rs ++ bytes ∷ []))
@@ -98,7 +98,7 @@ kept_more b window k lines x rs bytes count few most room h is =
     let there : drop j (drop (k - m) lines ++ x ∷ []) ≡ drop (k - m + j) (lines ++ x ∷ []) = ap (drop j) (sym (drop_more (k - m) lines (x ∷ []) (omega (arith, count)))) ∙ drop_twice (k - m) j (lines ++ x ∷ []) in
     rw (place, sym number, sym there) cut
 
-kept_count : (window k : ℕ) (rs : List (List ℕ)) (bytes : List ℕ) → length rs ≤ window → 0 < window
+pub kept_count : (window k : ℕ) (rs : List (List ℕ)) (bytes : List ℕ) → length rs ≤ window → 0 < window
     → (length rs ≡ window) ⊎ (length rs ≡ k)
     → ((length (last window (rs ++ bytes ∷ [])) ≡ window) ⊎ (length (last window (rs ++ bytes ∷ [])) ≡ k + 1)) × (length (last window (rs ++ bytes ∷ [])) ≤ window)
 kept_count window k rs bytes most room h =
@@ -117,7 +117,7 @@ kept_count window k rs bytes most room h =
 
 -- ---- the journal with one more
 
-journal_more : (b : Book) (i : ℕ) (es : List Entry) (ls : List JournalLine) (e : Entry) (l : JournalLine)
+pub journal_more : (b : Book) (i : ℕ) (es : List Entry) (ls : List JournalLine) (e : Entry) (l : JournalLine)
     → Journals b i es ls → IsLineOf b (b.foreign e.line.lane) (i + length es) e l
     → Journals b i (es ++ e ∷ []) (ls ++ l ∷ [])
 journal_more b i [] [] e l h k =
@@ -127,6 +127,28 @@ journal_more b i (x ∷ es) (y ∷ ls) e l h k =
     (h.0, journal_more b (suc i) es ls e l h.1 (subst (λ m. IsLineOf b (b.foreign e.line.lane) m e l) n k))
 journal_more b i [] (y ∷ ls) e l h k = absurd h
 journal_more b i (x ∷ es) [] e l h k = absurd h
+
+-- ---- draws
+
+pub draws_more : (es : List Entry) (e : Entry) → begun_in (es ++ e ∷ []) ≡ begun_in es + cond (has_begun e.does) 1 0
+draws_more [] e = by_begun (has_begun e.does)
+  where
+    by_begun : (t : Bool) → length (cond t (e ∷ []) []) ≡ 0 + cond t 1 0
+    by_begun true = refl
+    by_begun false = refl
+draws_more (x ∷ es) e = by_first (has_begun x.does) (draws_more es e)
+  where
+    by_first : (t : Bool) → begun_in (es ++ e ∷ []) ≡ begun_in es + cond (has_begun e.does) 1 0
+        → length (cond t (x ∷ filter (λ e. has_begun e.does) (es ++ e ∷ [])) (filter (λ e. has_begun e.does) (es ++ e ∷ [])))
+        ≡ length (cond t (x ∷ filter (λ e. has_begun e.does) es) (filter (λ e. has_begun e.does) es)) + cond (has_begun e.does) 1 0
+    by_first true k = omega (arith, k)
+    by_first false k = k
+
+-- what begins no write takes none
+pub draws_same : (es : List Entry) (e : Entry) → has_begun e.does ≡ false → begun_in es ≡ begun_in (es ++ e ∷ [])
+draws_same es e none =
+    let zero : begun_in es ≡ begun_in es + 0 = omega arith in
+    zero ∙ ap (λ t. begun_in es + cond t 1 0) (sym none) ∙ sym (draws_more es e)
 
 -- ---- a command is carried out
 
@@ -188,6 +210,8 @@ carried_follows b f w x does g r boxes draws body h hon low room count entered h
         outstanding = la.outstanding;
         issued = la.issued;
         foreign = la.foreign;
+        begun = la.begun;
+        awaited = la.awaited;
       };
       clients = λ d. rw (put_part (λ l. l.step) w.lanes c lane refl d, put_part (λ l. l.serial) w.lanes c lane refl d) (h.clients d);
       waiting = h.waiting;

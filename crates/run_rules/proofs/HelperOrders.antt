@@ -147,7 +147,7 @@ next_is_carries : (o : Oracle) (w : World) (c s address : ℕ) → w.foreign c �
 unfolding carries_next
 next_is_carries o w c s address hon q = rw (hon, q) refl
 
-comes_next : (o : Oracle) (w : World) (n : ℕ) (x : Line) → n ≡ w.carried + 1
+pub comes_next : (o : Oracle) (w : World) (n : ℕ) (x : Line) → n ≡ w.carried + 1
     → comes o w (token.Ordered n x) ≡ carries_next o w x
 unfolding comes command_comes arrival_of
 comes_next o w n x e = let t : nat_eq n (w.carried + 1) ≡ true = eq-eqb _ _ e in rw t refl

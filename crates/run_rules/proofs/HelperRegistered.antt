@@ -1,5 +1,5 @@
 -- The command of a register comes to the helper, in both runs.
-use Rattle.std.proofs.Common.{◌≡◌, ℕ, suc, ◌<◌, ◌≤◌, ◌^◌, ◌+◌, ◌-◌, cond, nat_eq, nat_le, true, false, List, [], ◌∷◌, ◌++◌, length, take, map, filter, Some, slice_get, refl, sym, ap, ◌∙◌, subst, arith, Bool, length-append}
+use Rattle.std.proofs.Common.{◌≡◌, ℕ, ◌<◌, ◌≤◌, ◌^◌, ◌+◌, ◌-◌, nat_eq, nat_le, true, false, List, [], ◌∷◌, ◌++◌, length, take, map, Some, slice_get, refl, sym, ap, ◌∙◌, subst, arith, Bool, length-append}
 use Rattle.std.proofs.lemmas.Bool.{eq-eqb, leb-true, false_from_ne_true}
 use Rattle.std.proofs.lemmas.List.Quantifiers.{position-Some}
 use Rattle.std.proofs.lemmas.List.{length-map, length-take}
@@ -8,7 +8,7 @@ use Rattle.frame_rules.specs.declared.frame.DepositBody.TheVariants as deposit
 use Rattle.frame_rules.specs.Frames as frame
 use Rattle.frame_rules.specs.Frames.{PlainFrame, PlainBody}
 use Rattle.frame_rules.specs.Spelling.{spelling, IsFrame}
-use Rattle.mailbox_rules.specs.Requests.{Register, Command, Registers, Line, Entry, entry, Operation, AddBox}
+use Rattle.mailbox_rules.specs.Requests.{Register, Command, Registers, Line, entry, Operation, AddBox}
 use Rattle.mailbox_rules.specs.Tables.{Result, after_line, register_result, result_of, box_of, addresses}
 use Rattle.token_rules.specs.Tokens as token
 use Rattle.token_rules.specs.Tokens.{Token, World, Lane, put}
@@ -27,13 +27,13 @@ use Rattle.step_rules.specs.HelperCommands.{Effect, effect}
 use Rattle.step_tokens.specs.HelperRows.{bare_phase}
 use Rattle.run_rules.specs.Letters.{FrameWorld}
 use Rattle.run_rules.specs.Run as frames
-use Rattle.run_rules.specs.Book.{Book, request_of, wants, begun_in, has_begun, client_at}
+use Rattle.run_rules.specs.Book.{Book, request_of, wants, client_at}
 use Rattle.run_rules.specs.Values.{key_at, box_at, shares_at}
 use Rattle.run_rules.specs.Frames.{frame_with, frame_of, deposit_at, if_asked, command_body, reply_with, reply_body, result_at, line_value}
 use Rattle.run_rules.specs.Follows.{HelperRow, HelperHolds, Within, Sound, Follows}
 use Rattle.run_rules.proofs.Basics.{whole_spelled}
 use Rattle.run_rules.proofs.HelperRuns.{row_of}
-use Rattle.run_rules.proofs.HelperCommands.{carried_follows, lines_length}
+use Rattle.run_rules.proofs.HelperCommands.{carried_follows, lines_length, draws_same}
 use Rattle.run_rules.proofs.HelperRegisters.{line, place_same, shares_next, shares_few, register_made}
 
 -- ---- bytes of the link
@@ -95,17 +95,6 @@ stage_held b c s address r x h serial phase hon q =
     at_stage (helper.Done want) k e = absurd (cc e)
 
 -- ---- the command is carried out
-
-begun_same : (es : List Entry) (x : Line) (address : ℕ)
-    → begun_in (es ++ entry x (AddBox address) ∷ []) ≡ begun_in es
-begun_same [] x address = refl
-begun_same (e ∷ es) x address = by_first (has_begun e.does) (begun_same es x address)
-  where
-    by_first : (t : Bool) → begun_in (es ++ entry x (AddBox address) ∷ []) ≡ begun_in es
-        → length (cond t (e ∷ filter (λ e. has_begun e.does) (es ++ entry x (AddBox address) ∷ [])) (filter (λ e. has_begun e.does) (es ++ entry x (AddBox address) ∷ [])))
-        ≡ length (cond t (e ∷ filter (λ e. has_begun e.does) es) (filter (λ e. has_begun e.does) es))
-    by_first true e = ap suc e
-    by_first false e = e
 
 carries_out_is : (h : Server) (g : PlainFrame) (address : ℕ) (key : List ℕ)
     → g.body ≡ frame.LinkRegister address → g.lane < h.settings.lanes
@@ -200,7 +189,7 @@ module _ (b : Book) (f : FrameWorld) (w : World) (p : ℕ → Stage) (c s addres
       (carried_follows b f w (line c s) (AddBox address) command _ made.boxes server.draws made.body h hon low (limits.3.0) count e
       (record { bare = refl; small = omega (arith, small, serial); want = λ pos. sym (ap wants q); holds = tt })
       (made.boxes_is ∙ ap (λ u. map (λ m. box_at b 1 m) u.boxes) (sym (shares_next b 1 i (entry (line c s) (AddBox address)) e)))
-      (hh.draws ∙ sym (begun_same w.journal (line c s) address))
+      (hh.draws ∙ draws_same w.journal (entry (line c s) (AddBox address)) refl)
       (reply_is b i c s made.body _ result made.body_is)
       (made.frame first)
       (line_is b i c s address made.body _ q result made.body_is))

@@ -30,6 +30,7 @@ use Rattle.run_rules.specs.Run as frames
 use Rattle.run_rules.specs.Book.{Book, request_of, wants, is_drawn, drawn_in}
 use Rattle.run_rules.specs.Frames.{frame_with, frame_of, submission_at, command_body, address_of}
 use Rattle.run_rules.specs.Follows.{Spelled, Carries, Pools, LeaderHolds, LeaderRow, LeaderRowAt, LeaderRows, IsCommand, AreCommands, IsIssued, AreIssued, Within, Sound, opening_in, Follows}
+use Rattle.run_rules.proofs.ForeignLeaderCounts.{was_begun_set, not_foreign, awaited_set, awaited_more}
 use Rattle.run_rules.proofs.ForeignCommands.{foreign_set, foreign_more}
 use Rattle.run_rules.proofs.Basics.{whole_spelled, put_here, put_other, put_part, pools_append}
 use Rattle.run_rules.proofs.Contents.{from_client_is, register_is, register_body, key_of}
@@ -181,6 +182,8 @@ issues_follow b f w c s draws x y r command h hon low few hr drawn is fr settles
         issued = issued_set b f.leader.rows w.commands (w.commands ++ line ∷ []) c r la.count low la.issued (λ t. settles)
             (λ d n stage other k. issued_more w.commands line d n stage other k);
         foreign = foreign_more b (slice_set f.leader.rows c r) w.commands line hon (foreign_set b f.leader.rows w.commands c r hon la.foreign);
+        begun = was_begun_set b f.leader.rows w.acknowledged c r la.count low la.begun (λ t. absurd (not_foreign b c hon t));
+        awaited = awaited_more b (slice_set f.leader.rows c r) w.acknowledged w.commands line hon (awaited_set b f.leader.rows w.acknowledged w.acknowledged c r w.commands hon (omega arith) la.awaited);
       };
       clients = λ d. rw (put_part (λ l. l.step) w.lanes c lane refl d, put_part (λ l. l.serial) w.lanes c lane refl d) (h.clients d);
       waiting = h.waiting;

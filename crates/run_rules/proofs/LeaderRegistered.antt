@@ -56,7 +56,7 @@ pub same_length : (b : Book) (i : ℕ) → length (shares_at b 0 i).boxes ≡ le
 same_length b i =
     sym (length-map (shares_at b 0 i).boxes (λ m. m.address)) ∙ ap length (same_addresses b i) ∙ length-map (shares_at b 1 i).boxes (λ m. m.address)
 
-same_box : (b : Book) (i address : ℕ)
+pub same_box : (b : Book) (i address : ℕ)
     → box_of address (shares_at b 0 i).boxes ≡ box_of address (shares_at b 1 i).boxes
 same_box b i address = ap (λ xs. position (λ other. nat_eq other address) xs) (same_addresses b i)
 
@@ -264,6 +264,7 @@ module _ (b : Book) (o : Oracle) (f : FrameWorld) (w : World) (p : ℕ → Stage
       (applied_follows b f w c s token.Done (token.Answer c s) (leader.row s (leader.Done want.Register made.kept)) made.boxes made.kept h hon low refl
       (record { bare = refl; small = omega (arith, small, serial); want = λ pos. sym (ap wants q); holds = (answer, made.frame) })
       tt
+      (record { entry = entry (line c s) (AddBox address); is = entry_there; lane = refl })
       (made.boxes_is ∙ ap (λ u. map (λ m. box_at b 0 m) u.boxes) (sym (shares_next b 0 i (entry (line c s) (AddBox address)) entry_there)))
       (record { lane = low; frame = frame_with c s 0 made.kept; is = ap (λ x. Some (frame_with c s 0 x)) (sym answer); spelled = record { at = refl; bytes = refl; is_frame = made.frame } }))
 

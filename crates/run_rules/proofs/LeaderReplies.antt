@@ -21,6 +21,7 @@ use Rattle.run_rules.specs.Book.{Book}
 use Rattle.run_rules.specs.Values.{boxes_at}
 use Rattle.run_rules.specs.Frames.{frame_with, frame_of, command_body}
 use Rattle.run_rules.specs.Follows.{Carries, LeaderRow, LeaderRowAt, IsCommand, AreCommands, IsIssued, Follows}
+use Rattle.run_rules.proofs.ForeignLeaderCounts.{EntryOf, was_begun_more, not_foreign, awaited_set}
 use Rattle.run_rules.proofs.ForeignCommands.{foreign_set}
 use Rattle.run_rules.proofs.Basics.{put_here, put_other, put_part, pools_append}
 use Rattle.run_rules.proofs.LeaderClients.{rows_set, issued_set}
@@ -49,10 +50,10 @@ commands_next b n (x ∷ xs) [] h = absurd h
 pub applied_follows : (b : Book) (f : FrameWorld) (w : World) (c s : ℕ) (x : token.Phase) (t : Token) (r : Row) (boxes : List Box) (body : PlainBody)
     → Follows b f w → b.foreign c ≡ false → c < b.settings.lanes → kept c s x ≡ t ∷ []
     → LeaderRow b c r (token.row s x) → IsIssued w.commands c r.serial r.stage
-    → boxes ≡ boxes_at b 0 (w.acknowledged + 1)
+    → EntryOf b w.acknowledged c → boxes ≡ boxes_at b 0 (w.acknowledged + 1)
     → Carries b t (letter (ToClient c) (spelling (frame_with c s 0 body)))
     → Follows b (frames.to_leader_link f (applied f.leader c r boxes body s)) (answers w c s x)
-applied_follows b f w c s x t r boxes body h hon low tokens hr settles boxed said =
+applied_follows b f w c s x t r boxes body h hon low tokens hr settles entered boxed said =
     let lane : Lane = record (w.lanes c) { leader = token.row s x } in
     let new = put w.lanes c lane in
     let hh = h.helper in
@@ -89,6 +90,8 @@ applied_follows b f w c s x t r boxes body h hon low tokens hr settles boxed sai
         outstanding = rw (n, drop_next w.acknowledged w.commands) (commands_next b (suc w.acknowledged) (drop w.acknowledged w.commands) f.leader.outstanding la.outstanding);
         issued = issued_set b f.leader.rows w.commands w.commands c r la.count low la.issued (λ t. settles) (λ d n stage other k. k);
         foreign = foreign_set b f.leader.rows w.commands c r hon la.foreign;
+        begun = was_begun_more b f.leader.rows w.acknowledged c r la.count low entered la.begun (λ t. absurd (not_foreign b c hon t));
+        awaited = awaited_set b f.leader.rows w.acknowledged (w.acknowledged + 1) c r w.commands hon (omega arith) la.awaited;
       };
       clients = λ d. rw (put_part (λ l. l.step) w.lanes c lane refl d, put_part (λ l. l.serial) w.lanes c lane refl d) (h.clients d);
       waiting = h.waiting;

@@ -29,7 +29,7 @@ command_itself Settles = refl
 command_itself Reads = refl
 command_itself Retires = refl
 
-lines_same : (x y : Line) → same_line x y ≡ true → x ≡ y
+pub lines_same : (x y : Line) → same_line x y ≡ true → x ≡ y
 lines_same x y e =
     by_tests (nat_eq x.lane y.lane) (nat_eq x.serial y.serial) (λ t. eqb-true _ _ t) (λ t. eqb-true _ _ t) e
   where
@@ -42,7 +42,7 @@ lines_same x y e =
     by_tests true false l s e = absurd (cc e)
     by_tests false u l s e = absurd (cc e)
 
-line_itself : (x : Line) → same_line x x ≡ true
+pub line_itself : (x : Line) → same_line x x ≡ true
 line_itself x =
     let l : nat_eq x.lane x.lane ≡ true = eq-eqb _ _ refl in let s : nat_eq x.serial x.serial ≡ true = eq-eqb _ _ refl in rw (l, s) (command_itself x.command)
 
@@ -60,12 +60,20 @@ first_len p (y ∷ xs) (suc i) x e h k =
     let low = rest.1 in
     (rw t (omega (arith, is)), omega (arith, low))
 
-found_first : {X : Type 0} (p : X → Bool) (xs : List X) (i : ℕ) (x : X) → slice_get xs i ≡ Some x → p x ≡ true
+pub found_first : {X : Type 0} (p : X → Bool) (xs : List X) (i : ℕ) (x : X) → slice_get xs i ≡ Some x → p x ≡ true
     → ((k : ℕ) (y : X) → k < i → slice_get xs k ≡ Some y → p y ≡ false) → position p xs ≡ Some i
 found_first p xs i x e h k =
     let r = first_len p xs i x e h k in
     let t : nat_lt i (length xs) ≡ true = lt-ltb _ _ r.1 in
     rw (r.0, t) refl
+
+-- the first command of its kind
+pub place_first : (b : Book) (c s i : ℕ) (x : Command) → slice_get b.commands i ≡ Some (line_of c s x)
+    → ((k : ℕ) → k < i → slice_get b.commands k ≡ Some (line_of c s x) → ⊥) → place b c s x ≡ i
+unfolding place
+place_first b c s i x e none =
+    ap (place_or (length b.commands)) (found_first (λ y. same_line y (line_of c s x)) b.commands i (line_of c s x) e (line_itself (line_of c s x))
+    (λ k y l f. false_from_ne_true _ (λ t. none k l (f ∙ ap Some (lines_same y (line_of c s x) t)))))
 
 -- an honest lane's command stands once among those issued
 

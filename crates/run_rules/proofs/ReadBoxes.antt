@@ -84,7 +84,7 @@ pub record ShareBox (b : Book) (server i n : ℕ) (x : Mailbox) : Type 0 where
   pub bare_is : bare box ≡ bare x
   pub held : slice_get (boxes_at b server i) n ≡ Some (box_at b server box)
 
-bare_get : (xs ys : List Mailbox) (n : ℕ) (x : Mailbox) → map (λ m. bare m) xs ≡ map (λ m. bare m) ys
+pub bare_get : (xs ys : List Mailbox) (n : ℕ) (x : Mailbox) → map (λ m. bare m) xs ≡ map (λ m. bare m) ys
     → slice_get ys n ≡ Some x → (y : Mailbox) × ((slice_get xs n ≡ Some y) × (bare y ≡ bare x))
 bare_get xs ys n x e is =
     at_found (slice_get xs n) refl (sym (slice_get-map (λ m. bare m) xs n) ∙ ap (λ l. slice_get l n) e ∙ slice_get-map (λ m. bare m) ys n ∙ ap (option_map (λ m. bare m)) is)

@@ -1,5 +1,5 @@
 -- The command of a read or retire comes to the helper, in both runs.
-use Rattle.std.proofs.Common.{◌≡◌, ◌∙◌, ◌<◌, ◌≤◌, ◌^◌, ◌+◌, ◌-◌, ℕ, zero, suc, cond, nat_eq, nat_le, true, false, Bool, List, [], ◌∷◌, ◌++◌, length, map, take, filter, replicate, Some, slice_get, refl, sym, ap, subst, arith, length-take, length-append}
+use Rattle.std.proofs.Common.{◌≡◌, ◌∙◌, ◌<◌, ◌≤◌, ◌^◌, ◌+◌, ◌-◌, ℕ, zero, suc, cond, nat_eq, nat_le, true, false, Bool, List, [], ◌∷◌, length, map, take, replicate, Some, slice_get, refl, sym, ap, subst, arith, length-take, length-append}
 use Rattle.std.proofs.lemmas.Bool.{eq-eqb, leb-true, false_from_ne_true}
 use Rattle.std.proofs.lemmas.Option.{slice_get_within}
 use Rattle.std.proofs.lemmas.List.FromFn.{length-map-range_with_len}
@@ -14,12 +14,12 @@ use Rattle.express_words.specs.Bytes.{xor_bytes}
 use Rattle.dpf_rules.specs.Expansion as expansion
 use Rattle.dpf_rules.specs.Expansion.{mask, read_stream, stream_byte, stream_bytes}
 use Rattle.express_words.proofs.Bytes.{length-xor_bytes}
-use Rattle.mailbox_rules.specs.Requests.{Line, Entry, entry, reads_box, retires_box, operation_of}
+use Rattle.mailbox_rules.specs.Requests.{Line, entry, reads_box, retires_box, operation_of}
 use Rattle.mailbox_rules.specs.Tables.{Mailbox, Table, Result, Gave, NoBox, after_line, boxes_cleared, given, result_of}
 use Rattle.token_rules.specs.Tokens as token
 use Rattle.token_rules.specs.Tokens.{World, Lane, Oracle}
-use Rattle.token_rules.specs.Rows.{arrival_of, carried_row}
-use Rattle.token_rules.specs.Run.{asked_operation, carries, carries_next, command_comes, comes, line_of}
+use Rattle.token_rules.specs.Rows.{carried_row}
+use Rattle.token_rules.specs.Run.{asked_operation, carries, carries_next, comes, line_of}
 use Rattle.token_rules.specs.Stages.{Stage, Opening, Fits}
 use Rattle.token_rules.specs.Invariant.{Coherent}
 use Rattle.step_rules.specs.Boxes.{Box, with_read}
@@ -30,14 +30,14 @@ use Rattle.step_rules.specs.HelperCommands.{Effect, effect}
 use Rattle.step_tokens.specs.HelperRows.{bare_phase}
 use Rattle.run_rules.specs.Letters.{ToHelperLink, FrameWorld}
 use Rattle.run_rules.specs.Run as frames
-use Rattle.run_rules.specs.Book.{Book, begun_in, box_of, has_begun, owned_box, request_of, table_at, wants}
+use Rattle.run_rules.specs.Book.{Book, box_of, has_begun, owned_box, request_of, table_at, wants}
 use Rattle.run_rules.specs.Values.{box_at, boxes_at, key_at, shares_at, writes_at}
 use Rattle.run_rules.specs.Frames.{command_body, frame_of, frame_with, line_value, reply_body, reply_with, result_at}
 use Rattle.run_rules.specs.Follows.{Spelled, IsFrameOf, Follows, HelperHolds, HelperRow, Sound, Within}
 use Rattle.run_rules.specs.Known.{Known}
 use Rattle.run_rules.specs.Laws.{ComesFollows}
-use Rattle.run_rules.proofs.HelperCommands.{carried_follows, left_by, lines_length}
-use Rattle.run_rules.proofs.HelperOrders.{asked_was_sent, ordered_follows}
+use Rattle.run_rules.proofs.HelperCommands.{carried_follows, left_by, lines_length, draws_same}
+use Rattle.run_rules.proofs.HelperOrders.{asked_was_sent, ordered_follows, comes_next}
 use Rattle.run_rules.proofs.HelperRegistered.{entry_is, linked_spelled}
 use Rattle.run_rules.proofs.HelperRegisters.{shares_few, shares_next}
 use Rattle.run_rules.proofs.HelperRuns.{row_of}
@@ -203,16 +203,9 @@ stage_held b stays c s own n r x h serial phase q k =
 
 -- ---- the command is carried out
 
-begun_same : (stays : Bool) (es : List Entry) (x : Line) (n : ℕ) → begun_in (es ++ entry x (does_for stays n) ∷ []) ≡ begun_in es
-begun_same true [] x n = refl
-begun_same false [] x n = refl
-begun_same stays (e ∷ es) x n = by_first (has_begun e.does) (begun_same stays es x n)
-  where
-    by_first : (t : Bool) → begun_in (es ++ entry x (does_for stays n) ∷ []) ≡ begun_in es
-        → length (cond t (e ∷ filter (λ e. has_begun e.does) (es ++ entry x (does_for stays n) ∷ [])) (filter (λ e. has_begun e.does) (es ++ entry x (does_for stays n) ∷ [])))
-        ≡ length (cond t (e ∷ filter (λ e. has_begun e.does) es) (filter (λ e. has_begun e.does) es))
-    by_first true e = ap suc e
-    by_first false e = e
+none_begun : (stays : Bool) (x : Line) (n : ℕ) → has_begun (entry x (does_for stays n)).does ≡ false
+none_begun true x n = refl
+none_begun false x n = refl
 
 command_is : (h : Server) (stays : Bool) (c s k n held : ℕ)
     → steps.command h (frame_with c s k (link_for stays n)) (link_for stays n) (helper.Deposited (deposit.Read held)) ≡ steps.read_at h (frame_with c s k (link_for stays n)) stays n held (slice_get h.boxes n)
@@ -336,7 +329,7 @@ module _ (b : Book) (f : FrameWorld) (v w : World) (stays : Bool) (c s own : ℕ
       (carried_follows b f w (line stays c s) (does_for stays n) command _ made.boxes server.draws made.body h hon low (limits.3.0) count e
       (row_done b stays c s own (omega (arith, small, serial)) q)
       (made.boxes_is ∙ ap (map (λ m. box_at b 1 m)) (sym (after_read b 1 stays c s n (shares_at b 1 i)) ∙ ap (λ u. u.boxes) (sym (shares_next b 1 i (entry (line stays c s) (does_for stays n)) e))))
-      (hh.draws ∙ sym (begun_same stays w.journal (line stays c s) n))
+      (hh.draws ∙ draws_same w.journal (entry (line stays c s) (does_for stays n)) (none_begun stays (line stays c s) n))
       (reply_is b stays i c s made.body _ result made.body_is)
       (made.frame ready.first)
       (line_is b stays i c s n made.body _ now.holds.named result made.body_is))
@@ -349,11 +342,6 @@ unfolding frame_of
 command_frame b stays c s k g e =
     let is : Some (frame_with c s k (link_for stays (box_of b c s))) ≡ Some g = ap (λ x. Some (frame_with c s k x)) (sym (command_at b stays (k - 1) c s _ refl)) ∙ e in
     sym (cc is)
-
-comes_next : (o : Oracle) (w : World) (n : ℕ) (x : Line) → n ≡ w.carried + 1
-    → comes o w (token.Ordered n x) ≡ carries_next o w x
-unfolding comes command_comes arrival_of
-comes_next o w n x e = let t : nat_eq n (w.carried + 1) ≡ true = eq-eqb _ _ e in rw t refl
 
 link_class : (stays : Bool) (n width : ℕ) → (is_command (link_for stays n) ≡ true) × (has_width width (link_for stays n) ≡ true)
 link_class true n width = (refl, refl)

@@ -298,6 +298,7 @@ module _ (b : Book) (o : Oracle) (f : FrameWorld) (v w : World) (stays : Bool) (
       (applied_follows b f w c s token.Done (token.Answer c s) (leader.row s (leader.Done want.Read made.kept)) made.boxes made.kept h hon low refl
       (row_done b stays c s own made.kept (omega (arith, small, serial)) q answer made.frame)
       tt
+      (record { entry = entry (line stays c s) (does_for stays n); is = was.is; lane = refl })
       (made.boxes_is ∙ ap (map (λ m. box_at b 0 m)) (sym (after_read b 0 stays c s n (shares_at b 0 i)) ∙ ap (λ u. u.boxes) (sym (shares_next b 0 i (entry (line stays c s) (does_for stays n)) was.is))))
       (record { lane = low; frame = frame_with c s 0 made.kept; is = ap (λ x. Some (frame_with c s 0 x)) (sym answer); spelled = record { at = refl; bytes = refl; is_frame = made.frame } }))
 

@@ -9,7 +9,8 @@ use Rattle.token_rules.specs.Run.{asks, client_sends, delivers_at, finished, tic
 use Rattle.token_rules.specs.Lawful.{Lawful}
 use Rattle.token_rules.proofs.Lawful.{moves_keep}
 use Rattle.run_rules.specs.Run.{Event, Ask, Send, Tick, Deliver, Show, Finish, Inject}
-use Rattle.run_rules.specs.History.{token_events, AreOfClients, IsOfClients}
+use Rattle.frame_rules.specs.Whole.{whole}
+use Rattle.run_rules.specs.History.{token_events, lane_from_client, AreOfClients}
 use Rattle.run_rules.proofs.WholeGrows.{Grown, load, asks_grow, delivers_grow, finish_grows, sends_grow, ticks_grow}
 
 -- after so many events
@@ -50,25 +51,31 @@ asked_few o m i c w r h = cond_both {A = World} (w.foreign c) _ _ (Few m (suc i)
     })
 
 module _ (o : Oracle) (settings : Settings) where
-  pub run_few : (events : List Event) (m i : ℕ) (w : World) → i + length events ≤ 20000 → AreOfClients settings events
+  pub run_few_any : (events : List Event) (m i : ℕ) (w : World) → i + length events ≤ 20000
       → Few m i w → Few m (i + length events) (tokens.run o w (token_events events))
   unfolding token_events tokens.run tokens.happens
-  run_few [] m i w le fit h = let e : i ≡ i + 0 = omega arith in subst (λ n. Few m n w) e h
-  run_few (event ∷ events) m i w le fit h =
+  run_few_any [] m i w le h = let e : i ≡ i + 0 = omega arith in subst (λ n. Few m n w) e h
+  run_few_any (event ∷ events) m i w le h =
       let e : suc i + length events ≡ i + length (event ∷ events) = omega arith in
       subst (λ n. Few m n (tokens.run o w (token_events (event ∷ events)))) e
-      (next event fit.0 (λ v k. run_few events m (suc i) v (omega arith) fit.1 k))
+      (next event (λ v k. run_few_any events m (suc i) v (omega arith) k))
     where
-      next : (event : Event) → IsOfClients settings event
+      next : (event : Event)
           → ((v : World) → Few m (suc i) v → Few m (suc i + length events) (tokens.run o v (token_events events)))
           → Few m (suc i + length events) (tokens.run o w (token_events (event ∷ events)))
-      next (Ask c r) fit go = go _ (asked_few o m i c w r h)
-      next (Send c) fit go = go _ (grown_few m i 1 w _ (omega arith) ((moves_keep o).send w c h.lawful) (sends_grow w c) h)
-      next Tick fit go = go _ (grown_few m i 1 w _ (omega arith) ((moves_keep o).tick w h.lawful) (ticks_grow w) h)
-      next (Deliver n) fit go =
+      next (Ask c r) go = go _ (asked_few o m i c w r h)
+      next (Send c) go = go _ (grown_few m i 1 w _ (omega arith) ((moves_keep o).send w c h.lawful) (sends_grow w c) h)
+      next Tick go = go _ (grown_few m i 1 w _ (omega arith) ((moves_keep o).tick w h.lawful) (ticks_grow w) h)
+      next (Deliver n) go =
           go _ (grown_few m i 1 w _ (omega arith) ((moves_keep o).deliver o w n h.lawful) (delivers_grow o w n) h)
-      next (Show n) fit go = go w (later_few m i w h)
-      next (Finish c) fit go =
+      next (Show n) go = go w (later_few m i w h)
+      next (Finish c) go =
           go _ (grown_few m i (1600 * (i + 1)) w _ (omega arith) ((moves_keep o).happen o w (tokens.Finish c) h.lawful)
           (finish_grows o w c i h.lawful (let e = h.window_is in let l = h.small in omega (arith, e, l)) (h.load c)) h)
-      next (Inject to_leader bytes) fit go = absurd fit
+      next (Inject to_leader bytes) go =
+          let l = (moves_keep o).inject w to_leader (lane_from_client (whole bytes)) h.lawful in
+          go _ (let k = later_few m i w h in record { lawful = l; window_is = k.window_is; small = k.small; load = k.load; commands = k.commands })
+
+  pub run_few : (events : List Event) (m i : ℕ) (w : World) → i + length events ≤ 20000 → AreOfClients settings events
+      → Few m i w → Few m (i + length events) (tokens.run o w (token_events events))
+  run_few events m i w le fit h = run_few_any events m i w le h

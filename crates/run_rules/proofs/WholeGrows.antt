@@ -37,6 +37,8 @@ pub record Grown (k : ℕ) (w v : World) : Type 0 where
   pub commands : length v.commands ≤ length w.commands + k
   pub load : (c : ℕ) → load (v.requests c) ≤ load (w.requests c)
   pub window : v.window ≡ w.window
+  pub foreign : v.foreign ≡ w.foreign
+  pub misfits : ((c : ℕ) → w.foreign c ≡ false) → v.misfits ≡ w.misfits
 
 pub grown_then : (k m : ℕ) (w u v : World) → Grown k w u → Grown m u v → Grown (k + m) w v
 grown_then k m w u v h g = record {
@@ -44,32 +46,40 @@ grown_then k m w u v h g = record {
   commands = let a = h.commands in let b = g.commands in omega (arith, a, b);
   load = λ c. let a = h.load c in let b = g.load c in omega (arith, a, b);
   window = g.window ∙ h.window;
+  foreign = g.foreign ∙ h.foreign;
+  misfits = λ honest. g.misfits (λ c. ap (λ f. f c) h.foreign ∙ honest c) ∙ h.misfits honest;
 }
 
 pub grown_more : (k m : ℕ) (w v : World) → k ≤ m → Grown k w v → Grown m w v
-grown_more k m w v le h = record { own = h.own; commands = let a = h.commands in omega (arith, a, le); load = h.load; window = h.window }
+grown_more k m w v le h = record { own = h.own; commands = let a = h.commands in omega (arith, a, le); load = h.load; window = h.window; foreign = h.foreign; misfits = h.misfits }
 
 pub still : (k : ℕ) (w : World) → Grown k w w
-still k w = record { own = λ own. own; commands = omega arith; load = λ c. omega arith; window = refl }
+still k w = record { own = λ own. own; commands = omega arith; load = λ c. omega arith; window = refl; foreign = refl; misfits = λ honest. refl }
 
 -- tokens are sent, and the rest but the lanes stays
 sent : (w : World) (ts : List Token) (v : World) → AreOwn ts → v.pool ≡ w.pool ++ ts → v.commands ≡ w.commands
-    → v.requests ≡ w.requests → v.window ≡ w.window → Grown 1 w v
-sent w ts v own pool commands requests window = record {
+    → v.requests ≡ w.requests → v.window ≡ w.window → v.foreign ≡ w.foreign
+    → (((c : ℕ) → w.foreign c ≡ false) → v.misfits ≡ w.misfits) → Grown 1 w v
+sent w ts v own pool commands requests window foreign misfits = record {
   own = λ all. subst AreOwn (sym pool) (own_append w.pool ts all own);
   commands = let e = ap length commands in omega (arith, e);
   load = λ c. let e : load (v.requests c) ≡ load (w.requests c) = ap (λ r. load (r c)) requests in omega (arith, e);
   window = window;
+  foreign = foreign;
+  misfits = misfits;
 }
 
 -- a command is issued
 issued : (w : World) (x : Line) (v : World) → v.pool ≡ w.pool ++ Ordered (length w.commands + 1) x ∷ []
-    → v.commands ≡ w.commands ++ x ∷ [] → v.requests ≡ w.requests → v.window ≡ w.window → Grown 1 w v
-issued w x v pool commands requests window = record {
+    → v.commands ≡ w.commands ++ x ∷ [] → v.requests ≡ w.requests → v.window ≡ w.window → v.foreign ≡ w.foreign
+    → (((c : ℕ) → w.foreign c ≡ false) → v.misfits ≡ w.misfits) → Grown 1 w v
+issued w x v pool commands requests window foreign misfits = record {
   own = λ all. subst AreOwn (sym pool) (own_append w.pool _ all (tt, tt));
   commands = let e = ap length commands ∙ length-append w.commands (x ∷ []) in omega (arith, e);
   load = λ c. let e : load (v.requests c) ≡ load (w.requests c) = ap (λ r. load (r c)) requests in omega (arith, e);
   window = window;
+  foreign = foreign;
+  misfits = misfits;
 }
 
 helper_own : (c s : ℕ) (says : HelperSays) → AreOwn (helper_tokens c s says)
@@ -98,44 +108,63 @@ kept_own c s Auditing = tt
 carried_grows : (o : Oracle) (w : World) (x : Line) → Grown 1 w (carries_next o w x)
 unfolding carries_next
 carried_grows o w x = cond_both {A = World} (w.foreign x.lane) _ _ (Grown 1 w)
-    (λ e. sent w (Replied (w.carried + 1) x ∷ []) _ (tt, tt) refl refl refl refl)
-    (λ e. sent w (Replied (w.carried + 1) x ∷ []) _ (tt, tt) refl refl refl refl)
+    (λ e. sent w (Replied (w.carried + 1) x ∷ []) _ (tt, tt) refl refl refl refl refl (λ honest. refl))
+    (λ e. sent w (Replied (w.carried + 1) x ∷ []) _ (tt, tt) refl refl refl refl refl (λ honest. refl))
 
 command_grows : (o : Oracle) (w : World) (n : ℕ) (x : Line) (a : Arrival) → Grown 1 w (command_comes o w n x a)
 unfolding command_comes
 command_grows o w n x Next = carried_grows o w x
-command_grows o w n x Kept = sent w (Replied n x ∷ []) _ (tt, tt) refl refl refl refl
+command_grows o w n x Kept = sent w (Replied n x ∷ []) _ (tt, tt) refl refl refl refl refl (λ honest. refl)
 command_grows o w n x Passed = still 1 w
 
 -- over a world that differs from w in lanes and counts alone
 says_grow : (w u : World) (c s : ℕ) (x : Phase) (says : LeaderSays) → u.pool ≡ w.pool → u.commands ≡ w.commands
-    → u.requests ≡ w.requests → u.window ≡ w.window → Grown 1 w (leader_says u c s x says)
+    → u.requests ≡ w.requests → u.window ≡ w.window → u.foreign ≡ w.foreign
+    → (((c : ℕ) → w.foreign c ≡ false) → u.misfits ≡ w.misfits) → Grown 1 w (leader_says u c s x says)
 unfolding leader_says
-says_grow w u c s x LeaderNothing p k r v = sent w [] u tt (p ∙ sym (nil_right w.pool)) k r v
+says_grow w u c s x LeaderNothing p k r v e m = sent w [] u tt (p ∙ sym (nil_right w.pool)) k r v e m
   where
     nil_right : (ts : List Token) → ts ++ [] ≡ ts
     nil_right [] = refl
     nil_right (t ∷ ts) = ap (λ l. t ∷ l) (nil_right ts)
-says_grow w u c s x LeaderLater p k r v = sent w (Later c s ∷ []) _ (tt, tt) (ap (λ l. l ++ Later c s ∷ []) p) k r v
-says_grow w u c s x LeaderKept p k r v = sent w (kept c s x) _ (kept_own c s x) (ap (λ l. l ++ kept c s x) p) k r v
-says_grow w u c s x (LeaderIssues y) p k r v =
+says_grow w u c s x LeaderLater p k r v e m = sent w (Later c s ∷ []) _ (tt, tt) (ap (λ l. l ++ Later c s ∷ []) p) k r v e m
+says_grow w u c s x LeaderKept p k r v e m = sent w (kept c s x) _ (kept_own c s x) (ap (λ l. l ++ kept c s x) p) k r v e m
+says_grow w u c s x (LeaderIssues y) p k r v e m =
     let line = line_of c s y in
     issued w line _
     (ap (λ l. l ++ Ordered (length u.commands + 1) line ∷ []) p ∙ ap (λ (cs : List Line). w.pool ++ Ordered (length cs + 1) line ∷ []) k)
-    (ap (λ l. l ++ line ∷ []) k) r v
+    (ap (λ l. l ++ line ∷ []) k) r v e m
 
 acks_grow : (w : World) (x : Line) (r : Row) (settles : Bool) → Grown 1 w (foreign_acks w x r settles)
 unfolding foreign_acks
-acks_grow w x r true = issued w _ _ refl refl refl refl
-acks_grow w x r false = sent w (Foreign x.lane ∷ []) _ (tt, tt) refl refl refl refl
+acks_grow w x r true = issued w _ _ refl refl refl refl refl (λ honest. refl)
+acks_grow w x r false = sent w (Foreign x.lane ∷ []) _ (tt, tt) refl refl refl refl refl (λ honest. refl)
+
+-- what happens to a foreign lane says nothing where no lane is foreign
+record Adds (w v : World) : Type 0 where
+  pub own : AreOwn w.pool → AreOwn v.pool
+  pub commands : length v.commands ≤ length w.commands + 1
+  pub load : (c : ℕ) → load (v.requests c) ≤ load (w.requests c)
+  pub window : v.window ≡ w.window
+  pub foreign : v.foreign ≡ w.foreign
+
+never : (w v : World) (c : ℕ) → w.foreign c ≡ true → Adds w v → Grown 1 w v
+never w v c e h = record {
+  own = h.own;
+  commands = h.commands;
+  load = h.load;
+  window = h.window;
+  foreign = h.foreign;
+  misfits = λ honest. absurd (cc (e, honest c));
+}
 
 applied_grows : (o : Oracle) (w : World) (x : Line) → Grown 1 w (reply_applied o w x)
 unfolding reply_applied foreign_reply_comes
 applied_grows o w x = cond_both {A = World} (w.foreign x.lane) _ _ (Grown 1 w)
-    (λ e. cond_both {A = World} (o w.moment).fits _ _ (Grown 1 w)
-    (λ f. let g = acks_grow (acted w) x (o w.moment).row (has_settle x.command (o w.moment).settles) in record { own = g.own; commands = g.commands; load = g.load; window = g.window })
-    (λ f. let g = still 1 w in record { own = g.own; commands = g.commands; load = g.load; window = g.window }))
-    (λ e. says_grow w _ x.lane x.serial _ _ refl refl refl refl)
+    (λ e. never w _ x.lane e (cond_both {A = World} (o w.moment).fits _ _ (Adds w)
+    (λ f. let g = acks_grow (acted w) x (o w.moment).row (has_settle x.command (o w.moment).settles) in record { own = g.own; commands = g.commands; load = g.load; window = g.window; foreign = g.foreign })
+    (λ f. let g = still 1 w in record { own = g.own; commands = g.commands; load = g.load; window = g.window; foreign = g.foreign })))
+    (λ e. says_grow w _ x.lane x.serial _ _ refl refl refl refl refl (λ honest. refl))
 
 reply_grows : (o : Oracle) (w : World) (n : ℕ) (x : Line) → Grown 1 w (reply_comes o w n x)
 unfolding reply_comes
@@ -144,19 +173,19 @@ reply_grows o w n x = cond_both {A = World} (nat_eq n (w.acknowledged + 1) && na
 
 at_leader_grows : (w : World) (c : ℕ) (r : Row) (says : Option ℕ) (y : Option Command) → Grown 1 w (foreign_at_leader w c r says y)
 unfolding foreign_at_leader
-at_leader_grows w c r says (Some y) = issued w _ _ refl refl refl refl
-at_leader_grows w c r says None = sent w (foreign_tokens says) _ (foreign_own says) refl refl refl refl
+at_leader_grows w c r says (Some y) = issued w _ _ refl refl refl refl refl (λ honest. refl)
+at_leader_grows w c r says None = sent w (foreign_tokens says) _ (foreign_own says) refl refl refl refl refl (λ honest. refl)
 
 frame_grows : (w : World) (to_leader : Bool) (c : ℕ) (act : Act) → Grown 1 w (foreign_frame_comes (acted w) to_leader c act)
 unfolding foreign_frame_comes
-frame_grows w false c act = sent w (foreign_tokens act.says) _ (foreign_own act.says) refl refl refl refl
+frame_grows w false c act = sent w (foreign_tokens act.says) _ (foreign_own act.says) refl refl refl refl refl (λ honest. refl)
 frame_grows w true c act = cond_both {A = World} (is_full (acted w)) _ _ (Grown 1 w)
-    (λ e. sent w (foreign_tokens act.says) _ (foreign_own act.says) refl refl refl refl)
-    (λ e. let g = at_leader_grows (acted w) c act.row act.says act.issues in record { own = g.own; commands = g.commands; load = g.load; window = g.window })
+    (λ e. sent w (foreign_tokens act.says) _ (foreign_own act.says) refl refl refl refl refl (λ honest. refl))
+    (λ e. let g = at_leader_grows (acted w) c act.row act.says act.issues in record { own = g.own; commands = g.commands; load = g.load; window = g.window; foreign = g.foreign; misfits = g.misfits })
 
 injected_grows : (o : Oracle) (w : World) (to_leader : Bool) (lane : Option ℕ) → Grown 1 w (injected_comes o w to_leader lane)
 unfolding injected_comes
-injected_grows o w to_leader None = sent w (Foreign 0 ∷ []) _ (tt, tt) refl refl refl refl
+injected_grows o w to_leader None = sent w (Foreign 0 ∷ []) _ (tt, tt) refl refl refl refl refl (λ honest. refl)
 injected_grows o w to_leader (Some c) = cond_both {A = World} (w.foreign c) _ _ (Grown 1 w)
     (λ e. frame_grows w to_leader c (o w.moment)) (λ e. still 1 w)
 
@@ -169,6 +198,8 @@ record Goes (w : World) (c : ℕ) (rs : List Request) (v : World) : Type 0 where
   pub mine : load (v.requests c) ≤ length (w.requests c).sent + length rs
   pub others : (d : ℕ) → d ≢ c → load (v.requests d) ≡ load (w.requests d)
   pub window : v.window ≡ w.window
+  pub foreign : v.foreign ≡ w.foreign
+  pub misfits : v.misfits ≡ w.misfits
 
 goes_waiting : (w : World) (c : ℕ) (rs : List Request) → Goes w c rs (waits w c rs)
 goes_waiting w c rs =
@@ -180,6 +211,8 @@ goes_waiting w c rs =
       mine = omega (arith, here);
       others = λ d n. ap load (put_other w.requests c mine d n);
       window = refl;
+      foreign = refl;
+      misfits = refl;
     }
 
 goes : (w : World) (c : ℕ) (rs : List Request) → Goes w c rs (goes_on w c rs)
@@ -198,6 +231,8 @@ goes w c (r ∷ rest) = cond_both {A = World} (is_refused w c r) _ _ (Goes w c (
       mine = omega (arith, mine, sent_here);
       others = λ d n. g.others d n ∙ ap load (put_other w.requests c told d n);
       window = g.window;
+      foreign = g.foreign;
+      misfits = g.misfits;
     })
     (λ e.
     let mine : Requests = record (w.requests c) { sent = (w.requests c).sent ++ r ∷ []; waiting = rest } in
@@ -209,12 +244,14 @@ goes w c (r ∷ rest) = cond_both {A = World} (is_refused w c r) _ _ (Goes w c (
       mine = omega (arith, here, more);
       others = λ d n. ap load (put_other w.requests c mine d n);
       window = refl;
+      foreign = refl;
+      misfits = refl;
     })
 
 moves_grow : (w : World) (c s : ℕ) (does : ClientDoes) → Grown 1 w (client_moves w c s does)
 unfolding client_moves
 moves_grow w c s Stays = still 1 w
-moves_grow w c s GoesOn = record { own = λ own. own; commands = omega arith; load = λ d. omega arith; window = refl }
+moves_grow w c s GoesOn = record { own = λ own. own; commands = omega arith; load = λ d. omega arith; window = refl; foreign = refl; misfits = λ honest. refl }
 moves_grow w c s Finishes =
     let ended = Answered s (w.lanes c).opening in
     let told : Requests = record (w.requests c) { told = (w.requests c).told + 1 } in
@@ -233,6 +270,8 @@ moves_grow w c s Finishes =
         | inr other ↦ let e = g.others d other ∙ ap load (put_other w.requests c told d other) in omega (arith, e)
       ];
       window = g.window;
+      foreign = g.foreign;
+      misfits = λ honest. g.misfits;
     }
 
 hears_grow : (w : World) (c s : ℕ) (heard : ClientHears) → Grown 1 w (client_hears w c s heard)
@@ -244,11 +283,11 @@ hears_grow w c s heard = cond_both {A = World} (nat_eq s (w.lanes c).serial) _ _
 
 pub comes_grow : (o : Oracle) (w : World) (t : Token) → Grown 1 w (comes o w t)
 unfolding comes
-comes_grow o w (Deposit c s) = sent w _ _ (helper_own c s _) refl refl refl refl
-comes_grow o w (ProofToHelper c s) = sent w _ _ (helper_own c s _) refl refl refl refl
+comes_grow o w (Deposit c s) = sent w _ _ (helper_own c s _) refl refl refl refl refl (λ honest. refl)
+comes_grow o w (ProofToHelper c s) = sent w _ _ (helper_own c s _) refl refl refl refl refl (λ honest. refl)
 comes_grow o w (Ordered n x) = command_grows o w n x _
-comes_grow o w (Submission c s y) = says_grow w _ c s _ _ refl refl refl refl
-comes_grow o w (ProofToLeader c s) = says_grow w _ c s _ _ refl refl refl refl
+comes_grow o w (Submission c s y) = says_grow w _ c s _ _ refl refl refl refl refl (λ honest. refl)
+comes_grow o w (ProofToLeader c s) = says_grow w _ c s _ _ refl refl refl refl refl (λ honest. refl)
 comes_grow o w (Replied n x) = reply_grows o w n x
 comes_grow o w (HeldDeposit c s) = hears_grow w c s HeardHeldDeposit
 comes_grow o w (Challenge c s) = hears_grow w c s HeardChallenge
@@ -282,11 +321,11 @@ frames_own (suc (suc (suc (suc n)))) c s y = (tt, tt)
 pub sends_grow : (w : World) (c : ℕ) → Grown 1 w (client_sends w c)
 unfolding client_sends
 sends_grow w c = cond_both {A = World} (w.foreign c) _ _ (Grown 1 w) (λ e. still 1 w)
-    (λ e. sent w _ _ (frames_own (w.lanes c).step c (w.lanes c).serial (w.lanes c).opening) refl refl refl refl)
+    (λ e. sent w _ _ (frames_own (w.lanes c).step c (w.lanes c).serial (w.lanes c).opening) refl refl refl refl refl (λ honest. refl))
 
 resends_grow : (w : World) (x : Option Line) → Grown 1 w (resends w x)
 unfolding resends
-resends_grow w (Some x) = sent w _ _ (tt, tt) refl refl refl refl
+resends_grow w (Some x) = sent w _ _ (tt, tt) refl refl refl refl refl (λ honest. refl)
 resends_grow w None = still 1 w
 
 pub ticks_grow : (w : World) → Grown 1 w (ticks w)
@@ -359,6 +398,8 @@ pub record Asked (w : World) (v : World) : Type 0 where
   pub commands : v.commands ≡ w.commands
   pub load : (d : ℕ) → load (v.requests d) ≤ load (w.requests d) + 1
   pub window : v.window ≡ w.window
+  pub foreign : v.foreign ≡ w.foreign
+  pub misfits : v.misfits ≡ w.misfits
 
 pub asks_grow : (w : World) (c : ℕ) (r : Request) → Asked w (asks w c r)
 unfolding asks
@@ -380,4 +421,6 @@ asks_grow w c r = cond_both {A = World} (nat_eq (w.lanes c).step 0) _ _ (Asked w
         | inr other ↦ let e = g.others d other in omega (arith, e)
       ];
       window = g.window;
+      foreign = g.foreign;
+      misfits = g.misfits;
     }

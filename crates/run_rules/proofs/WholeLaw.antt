@@ -32,18 +32,18 @@ use Rattle.run_rules.proofs.WholeRuns.{events_follow, run_back}
 
 -- ---- what was asked fits
 
-abbrev AllFit : ℕ → List Request → Type 0
+abbrev pub AllFit : ℕ → List Request → Type 0
 AllFit width requests = (i : ℕ) (r : Request) → slice_get requests i ≡ Some r → Fits width r
 
-fit_append : (width : ℕ) (xs ys : List Request) → AllFit width xs → AllFit width ys → AllFit width (xs ++ ys)
+pub fit_append : (width : ℕ) (xs ys : List Request) → AllFit width xs → AllFit width ys → AllFit width (xs ++ ys)
 fit_append width [] ys h k i r e = k i r e
 fit_append width (x ∷ xs) ys h k zero r e = h zero r e
 fit_append width (x ∷ xs) ys h k (suc i) r e = fit_append width xs ys (λ i r e. h (suc i) r e) k i r e
 
-fit_none : (width : ℕ) → AllFit width []
+pub fit_none : (width : ℕ) → AllFit width []
 fit_none width i r e = absurd (cc e)
 
-fit_one : (width : ℕ) (x : Request) → Fits width x → AllFit width (x ∷ [])
+pub fit_one : (width : ℕ) (x : Request) → Fits width x → AllFit width (x ∷ [])
 fit_one width x h zero r e = let same : x ≡ r = cc in subst (Fits width) same h
 fit_one width x h (suc i) r e = absurd (cc e)
 
@@ -62,7 +62,7 @@ asked_fit settings c (Show n ∷ events) fit = asked_fit settings c events fit.1
 asked_fit settings c (Finish d ∷ events) fit = asked_fit settings c events fit.1
 asked_fit settings c (Inject to_leader bytes ∷ events) fit = absurd fit.0
 
-good : (b : Book) (r : Request) → Fits b.settings.width r → IsGood b r
+pub good : (b : Book) (r : Request) → Fits b.settings.width r → IsGood b r
 good b (Register a) h = h
 good b (Write t m) h = h
 good b (Read own) h = tt
@@ -72,7 +72,7 @@ zeros_below : (m n : ℕ) → 0 < m → All (λ x. x < m) (replicate n 0)
 zeros_below m zero h = All-nil (λ x. x < m)
 zeros_below m (suc n) h = All-cons (λ x. x < m) 0 (replicate n 0) h (zeros_below m n h)
 
-nothing_brought : (width : ℕ) → IsOfFrames (no_brought width)
+pub nothing_brought : (width : ℕ) → IsOfFrames (no_brought width)
 nothing_brought width = record {
   keys = λ server c s. refl;
   roots = λ server c s. lit< tt;
@@ -85,7 +85,7 @@ nothing_brought width = record {
 
 -- ---- the end of a run comes after its start
 
-run_since : (o : Oracle) (w u : World) (events : List tokens.Event) → Lawful u → Since w u
+pub run_since : (o : Oracle) (w u : World) (events : List tokens.Event) → Lawful u → Since w u
     → Since w (tokens.run o u events)
 unfolding tokens.run
 run_since o w u [] l h = h
@@ -93,7 +93,7 @@ run_since o w u (e ∷ events) l h =
     let next = (moves_lead_on w).happen o u e (l, h) in
     run_since o w (tokens.happens o u e) events next.0 next.1
 
-take_all : {X : Type 0} (xs : List X) → xs ≡ take (length xs) xs
+pub take_all : {X : Type 0} (xs : List X) → xs ≡ take (length xs) xs
 take_all [] = refl
 take_all (x ∷ xs) = ap (λ l. x ∷ l) (take_all xs)
 
@@ -112,7 +112,7 @@ module _ (o : Oracle) (settings : Settings) (seed : List ℕ) (events : List Eve
   at_start : Lawful (first b)
   at_start = start_is_lawful settings.width settings.boxes settings.window no_lane room
 
-  bounds : Few settings.window (length events) v
+  pub bounds : Few settings.window (length events) v
   bounds =
       let h : Few settings.window 0 (first b) = record {
         lawful = at_start;

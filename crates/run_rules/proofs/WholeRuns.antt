@@ -26,7 +26,7 @@ use Rattle.run_rules.proofs.WholeGrows.{IsOwn, asks_grow}
 use Rattle.run_rules.proofs.WholeMoves.{Kept, Allowed, back, back_on_delivers, back_on_sends, back_on_ticks, back_on_finish, known, lead, on_delivers, on_sends, on_ticks, on_finish}
 
 -- a client with a current request has the new one wait
-busy_asks : (b : Book) (f : FrameWorld) (w : World) (c : ℕ) (r : Request) → Follows b f w → b.foreign c ≡ false
+pub busy_asks : (b : Book) (f : FrameWorld) (w : World) (c : ℕ) (r : Request) → Follows b f w → b.foreign c ≡ false
     → (w.lanes c).step ≢ 0 → Follows b (frames.asks f c r) (asks w c r)
 unfolding asks
 busy_asks b f w c r h hon busy =
@@ -35,7 +35,7 @@ busy_asks b f w c r h hon busy =
     rw (idle, h.waiting c, not_zero) (waits_follow b f w c ((w.requests c).waiting ++ r ∷ []) h)
 
 -- one with none has all boxes that its lane got
-can_ask : (b : Book) (f : FrameWorld) (v w : World) (c : ℕ) → Known b v w → Follows b f w → b.foreign c ≡ false
+pub can_ask : (b : Book) (f : FrameWorld) (v w : World) (c : ℕ) → Known b v w → Follows b f w → b.foreign c ≡ false
     → (w.lanes c).step ≡ 0 → CanAsk b (f.clients c) (w.lanes c).serial (w.table.got c)
 can_ask b f v w c k h hon idle =
     let hon_w : w.foreign c ≡ false = ap (λ g. g c) h.foreign ∙ hon in

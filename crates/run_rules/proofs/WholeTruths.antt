@@ -2,7 +2,9 @@
 use Rattle.std.proofs.Common.{refl}
 use Rattle.run_rules.specs.Follows.{Follows}
 use Rattle.run_rules.specs.History.{AtEnd, frame_run, history, no_lane, token_run}
-use Rattle.run_rules.specs.Plain.{HistoryIsClients, JournalIsPlain, OutcomesArePlain, SharesAreFolds}
+use Rattle.run_rules.specs.Plain.{BoxesArePlain, HistoryIsClients, JournalInOrder, JournalIsPlain, OutcomesArePlain, SharesAreFolds}
+use Rattle.run_rules.proofs.PlainRegistered.{registered_accepted}
+use Rattle.run_rules.proofs.PlainTables.{shares_are_plain}
 use Rattle.run_rules.proofs.WholeLaw.{run_follows, sound, whole, within}
 use Rattle.run_rules.proofs.WholeTokens.{comes_follow, sends_follow}
 use Rattle.run_rules.proofs.PlainEnds.{clients, journal_is_plain, outcomes_are_plain, shares_are_folds}
@@ -35,3 +37,17 @@ shares_at_end o settings seed events limits fit few =
     let v = token_run o settings no_lane events in
     shares_are_folds (history settings seed v) v (sound o settings seed events limits fit few) (whole o settings seed events limits fit few) (λ c. refl)
     (frame_run settings seed events) (follows_at_end o settings seed events limits fit few)
+
+pub boxes_at_end : AtEnd BoxesArePlain
+boxes_at_end o settings seed events limits fit few =
+    let b = history settings seed (token_run o settings no_lane events) in
+    let k = clients_at_end o settings seed events limits fit few in
+    record {
+      shares = λ i. shares_are_plain b k i;
+      accepted = λ c serial target message asked there. registered_accepted b k c serial target message asked there;
+    }
+
+pub order_at_end : AtEnd JournalInOrder
+order_at_end o settings seed events limits fit few =
+    let w = whole o settings seed events limits fit few in
+    record { entries = refl; once = w.lawful.once; order = w.lawful.order }

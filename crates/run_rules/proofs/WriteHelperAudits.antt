@@ -16,16 +16,16 @@ use Rattle.step_rules.specs.Helper.{Server, row_at}
 use Rattle.step_rules.specs.HelperCommands as steps
 use Rattle.step_rules.specs.HelperCommands.{Effect, effect}
 use Rattle.run_rules.specs.Letters.{FrameWorld}
-use Rattle.run_rules.specs.Book.{Book, request_of, wants, begun_in}
+use Rattle.run_rules.specs.Book.{Book, request_of, wants}
 use Rattle.run_rules.specs.Values.{counted_at, write_at, share_at, sigma_at, opened_at, closing_at, boxes_at, box_at}
 use Rattle.run_rules.specs.Frames.{command_body, reply_body, reply_with, result_at}
 use Rattle.run_rules.specs.Follows.{Within, Follows}
 use Rattle.run_rules.specs.Known.{Known}
 use Rattle.run_rules.specs.Laws.{ComesFollows}
-use Rattle.run_rules.proofs.HelperCommands.{left_by}
+use Rattle.run_rules.proofs.HelperCommands.{left_by, draws_same}
 use Rattle.run_rules.proofs.HelperRegisters.{shares_next}
 use Rattle.run_rules.proofs.WriteLeaderRanges.{WriteIs, opened_is, closing_is}
-use Rattle.run_rules.proofs.WriteHelperCarried.{ordered, Made, Ready, begun_more, ready_effect, ready_holds}
+use Rattle.run_rules.proofs.WriteHelperCarried.{ordered, Made, Ready, ready_effect, ready_holds}
 use Rattle.run_rules.proofs.WriteHelperWrites.{is_write, does_audit, proved_write}
 use Rattle.run_rules.proofs.WriteHelperBefore.{began, counted_first}
 use Rattle.run_rules.proofs.WriteHelperOrders.{honest_ordered}
@@ -35,11 +35,11 @@ line c s = line_of c s Audits
 
 -- ---- what the helper's step makes
 
-abbrev audited_with : Book → Server → ℕ → ℕ → Values → Effect
+abbrev pub audited_with : Book → Server → ℕ → ℕ → Values → Effect
 audited_with b h c s v =
     effect (left_by h c (helper.row s (helper.Audited (write_at b 1 c s) v.closing)) h.boxes h.draws) (frame.LinkReply (frame.ReplyAudited v.opened v.closing))
 
-audit_effect : (b : Book) (h : Server) (c s i : ℕ) (stage : helper.Stage)
+pub audit_effect : (b : Book) (h : Server) (c s i : ℕ) (stage : helper.Stage)
     → stage ≡ helper.Proved (write_at b 1 c s) (share_at b 1 c s)
     → steps.command h (ordered b i (line c s)) (command_body b i (line c s) Audits) stage
     ≡ audited_with b h c s (values 1 (write_at b 1 c s) (steps.counted h (write_at b 1 c s)) (share_at b 1 c s) (sigma_at b c s) (opened_at b 0 c s))
@@ -47,7 +47,7 @@ unfolding command_body steps.command steps.audit
 audit_effect b h c s i stage e = rw e refl
 
 -- its values are those of the history
-values_are : (b : Book) (h : Server) (c s : ℕ) → take (length (counted_at b c s)) (addresses_of h.boxes) ≡ counted_at b c s
+pub values_are : (b : Book) (h : Server) (c s : ℕ) → take (length (counted_at b c s)) (addresses_of h.boxes) ≡ counted_at b c s
     → values 1 (write_at b 1 c s) (steps.counted h (write_at b 1 c s)) (share_at b 1 c s) (sigma_at b c s) (opened_at b 0 c s)
     ≡ record { opened = opened_at b 1 c s; closing = closing_at b 1 c s }
 unfolding write_at values opened_at closing_at
@@ -66,7 +66,7 @@ audit_reply : (b : Book) (i c s target : ℕ) (message : List ℕ) → request_o
 unfolding reply_with
 audit_reply b i c s target message q = ap (reply_with b i (line c s)) (is_audited b i c s target message q)
 
-audit_boxes : (b : Book) (i c s : ℕ) → slice_get b.entries i ≡ Some (entry (line c s) AuditWrite)
+pub audit_boxes : (b : Book) (i c s : ℕ) → slice_get b.entries i ≡ Some (entry (line c s) AuditWrite)
     → boxes_at b 1 i ≡ boxes_at b 1 (i + 1)
 unfolding after_line
 audit_boxes b i c s e = ap (λ (t : Table). map (λ m. box_at b 1 m) t.boxes) (sym (shares_next b 1 i (entry (line c s) AuditWrite) e))
@@ -111,9 +111,7 @@ module _ (b : Book) (f : FrameWorld) (v w : World) (c s : ℕ) (write : WriteIs 
     want = sym (ap wants write.is);
     holds = (refl, refl);
     boxes_is = h.helper.boxes ∙ audit_boxes b w.carried c s entered;
-    draws_is =
-        let none : begun_in w.journal ≡ begun_in w.journal + 0 = omega arith in
-        h.helper.draws ∙ none ∙ sym (begun_more w.journal (entry (line c s) AuditWrite));
+    draws_is = h.helper.draws ∙ draws_same w.journal (entry (line c s) AuditWrite) refl;
     body_is = sym (audit_reply b w.carried c s write.target write.message write.is);
     is_frame = record {
       lane = ready.lane;

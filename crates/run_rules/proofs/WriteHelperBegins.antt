@@ -26,11 +26,11 @@ use Rattle.run_rules.specs.Follows.{Within, Follows}
 use Rattle.run_rules.specs.Known.{Known}
 use Rattle.run_rules.specs.Laws.{ComesFollows}
 use Rattle.run_rules.proofs.Places.{place_is}
-use Rattle.run_rules.proofs.HelperCommands.{left_by}
+use Rattle.run_rules.proofs.HelperCommands.{left_by, draws_more}
 use Rattle.run_rules.proofs.HelperRegisters.{shares_next, shares_few}
 use Rattle.run_rules.proofs.WriteLeaderRanges.{WriteIs, part_of_length, helpers_draw_length}
 use Rattle.run_rules.proofs.WriteLeaderCounts.{shares_length}
-use Rattle.run_rules.proofs.WriteHelperCarried.{ordered, Made, Ready, begun_more, ready_effect, journal_length, ready_holds}
+use Rattle.run_rules.proofs.WriteHelperCarried.{ordered, Made, Ready, ready_effect, journal_length, ready_holds}
 use Rattle.run_rules.proofs.WriteHelperWrites.{is_write, does_begin, deposited_root}
 use Rattle.run_rules.proofs.WriteHelperOrders.{honest_ordered}
 
@@ -39,7 +39,7 @@ line c s = line_of c s Begins
 
 -- ---- what the helper's step makes
 
-begin_effect : (b : Book) (h : Server) (c s i root : ℕ) (stage : helper.Stage) → stage ≡ helper.Deposited (deposit.Write root)
+pub begin_effect : (b : Book) (h : Server) (c s i root : ℕ) (stage : helper.Stage) → stage ≡ helper.Deposited (deposit.Write root)
     → steps.command h (ordered b i (line c s)) (command_body b i (line c s) Begins) stage
     ≡ effect (left_by h c (helper.row s (helper.Begun (steps.begun h (leaders_draw b i) (part_at b c s) root))) h.boxes (h.draws + 1))
     (frame.LinkBegun (length h.boxes) (steps.draw h))
@@ -47,7 +47,7 @@ unfolding command_body steps.command steps.begin
 begin_effect b h c s i root stage e = rw e refl
 
 -- the write that it keeps is that of the history
-begun_is : (b : Book) (h : Server) (c s i : ℕ) → place b c s Begins ≡ i → length h.boxes ≡ length (counted_at b c s)
+pub begun_is : (b : Book) (h : Server) (c s i : ℕ) → place b c s Begins ≡ i → length h.boxes ≡ length (counted_at b c s)
     → steps.draw h ≡ helpers_draw b i
     → steps.begun h (leaders_draw b i) (part_at b c s) (root_at b 1 c s) ≡ write_at b 1 c s
 unfolding write_at ckey_at
@@ -71,7 +71,7 @@ begin_reply : (b : Book) (i c s target : ℕ) (message : List ℕ) → request_o
 unfolding reply_with
 begin_reply b i c s target message q = ap (reply_with b i (line c s)) (begin_result b i c s target message q)
 
-begin_boxes : (b : Book) (i c s : ℕ) → slice_get b.entries i ≡ Some (entry (line c s) BeginWrite)
+pub begin_boxes : (b : Book) (i c s : ℕ) → slice_get b.entries i ≡ Some (entry (line c s) BeginWrite)
     → boxes_at b 1 i ≡ boxes_at b 1 (i + 1)
 unfolding after_line
 begin_boxes b i c s e = ap (λ (t : Table). map (λ m. box_at b 1 m) t.boxes) (sym (shares_next b 1 i (entry (line c s) BeginWrite) e))
@@ -142,7 +142,7 @@ module _ (b : Book) (f : FrameWorld) (v w : World) (c s : ℕ) (write : WriteIs 
     want = sym (ap wants write.is);
     holds = refl;
     boxes_is = h.helper.boxes ∙ begin_boxes b i c s entered;
-    draws_is = ap (λ n. n + 1) h.helper.draws ∙ sym (begun_more w.journal (entry (line c s) BeginWrite));
+    draws_is = ap (λ n. n + 1) h.helper.draws ∙ sym (draws_more w.journal (entry (line c s) BeginWrite));
     body_is =
         ap (λ n. frame.LinkBegun n (steps.draw server)) boxes ∙ ap (frame.LinkBegun (length (shares_at b 1 i).boxes)) draw
         ∙ sym (begin_reply b i c s write.target write.message write.is);

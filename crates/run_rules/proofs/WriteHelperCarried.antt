@@ -1,5 +1,5 @@
 -- What any command of a client's lane, carried out, makes of the helper, and that this keeps the relation.
-use Rattle.std.proofs.Common.{◌≡◌, ℕ, ◌<◌, ◌≤◌, ◌^◌, ◌+◌, ◌-◌, cond, nat_eq, nat_le, true, false, Bool, List, [], ◌∷◌, ◌++◌, length, take, filter, Some, slice_get, refl, sym, ap, ◌∙◌, subst, arith, length-append}
+use Rattle.std.proofs.Common.{◌≡◌, ℕ, ◌<◌, ◌≤◌, ◌^◌, ◌+◌, ◌-◌, nat_eq, nat_le, true, false, List, [], ◌∷◌, ◌++◌, length, take, Some, slice_get, refl, sym, ap, ◌∙◌, subst, arith, length-append}
 use Rattle.std.proofs.lemmas.Bool.{eq-eqb, leb-true, false_from_ne_true}
 use Rattle.std.proofs.lemmas.List.{length-take}
 use Rattle.frame_rules.specs.Frames.{PlainFrame, PlainBody}
@@ -19,7 +19,7 @@ use Rattle.step_rules.specs.HelperCommands.{Effect, effect}
 use Rattle.step_tokens.specs.HelperRows.{bare_phase}
 use Rattle.run_rules.specs.Letters.{FrameWorld}
 use Rattle.run_rules.specs.Run as frames
-use Rattle.run_rules.specs.Book.{Book, request_of, wants, begun_in, has_begun}
+use Rattle.run_rules.specs.Book.{Book, request_of, wants, begun_in}
 use Rattle.run_rules.specs.Values.{boxes_at}
 use Rattle.run_rules.specs.Frames.{frame_with, frame_of, command_body, reply_body, line_value}
 use Rattle.run_rules.specs.Known.{Known}
@@ -46,22 +46,6 @@ pub record Made (b : Book) (h : Server) (x : Line) (i : ℕ) (entries : List Ent
   pub draws_is : draws ≡ begun_in entries
   pub body_is : body ≡ reply_body b i x
   pub is_frame : IsFrame (frame_with x.lane x.serial (i + 1) body)
-
--- ---- draws
-
-pub begun_more : (es : List Entry) (e : Entry) → begun_in (es ++ e ∷ []) ≡ begun_in es + cond (has_begun e.does) 1 0
-begun_more [] e = by_begun (has_begun e.does)
-  where
-    by_begun : (t : Bool) → length (cond t (e ∷ []) []) ≡ 0 + cond t 1 0
-    by_begun true = refl
-    by_begun false = refl
-begun_more (x ∷ es) e = by_first (has_begun x.does) (begun_more es e)
-  where
-    by_first : (t : Bool) → begun_in (es ++ e ∷ []) ≡ begun_in es + cond (has_begun e.does) 1 0
-        → length (cond t (x ∷ filter (λ e. has_begun e.does) (es ++ e ∷ [])) (filter (λ e. has_begun e.does) (es ++ e ∷ [])))
-        ≡ length (cond t (x ∷ filter (λ e. has_begun e.does) es) (filter (λ e. has_begun e.does) es)) + cond (has_begun e.does) 1 0
-    by_first true k = omega (arith, k)
-    by_first false k = k
 
 -- ---- what is carried out
 

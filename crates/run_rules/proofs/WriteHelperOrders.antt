@@ -1,13 +1,12 @@
 -- A command of a client's lane comes to the helper, of any kind: as the next one it is carried out.
-use Rattle.std.proofs.Common.{◌≡◌, ℕ, ◌<◌, ◌+◌, ◌-◌, nat_eq, true, false, Some, slice_get, ◌++◌, ◌∷◌, [], refl, sym, ap, ◌∙◌, subst, arith}
-use Rattle.std.proofs.lemmas.Bool.{eq-eqb}
+use Rattle.std.proofs.Common.{◌≡◌, ℕ, ◌<◌, ◌+◌, ◌-◌, true, false, Some, slice_get, ◌++◌, ◌∷◌, [], refl, sym, ap, ◌∙◌, subst, arith}
 use Rattle.frame_rules.specs.Frames.{PlainFrame}
 use Rattle.frame_rules.specs.Whole.{is_command, has_width}
 use Rattle.mailbox_rules.specs.Requests.{Command, Registers, Begins, Audits, Settles, Reads, Retires, Line, entry}
 use Rattle.token_rules.specs.Tokens as token
 use Rattle.token_rules.specs.Tokens.{World, Oracle}
-use Rattle.token_rules.specs.Rows.{carried_row, arrival_of}
-use Rattle.token_rules.specs.Run.{carries, carries_next, command_comes, comes, asked_operation}
+use Rattle.token_rules.specs.Rows.{carried_row}
+use Rattle.token_rules.specs.Run.{carries, carries_next, comes, asked_operation}
 use Rattle.token_rules.specs.Laws.{IsSent}
 use Rattle.token_rules.specs.Invariant.{Claims, state}
 use Rattle.step_rules.specs.HelperCommands as steps
@@ -18,7 +17,7 @@ use Rattle.run_rules.specs.Frames.{frame_with, frame_of, command_body}
 use Rattle.run_rules.specs.Follows.{Spelled, IsFrameOf, Within, Follows}
 use Rattle.run_rules.specs.Known.{Known}
 use Rattle.run_rules.specs.Laws.{ComesFollows}
-use Rattle.run_rules.proofs.HelperOrders.{ordered_follows}
+use Rattle.run_rules.proofs.HelperOrders.{ordered_follows, comes_next}
 use Rattle.run_rules.proofs.HelperRegistered.{linked_spelled}
 use Rattle.run_rules.proofs.WriteHelperCarried.{ordered, Made, Ready, is_ready, made_follows, entry_at}
 
@@ -41,11 +40,6 @@ honest_next : (o : Oracle) (w : World) (x : Line) → w.foreign x.lane ≡ false
     → carries_next o w x ≡ carries w x (carried_row x) (asked_operation w x)
 unfolding carries_next
 honest_next o w x hon = rw hon refl
-
-pub comes_next : (o : Oracle) (w : World) (n : ℕ) (x : Line) → n ≡ w.carried + 1
-    → comes o w (token.Ordered n x) ≡ carries_next o w x
-unfolding comes command_comes arrival_of
-comes_next o w n x e = let t : nat_eq n (w.carried + 1) ≡ true = eq-eqb _ _ e in rw t refl
 
 -- What is to be shown of a client's command for its token: the frame is read at the helper, and as the next command it
 -- makes what the token run says.

@@ -17,17 +17,17 @@ use Rattle.step_rules.specs.Helper.{Server, row_at}
 use Rattle.step_rules.specs.HelperCommands as steps
 use Rattle.step_rules.specs.HelperCommands.{Effect, effect}
 use Rattle.run_rules.specs.Letters.{FrameWorld}
-use Rattle.run_rules.specs.Book.{Book, request_of, wants, begun_in}
+use Rattle.run_rules.specs.Book.{Book, request_of, wants}
 use Rattle.run_rules.specs.Values.{root_at, part_at, counted_at, write_at, closing_at, accepted_at, writes_at, shares_at, boxes_at, box_at}
 use Rattle.run_rules.specs.Frames.{frame_with, command_body, reply_body, reply_with, result_at}
 use Rattle.run_rules.specs.Follows.{Within, Follows}
 use Rattle.run_rules.specs.Known.{Known}
 use Rattle.run_rules.specs.Laws.{ComesFollows}
 use Rattle.run_rules.proofs.Effects.{write_effect}
-use Rattle.run_rules.proofs.HelperCommands.{left_by}
+use Rattle.run_rules.proofs.HelperCommands.{left_by, draws_same}
 use Rattle.run_rules.proofs.HelperRegisters.{shares_next}
 use Rattle.run_rules.proofs.WriteLeaderRanges.{WriteIs}
-use Rattle.run_rules.proofs.WriteHelperCarried.{ordered, Made, Ready, begun_more, ready_effect, ready_holds}
+use Rattle.run_rules.proofs.WriteHelperCarried.{ordered, Made, Ready, ready_effect, ready_holds}
 use Rattle.run_rules.proofs.WriteHelperWrites.{is_write, does_settle, audited_write}
 use Rattle.run_rules.proofs.WriteHelperBefore.{began, count_is}
 use Rattle.run_rules.proofs.WriteHelperOrders.{honest_ordered}
@@ -36,16 +36,16 @@ abbrev line : ℕ → ℕ → Line
 line c s = line_of c s Settles
 
 -- what is answered, and the boxes, by whether the write is accepted
-abbrev judged : Bool → PlainReply
+abbrev pub judged : Bool → PlainReply
 judged accepted = cond accepted frame.ReplyAccepted frame.ReplyRejected
 
-abbrev written : Book → ℕ → ℕ → List Box → List Box
+abbrev pub written : Book → ℕ → ℕ → List Box → List Box
 written b c s boxes =
     cond (accepted_at b c s) (with_write (part_at b c s) 1 (root_at b 1 c s) (length (counted_at b c s)) boxes) boxes
 
 -- ---- what the helper's step makes
 
-settle_effect : (b : Book) (h : Server) (c s i : ℕ) (stage : helper.Stage)
+pub settle_effect : (b : Book) (h : Server) (c s i : ℕ) (stage : helper.Stage)
     → stage ≡ helper.Audited (write_at b 1 c s) (closing_at b 1 c s)
     → steps.command h (ordered b i (line c s)) (command_body b i (line c s) Settles) stage
     ≡ effect (left_by h c (helper.row s (helper.Done want.Write)) (written b c s h.boxes) h.draws) (frame.LinkReply (judged (accepted_at b c s)))
@@ -81,7 +81,7 @@ settle_reply b i c s target message q =
     by_test false = refl
 
 -- the boxes get the write's bytes, where it is accepted
-settle_boxes : (b : Book) (i c s : ℕ) → slice_get b.entries i ≡ Some (entry (line c s) SettleWrite)
+pub settle_boxes : (b : Book) (i c s : ℕ) → slice_get b.entries i ≡ Some (entry (line c s) SettleWrite)
     → (shares_at b 1 i).count c ≡ length (counted_at b c s)
     → written b c s (boxes_at b 1 i) ≡ boxes_at b 1 (i + 1)
 unfolding after_line with_write
@@ -136,9 +136,7 @@ module _ (b : Book) (f : FrameWorld) (v w : World) (c s : ℕ) (write : WriteIs 
     want = sym (ap wants write.is);
     holds = tt;
     boxes_is = ap (written b c s) h.helper.boxes ∙ settle_boxes b w.carried c s entered count;
-    draws_is =
-        let none : begun_in w.journal ≡ begun_in w.journal + 0 = omega arith in
-        h.helper.draws ∙ none ∙ sym (begun_more w.journal (entry (line c s) SettleWrite));
+    draws_is = h.helper.draws ∙ draws_same w.journal (entry (line c s) SettleWrite) refl;
     body_is = sym (settle_reply b w.carried c s write.target write.message write.is);
     is_frame = by_test (accepted_at b c s);
   }

@@ -50,7 +50,7 @@ server_addresses b server [] = refl
 server_addresses b server (m ∷ ms) = ap (λ xs. m.address ∷ xs) (server_addresses b server ms)
 
 -- the leader counts the boxes that there were when the write began
-counted_is : (b : Book) (c s j : ℕ) (boxes : List Box) → boxes ≡ boxes_at b 0 j → place b c s Begins ≤ j
+pub counted_is : (b : Book) (c s j : ℕ) (boxes : List Box) → boxes ≡ boxes_at b 0 j → place b c s Begins ≤ j
     → take (write_at b 0 c s).count (addresses_of boxes) ≡ counted_at b c s
 unfolding write_at
 counted_is b c s j boxes e low =
@@ -60,7 +60,7 @@ counted_is b c s j boxes e low =
 
 -- ---- the proof
 
-proof_turn : (f : FrameWorld) (c s : ℕ) (share : ProofShare) (bytes : List ℕ) → whole bytes ≡ Ok (frame_with c s 0 (frame.Proof share))
+pub proof_turn : (f : FrameWorld) (c s : ℕ) (share : ProofShare) (bytes : List ℕ) → whole bytes ≡ Ok (frame_with c s 0 (frame.Proof share))
     → frames.comes f ToLeader bytes ≡ frames.to_leader f (steps.on_proof f.leader (frame_with c s 0 (frame.Proof share)) share)
 unfolding frames.comes steps.on_whole steps.by_kind
 proof_turn f c s share bytes e = rw e refl
@@ -142,11 +142,11 @@ room_follows b f w x c s body turn sound within few h came issued after =
         posts_follow b f w _ _ h (later_frame b c s (refusal.Again (steps.oldest f.leader)) came tt (again_frame b c s _ came (omega (arith, e, n, small))))
     at_test false there = issued there
 
-sigma_of_draw : (b : Book) (c s : ℕ) (d : List ℕ) → d ≡ leaders_draw b (place b c s Audits) → sigma_of d ≡ sigma_at b c s
+pub sigma_of_draw : (b : Book) (c s : ℕ) (d : List ℕ) → d ≡ leaders_draw b (place b c s Audits) → sigma_of d ≡ sigma_at b c s
 unfolding sigma_at
 sigma_of_draw b c s d e = ap sigma_of e
 
-opened_eq : (b : Book) (c s : ℕ) (x : Write) (xs : List ℕ) (sigma : ℕ) → x ≡ write_at b 0 c s → xs ≡ counted_at b c s → sigma ≡ sigma_at b c s
+pub opened_eq : (b : Book) (c s : ℕ) (x : Write) (xs : List ℕ) (sigma : ℕ) → x ≡ write_at b 0 c s → xs ≡ counted_at b c s → sigma ≡ sigma_at b c s
     → opens 0 x xs (share_at b 0 c s) sigma ≡ opened_at b 0 c s
 unfolding opened_at
 opened_eq b c s x xs sigma e k l =

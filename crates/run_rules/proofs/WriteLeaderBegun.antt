@@ -72,7 +72,7 @@ begin_waits b c s r x write h serial phase =
 
 -- ---- it is applied
 
-began_is : (a : Leader) (c s n root count number : ℕ) (part drawn helpers : List ℕ) → count ≡ length a.boxes
+pub began_is : (a : Leader) (c s n root count number : ℕ) (part drawn helpers : List ℕ) → count ≡ length a.boxes
     → (row_at a c).stage ≡ leader.Waiting number (Writing root part drawn)
     → steps.if_fits a (steps.fits a (frame_with c s n (frame.LinkBegin drawn part)) (frame.LinkBegun count helpers) None)
     ≡ applied a c (leader.row s (leader.Challenged (steps.begun root part (ckey_of drawn helpers) count) (frame.Challenge (ckey_of drawn helpers)))) a.boxes (frame.Challenge (ckey_of drawn helpers)) s
@@ -81,7 +81,7 @@ began_is a c s n root count number part drawn helpers e stage =
     let here : nat_eq count (length a.boxes) ≡ true = eq-eqb _ _ e in rw (stage, here) refl
 
 -- the write as both servers hold it from now on
-written_is : (b : Book) (c s i count : ℕ) → place b c s Begins ≡ i → count ≡ length (addresses (table_at b i).boxes)
+pub written_is : (b : Book) (c s i count : ℕ) → place b c s Begins ≡ i → count ≡ length (addresses (table_at b i).boxes)
     → steps.begun (root_at b 0 c s) (part_at b c s) (ckey_of (leaders_draw b (place b c s Begins)) (helpers_draw b i)) count ≡ write_at b 0 c s
 unfolding ckey_at write_at
 written_is b c s i count at e =
@@ -134,6 +134,7 @@ begun_applies b c s write o f v w k h low there carried =
     (applied_follows b f w c s token.Challenged (token.Challenge c s) _ a.boxes (frame.Challenge ckey) h hon low refl
     (record { bare = refl; small = serial_small; want = λ pos. sym (ap wants write.is); holds = (written, ap frame.Challenge ckey_is, subst (λ x. IsFrame (frame_with c s 0 (frame.Challenge x))) (sym ckey_is) fr) })
     tt
+    (record { entry = entry (line_of c s Begins) BeginWrite; is = e; lane = refl })
     (h.leader.boxes ∙ ap (λ u. map (λ m. box_at b 0 m) u.boxes) (sym (shares_next b 0 i (entry (line_of c s Begins) BeginWrite) e)))
     (record { lane = low; frame = frame_with c s 0 (frame.Challenge ckey); is = ap (λ x. Some (frame_with c s 0 (frame.Challenge x))) (sym ckey_is); spelled = record { at = refl; bytes = refl; is_frame = subst (λ x. IsFrame (frame_with c s 0 (frame.Challenge x))) (sym ckey_is) fr } }))
 

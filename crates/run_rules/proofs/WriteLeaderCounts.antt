@@ -1,12 +1,12 @@
 -- The boxes that stood when a write began: later tables have their addresses first, and its count tells how many
 -- they are until it is settled.
-use Rattle.std.proofs.Common.{◌≡◌, ◌≤◌, ◌<◌, ◌+◌, ◌-◌, ℕ, zero, suc, false, List, [], ◌∷◌, ◌++◌, length, take, drop, map, Option, Some, None, slice_get, refl, sym, ap, ◌∙◌, subst, inl, inr, arith}
+use Rattle.std.proofs.Common.{◌≡◌, ◌≤◌, ◌<◌, ◌+◌, ◌-◌, ℕ, zero, suc, false, List, [], ◌∷◌, ◌++◌, length, take, drop, Option, Some, None, slice_get, refl, sym, ap, ◌∙◌, subst, inl, inr, arith}
 use Rattle.std.proofs.lemmas.Bool.{cases_eq, cases_lt}
 use Rattle.std.proofs.lemmas.List.{length-map, take_all}
 use Rattle.std.proofs.lemmas.Option.{slice_get_within}
 use Rattle.std.proofs.Math.Seq.{take-add}
 use Rattle.mailbox_rules.specs.Requests.{request_at, Line, Entry, entry, Operation, BeginWrite, AuditWrite, SettleWrite, Refuse, Command, Registers, Begins, Audits, Settles, Reads, Retires, Request, Register, Write, Read, Retire, operation_of, reads_box, retires_box, lines_of}
-use Rattle.mailbox_rules.specs.Tables.{Mailbox, addresses, bare, after_line, table_after, no_writes}
+use Rattle.mailbox_rules.specs.Tables.{addresses, after_line, table_after, no_writes}
 use Rattle.mailbox_rules.proofs.Folds.{boxes_stay, parts_grow}
 use Rattle.mailbox_rules.proofs.Outlines.{outlines_agree}
 use Rattle.token_rules.specs.Tokens.{World}
@@ -19,13 +19,9 @@ use Rattle.run_rules.specs.Follows.{Within}
 use Rattle.run_rules.specs.Known.{IsWhole}
 use Rattle.run_rules.proofs.Counts.{IsBegin, count_kept, count_begun}
 use Rattle.run_rules.proofs.Places.{place_is}
-use Rattle.run_rules.proofs.LeaderRegistered.{entry_of}
+use Rattle.run_rules.proofs.LeaderRegistered.{bare_addresses, entry_of}
 
 -- ---- addresses
-
-bare_addresses : (ms : List Mailbox) → addresses (map (λ box. bare box) ms) ≡ addresses ms
-bare_addresses [] = refl
-bare_addresses (m ∷ ms) = ap (λ xs. m.address ∷ xs) (bare_addresses ms)
 
 -- a server's table of shares has the addresses of the table with no writes
 pub shares_addresses : (b : Book) (server i : ℕ) → addresses (shares_at b server i).boxes ≡ addresses (table_at b i).boxes

@@ -112,6 +112,11 @@ share_is k target message ckey server = by_server (nat_eq server 0)
     by_server false = one-in_range (difference k target message) (challenge_r ckey target) (challenge_s ckey target) (words k)
         (difference_small k target message) (stream_word_lt ckey _ _) (stream_word_lt ckey _ _) (words_small k)
 
+-- the point of a proof
+pub sigma_is_small : (b : Book) (c s : ℕ) → sigma_at b c s < 2 ^ 128
+unfolding sigma_at word_of
+sigma_is_small b c s = word_lt (leaders_draw b (place b c s Audits)) 0 (draw_bytes (leader_seed b.seed) _)
+
 -- ---- a write of the history
 
 -- what is known of a client's write
@@ -155,8 +160,7 @@ module _ (b : Book) (c s : ℕ) (h : WriteIs b c s) where
   share_of_is server = subst IsProofShare (sym (share_of server)) (share_is (client_at b c s) h.target h.message (ckey_at b c s) server)
 
   pub sigma_small : sigma_at b c s < 2 ^ 128
-  unfolding sigma_at word_of
-  sigma_small = word_lt (leaders_draw b (place b c s Audits)) 0 (draw_bytes (leader_seed b.seed) _)
+  sigma_small = sigma_is_small b c s
 
   pub opened_is : (server : ℕ) → server < 2 → IsOpenings (opened_at b server c s)
   unfolding opened_at opens write_at

@@ -132,7 +132,7 @@ rejected_is : (a : Leader) (c s n number : ℕ) (w : Write) (own other closing :
 unfolding steps.fits steps.by_command steps.rejected
 rejected_is a c s n number w own other closing stage e = rw (stage, e) refl
 
-settled_is : (b : Book) (a : Leader) (c s n number : ℕ) (closing : Closing) (t : Bool) → accepted_at b c s ≡ t
+pub settled_is : (b : Book) (a : Leader) (c s n number : ℕ) (closing : Closing) (t : Bool) → accepted_at b c s ≡ t
     → (row_at a c).stage ≡ leader.Settling number (write_at b 0 c s) (closing_at b 0 c s) (closing_at b 1 c s)
     → steps.if_fits a (steps.fits a (frame_with c s n (frame.LinkSettle closing)) (settled_reply t) (steps.refusal_in (settled_reply t)))
     ≡ applied a c (leader.row s (leader.Done want.Write (settled_answer b c s t))) (settled_boxes b c s a.boxes t) (settled_answer b c s t) s
@@ -141,7 +141,7 @@ settled_is b a c s n number closing true e stage = accepted_is a c s n number (w
 settled_is b a c s n number closing false e stage = rejected_is a c s n number (write_at b 0 c s) (closing_at b 0 c s) (closing_at b 1 c s) closing stage e
 
 -- its boxes are those of the shares after the entry
-settled_shares : (b : Book) (c s i : ℕ) (boxes : List Box) (t : Bool) → accepted_at b c s ≡ t → boxes ≡ boxes_at b 0 i
+pub settled_shares : (b : Book) (c s i : ℕ) (boxes : List Box) (t : Bool) → accepted_at b c s ≡ t → boxes ≡ boxes_at b 0 i
     → (shares_at b 0 i).count c ≡ length (counted_at b c s)
     → slice_get b.entries i ≡ Some (entry (line_of c s Settles) SettleWrite)
     → settled_boxes b c s boxes t ≡ boxes_at b 0 (i + 1)
@@ -211,6 +211,7 @@ settled_applies b c s write o f v w k h low there carried =
     (applied_follows b f w c s token.Done (token.Answer c s) (leader.row s (leader.Done want.Write kept)) (settled_boxes b c s a.boxes t) kept h hon low refl
     (record { bare = refl; small = serial_small; want = λ pos. sym (ap wants write.is); holds = (sym answer, fr) })
     tt
+    (record { entry = entry (line_of c s Settles) SettleWrite; is = e; lane = refl })
     (settled_shares b c s i a.boxes t refl h.leader.boxes count e)
     (record { lane = low; frame = frame_with c s 0 kept; is = ap (λ x. Some (frame_with c s 0 x)) answer; spelled = record { at = refl; bytes = refl; is_frame = fr } }))
 

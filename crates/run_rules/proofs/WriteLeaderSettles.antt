@@ -34,6 +34,7 @@ use Rattle.run_rules.specs.Frames.{frame_with, frame_of, command_body, reply_wit
 use Rattle.run_rules.specs.Follows.{LeaderHolds, LeaderRow, LeaderRowAt, IsCommand, AreCommands, IsIssued, Follows}
 use Rattle.run_rules.specs.Known.{Known}
 use Rattle.run_rules.specs.Laws.{ComesFollows}
+use Rattle.run_rules.proofs.ForeignLeaderCounts.{EntryOf, was_begun_more, not_foreign, awaited_set, awaited_more}
 use Rattle.run_rules.proofs.ForeignCommands.{foreign_set, foreign_more}
 use Rattle.run_rules.proofs.Basics.{put_here, put_other, put_part, pools_append}
 use Rattle.run_rules.proofs.HelperRegisters.{shares_next}
@@ -55,11 +56,11 @@ settles_with a c r command = record {
 pub settles_follow : (b : Book) (f : FrameWorld) (w : World) (c s : ℕ) (x : token.Phase) (y : Command) (r : Row) (command : PlainFrame)
     → Follows b f w → b.foreign c ≡ false → c < b.settings.lanes → w.acknowledged < length w.commands
     → LeaderRow b c r (token.row s x) → is_drawn (line_of c s y) ≡ false
-    → boxes_at b 0 (w.acknowledged + 1) ≡ boxes_at b 0 w.acknowledged
+    → EntryOf b w.acknowledged c → boxes_at b 0 (w.acknowledged + 1) ≡ boxes_at b 0 w.acknowledged
     → frame_of b (token.Ordered (length w.commands + 1) (line_of c s y)) ≡ Some command → IsFrame command
     → IsIssued (w.commands ++ line_of c s y ∷ []) c r.serial r.stage
     → Follows b (frames.to_leader_link f (settles_with f.leader c r command)) (issues_for (acknowledges w) c s x y)
-settles_follow b f w c s x y r command h hon low few hr undrawn boxed is fr settles =
+settles_follow b f w c s x y r command h hon low few hr undrawn entered boxed is fr settles =
     let line = line_of c s y in
     let lane : Lane = record (w.lanes c) { leader = token.row s x } in
     let new = put w.lanes c lane in
@@ -105,6 +106,8 @@ settles_follow b f w c s x y r command h hon low few hr undrawn boxed is fr sett
         issued = issued_set b f.leader.rows w.commands (w.commands ++ line ∷ []) c r la.count low la.issued (λ t. settles)
             (λ d n stage other k. issued_more w.commands line d n stage other k);
         foreign = foreign_more b (slice_set f.leader.rows c r) w.commands line hon (foreign_set b f.leader.rows w.commands c r hon la.foreign);
+        begun = was_begun_more b f.leader.rows w.acknowledged c r la.count low entered la.begun (λ t. absurd (not_foreign b c hon t));
+        awaited = awaited_more b (slice_set f.leader.rows c r) j w.commands line hon (awaited_set b f.leader.rows w.acknowledged j c r w.commands hon (omega arith) la.awaited);
       };
       clients = λ d. rw (put_part (λ l. l.step) w.lanes c lane refl d, put_part (λ l. l.serial) w.lanes c lane refl d) (h.clients d);
       waiting = h.waiting;
@@ -163,14 +166,14 @@ no_settle b v w c s k hon serial stage i e =
       ]
     ]
 
-audited_is : (a : Leader) (c s n number sigma t : ℕ) (w : Write) (share : ProofShare) (opened own other : Openings) (closed : Closing)
+pub audited_is : (a : Leader) (c s n number sigma t : ℕ) (w : Write) (share : ProofShare) (opened own other : Openings) (closed : Closing)
     → (row_at a c).stage ≡ leader.Auditing number w share sigma opened
     → steps.if_fits a (steps.fits a (frame_with c s n (frame.LinkAudit t own)) (frame.LinkReply (frame.ReplyAudited other closed)) None)
     ≡ settles_with a c (row s (leader.Settling a.next w (steps.own_closing share sigma opened other) closed)) (frame_with c s a.next (frame.LinkSettle (steps.own_closing share sigma opened other)))
 unfolding steps.fits steps.by_command steps.audited
 audited_is a c s n number sigma t w share opened own other closed stage = rw stage refl
 
-closing_same : (b : Book) (c s sigma : ℕ) (share : ProofShare) (opened : Openings) → share ≡ share_at b 0 c s → sigma ≡ sigma_at b c s
+pub closing_same : (b : Book) (c s sigma : ℕ) (share : ProofShare) (opened : Openings) → share ≡ share_at b 0 c s → sigma ≡ sigma_at b c s
     → opened ≡ opened_at b 0 c s → steps.own_closing share sigma opened (opened_at b 1 c s) ≡ closing_at b 0 c s
 unfolding closing_at
 closing_same b c s sigma share opened e k l =
@@ -193,7 +196,7 @@ audit_acks : (o : Oracle) (w : World) (c s : ℕ) → w.foreign c ≡ false
 unfolding reply_applied acks
 audit_acks o w c s honest = rw honest (acks_is w c s Audits)
 
-audit_boxes : (b : Book) (i : ℕ) (x : Line) → slice_get b.entries i ≡ Some (entry x AuditWrite) → boxes_at b 0 (i + 1) ≡ boxes_at b 0 i
+pub audit_boxes : (b : Book) (i : ℕ) (x : Line) → slice_get b.entries i ≡ Some (entry x AuditWrite) → boxes_at b 0 (i + 1) ≡ boxes_at b 0 i
 unfolding after_line
 audit_boxes b i x e = ap (λ u. map (λ m. box_at b 0 m) u.boxes) (shares_next b 0 i (entry x AuditWrite) e)
 
@@ -229,6 +232,7 @@ audited_applies b c s write o f v w k h low there carried =
     (settles_follow b f w c s token.Auditing Settles (row s (leader.Settling a.next waits.write own (closing_at b 1 c s))) (frame_with c s a.next (frame.LinkSettle own)) h hon low out
     (record { bare = refl; small = serial_small; want = λ pos. sym (ap wants write.is); holds = (waits.holds.0, own_is, refl) })
     refl
+    (record { entry = entry (line_of c s Audits) AuditWrite; is = e; lane = refl })
     (audit_boxes b i (line_of c s Audits) e)
     (settle_is b c s (length w.commands + 1) ∙ ap (λ m. Some (frame_with c s m (frame.LinkSettle (closing_at b 0 c s)))) (sym next) ∙ ap (λ x. Some (frame_with c s a.next (frame.LinkSettle x))) (sym own_is))
     (record { lane = lane_small; serial = serial_small; addressed = first; link = omega (arith, next, n, few); linked = omega (arith, next); body = subst IsClosing (sym own_is) (closing_is b c s write 0) })

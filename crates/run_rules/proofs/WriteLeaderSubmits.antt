@@ -1,5 +1,5 @@
 -- The submission of a write comes to the leader, in both runs.
-use Rattle.std.proofs.Common.{◌≡◌, ℕ, suc, ◌≤◌, ◌+◌, ◌-◌, cond, nat_eq, true, false, Bool, List, [], ◌∷◌, ◌++◌, length, filter, Ok, Some, None, slice_get, refl, sym, ap, ◌∙◌, subst, arith}
+use Rattle.std.proofs.Common.{◌≡◌, ℕ, suc, ◌≤◌, ◌+◌, ◌-◌, cond, nat_eq, true, false, Bool, List, [], ◌∷◌, ◌++◌, length, take, filter, Ok, Some, None, slice_get, refl, sym, ap, ◌∙◌, subst, arith}
 use Rattle.std.proofs.lemmas.Bool.{eq-eqb}
 use Rattle.std.proofs.lemmas.List.{length-take}
 use Rattle.frame_rules.specs.Frames as frame
@@ -63,12 +63,14 @@ draw_is b f w h within =
     ∙ ap (expansion.draw32 (leader_seed b.seed)) (h.leader.draws ∙ ap drawn_in within.commands)
 
 -- the command that is issued next stands at its place
+pub last_there : (b : Book) (commands : List Line) (x : Line) → commands ++ x ∷ [] ≡ take (length (commands ++ x ∷ [])) b.commands
+    → slice_get b.commands (length commands) ≡ Some x
+last_there b commands x all =
+    (get_taken b.commands _ (length commands) x (ap (λ xs. slice_get xs (length commands)) (sym all) ∙ get_end commands x)).1
+
 pub issued_there : (b : Book) (w : World) (c s : ℕ) (x : token.Phase) (y : Command) → Within b (issues_for w c s x y)
     → slice_get b.commands (length w.commands) ≡ Some (line_of c s y)
-issued_there b w c s x y after =
-    let last : slice_get (w.commands ++ line_of c s y ∷ []) (length w.commands) ≡ Some (line_of c s y) = get_end w.commands (line_of c s y) in
-    let all = after.commands in
-    (get_taken b.commands _ (length w.commands) (line_of c s y) (ap (λ xs. slice_get xs (length w.commands)) (sym all) ∙ last)).1
+issued_there b w c s x y after = last_there b w.commands (line_of c s y) after.commands
 
 pub issued_place : (b : Book) (v w : World) (c s : ℕ) (x : token.Phase) (y : Command) → IsWhole b v
     → b.foreign c ≡ false → Within b (issues_for w c s x y) → place b c s y ≡ length w.commands

@@ -11,7 +11,7 @@ use Rattle.frame_rules.specs.Frames.{PlainFrame, PlainBody}
 use Rattle.express_words.specs.Limits.{levels_len}
 use Rattle.frame_rules.specs.Spelling.{spelling, IsFrame, IsKey}
 use Rattle.frame_rules.specs.Whole.{is_from_client}
-use Rattle.mailbox_rules.specs.Requests.{Request, Register, Write, Command, Registers, Begins, Audits, Settles, Reads, Retires, opening_of, Line, Entry, lines_of}
+use Rattle.mailbox_rules.specs.Requests.{Request, Register, Write, Command, Registers, Begins, Audits, Settles, Reads, Retires, opening_of, Line, Entry, entry, lines_of, Operation, AddBox, BeginWrite, AuditWrite, SettleWrite, ReadBox, RetireBox, Refuse}
 use Rattle.mailbox_rules.specs.Tables.{Result, Gave, result_sum, result_of}
 use Rattle.token_rules.specs.Tokens as token
 use Rattle.token_rules.specs.Tokens.{Token, Lane, World, Requests}
@@ -80,12 +80,25 @@ ForeignOrder b i x (frame.LinkRead n) = (x.command ≡ Reads) × (n ≡ b.brough
 ForeignOrder b i x (frame.LinkRetire n) = (x.command ≡ Retires) × (n ≡ b.brought.number x.lane x.serial)
 ForeignOrder b i x body = ⊥
 
--- the entry's result at the helper's shares, or some refusal
-abbrev pub ForeignReply : Book → ℕ → Line → PlainBody → Type 0
-ForeignReply b i x (frame.LinkReply (frame.ReplyRefused r)) = Unit {0}
-ForeignReply b i x body =
-    (e : Entry) × (slice_get b.entries i ≡ Some e)
-    × (body ≡ reply_with b i x (result_of b.settings.boxes (writes_at b 1) (shares_at b 1 i) x e.does))
+-- what a command does, by what its lane brought
+abbrev pub does_by : Brought → ℕ → ℕ → Command → Operation
+does_by b c s Registers = AddBox (b.address c s)
+does_by b c s Begins = BeginWrite
+does_by b c s Audits = AuditWrite
+does_by b c s Settles = SettleWrite
+does_by b c s Reads = ReadBox (b.number c s)
+does_by b c s Retires = RetireBox (b.number c s)
+
+abbrev pub brought_does : Book → Line → Operation
+brought_does b x = does_by b.brought x.lane x.serial x.command
+
+-- the entry does nothing, and the command is refused; or it does this, with its result at the helper's shares
+pub record ForeignReply (b : Book) (i : ℕ) (x : Line) (body : PlainBody) : Type 0 where
+  pub does : Operation
+  pub entered : slice_get b.entries i ≡ Some (entry x does)
+  pub answers : ((does ≡ Refuse) × ((r : Refusal) × (body ≡ frame.LinkReply (frame.ReplyRefused r))))
+      ⊎ ((does ≡ brought_does b x)
+      × (body ≡ reply_with b i x (result_of b.settings.boxes (writes_at b 1) (shares_at b 1 i) x does)))
 
 abbrev pub ForeignBody : Book → Token → PlainBody → Type 0
 ForeignBody b (token.Ordered n x) body = ForeignOrder b (n - 1) x body
@@ -217,7 +230,7 @@ ForeignAsked b c s (leader.Retiring n) = n ≡ b.brought.number c s
 
 abbrev pub ForeignLeaderHolds : Book → ℕ → ℕ → leader.Stage → Type 0
 ForeignLeaderHolds b c s (leader.Waiting number asked) = ForeignAsked b c s asked
-ForeignLeaderHolds b c s (leader.Done want kept) = Unit {0}
+ForeignLeaderHolds b c s (leader.Done want kept) = IsFrame (frame_with c s 0 kept)
 ForeignLeaderHolds b c s stage = LeaderHolds b c s stage
 
 pub record ForeignLeaderRow (b : Book) (c : ℕ) (r : leader.Row) (x : token.Row) : Type 0 where
@@ -291,6 +304,19 @@ pub record ForeignCommands (b : Book) (rows : List leader.Row) (commands : List 
   pub still : (c : ℕ) → c < b.settings.lanes → b.foreign c ≡ true
       → StillToIssue commands c (slice_index_or rows c leader.idle).serial (slice_index_or rows c leader.idle).stage
 
+-- an outstanding command of a foreign lane finds its row waiting for it
+abbrev pub Awaits : Command → leader.Stage → Type 0
+Awaits y (leader.Waiting number asked) = leader_rows.bare_asked asked ≡ y
+Awaits y (leader.Auditing number write share sigma opened) = y ≡ Audits
+Awaits y (leader.Settling number write own other) = y ≡ Settles
+Awaits y stage = ⊥
+
+abbrev pub AreAwaited : Book → List leader.Row → ℕ → List Line → Type 0
+AreAwaited b rows acknowledged commands =
+    (k : ℕ) (x : Line) → acknowledged ≤ k → slice_get commands k ≡ Some x → b.foreign x.lane ≡ true
+    → ((slice_index_or rows x.lane leader.idle).serial ≡ x.serial)
+    × Awaits x.command (slice_index_or rows x.lane leader.idle).stage
+
 -- A foreign lane's write that has begun at the helper: its begin was carried out, and was its lane's last.
 pub record BegunAt (b : Book) (carried c s : ℕ) : Type 0 where
   pub before : place b c s Begins < carried
@@ -306,6 +332,19 @@ abbrev pub HaveBegun : Book → List helper.Row → ℕ → Type 0
 HaveBegun b rows carried =
     (c : ℕ) → c < b.settings.lanes → b.foreign c ≡ true
     → HasBegun b carried c (slice_index_or rows c helper.idle).serial (slice_index_or rows c helper.idle).stage
+
+-- and at the leader
+abbrev pub WasBegun : Book → ℕ → ℕ → ℕ → leader.Stage → Type 0
+WasBegun b acknowledged c s (leader.Challenged write kept) = BegunAt b acknowledged c s
+WasBegun b acknowledged c s (leader.Auditing number write share sigma opened) = BegunAt b acknowledged c s
+WasBegun b acknowledged c s (leader.Settling number write own other) = BegunAt b acknowledged c s
+WasBegun b acknowledged c s stage = Unit {0}
+
+abbrev pub WereBegun : Book → List leader.Row → ℕ → Type 0
+WereBegun b rows acknowledged =
+    (c : ℕ) → c < b.settings.lanes → b.foreign c ≡ true
+    → WasBegun b acknowledged c (slice_index_or rows c leader.idle).serial
+    (slice_index_or rows c leader.idle).stage
 
 -- ---- the two servers
 
@@ -336,6 +375,8 @@ pub record LeaderFollows (b : Book) (a : Leader) (lanes : ℕ → Lane) (acknowl
   pub outstanding : AreCommands b (suc acknowledged) (drop acknowledged commands) a.outstanding
   pub issued : AreIssued b a.rows commands
   pub foreign : ForeignCommands b a.rows commands
+  pub begun : WereBegun b a.rows acknowledged
+  pub awaited : AreAwaited b a.rows acknowledged commands
 
 -- ---- the clients
 

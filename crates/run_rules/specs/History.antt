@@ -1,5 +1,5 @@
 -- The two runs of a schedule, over tokens and over bytes, and the history that both have.
-use Rattle.std.specs.Prelude.{◌≡◌, ◌<◌, ◌≤◌, ◌^◌, ℕ, false, Bool, List, [], ◌∷◌, ◌++◌, ◌+◌, length, replicate, Option, Some, None, Result, Ok, Err, if◌then◌else◌}
+use Rattle.std.specs.Prelude.{◌≡◌, ◌<◌, ◌≤◌, ◌^◌, ℕ, false, Bool, List, [], ◌∷◌, ◌++◌, ◌+◌, filter, length, nat_eq, replicate, suc, Option, Some, None, Result, Ok, Err, if◌then◌else◌}
 use Rattle.express_words.specs.declared.settings.Settings.{Settings}
 use Rattle.express_words.specs.declared.refusal.Refusal.{Refusal}
 use Rattle.express_words.specs.Limits.{KeepsLimits, levels_len}
@@ -9,6 +9,7 @@ use Rattle.mailbox_rules.specs.Requests.{Request, Register, Write}
 use Rattle.token_rules.specs.Tokens.{World, Oracle, start}
 use Rattle.token_rules.specs.Run as tokens
 use Rattle.token_rules.specs.Run.{sent_of}
+use Rattle.token_rules.specs.Laws.{asks_of}
 use Rattle.run_rules.specs.Letters.{FrameWorld, opened}
 use Rattle.run_rules.specs.Run.{Event, Ask, Send, Tick, Deliver, Show, Finish, Inject, run}
 use Rattle.run_rules.specs.Book.{Book, Brought}
@@ -91,3 +92,19 @@ AtEnd P = (o : Oracle) (settings : Settings) (seed : List ℕ) (events : List Ev
     → KeepsLimits settings.width settings.boxes settings.lanes settings.window → AreOfClients settings events
     → length events ≤ 20000
     → let v = token_run o settings no_lane events in P (history settings seed v) (frame_run settings seed events) v
+
+-- ---- after a finish
+
+-- A client with no current request and none that waits, each of whose requests has its outcome: it was asked so
+-- many.
+pub record HasEnded (c asked : ℕ) (f : FrameWorld) : Type 0 where
+  pub current : (f.clients c).current ≡ None
+  pub waiting : f.waiting c ≡ []
+  pub outcomes : length (filter (λ o. nat_eq o.client c) f.outcomes) ≡ asked
+
+-- so is a client after its `finish`, in every schedule of clients
+abbrev pub FinishEnds : Type 0
+FinishEnds = (settings : Settings) (seed : List ℕ) (events : List Event) (c : ℕ)
+    → KeepsLimits settings.width settings.boxes settings.lanes settings.window → AreOfClients settings events
+    → suc (length events) ≤ 20000
+    → HasEnded c (asks_of c (token_events events)) (frame_run settings seed (events ++ Finish c ∷ []))

@@ -8,3 +8,4 @@ pub mod Known
 pub mod Laws
 pub mod Plain
 pub mod History
+pub mod Acts

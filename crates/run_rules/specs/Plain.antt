@@ -5,7 +5,7 @@ use Rattle.mailbox_rules.specs.Requests.{Request, Write, Line, Entry, opening_of
 use Rattle.mailbox_rules.specs.Tables.{Table, Result, Registered, Taken, Full, Began, WasAudited, Settled, Gave, NoBox, Refused, Writes, table_after, result_of, result_sum, plain_writes}
 use Rattle.mailbox_rules.specs.Laws.{AreShares}
 use Rattle.token_rules.specs.Tokens.{World}
-use Rattle.token_rules.specs.Laws.{last_of}
+use Rattle.token_rules.specs.Laws.{InOrder, Once, last_of}
 use Rattle.step_rules.specs.Client as client
 use Rattle.step_rules.specs.Client.{Outcome}
 use Rattle.run_rules.specs.Book.{Book, request_of}
@@ -128,3 +128,18 @@ pub record SharesAreFolds (b : Book) (f : FrameWorld) (w : World) : Type 0 where
   pub helper : f.helper.server.boxes ≡ boxes_at b 1 (length b.entries)
   pub leader : f.leader.boxes ≡ boxes_at b 0 w.acknowledged
   pub acknowledged : w.acknowledged ≤ length b.entries
+
+-- ---- the history and its journal
+
+-- Both servers' shares add up to the plain table after every entry, and a write whose target stood among the boxes
+-- when it began is accepted.
+pub record BoxesArePlain (b : Book) (f : FrameWorld) (w : World) : Type 0 where
+  pub shares : (i : ℕ) → AreShares (plain_at b i).boxes (shares_at b 0 i).boxes (shares_at b 1 i).boxes
+  pub accepted : (c serial target : ℕ) (message : List ℕ) → request_of b c serial ≡ Some (Write target message)
+      → Contains (counted_at b c serial) target → accepted_at b c serial ≡ true
+
+-- No line stands twice; a client's serials never fall, and a write's lines are begin, audit and settle.
+pub record JournalInOrder (b : Book) (f : FrameWorld) (w : World) : Type 0 where
+  pub entries : w.journal ≡ b.entries
+  pub once : Once w
+  pub order : InOrder w

@@ -5,25 +5,33 @@
 //! Each function here is empty: its contract is laws of them.
 #![tactic(auto)]
 
+ghost use Rattle.run_rules.specs.Acts.{StrangersFollow};
 ghost use Rattle.run_rules.specs.Follows.{Follows};
-ghost use Rattle.run_rules.specs.History.{AtEnd};
-ghost use Rattle.run_rules.specs.Plain.{HistoryIsClients, JournalIsPlain, OutcomesArePlain, RegisteredAreAccepted, ResultsArePlain, SharesAreFolds, SharesArePlain};
+ghost use Rattle.run_rules.specs.History.{AtEnd, FinishEnds};
+ghost use Rattle.run_rules.specs.Plain.{BoxesArePlain, HistoryIsClients, JournalInOrder, JournalIsPlain, OutcomesArePlain, RegisteredAreAccepted, ResultsArePlain, SharesAreFolds, SharesArePlain};
 
 /// At the end of every schedule of clients, whatever frames are lost, repeated or reordered, the run over bytes is the
 /// token run with the content that follows from its history: each frame is that of its token, and each actor holds
 /// what the history gives. The history is one of clients alone: each entry of the journal answers a request.
+/// With bytes from outside the two runs agree as well: what these bring belongs to the history, and what servers do at
+/// them to the token run's oracle.
 pub fn runs_agree()
     ensures follows { AtEnd Follows }
     ensures clients { AtEnd HistoryIsClients }
+    ensures strangers { StrangersFollow }
 {}
 
 /// Each outcome is what the plain table of mailboxes gives at the place of its request's last entry in the journal, and
 /// each line of the journal is printed with the plain table's result. The servers' boxes are the folds of what each
-/// was sent: the helper's after the whole journal, the leader's after the entries that it has acknowledged.
+/// was sent: the helper's after the whole journal, the leader's after the entries that it has acknowledged. They add up
+/// to the plain table, and a registered write is accepted. No line of the journal stands twice, and a client's stand in
+/// the order of its requests.
 pub fn schedules_are_plain()
     ensures outcomes { AtEnd OutcomesArePlain }
     ensures journal { AtEnd JournalIsPlain }
     ensures shares { AtEnd SharesAreFolds }
+    ensures boxes { AtEnd BoxesArePlain }
+    ensures order { AtEnd JournalInOrder }
 {}
 
 /// In every history of clients both servers' shares add up to the plain table, box by box, after each entry; each
@@ -33,4 +41,10 @@ pub fn shares_are_plain()
     ensures boxes { SharesArePlain }
     ensures results { ResultsArePlain }
     ensures accepted { RegisteredAreAccepted }
+{}
+
+/// After a `finish` its client has no current request and none that waits, and each request that it was asked has its
+/// outcome: in every schedule of clients, whatever was lost before.
+pub fn finish_answers()
+    ensures ends { FinishEnds }
 {}
