@@ -1,6 +1,7 @@
 -- Where a batch passes.
 use Rattle.std.specs.Prelude.{◌≡◌, ◌≢◌, ℕ, ◌+◌, ◌<◌, ◌≤◌, ◌^◌, if◌then◌else◌, true, List, [], ◌∷◌, length, All, AllPairs, bit_xor, refl}
-use Rattle.std.proofs.Common.{suc, ◌∙◌, ap, sym, subst, get_or, arith}
+use Rattle.std.proofs.Common.{suc, ◌∙◌, ap, sym, subst, get_or, arith, inl, inr}
+use Rattle.std.proofs.lemmas.Bool.{cases_lt}
 use Rattle.std.proofs.lemmas.Grind.{common_steps}
 use Rattle.std.proofs.lemmas.List.Elements.{All-nil, All-cons, All-head, All-tail}
 use Rattle.tower_field.specs.Elements.{level_laws, element_path}
@@ -11,7 +12,7 @@ use Rattle.poly_roots.specs.Roots.{all_zero}
 use Rattle.express_words.specs.declared.audit.Closing.{Closing}
 use Rattle.audit_rules.specs.Audit.{value, accepts}
 use Rattle.audit_rules.specs.Transfer.{E, z, add, mul, element, elements, values-elements, length-values, get_or-default, value-values, plus-values}
-use Rattle.batch_audit.specs.Batch.{os, taus, batch, count_bad, BatchPasses}
+use Rattle.batch_audit.specs.Batch.{os, taus, batch, count_bad, BatchPasses, FewValuesPass}
 
 abbrev pub InField : List ℕ → Type 0
 InField ns = All (λ n. n < 2 ^ 128) ns
@@ -127,3 +128,10 @@ os_in_field (c ∷ cs) h = All-cons (λ n. n < 2 ^ 128) c.o (os cs) (h 0 c (omeg
 pub taus_in_field : (cs : List Closing) → ((k : ℕ) (d : Closing) → k < length cs → (get_or cs k d).tau < 2 ^ 128) → InField (taus cs)
 taus_in_field [] h = All-nil (λ n. n < 2 ^ 128)
 taus_in_field (c ∷ cs) h = All-cons (λ n. n < 2 ^ 128) c.tau (taus cs) (h 0 c (omega arith)) (taus_in_field cs (λ k d l. h (suc k) d (omega arith)))
+
+pub few_pass : FewValuesPass
+few_pass zero one values h0 h1 hv lengths bad apart pass =
+    elim (cases_lt (length values) (length zero)) [
+      | inl h ↦ omega arith
+      | inr h ↦ absurd (few_values zero one values h0.o h0.tau h1.o h1.tau hv lengths bad apart pass h)
+    ]

@@ -1,7 +1,7 @@
 //! Laws over the definitions. The functions only read their arguments, from which a proof learns that they
 //! are in range: their contracts are the laws.
 ghost use Rattle.std.specs.Prelude.{◌≡◌, ◌≢◌, ℕ, ◌+◌, ◌*◌, ◌^◌, ◌<◌, ◌≤◌, length, All, AllPairs};
-ghost use Rattle.batch_audit.specs.Batch.{os, taus, count_bad, BatchPasses};
+ghost use Rattle.batch_audit.specs.Batch.{os, taus, count_bad, BatchPasses, FewValuesPass};
 ghost use Rattle.batch_audit.specs.Sorting.{Sorted, RejectedAreBad, OthersAreGoodOrMissed, SortsAreOne};
 
 use audit_rules::read_words;
@@ -95,4 +95,9 @@ pub fn other_pairs_are_good_or_missed(
 /// What a sort rejects and how many ranges it judges is determined by the pairs and the seed.
 pub fn sorts_are_one()
     ensures { SortsAreOne }
+{}
+
+/// The law of bad values, of all closings.
+pub fn few_values_pass()
+    ensures { FewValuesPass }
 {}

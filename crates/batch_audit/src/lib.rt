@@ -7,7 +7,7 @@ mod sorting;
 mod sums;
 
 pub use laws::{
-    bad_values_are_few, judged_ranges_are_few, other_pairs_are_good_or_missed,
+    bad_values_are_few, few_values_pass, judged_ranges_are_few, other_pairs_are_good_or_missed,
     rejected_pairs_are_bad, sorts_are_one,
 };
 pub use sorting::sort_out;

@@ -4,3 +4,8 @@ pub mod FieldLaws
 pub mod PairLaws
 pub mod BatchLaws
 pub mod LoopLemmas
+pub mod Numerals
+pub mod NumberLaws
+pub mod GameLineLaws
+pub mod AddressLaws
+pub mod GameLaws

@@ -41,7 +41,7 @@ closing_only closing text rest s =
     let apart : text ++ rest ≡ s.o ++ (codes " " ++ (s.tau ++ rest)) = ap (λ (t : List ℕ). t ++ rest) s.text_is ∙ append_assoc s.o (codes " " ++ s.tau) rest in
     rw (apart, word_at_only s.o (codes " " ++ (s.tau ++ rest)) closing.o s.o_spelled, after_only (codes " ") (s.tau ++ rest), word_at_only s.tau rest closing.tau s.tau_spelled) refl
 
-end_is : (bytes : List ℕ) (u : Unit {0}) → end bytes ≡ Some u → bytes ≡ []
+pub end_is : (bytes : List ℕ) (u : Unit {0}) → end bytes ≡ Some u → bytes ≡ []
 end_is [] u h = refl
 end_is (b ∷ bytes) u h = cc
 

@@ -1,5 +1,6 @@
 -- The fields of a line, as functions from its bytes: what each finds at the front, or that it isn't there.
-use Rattle.std.specs.Prelude.{ℕ, ◌==◌, if◌then◌else◌, List, [], ◌∷◌, take, drop, Option, Some, None, option_map}
+use Rattle.std.specs.Prelude.{ℕ, ◌==◌, if◌then◌else◌, List, [], ◌∷◌, take, drop}
+use Rattle.std.specs.Prelude.{Option, Some, None, option_map}
 use Rattle.std.specs.Int.{w128, from_be_bytes}
 use Rattle.std.specs.Result.{result_ok}
 use Rattle.hex.specs.Hex.{decode_sized}
@@ -31,3 +32,18 @@ seed_of digits = result_ok (decode_sized digits 32)
 -- a field value in front, and what follows it
 unfoldable pub word_at : List ℕ → Option (ℕ × List ℕ)
 word_at bytes = option_map (λ word. (word, drop 32 bytes)) (word_of (take 32 bytes))
+
+-- a message of a width, in twice as many hexadecimal digits
+unfoldable pub message_of : ℕ → List ℕ → Option (List ℕ)
+message_of width digits = result_ok (decode_sized digits width)
+
+-- a line of this word and a field value, or a key
+unfoldable pub value_line : List ℕ → List ℕ → Option ℕ
+value_line word line = do
+  rest ← after word line
+  value ← word_at rest
+  _ ← end value.1
+  Some value.0
+
+unfoldable pub key_line : List ℕ → List ℕ → Option (List ℕ)
+key_line word line = after word line >>= seed_of

@@ -2,6 +2,7 @@
 ghost use Rattle.std.specs.Prelude.{◌≡◌};
 ghost use Rattle.express_texts.specs.declared.fault.TextFault.TheVariants.{NoMemory};
 
+use express_words::NoMemory as WantOfMemory;
 use std::alloc::AllocFailed;
 use std::fmt;
 
@@ -29,6 +30,14 @@ impl<T: Drop> From<AllocFailed<T>> for TextFault {
     ghost from_gives = { λ _ e. e ≡ NoMemory };
 
     fn from(_: AllocFailed<T>) -> Self {
+        TextFault::NoMemory
+    }
+}
+
+impl From<WantOfMemory> for TextFault {
+    ghost from_gives = { λ _ e. e ≡ NoMemory };
+
+    fn from(_: WantOfMemory) -> Self {
         TextFault::NoMemory
     }
 }

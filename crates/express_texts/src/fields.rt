@@ -1,7 +1,12 @@
 //! The fields of a line: fixed words and hexadecimal digits.
-ghost use Rattle.std.specs.Prelude.{◌≡◌, option_map};
+ghost use Rattle.std.specs.Prelude.{◌≡◌, option_map, IfOk};
 ghost use Rattle.std.specs.Option.{option_copied};
-ghost use Rattle.express_texts.specs.Fields.{after, word_of, word_at, seed_of};
+ghost use Rattle.express_texts.specs.Fields.{after, word_of, word_at, seed_of, message_of};
+ghost use Rattle.express_texts.specs.Fields.{value_line, key_line};
+
+use express_words::NoMemory;
+use hex::FromHexError;
+use std::alloc::Global;
 
 /// What follows these characters.
 #[tactic(auto, unfolding(crate::specs::Fields::after))]
@@ -54,4 +59,39 @@ pub fn seed_of(digits: &[u8]) -> Option<[u8; 32]>
         Ok(()) => Some(seed),
         Err(_) => None,
     }
+}
+
+/// A message of a width, in twice as many hexadecimal digits.
+#[tactic(auto, unfolding(crate::specs::Fields::message_of))]
+pub fn message_of(alloc: Global, width: u32, digits: &[u8]) -> Result<Option<Vec<u8>>, NoMemory>
+    ensures { IfOk result (λ found.
+        option_map (λ message. message.items) found ≡ message_of width digits.now) }
+{
+    if digits.len() != 2 * width as usize {
+        return Ok(None);
+    }
+    match hex::decode(alloc, digits) {
+        Ok(message) => Ok(Some(message)),
+        Err(FromHexError::OutOfMemory) => Err(NoMemory),
+        Err(_) => Ok(None),
+    }
+}
+
+/// The field value on a line that begins with this word.
+#[tactic(auto, unfolding(crate::specs::Fields::value_line))]
+pub fn value_line(word: &[u8], line: &[u8]) -> Option<u128>
+    ensures { result ≡ value_line word.now line.now }
+{
+    let rest = after(word, line)?;
+    let (value, rest) = word_at(rest)?;
+    if rest.is_empty() { Some(value) } else { None }
+}
+
+/// The 32 bytes on a line that begins with this word.
+#[tactic(auto, unfolding(crate::specs::Fields::key_line))]
+pub fn key_line(word: &[u8], line: &[u8]) -> Option<[u8; 32]>
+    ensures { result ≡ key_line word.now line.now }
+{
+    let digits = after(word, line)?;
+    seed_of(digits)
 }

@@ -3,11 +3,14 @@
 #![tactic(auto)]
 
 mod batch;
+mod cloak;
 mod fault;
 mod fields;
 mod lines;
+mod numbers;
 
 pub use batch::{BatchPairs, MOST_PAIRS, batch_is_read_exactly, read_batch};
+pub use cloak::{AimText, CloakGame, MOST_ADDRESSES, game_is_read_exactly, read_cloak};
 pub use fault::TextFault;
 
 #[cfg(test)]

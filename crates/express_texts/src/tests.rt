@@ -1,5 +1,7 @@
 //! Texts of batches: a worked one, lines that are bad, as many pairs as there may be, and what is printed of
 //! a fault.
+mod cloak;
+
 use crate::{MOST_PAIRS, TextFault, read_batch};
 use express_words::Closing;
 use std::alloc::Global;

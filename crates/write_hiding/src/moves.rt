@@ -1,7 +1,7 @@
 //! The choice by which another write gives the viewer the same view.
 ghost use Rattle.std.specs.Prelude.{◌≡◌, ◌≢◌, ◌≤◌, length, AllPairs, Contains, IfOk};
 ghost use Rattle.express_words.specs.Limits.{IsWidth};
-ghost use Rattle.write_hiding.specs.Choices.{plain_choice, plain_aim, plain_game};
+ghost use Rattle.write_hiding.specs.Choices.{IsChoice, plain_choice, plain_aim, plain_game};
 ghost use Rattle.write_hiding.specs.Views.{view};
 ghost use Rattle.write_hiding.specs.Moved.{moved};
 
@@ -37,6 +37,7 @@ pub fn moved(
         let c = plain_choice choice.now in
         let g = plain_game game.now in
         IfOk result (λ gone. plain_choice gone ≡ moved viewer c (plain_aim from.now) (plain_aim to.now) g) }
+    ensures choice { IfOk result (λ gone. IsChoice (length from.now.message.now) (plain_choice gone)) }
     // The view stays, ..
     ensures same_view { let viewer = choice.now.viewer in
         let c = plain_choice choice.now in

@@ -4,7 +4,7 @@ use Rattle.write_hiding.specs.Views.{view}
 use Rattle.write_hiding.specs.Moved.{moved}
 use Rattle.write_hiding.proofs.PartLemmas.{stays}
 use Rattle.write_hiding.proofs.ChoiceLemmas.{share_in}
-use Rattle.write_hiding.proofs.HidingLemmas.{views_stay, moves_return}
+use Rattle.write_hiding.proofs.HidingLemmas.{choices_stay, views_stay, moves_return}
 use Rattle.write_hiding.proofs.MoveLemmas.{part_of_walked, sums_of_walked, value_of_walked, moved_is}
 use Rattle.write_hiding.proofs.moves.moved.Goals as goal
 
@@ -59,6 +59,27 @@ returns-clause-moved c =
     (c.moved_words-words.ensures from c.in_ok-seen.ensures.view
     (sums_of_walked viewer _ choice from to game gone walk.viewer walk.walked _ seen.other)
     (value_of_walked viewer _ choice from to game gone walk.viewer walk.walked _ seen.value))
+
+pub returns-clause-choice : goal.returns-clause-choice
+returns-clause-choice c =
+    let viewer = c.args.choice.now.viewer in
+    let choice = plain_choice c.args.choice.now in
+    let from = plain_aim c.args.from.now in
+    let to = plain_aim c.args.to.now in
+    let game = plain_game c.args.game.now in
+    let gone = plain_choice c.in_ok-walked.walked in
+    let walk = c.in_ok-walked.ensures in
+    let seen = c.in_ok-audited.ensures in
+    let small : viewer < 2 = omega arith in
+    let good : IsChoice (length from.message) choice = subst (λ n. IsChoice n choice) c.requires.block c.read_choice.ensures.form in
+    let aimed : IsAim (length from.message) game to = subst (λ n. IsAim n game to) c.requires.message c.read_aim-2.ensures.form in
+    subst (λ (p : PlainChoice). IsChoice (length from.message) p)
+    (sym
+    (moved_is viewer _ choice from to game gone walk.viewer walk.walked c.moved_words-words.result
+    (c.moved_words-words.ensures from c.in_ok-seen.ensures.view
+    (sums_of_walked viewer _ choice from to game gone walk.viewer walk.walked _ seen.other)
+    (value_of_walked viewer _ choice from to game gone walk.viewer walk.walked _ seen.value))))
+    (choices_stay (length from.message) viewer choice from to game small c.read_game.ensures.form good c.read_aim.ensures.form aimed)
 
 pub returns-clause-same_view : goal.returns-clause-same_view
 returns-clause-same_view c =
