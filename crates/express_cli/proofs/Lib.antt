@@ -1,4 +1,9 @@
 pub mod Writing
 pub mod Told
 pub mod Causes
+pub mod OneReading
+pub mod Asked
 pub mod Exact
+pub mod BatchText
+pub mod CloakLemmas
+pub mod MillText

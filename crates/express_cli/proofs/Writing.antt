@@ -1,13 +1,14 @@
 -- What is written at an end, by what may come.
-use Rattle.std.proofs.Common.{◌≡◌, ℕ, List, Option, Some, subst, sym}
+use Rattle.std.proofs.Common.{◌≡◌, ℕ, List, Option, Some, inl, inr, refl, subst, sym, ap, ◌∙◌}
 use Rattle.clap.specs.Words.{Text}
-use Rattle.schedule_text.specs.Spelling.{IsFirstBadLine}
 use Rattle.express_words.specs.Streams.{Stream}
-use Rattle.express_cli.specs.CommandLine.{Asks, IsAsked}
+use Rattle.express_cli.specs.CommandLine.{Asks, AsksMill, IsAsked}
 use Rattle.express_cli.specs.Reading.{GaveAll}
-use Rattle.express_cli.specs.Ends.{Writes, Said, BadLineMay, ReplayMay, RunMay, bad_line}
+use Rattle.express_cli.specs.Work.{IsBad}
+use Rattle.express_cli.specs.Ends.{Writes, Said, BadLineMay, WorkMay, MillMay, RunMay, bad_line}
 use Rattle.express_cli.specs.declared.words.Command.{Command}
-use Rattle.express_cli.specs.declared.words.Command.TheVariants.{Replay}
+use Rattle.express_cli.specs.declared.words.Task.{Task}
+use Rattle.express_cli.specs.declared.words.Task.TheVariants.{Work, Mill}
 use Rattle.express_cli.specs.declared.ends.End.{End}
 use Rattle.express_cli.specs.declared.ends.End.TheVariants as ends
 
@@ -28,22 +29,22 @@ pub said : (May : End → List ℕ → Type 0) (old new : Option (List ℕ)) (be
 said May old new before now end result text may h =
     more_may (Said end text) May old new before now result (λ e t same. rw (same.0, same.1) may) h
 
--- What the replay of all that the source gave may come to is what the run may come to.
-all_may : (words : List Text) (from to : Option Stream) (c d : ℕ) (bytes : List ℕ) → Asks words Replay → GaveAll from to bytes
-    → (end : End) (text : List ℕ) → ReplayMay bytes end text → RunMay words from to c d end text
-all_may words from to c d bytes asks gave ends.Done text may = (asks, (bytes, gave, may))
-all_may words from to c d bytes asks gave ends.Usage text may = absurd may
-all_may words from to c d bytes asks gave (ends.BadLine n) text may = (asks, (bytes, gave, may))
-all_may words from to c d bytes asks gave ends.ReadFault text may = absurd may
-all_may words from to c d bytes asks gave ends.WriteFault text may = absurd may
-all_may words from to c d bytes asks gave ends.OutOfMemory text may = may
-all_may words from to c d bytes asks gave ends.TooLong text may = absurd may
+-- What the work on all that the source gave may come to is what the run may come to.
+all_may : (words : List Text) (from to : Option Stream) (c d : ℕ) (command : Command) (bytes : List ℕ) → Asks words command → GaveAll from to bytes
+    → (end : End) (text : List ℕ) → WorkMay command bytes end text → RunMay words from to c d end text
+all_may words from to c d command bytes asks gave ends.Done text may = inl (command, asks, (bytes, gave, may))
+all_may words from to c d command bytes asks gave ends.Usage text may = absurd may
+all_may words from to c d command bytes asks gave (ends.BadLine n) text may = (command, asks, (bytes, gave, may))
+all_may words from to c d command bytes asks gave ends.ReadFault text may = absurd may
+all_may words from to c d command bytes asks gave ends.WriteFault text may = absurd may
+all_may words from to c d command bytes asks gave ends.OutOfMemory text may = may
+all_may words from to c d command bytes asks gave ends.TooLong text may = absurd may
 
-pub replayed_all : (words : List Text) (from to : Option Stream) (c d : ℕ) (old new : Option (List ℕ)) (before now : ℕ) (end : End) (bytes read : List ℕ)
-    → Asks words Replay → GaveAll from to bytes → bytes ≡ read → Writes (ReplayMay read) old new before now end → Writes (RunMay words from to c d) old new before now end
-replayed_all words from to c d old new before now end bytes read asks gave same h =
+pub worked_all : (words : List Text) (from to : Option Stream) (c d : ℕ) (old new : Option (List ℕ)) (before now : ℕ) (end : End) (command : Command) (bytes read : List ℕ)
+    → Asks words command → GaveAll from to bytes → bytes ≡ read → Writes (WorkMay command read) old new before now end → Writes (RunMay words from to c d) old new before now end
+worked_all words from to c d old new before now end command bytes read asks gave same h =
     let Gave : List ℕ → Type 0 = λ b. GaveAll from to b in
-    more_may (ReplayMay read) (RunMay words from to c d) old new before now end (all_may words from to c d read asks (subst Gave same gave)) h
+    more_may (WorkMay command read) (RunMay words from to c d) old new before now end (all_may words from to c d command read asks (subst Gave same gave)) h
 
 -- where nothing was written before
 pub unmoved : (May : End → List ℕ → Type 0) (old mid new : Option (List ℕ)) (before between now : ℕ) (end : End)
@@ -53,17 +54,36 @@ unmoved May old mid new before between now end same_written same_count h =
     let Counted : ℕ → Type 0 = λ n. Writes May mid new n now end in
     subst Wrote same_written (subst Counted same_count h)
 
--- the one command
-pub asks_replay : (words : List Text) (asked : Option Command) (command : Command) → asked ≡ Some command → IsAsked words asked → Asks words Replay
-asks_replay words asked Replay same h = let Asked : Option Command → Type 0 = λ o. IsAsked words o in subst Asked same h
+-- What the mill that the words ask for may come to is what the run may come to.
+mill_may : (words : List Text) (from to : Option Stream) (c d n : ℕ) → AsksMill words n → to ≡ from
+    → (end : End) (text : List ℕ) → MillMay n end text → RunMay words from to c d end text
+mill_may words from to c d n asks same ends.Done text may = inr (n, asks, same, may)
+mill_may words from to c d n asks same ends.Usage text may = absurd may
+mill_may words from to c d n asks same (ends.BadLine m) text may = absurd may
+mill_may words from to c d n asks same ends.ReadFault text may = absurd may
+mill_may words from to c d n asks same ends.WriteFault text may = absurd may
+mill_may words from to c d n asks same ends.OutOfMemory text may = may
+mill_may words from to c d n asks same ends.TooLong text may = absurd may
 
--- what may be said of the first bad line may come of the replay
-pub bad_line_may : (bytes : List ℕ) (n : ℕ) → IsFirstBadLine n bytes → (end : End) (text : List ℕ) → BadLineMay n end text → ReplayMay bytes end text
-bad_line_may bytes n first (ends.BadLine m) text may =
-    let Bad : ℕ → Type 0 = λ k. IsFirstBadLine k bytes × (text ≡ bad_line k) in subst Bad (sym may.0) (first, may.1)
-bad_line_may bytes n first ends.OutOfMemory text may = may
-bad_line_may bytes n first ends.Done text may = absurd may
-bad_line_may bytes n first ends.Usage text may = absurd may
-bad_line_may bytes n first ends.ReadFault text may = absurd may
-bad_line_may bytes n first ends.WriteFault text may = absurd may
-bad_line_may bytes n first ends.TooLong text may = absurd may
+pub milled : (words : List Text) (from : Option Stream) (c d : ℕ) (old new : Option (List ℕ)) (before now : ℕ) (end : End) (n : ℕ)
+    → AsksMill words n → Writes (MillMay n) old new before now end → Writes (RunMay words from from c d) old new before now end
+milled words from c d old new before now end n asks h =
+    more_may (MillMay n) (RunMay words from from c d) old new before now end (mill_may words from from c d n asks refl) h
+
+-- the task that was found
+pub asks_it : (words : List Text) (asked : Option Task) (task : Task) (command : Command) → asked ≡ Some task → task ≡ Work command → IsAsked words asked → Asks words command
+asks_it words asked task command same is h = let Asked : Option Task → Type 0 = λ o. IsAsked words o in subst Asked (same ∙ ap Some is) h
+
+pub asks_mill : (words : List Text) (asked : Option Task) (task : Task) (n : ℕ) → asked ≡ Some task → task ≡ Mill n → IsAsked words asked → AsksMill words n
+asks_mill words asked task n same is h = let Asked : Option Task → Type 0 = λ o. IsAsked words o in subst Asked (same ∙ ap Some is) h
+
+-- what may be said of the first bad line may come of the work
+pub bad_line_may : (command : Command) (bytes : List ℕ) (n : ℕ) → IsBad command n bytes → (end : End) (text : List ℕ) → BadLineMay n end text → WorkMay command bytes end text
+bad_line_may command bytes n first (ends.BadLine m) text may =
+    let Bad : ℕ → Type 0 = λ k. IsBad command k bytes × (text ≡ bad_line k) in subst Bad (sym may.0) (first, may.1)
+bad_line_may command bytes n first ends.OutOfMemory text may = may
+bad_line_may command bytes n first ends.Done text may = absurd may
+bad_line_may command bytes n first ends.Usage text may = absurd may
+bad_line_may command bytes n first ends.ReadFault text may = absurd may
+bad_line_may command bytes n first ends.WriteFault text may = absurd may
+bad_line_may command bytes n first ends.TooLong text may = absurd may

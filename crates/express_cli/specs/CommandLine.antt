@@ -1,8 +1,11 @@
 -- The command line: a required COMMAND and an optional NUMBER, with no flags, as clap reads it.
-use Rattle.std.specs.Prelude.{◌≡◌, List, [], codes, Option, Some, None, true}
+use Rattle.std.specs.Prelude.{◌≡◌, ◌≤◌, ℕ, List, [], codes, Option, Some, None, true}
+use Rattle.std.specs.Fmt.{decimal}
 use Rattle.clap.specs.Words.{App, Rule, Text, new_app, new_rule, with_rule, matches_of, first_of, fault_of}
 use Rattle.express_cli.specs.declared.words.Command.{Command}
-use Rattle.express_cli.specs.declared.words.Command.TheVariants.{Replay}
+use Rattle.express_cli.specs.declared.words.Command.TheVariants.{Replay, Batch, Cloak}
+use Rattle.express_cli.specs.declared.words.Task.{Task}
+use Rattle.express_cli.specs.declared.words.Task.TheVariants.{Work, Mill}
 
 abbrev pub command_rule : Rule
 command_rule = record (new_rule (codes "COMMAND")) { required = true }
@@ -22,22 +25,49 @@ value_of id words = first_of id (matches_of express_app words)
 -- these values of COMMAND and NUMBER name a command
 abbrev pub Names : Option Text → Option Text → Command → Type 0
 Names name number Replay = (name ≡ Some (codes "replay")) × (number ≡ None)
+Names name number Batch = (name ≡ Some (codes "batch")) × (number ≡ None)
+Names name number Cloak = (name ≡ Some (codes "cloak")) × (number ≡ None)
 
--- what they name, if anything
+-- the command that they name, if any
 abbrev pub IsNamed : Option Text → Option Text → Option Command → Type 0
 IsNamed name number (Some command) = Names name number command
 IsNamed name number None = (command : Command) → Names name number command → ⊥
+
+-- the number up to 5,000 whose decimal digits these are, if any
+abbrev pub IsNumber : Text → Option ℕ → Type 0
+IsNumber text (Some n) = (text ≡ decimal n) × (n ≤ 5000)
+IsNumber text None = (n : ℕ) → n ≤ 5000 → text ≡ decimal n → ⊥
+
+-- these values of COMMAND and NUMBER name the mill of a number
+abbrev pub NamesMill : Option Text → Option Text → ℕ → Type 0
+NamesMill name number n = (name ≡ Some (codes "mill")) × (number ≡ Some (decimal n)) × (n ≤ 5000)
+
+-- the number of the mill that they name, if any
+abbrev pub IsMill : Option Text → Option Text → Option ℕ → Type 0
+IsMill name number (Some n) = NamesMill name number n
+IsMill name number None = (n : ℕ) → NamesMill name number n → ⊥
 
 -- Clap reads the words, and they name this command.
 pub record Asks (words : List Text) (command : Command) : Type 0 where
   pub read : fault_of express_app words ≡ []
   pub named : Names (value_of (codes "COMMAND") words) (value_of (codes "NUMBER") words) command
 
--- the words ask for no command
-abbrev pub AskNothing : List Text → Type 0
-AskNothing words = (command : Command) → Asks words command → ⊥
+-- Clap reads the words, and they name the mill of this number.
+pub record AsksMill (words : List Text) (n : ℕ) : Type 0 where
+  pub read : fault_of express_app words ≡ []
+  pub named : NamesMill (value_of (codes "COMMAND") words) (value_of (codes "NUMBER") words) n
 
--- the command that they ask for, if any
-abbrev pub IsAsked : List Text → Option Command → Type 0
-IsAsked words (Some command) = Asks words command
+-- the words ask for work on the input
+abbrev pub AskSome : List Text → Type 0
+AskSome words = (command : Command) × Asks words command
+
+-- the words ask neither for work on the input nor for a mill
+pub record AskNothing (words : List Text) : Type 0 where
+  pub work : (command : Command) → Asks words command → ⊥
+  pub mill : (n : ℕ) → AsksMill words n → ⊥
+
+-- the task that they ask for, if any
+abbrev pub IsAsked : List Text → Option Task → Type 0
+IsAsked words (Some (Work command)) = Asks words command
+IsAsked words (Some (Mill n)) = AsksMill words n
 IsAsked words None = AskNothing words

@@ -1,15 +1,14 @@
 -- How a run ends.
-use Rattle.std.specs.Prelude.{◌≡◌, ℕ, ◌+◌, ◌≤◌, List, ◌++◌, codes, Option}
+use Rattle.std.specs.Prelude.{◌≡◌, ℕ, ◌+◌, ◌≤◌, ◌⊎◌, List, ◌++◌, codes, Option}
 use Rattle.std.specs.Fmt.{decimal}
 use Rattle.express_words.specs.Causes.{Rose}
 use Rattle.express_words.specs.Streams.{Stream, Took, TookPrefix}
-use Rattle.schedule_text.specs.Spelling.{SpellsSchedule, IsFirstBadLine}
-use Rattle.schedule_text.specs.declared.schedule.Schedule.{Schedule}
-use Rattle.replay_world.specs.Output.{output_of}
 use Rattle.clap.specs.Words.{Text}
-use Rattle.express_cli.specs.CommandLine.{Asks, AskNothing}
+use Rattle.express_cli.specs.CommandLine.{Asks, AsksMill, AskSome, AskNothing}
 use Rattle.express_cli.specs.Reading.{GaveAll, GaveSome, most_bytes}
-use Rattle.express_cli.specs.declared.words.Command.TheVariants.{Replay}
+use Rattle.express_cli.specs.Work.{IsOutput, IsBad}
+use Rattle.express_cli.specs.Mills.{mill_text}
+use Rattle.express_cli.specs.declared.words.Command.{Command}
 use Rattle.express_cli.specs.declared.ends.End.{End}
 use Rattle.express_cli.specs.declared.ends.End.TheVariants.{Done, Usage, BadLine, ReadFault, WriteFault, OutOfMemory, TooLong}
 
@@ -62,22 +61,45 @@ BadLineMay n ReadFault text = ⊥
 BadLineMay n WriteFault text = ⊥
 BadLineMay n TooLong text = ⊥
 
--- To replay bytes comes to the output of the schedule that they spell, to their first bad line, or to want of memory.
-abbrev pub ReplayMay : List ℕ → End → List ℕ → Type 0
-ReplayMay bytes Done text = (schedule : Schedule) × SpellsSchedule schedule bytes × (text ≡ output_of schedule)
-ReplayMay bytes (BadLine n) text = IsFirstBadLine n bytes × (text ≡ bad_line n)
-ReplayMay bytes OutOfMemory text = text ≡ out_of_memory_text
-ReplayMay bytes Usage text = ⊥
-ReplayMay bytes ReadFault text = ⊥
-ReplayMay bytes WriteFault text = ⊥
-ReplayMay bytes TooLong text = ⊥
+-- To work on bytes comes to what the command writes of them, to their first bad line, or to want of memory.
+abbrev pub WorkMay : Command → List ℕ → End → List ℕ → Type 0
+WorkMay command bytes Done text = IsOutput command bytes text
+WorkMay command bytes (BadLine n) text = IsBad command n bytes × (text ≡ bad_line n)
+WorkMay command bytes OutOfMemory text = text ≡ out_of_memory_text
+WorkMay command bytes Usage text = ⊥
+WorkMay command bytes ReadFault text = ⊥
+WorkMay command bytes WriteFault text = ⊥
+WorkMay command bytes TooLong text = ⊥
+
+-- A mill comes to its text, or to want of memory.
+abbrev pub MillMay : ℕ → End → List ℕ → Type 0
+MillMay n Done text = text ≡ mill_text n
+MillMay n OutOfMemory text = text ≡ out_of_memory_text
+MillMay n Usage text = ⊥
+MillMay n (BadLine m) text = ⊥
+MillMay n ReadFault text = ⊥
+MillMay n WriteFault text = ⊥
+MillMay n TooLong text = ⊥
+
+-- The words ask for a command, the source gave all its bytes, and the command's work on them may come to
+-- this.
+abbrev pub MayWork : List Text → Option Stream → Option Stream → End → List ℕ → Type 0
+MayWork words from to end text =
+    (command : Command) × Asks words command
+    × ((bytes : List ℕ) × GaveAll from to bytes × WorkMay command bytes end text)
+
+-- The words ask for the mill of a number, the source wasn't read, and this is the mill's text.
+abbrev pub MayMill : List Text → Option Stream → Option Stream → List ℕ → Type 0
+MayMill words from to text = (n : ℕ) × AsksMill words n × (to ≡ from) × (text ≡ mill_text n)
 
 -- What a run comes to, by its words, what its source gave, and its count of faults before and after.
 abbrev pub RunMay : List Text → Option Stream → Option Stream → ℕ → ℕ → End → List ℕ → Type 0
 RunMay words from to before now Usage text = AskNothing words × (to ≡ from) × (text ≡ usage_text)
-RunMay words from to before now ReadFault text = Asks words Replay × Rose before now × GaveSome from to (λ n. n ≤ most_bytes) × (text ≡ read_fault_text)
-RunMay words from to before now TooLong text = Asks words Replay × GaveSome from to (λ n. n ≡ most_bytes + 1) × (text ≡ too_long_text)
-RunMay words from to before now (BadLine n) text = Asks words Replay × ((bytes : List ℕ) × GaveAll from to bytes × ReplayMay bytes (BadLine n) text)
-RunMay words from to before now Done text = Asks words Replay × ((bytes : List ℕ) × GaveAll from to bytes × ReplayMay bytes Done text)
+RunMay words from to before now ReadFault text =
+    AskSome words × Rose before now × GaveSome from to (λ n. n ≤ most_bytes) × (text ≡ read_fault_text)
+RunMay words from to before now TooLong text =
+    AskSome words × GaveSome from to (λ n. n ≡ most_bytes + 1) × (text ≡ too_long_text)
+RunMay words from to before now (BadLine n) text = MayWork words from to (BadLine n) text
+RunMay words from to before now Done text = MayWork words from to Done text ⊎ MayMill words from to text
 RunMay words from to before now OutOfMemory text = text ≡ out_of_memory_text
 RunMay words from to before now WriteFault text = ⊥

@@ -1,12 +1,18 @@
 //! The program's top call: what its words ask for, from the bytes of an input to bytes written and a status.
 #![tactic(auto)]
 
+mod batch;
+mod cloak;
+mod drawing;
 mod ends;
+mod mill;
 mod reading;
 mod replay;
 mod texts;
 mod top;
+mod views;
 mod words;
+mod work;
 
 pub use ends::End;
 pub use reading::{InputFault, LONGEST, read_all};

@@ -1,8 +1,9 @@
 //! Replays a schedule.
 ghost use Rattle.std.specs.Prelude.{◌≡◌, ◌≢◌, ◌≤◌, IfOk};
 ghost use Rattle.schedule_text.specs.Rules.{KeepsRules};
-ghost use Rattle.replay_world.specs.WorldView.{played, IsWhole};
-ghost use Rattle.express_cli.specs.Ends.{Writes, ReplayMay};
+ghost use Rattle.replay_world.specs.Played.{played, IsWhole};
+ghost use Rattle.express_cli.specs.Ends.{Writes, WorkMay};
+ghost use Rattle.express_cli.specs.declared.words.Command.TheVariants.{Replay};
 
 use crate::End;
 use crate::texts::{OUT_OF_MEMORY, say, say_bad_line};
@@ -12,8 +13,8 @@ use replay_world::{PutFault, World};
 use schedule_text::{ReadFault, Schedule, read};
 use std::alloc::Global;
 
-// The world after all events of a schedule.
-fn world_after(alloc: Global, schedule: &Schedule) -> Result<World, NoMemory>
+/// The world after all events of a schedule.
+pub fn world_after(alloc: Global, schedule: &Schedule) -> Result<World, NoMemory>
     requires { KeepsRules schedule.now }
     ensures whole { IfOk result (λ world. IsWhole world) }
     ensures played { IfOk result (λ world. played world ≡ schedule.now) }
@@ -27,7 +28,7 @@ fn world_after(alloc: Global, schedule: &Schedule) -> Result<World, NoMemory>
 
 /// Replays the schedule that the text spells.
 pub fn replay<K: Sink>(alloc: Global, text: &[u8], out: &mut K) -> End
-    ensures ends { Writes (ReplayMay text.now) (K.written out.old) (K.written out.new) (K.count out.old) (K.count out.new) result }
+    ensures ends { Writes (WorkMay Replay text.now) (K.written out.old) (K.written out.new) (K.count out.old) (K.count out.new) result }
     ensures later { K.count out.old ≤ K.count out.new }
     ensures told { result ≢ End.WriteFault → K.count out.new ≡ K.count out.old }
 {

@@ -1,18 +1,31 @@
 //! The words of the command line.
 ghost use Rattle.std.specs.Prelude.{◌≡◌, ◌≢◌, [], IfOk, IfErr, Some, option_map, map, string_bytes, codes};
 ghost use Rattle.clap.specs.Words.{app_of, fault_of, kind_of};
-ghost use Rattle.express_cli.specs.CommandLine.{express_app, value_of, IsNamed, IsAsked};
+ghost use Rattle.express_cli.specs.CommandLine.{express_app, value_of, IsNamed, IsNumber, IsMill, IsAsked};
 
 use clap::error::ErrorKind;
 use clap::{Arg, Error};
 use express_words::NoMemory;
 use std::alloc::{AllocError, Global};
 
-/// What the program does.
+/// What the program does with its input.
 #[derive(Clone, Copy, Debug, PartialEq, Eq)]
 pub enum Command {
     /// Replays a schedule.
     Replay,
+    /// Judges pairs of closings.
+    Batch,
+    /// Shows that one server sees two writes alike.
+    Cloak,
+}
+
+/// What the words ask for.
+#[derive(Clone, Copy, Debug, PartialEq, Eq)]
+pub enum Task {
+    /// Work on the input.
+    Work(Command),
+    /// The mill of a number up to 5,000, which reads no input.
+    Mill(u16),
 }
 
 // A required COMMAND and an optional NUMBER.
@@ -53,21 +66,65 @@ fn named(command: Option<&str>, number: Option<&str>) -> Option<Command>
 {
     match (command, number) {
         (Some("replay"), None) => Some(Command::Replay),
+        (Some("batch"), None) => Some(Command::Batch),
+        (Some("cloak"), None) => Some(Command::Cloak),
         _ => None,
     }
 }
 
-/// The command that the words ask for.
-pub fn command_of(alloc: Global, words: &Vec<String>) -> Result<Option<Command>, NoMemory>
+// The number up to 5,000 whose decimal digits these are.
+fn number_in(alloc: Global, text: &str) -> Result<Option<u16>, AllocError>
+    ensures { IfOk result (IsNumber text.now) }
+{
+    let number = match text.parse::<u16>() {
+        Ok(number) => number,
+        Err(_) => return Ok(None),
+    };
+    if number > 5000 {
+        return Ok(None);
+    }
+    let digits = format!(in alloc; "{number}")?;
+    if digits.as_str() == text {
+        Ok(Some(number))
+    } else {
+        Ok(None)
+    }
+}
+
+// The number of the mill that these values name.
+#[tactic(auto, using(crate::proofs::Asked::mill_of))]
+fn mill_named(
+    alloc: Global,
+    command: Option<&str>,
+    number: Option<&str>,
+) -> Result<Option<u16>, AllocError>
+    ensures { IfOk result (IsMill (option_map (λ s. s.now) command.entry) (option_map (λ s. s.now) number.entry)) }
+{
+    match (command, number) {
+        (Some("mill"), Some(text)) => number_in(alloc, text),
+        _ => Ok(None),
+    }
+}
+
+/// The task that the words ask for.
+#[tactic(auto, using(crate::proofs::Asked::refused, crate::proofs::Asked::works, crate::proofs::Asked::mills, crate::proofs::Asked::nothing))]
+pub fn task_of(alloc: Global, words: &Vec<String>) -> Result<Option<Task>, NoMemory>
     ensures { IfOk result (IsAsked (map string_bytes words.now.items)) }
 {
-    match values_of(alloc, words) {
-        Ok((command, number)) => Ok(named(command, number)),
+    let (command, number) = match values_of(alloc, words) {
+        Ok(values) => values,
         Err(fault) => {
             if fault.kind() == ErrorKind::OutOfMemory {
                 return Err(NoMemory);
             }
-            Ok(None)
+            return Ok(None);
         }
+    };
+    if let Some(command) = named(command, number) {
+        return Ok(Some(Task::Work(command)));
+    }
+    match mill_named(alloc, command, number)? {
+        Some(number) => Ok(Some(Task::Mill(number))),
+        None => Ok(None),
     }
 }

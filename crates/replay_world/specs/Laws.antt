@@ -1,34 +1,39 @@
--- What holds of every schedule's run.
-use Rattle.std.specs.Prelude.{◌≡◌, ℕ, List, [], ◌∷◌}
-use Rattle.mailbox_rules.specs.Tables.{Mailbox, Result, results_after, result_sum}
-use Rattle.mailbox_rules.specs.Laws.{AreShares}
+-- What holds of every schedule of clients, whatever frames are lost, repeated or reordered.
+use Rattle.std.specs.Prelude.{◌≡◌, ◌<◌, ℕ, List, [], ◌∷◌, ◌++◌, length}
+use Rattle.token_rules.specs.Tokens.{World, Oracle}
+use Rattle.token_rules.specs.Laws.{asks_of}
+use Rattle.run_rules.specs.Letters.{FrameWorld}
+use Rattle.run_rules.specs.Book.{Book}
+use Rattle.run_rules.specs.History.{HasEnded, history, no_lane, token_events, token_run}
+use Rattle.schedule_text.specs.declared.schedule.Event.{Event}
+use Rattle.schedule_text.specs.declared.schedule.Event.TheVariants.{Ask, Send, Tick, Deliver, Show, Finish, Inject}
 use Rattle.schedule_text.specs.declared.schedule.Schedule.{Schedule}
 use Rattle.schedule_text.specs.Rules.{KeepsRules}
-use Rattle.replay_world.specs.Run.{shared, run_of, table_of, results_of}
-use Rattle.replay_world.specs.Schedules.{boxes_at}
+use Rattle.replay_world.specs.Parts.{events_in}
+use Rattle.replay_world.specs.Played.{run_of}
 
--- the boxes of the plain table, with what was written to them
-abbrev pub plain_boxes : Schedule → List Mailbox
-plain_boxes schedule = (table_of schedule.header.settings (run_of schedule)).boxes
+-- no bytes come from outside
+abbrev pub IsFromClients : Event → Type 0
+IsFromClients (Ask client asked) = Unit {0}
+IsFromClients (Send client) = Unit {0}
+IsFromClients Tick = Unit {0}
+IsFromClients (Deliver number) = Unit {0}
+IsFromClients (Show number) = Unit {0}
+IsFromClients (Finish client) = Unit {0}
+IsFromClients (Inject server bytes) = ⊥
 
--- What both servers hold of every box adds up to what stands in the plain table.
-abbrev pub SharesAddUp : Type 0
-SharesAddUp = (schedule : Schedule) → KeepsRules schedule
-    → AreShares (plain_boxes schedule) (boxes_at schedule 0) (boxes_at schedule 1)
+abbrev pub AreFromClients : List Event → Type 0
+AreFromClients [] = Unit {0}
+AreFromClients (event ∷ events) = IsFromClients event × AreFromClients events
 
--- the results that a server gives to the journal's entries, with its share of what was read
-abbrev pub results_at : Schedule → ℕ → List Result
-results_at schedule server =
-    results_after schedule.header.settings.boxes schedule.header.settings.width
-    (shared schedule.header server (run_of schedule).sent) (run_of schedule).journal
+-- Of the schedule's run, of its token run, and of the history that both have.
+abbrev pub OfSchedules : (Book → FrameWorld → World → Type 0) → Type 0
+OfSchedules P = (o : Oracle) (schedule : Schedule) → KeepsRules schedule → AreFromClients schedule.events
+    → let w = token_run o schedule.header.settings no_lane (events_in schedule.events) in
+    P (history schedule.header.settings schedule.header.seed w) (run_of schedule) w
 
-abbrev pub results_sum : List Result → List Result → List Result
-results_sum [] twos = []
-results_sum (one ∷ ones) [] = []
-results_sum (one ∷ ones) (two ∷ twos) = result_sum one two ∷ results_sum ones twos
-
--- The journal's results are those of both servers, and each read gives the sum of their shares.
-abbrev pub ReadsAddUp : Type 0
-ReadsAddUp = (schedule : Schedule) → KeepsRules schedule
-    → results_of schedule.header.settings (run_of schedule)
-    ≡ results_sum (results_at schedule 0) (results_at schedule 1)
+-- After a `finish` at its end a schedule leaves that client no request without an outcome.
+abbrev pub FinishesAnswer : Type 0
+FinishesAnswer = (schedule : Schedule) (client : ℕ) (events : List Event) → KeepsRules schedule
+    → AreFromClients schedule.events → schedule.events ≡ events ++ Finish client ∷ []
+    → HasEnded client (asks_of client (token_events (events_in events))) (run_of schedule)

@@ -1,10 +1,6 @@
-pub mod Requests
-pub mod Lines
-pub mod Run
-pub mod Schedules
-pub mod Output
-pub mod Shelf
-pub mod Answers
+pub mod Parts
+pub mod Posts
 pub mod View
-pub mod WorldView
+pub mod Output
+pub mod Played
 pub mod Laws

@@ -3,80 +3,69 @@ use Rattle.std.specs.Prelude.{ℕ, ◌+◌, true, false, List, [], ◌∷◌, �
 use Rattle.std.specs.Fmt.{decimal}
 use Rattle.std.specs.Int.{w128, to_be_bytes}
 use Rattle.hex.specs.Hex.{encode_lower}
+use Rattle.express_words.specs.Texts.{refusal_text}
+use Rattle.express_words.specs.declared.audit.Openings.{Openings}
+use Rattle.express_words.specs.declared.audit.Closing.{Closing}
 use Rattle.express_words.specs.declared.refusal.Refusal.{Refusal}
-use Rattle.express_words.specs.declared.refusal.Refusal.TheVariants.{Malformed, Version, Lane, Stale, Phase, Taken, Full, NoBox, BadToken, NoDeposit, NotProved, Rejected, Again, LinkDown}
-use Rattle.mailbox_rules.specs.Tables.{Mailbox}
-use Rattle.schedule_text.specs.declared.schedule.Schedule.{Schedule}
-use Rattle.replay_world.specs.declared.lines.Outcome.TheVariants as outcomes
-use Rattle.replay_world.specs.declared.lines.Told.{Told}
-use Rattle.replay_world.specs.declared.lines.Told.TheVariants.{Done, NoOwn}
-use Rattle.replay_world.specs.declared.lines.OutcomeLine.{OutcomeLine}
-use Rattle.replay_world.specs.declared.lines.Command.{Command}
-use Rattle.replay_world.specs.declared.lines.Command.TheVariants as commands
-use Rattle.replay_world.specs.declared.lines.Entry.{Entry}
-use Rattle.replay_world.specs.declared.lines.Entry.TheVariants as entries
-use Rattle.replay_world.specs.declared.lines.JournalLine.{JournalLine}
-use Rattle.replay_world.specs.Schedules.{outcomes_of, whole_journal, boxes_at}
+use Rattle.express_words.specs.declared.refusal.Refusal.TheVariants.{Rejected}
+use Rattle.mailbox_rules.specs.Requests.{Command, Registers, Begins, Audits, Settles, Reads, Retires}
+use Rattle.step_rules.specs.Boxes.{Box}
+use Rattle.step_rules.specs.Client as client
+use Rattle.step_rules.specs.Leader.{Leader}
+use Rattle.leader_core.specs.State.{share_in}
+use Rattle.run_rules.specs.Letters.{Value, Registered, Began, Audited, Settled, WasRead, Retired, Refused, JournalLine, Told, Ended, NoOwnBox, Outcome, Shown, FrameWorld}
 
 -- 32 hexadecimal digits, the most significant first
 abbrev pub number_text : ℕ → List ℕ
 number_text number = encode_lower (to_be_bytes w128 number)
 
-unfoldable pub refusal_text : Refusal → List ℕ
-refusal_text (Malformed place) = codes "malformed " ++ decimal place
-refusal_text (Version version) = codes "version " ++ decimal version
-refusal_text (Lane limit) = codes "lane " ++ decimal limit
-refusal_text (Stale serial) = codes "stale " ++ decimal serial
-refusal_text (Phase phase) = codes "phase " ++ decimal phase
-refusal_text (Taken box) = codes "taken " ++ decimal box
-refusal_text (Full limit) = codes "full " ++ decimal limit
-refusal_text (NoBox box) = codes "nobox " ++ decimal box
-refusal_text (BadToken box) = codes "badtoken " ++ decimal box
-refusal_text NoDeposit = codes "nodeposit"
-refusal_text NotProved = codes "notproved"
-refusal_text (Rejected o0 o1 t0 t1) =
-    codes "rejected " ++ (number_text o0 ++ (codes " " ++ (number_text o1
-    ++ (codes " " ++ (number_text t0 ++ (codes " " ++ number_text t1))))))
-refusal_text (Again number) = codes "again " ++ decimal number
-refusal_text (LinkDown count) = codes "linkdown " ++ decimal count
+abbrev pub openings_text : Openings → List ℕ
+openings_text o = number_text o.d ++ (codes " " ++ number_text o.e)
+
+abbrev pub closing_text : Closing → List ℕ
+closing_text c = number_text c.o ++ (codes " " ++ number_text c.tau)
 
 -- a rejected write is told by the one word
 abbrev pub refused_text : Refusal → List ℕ
 refused_text (Rejected o0 o1 t0 t1) = codes "rejected"
 refused_text refusal = codes "refused " ++ refusal_text refusal
 
-abbrev pub told_text : Told → List ℕ → List ℕ
-told_text (Done (outcomes.Registered box)) message = codes "registered " ++ decimal box
-told_text (Done outcomes.Accepted) message = codes "accepted"
-told_text (Done outcomes.Message) message = codes "message " ++ encode_lower message
-told_text (Done (outcomes.Refused refusal)) message = refused_text refusal
-told_text (NoOwn own) message = codes "no box " ++ decimal own
+unfoldable pub told_text : Told → List ℕ
+told_text (Ended (client.Registered box)) = codes "registered " ++ decimal box
+told_text (Ended client.Accepted) = codes "accepted"
+told_text (Ended (client.Message bytes)) = codes "message " ++ encode_lower bytes
+told_text (Ended (client.Refused refusal)) = refused_text refusal
+told_text (NoOwnBox own) = codes "no box " ++ decimal own
 
-unfoldable pub outcome_line : OutcomeLine → List ℕ
+unfoldable pub outcome_line : Outcome → List ℕ
 outcome_line o =
     codes "outcome " ++ (decimal o.client ++ (codes " " ++ (decimal o.request
-    ++ (codes " " ++ (told_text o.outcome o.message ++ codes "\n")))))
+    ++ (codes " " ++ (told_text o.told ++ codes "\n")))))
 
 abbrev pub command_text : Command → List ℕ
-command_text commands.Register = codes "register"
-command_text commands.Begin = codes "begin"
-command_text commands.Audit = codes "audit"
-command_text commands.Settle = codes "settle"
-command_text commands.Read = codes "read"
-command_text commands.Retire = codes "retire"
+command_text Registers = codes "register"
+command_text Begins = codes "begin"
+command_text Audits = codes "audit"
+command_text Settles = codes "settle"
+command_text Reads = codes "read"
+command_text Retires = codes "retire"
 
-abbrev pub entry_text : Entry → List ℕ
-entry_text (entries.Registered box) = codes "register " ++ decimal box
-entry_text (entries.Began count) = codes "begin " ++ decimal count
-entry_text (entries.Settled true) = codes "settle accepted"
-entry_text (entries.Settled false) = codes "settle rejected"
-entry_text (entries.WasRead box) = codes "read " ++ decimal box
-entry_text (entries.Refused command refusal) = command_text command ++ (codes " " ++ refusal_text refusal)
+unfoldable pub value_text : Value → List ℕ
+value_text (Registered box) = codes "register " ++ decimal box
+value_text (Began count) = codes "begin " ++ decimal count
+value_text (Audited leaders helpers closing) =
+    codes "audit " ++ (openings_text leaders ++ (codes " " ++ (openings_text helpers
+    ++ (codes " " ++ closing_text closing))))
+value_text (Settled true leaders) = codes "settle accepted " ++ closing_text leaders
+value_text (Settled false leaders) = codes "settle rejected " ++ closing_text leaders
+value_text (WasRead box) = codes "read " ++ decimal box
+value_text (Retired box) = codes "retire " ++ decimal box
+value_text (Refused command refusal) = command_text command ++ (codes " " ++ refusal_text refusal)
 
 unfoldable pub journal_line : JournalLine → List ℕ
 journal_line j =
     codes "journal " ++ (decimal j.lane ++ (codes " " ++ (decimal j.serial
-    ++ (codes " " ++ (entry_text j.entry ++ codes "\n")))))
+    ++ (codes " " ++ (value_text j.value ++ codes "\n")))))
 
 -- a box's number and address, and both servers' shares of it
 unfoldable pub share_line : ℕ → ℕ → List ℕ → List ℕ → List ℕ
@@ -84,18 +73,23 @@ share_line box address zero one =
     codes "share " ++ (decimal box ++ (codes " " ++ (number_text address
     ++ (codes " " ++ (encode_lower zero ++ (codes " " ++ (encode_lower one ++ codes "\n")))))))
 
--- the boxes of the helper in order, each beside the leader's share, from this number on
-unfoldable pub share_lines : ℕ → List Mailbox → List Mailbox → List ℕ
-share_lines number [] ones = []
-share_lines number (zero ∷ zeros) [] = []
-share_lines number (zero ∷ zeros) (one ∷ ones) =
-    share_line number one.address zero.bytes one.bytes ++ share_lines (number + 1) zeros ones
+-- The boxes of the helper in order, from this number on, each beside the leader's share of it: zeros where the
+-- leader has no such box yet.
+unfoldable pub share_lines : Leader → ℕ → List Box → List ℕ
+share_lines leader number [] = []
+share_lines leader number (box ∷ boxes) =
+    share_line number box.address (share_in leader number) box.share ++ share_lines leader (number + 1) boxes
 
--- The outcomes in the order in which they were told, the journal, the boxes with both servers' shares, and
--- the end.
-unfoldable pub output_of : Schedule → List ℕ
-output_of schedule =
-    flat_map outcome_line (outcomes_of schedule)
-    ++ flat_map journal_line (whole_journal schedule)
-    ++ share_lines 0 (boxes_at schedule 0) (boxes_at schedule 1)
+-- a noted frame, by its number in the pool
+unfoldable pub shown_line : Shown → List ℕ
+shown_line s = codes "frame " ++ (decimal s.number ++ (codes " " ++ (encode_lower s.bytes ++ codes "\n")))
+
+-- The outcomes in the order in which they came, the journal in the order in which the helper carried commands
+-- out, the boxes with both servers' shares, the noted frames, and the end.
+unfoldable pub run_text : FrameWorld → List ℕ
+run_text w =
+    flat_map outcome_line w.outcomes
+    ++ flat_map journal_line w.journal
+    ++ share_lines w.leader 0 w.helper.server.boxes
+    ++ flat_map shown_line w.shown
     ++ codes "end\n"

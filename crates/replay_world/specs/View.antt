@@ -1,88 +1,80 @@
--- Where in a run the code's state stands.
-use Rattle.std.specs.Prelude.{◌≡◌, ℕ, ◌≤◌, ◌<◌, ◌^◌, length, List, [], ◌∷◌}
-use Rattle.express_words.specs.declared.settings.Settings.{Settings}
-use Rattle.mailbox_rules.specs.Requests.{Request, Register, Write, Read, Retire, Entry, Operation, AddBox}
-use Rattle.mailbox_rules.specs.Tables.{Table}
-use Rattle.dpf_rules.specs.Expansion.{draw32}
-use Rattle.express_words.specs.Limits.{IsWidth}
-use Rattle.schedule_text.specs.Rules.{IsAskable}
-use Rattle.schedule_text.specs.declared.schedule.Asked.{Asked}
+-- The state of the run's rules, read from the code's state.
+use Rattle.std.specs.Prelude.{◌≡◌, ℕ, ◌<◌, List, [], length, Option, Some, None, slice_get}
+use Rattle.mailbox_rules.specs.Requests.{Request}
+use Rattle.step_rules.specs.Client.{Client, opened_client}
+use Rattle.token_rules.specs.Tokens.{put}
+use Rattle.run_rules.specs.Letters.{FrameWorld, client_seed, capacity}
 use Rattle.schedule_text.specs.declared.schedule.Event.{Event}
-use Rattle.schedule_text.specs.declared.schedule.Event.TheVariants.{Ask, Finish}
+use Rattle.schedule_text.specs.declared.schedule.Event.TheVariants.{Ask, Send, Tick, Deliver, Show, Finish, Inject}
 use Rattle.schedule_text.specs.declared.schedule.Header.{Header}
+use Rattle.replay_world.specs.declared.asker.Asker.{Asker}
+use Rattle.replay_world.specs.declared.lines.OutcomeLine.{OutcomeLine}
 use Rattle.replay_world.specs.declared.state.State.{State}
-use Rattle.replay_world.specs.Shelf.{Shelf, without_owners}
-use Rattle.replay_world.specs.Lines.{journal_of}
-use Rattle.replay_world.specs.Run.{Run, table_of, shares_of, results_of}
+use Rattle.replay_world.specs.Parts.{pool_in, requests_in, journal_in, outcomes_in, shown_all_in}
 
--- a server's boxes, of those in its table
-abbrev pub shelf_of : Settings → Table → Shelf
-shelf_of settings t =
-    record { limit = settings.boxes; width = settings.width; boxes = without_owners t.boxes }
+-- what is read of the client of a lane, and what stands for a lane that has none
+abbrev pub at_or : {X : Type 0} → (Asker → X) → X → Option Asker → X
+at_or read without None = without
+at_or read without (Some a) = read a
 
--- each entry is for one of so many requests
-abbrev pub AreNumbered : ℕ → List Entry → Type 0
-AreNumbered count [] = Unit {0}
-AreNumbered count (e ∷ entries) = ((1 ≤ e.line.serial) × (e.line.serial ≤ count)) × AreNumbered count entries
+unfoldable pub at_lane : {X : Type 0} → (Asker → X) → (ℕ → X) → List Asker → ℕ → X
+at_lane read without askers c = at_or read (without c) (slice_get askers c)
 
--- An address is a number of 128 bits, and a message has the width.
-abbrev pub IsFit : ℕ → Request → Type 0
-IsFit width (Register address) = address < 2 ^ 128
-IsFit width (Write target message) = (target < 2 ^ 128) × (length message ≡ width)
-IsFit width (Read own) = Unit {0}
-IsFit width (Retire own) = Unit {0}
+-- a client that was asked nothing
+abbrev pub fresh : Header → ℕ → Client
+fresh header c = opened_client c (client_seed header.seed c) header.settings.width (capacity header.settings) 1
 
-abbrev pub AreFit : ℕ → List Request → Type 0
-AreFit width [] = Unit {0}
-AreFit width (request ∷ requests) = IsFit width request × AreFit width requests
+abbrev pub requests_of : Asker → List Request
+requests_of a = requests_in a.waiting.items
 
--- so is each address that was registered
-abbrev pub HasFitAddress : Operation → Type 0
-HasFitAddress (AddBox address) = address < 2 ^ 128
-HasFitAddress operation = Unit {0}
+abbrev pub run_in : Header → State → FrameWorld
+run_in header s = record {
+  leader = s.leader;
+  helper = s.helper;
+  clients = at_lane (λ a. a.client) (fresh header) s.askers.items;
+  waiting = at_lane requests_of (λ c. []) s.askers.items;
+  told = at_lane (λ a. a.told) (λ c. 0) s.askers.items;
+  journal = journal_in s.journal.items;
+  pool = pool_in s.pool.items;
+  outcomes = outcomes_in s.outcomes.items;
+  shown = shown_all_in s.shown.items;
+}
 
-abbrev pub HaveFitAddresses : List Entry → Type 0
-HaveFitAddresses [] = Unit {0}
-HaveFitAddresses (e ∷ entries) = HasFitAddress e.does × HaveFitAddresses entries
+-- so are all these clients, each of its lane
+abbrev pub AreFresh : Header → List Asker → Type 0
+AreFresh header askers = (c : ℕ) (a : Asker) → slice_get askers c ≡ Some a → (a.client ≡ fresh header c) × (requests_of a ≡ []) × (a.told ≡ 0)
 
--- all these can be asked
-abbrev pub AreAskable : ℕ → List Asked → Type 0
-AreAskable width [] = Unit {0}
-AreAskable width (one ∷ more) = IsAskable width one × AreAskable width more
+-- the state with this client of a lane, and these outcomes
+abbrev pub with_asker : FrameWorld → ℕ → Asker → List OutcomeLine → FrameWorld
+with_asker w c a outcomes = record w {
+  clients = put w.clients c a.client;
+  waiting = put w.waiting c (requests_of a);
+  told = put w.told c a.told;
+  outcomes = outcomes_in outcomes;
+}
 
--- what the event asks, if it asks something, can be asked
-abbrev pub HasAskable : ℕ → Event → Type 0
-HasAskable width (Ask client one) = IsAskable width one
-HasAskable width (Finish client) = Unit {0}
+-- From old to new the state goes on by this step.
+abbrev pub Moves : (FrameWorld → FrameWorld) → State → State → Type 0
+Moves step old new = (header : Header) → run_in header new ≡ step (run_in header old)
 
-abbrev pub AllBelow : ℕ → List ℕ → Type 0
-AllBelow n [] = Unit {0}
-AllBelow n (x ∷ xs) = (x < n) × AllBelow n xs
+-- the settings and the number of lanes stay
+pub record Keeps (old new : State) : Type 0 where
+  pub leader : new.leader.settings ≡ old.leader.settings
+  pub helper : new.helper.server.settings ≡ old.helper.server.settings
+  pub lanes : length new.askers.items ≡ length old.askers.items
 
--- The state is where this run stands: both servers have its shares, and what was told and noted is what it
--- has.
-pub record IsAt (header : Header) (s : State) (r : Run) : Type 0 where
-  pub seed : s.client.seed ≡ draw32 header.seed 1
-  pub waiting : s.client.waiting.items ≡ r.waiting
-  pub sent : s.client.sent ≡ length r.sent
-  pub owned : s.client.owned.items ≡ (table_of header.settings r).got 0
-  pub owned_zero : s.client.owned.items ≡ (shares_of header 0 r).got 0
-  pub owned_one : s.client.owned.items ≡ (shares_of header 1 r).got 0
-  pub own_boxes : AllBelow (length s.helper.boxes) s.client.owned.items
-  pub leader : s.leader ≡ shelf_of header.settings (shares_of header 0 r)
-  pub helper : s.helper ≡ shelf_of header.settings (shares_of header 1 r)
-  pub outcomes : s.outcomes.items ≡ r.outcomes
-  pub journal : s.journal.items ≡ journal_of r.journal (results_of header.settings r)
-  pub numbered : AreNumbered (length r.sent) r.journal
-  pub few : length r.sent ≤ length r.outcomes
-  pub fit : AreFit header.settings.width r.sent
-  pub addresses : HaveFitAddresses r.journal
-  pub askable : AreAskable header.settings.width r.waiting
-  pub width : IsWidth header.settings.width
+-- both servers have the header's settings, and each lane its client
+pub record IsFit (header : Header) (s : State) : Type 0 where
+  pub leader : s.leader.settings ≡ header.settings
+  pub helper : s.helper.server.settings ≡ header.settings
+  pub lanes : length s.askers.items ≡ header.settings.lanes
 
-abbrev pub IsInRun : State → Type 0
-IsInRun s = (header : Header) × (r : Run) × IsAt header s r
-
--- From old to new the state follows a step of the run.
-abbrev pub Follows : (Header → Run → Run) → State → State → Type 0
-Follows step old new = (header : Header) (r : Run) → IsAt header old r → IsAt header new (step header r)
+-- a client of an event is one of so many lanes
+abbrev pub IsWithin : ℕ → Event → Type 0
+IsWithin lanes (Ask client request) = client < lanes
+IsWithin lanes (Send client) = client < lanes
+IsWithin lanes Tick = Unit {0}
+IsWithin lanes (Deliver number) = Unit {0}
+IsWithin lanes (Show number) = Unit {0}
+IsWithin lanes (Finish client) = client < lanes
+IsWithin lanes (Inject server bytes) = Unit {0}

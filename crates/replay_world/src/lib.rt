@@ -1,18 +1,26 @@
-//! The run of a schedule: one client and two servers, each with a share of every box.
+//! The run of a schedule over the real servers: both servers, the clients, and a pool of frames.
 #![tactic(auto)]
 
-mod client;
+mod arriving;
+mod asker;
+mod asking;
+mod at_helper;
+mod at_leader;
+mod entries;
+mod finish;
+mod lane;
 mod laws;
 mod lines;
-mod server;
-mod share;
+mod pool;
+mod showing;
 mod state;
 mod texts;
 mod world;
 
+pub use client_core::Outcome;
 pub use express_words::outside::{
     Conn, Counted, Failed, MemoryConn, MemoryNet, MemorySink, MemorySource, Net, Sink, Source,
 };
-pub use laws::shares_add_up;
-pub use lines::{Command, Entry, JournalLine, Outcome, OutcomeLine, Told};
+pub use laws::{finishes_answer, schedules_hold};
+pub use lines::{Command, Entry, JournalLine, OutcomeLine, Told};
 pub use world::{PutFault, World};

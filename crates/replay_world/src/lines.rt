@@ -1,23 +1,12 @@
-//! What a run tells: what became of requests, and what the journal has.
-use express_words::{List, Refusal};
-
-/// What a request came to.
-#[derive(Clone, Copy, Debug, PartialEq, Eq)]
-pub enum Outcome {
-    /// The address got this box.
-    Registered(u32),
-    /// The write was accepted.
-    Accepted,
-    /// The box was read; its bytes stand beside the outcome.
-    Message,
-    Refused(Refusal),
-}
+//! What a run tells: what became of requests, what the journal has, and the frames that were noted.
+use client_core::Outcome;
+use express_words::{Closing, List, Openings, Refusal};
 
 /// What a client is told of a request.
 #[derive(Clone, Copy, Debug, PartialEq, Eq)]
 pub enum Told {
     Done(Outcome),
-    /// The client never got a box of this number, and sent nothing.
+    /// The client never got an own box of this number, and sent nothing.
     NoOwn(u32),
 }
 
@@ -49,10 +38,14 @@ pub enum Entry {
     Registered(u32),
     /// A write began over this many boxes.
     Began(u32),
-    /// A write was accepted, or not.
-    Settled(bool),
+    /// A write was audited: the leader's openings, the helper's, and the helper's closing.
+    Audited(Openings, Openings, Closing),
+    /// A write was accepted, or not; with the leader's closing.
+    Settled(bool, Closing),
     /// The box was read.
     WasRead(u32),
+    /// The box was read for the last time.
+    Retired(u32),
     Refused(Command, Refusal),
 }
 
@@ -62,4 +55,11 @@ pub struct JournalLine {
     pub lane: u16,
     pub serial: u32,
     pub entry: Entry,
+}
+
+/// A frame of the pool that was noted for the output, by its number.
+#[derive(Drop)]
+pub struct Shown {
+    pub number: u32,
+    pub bytes: List<u8>,
 }

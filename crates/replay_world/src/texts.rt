@@ -1,10 +1,15 @@
-//! The text of a run: outcomes, journal lines and shares.
-ghost use Rattle.std.specs.Prelude.{◌≡◌, ℕ, ◌≤◌, ◌<◌, ◌+◌, ◌++◌, length, IfOk, OnOk, flat_map, string_bytes};
-ghost use Rattle.replay_world.specs.Output.{number_text, refusal_text, refused_text, told_text, outcome_line, command_text, entry_text, journal_line, share_line, share_lines};
+//! The text of a run: outcomes, journal lines, shares and noted frames.
+ghost use Rattle.std.specs.Prelude.{◌≡◌, ◌≤◌, ◌++◌, length, IfOk, OnOk, codes, flat_map, string_bytes};
+ghost use Rattle.replay_world.specs.Output.{number_text, openings_text, closing_text, refused_text, told_text, outcome_line, command_text, value_text, journal_line, share_line, share_lines, shown_line, run_text};
+ghost use Rattle.replay_world.specs.View.{run_in};
+ghost use Rattle.schedule_text.specs.declared.schedule.Header.{Header};
+ghost use Rattle.run_rules.specs.Letters.{Audited, Settled};
+ghost use Rattle.replay_world.specs.Parts.{command_in, journal_in, line_in, outcome_in, outcomes_in, shown_in, shown_all_in, told_in, value_in};
 
-use crate::lines::{Command, Entry, JournalLine, Outcome, OutcomeLine, Told};
-use crate::server::Server;
-use express_words::Refusal;
+use crate::lines::{Command, Entry, JournalLine, OutcomeLine, Shown, Told};
+use crate::state::State;
+use client_core::Outcome;
+use express_words::{Closing, Openings, Refusal};
 use std::alloc::{AllocError, Global};
 
 fn number_text(alloc: Global, number: u128) -> Result<String, AllocError>
@@ -13,57 +18,18 @@ fn number_text(alloc: Global, number: u128) -> Result<String, AllocError>
     hex::encode(alloc, number.to_be_bytes().as_slice())
 }
 
-#[tactic(auto, unfolding(crate::specs::Output::refusal_text))]
-fn refusal_text(alloc: Global, refusal: Refusal) -> Result<String, AllocError>
-    ensures { IfOk result (λ text. string_bytes text ≡ refusal_text refusal) }
-{
-    match refusal {
-        Refusal::Malformed(place) => format!(in alloc; "malformed {place}"),
-        Refusal::Version(version) => format!(in alloc; "version {version}"),
-        Refusal::Lane(limit) => format!(in alloc; "lane {limit}"),
-        Refusal::Stale(serial) => format!(in alloc; "stale {serial}"),
-        Refusal::Phase(phase) => format!(in alloc; "phase {phase}"),
-        Refusal::Taken(box_number) => format!(in alloc; "taken {box_number}"),
-        Refusal::Full(limit) => format!(in alloc; "full {limit}"),
-        Refusal::NoBox(box_number) => format!(in alloc; "nobox {box_number}"),
-        Refusal::BadToken(box_number) => format!(in alloc; "badtoken {box_number}"),
-        Refusal::NoDeposit => format!(in alloc; "nodeposit"),
-        Refusal::NotProved => format!(in alloc; "notproved"),
-        Refusal::Rejected(o0, o1, t0, t1) => rejected_text(alloc, o0, o1, t0, t1),
-        Refusal::Again(number) => format!(in alloc; "again {number}"),
-        Refusal::LinkDown(count) => format!(in alloc; "linkdown {count}"),
-    }
-}
-
-#[tactic(auto, unfolding(crate::specs::Output::refusal_text))]
-fn rejected_text(
-    alloc: Global,
-    o0: u128,
-    o1: u128,
-    t0: u128,
-    t1: u128,
-) -> Result<String, AllocError>
-    ensures { IfOk result (λ text. string_bytes text ≡ refusal_text (Refusal.Rejected o0 o1 t0 t1)) }
-{
-    let one = number_text(alloc, o0)?;
-    let two = number_text(alloc, o1)?;
-    let three = number_text(alloc, t0)?;
-    let four = number_text(alloc, t1)?;
-    format!(in alloc; "rejected {one} {two} {three} {four}")
-}
-
 fn refused_text(alloc: Global, refusal: Refusal) -> Result<String, AllocError>
     ensures { IfOk result (λ text. string_bytes text ≡ refused_text refusal) }
 {
     if let Refusal::Rejected(_, _, _, _) = refusal {
         return format!(in alloc; "rejected");
     }
-    let text = refusal_text(alloc, refusal)?;
-    format!(in alloc; "refused {text}")
+    format!(in alloc; "refused {refusal}")
 }
 
+#[tactic(auto, unfolding(crate::specs::Output::told_text))]
 fn told_text(alloc: Global, told: Told, message: &[u8]) -> Result<String, AllocError>
-    ensures { IfOk result (λ text. string_bytes text ≡ told_text told message.now) }
+    ensures { IfOk result (λ text. string_bytes text ≡ told_text (told_in told message.now)) }
 {
     match told {
         Told::Done(Outcome::Registered(box_number)) => format!(in alloc; "registered {box_number}"),
@@ -79,7 +45,7 @@ fn told_text(alloc: Global, told: Told, message: &[u8]) -> Result<String, AllocE
 
 #[tactic(auto, unfolding(crate::specs::Output::outcome_line))]
 fn outcome_line(alloc: Global, line: &OutcomeLine) -> Result<String, AllocError>
-    ensures { IfOk result (λ text. string_bytes text ≡ outcome_line line.now) }
+    ensures { IfOk result (λ text. string_bytes text ≡ outcome_line (outcome_in line.now)) }
 {
     let client = line.client;
     let request = line.request;
@@ -89,7 +55,7 @@ fn outcome_line(alloc: Global, line: &OutcomeLine) -> Result<String, AllocError>
 }
 
 fn command_text(command: Command) -> &'static str
-    ensures { result.now ≡ command_text command }
+    ensures { result.now ≡ command_text (command_in command) }
 {
     match command {
         Command::Register => "register",
@@ -101,33 +67,74 @@ fn command_text(command: Command) -> &'static str
     }
 }
 
-fn entry_text(alloc: Global, entry: Entry) -> Result<String, AllocError>
-    ensures { IfOk result (λ text. string_bytes text ≡ entry_text entry) }
+fn openings_text(alloc: Global, opened: &Openings) -> Result<String, AllocError>
+    ensures { IfOk result (λ text. string_bytes text ≡ openings_text opened.now) }
+{
+    let d = number_text(alloc, opened.d)?;
+    let e = number_text(alloc, opened.e)?;
+    format!(in alloc; "{d} {e}")
+}
+
+fn closing_text(alloc: Global, closing: &Closing) -> Result<String, AllocError>
+    ensures { IfOk result (λ text. string_bytes text ≡ closing_text closing.now) }
+{
+    let o = number_text(alloc, closing.o)?;
+    let tau = number_text(alloc, closing.tau)?;
+    format!(in alloc; "{o} {tau}")
+}
+
+#[tactic(auto, unfolding(crate::specs::Output::value_text))]
+fn audit_text(
+    alloc: Global,
+    leaders: &Openings,
+    helpers: &Openings,
+    closing: &Closing,
+) -> Result<String, AllocError>
+    ensures { IfOk result (λ text. string_bytes text ≡ value_text (Audited leaders.now helpers.now closing.now)) }
+{
+    let leaders = openings_text(alloc, leaders)?;
+    let helpers = openings_text(alloc, helpers)?;
+    let closing = closing_text(alloc, closing)?;
+    format!(in alloc; "audit {leaders} {helpers} {closing}")
+}
+
+#[tactic(auto, unfolding(crate::specs::Output::value_text))]
+fn settle_text(alloc: Global, accepted: bool, closing: &Closing) -> Result<String, AllocError>
+    ensures { IfOk result (λ text. string_bytes text ≡ value_text (Settled accepted closing.now)) }
+{
+    let closing = closing_text(alloc, closing)?;
+    if accepted {
+        format!(in alloc; "settle accepted {closing}")
+    } else {
+        format!(in alloc; "settle rejected {closing}")
+    }
+}
+
+#[tactic(auto, unfolding(crate::specs::Output::value_text))]
+fn entry_text(alloc: Global, entry: &Entry) -> Result<String, AllocError>
+    ensures { IfOk result (λ text. string_bytes text ≡ value_text (value_in entry.now)) }
 {
     match entry {
         Entry::Registered(box_number) => format!(in alloc; "register {box_number}"),
         Entry::Began(count) => format!(in alloc; "begin {count}"),
-        Entry::Settled(true) => format!(in alloc; "settle accepted"),
-        Entry::Settled(false) => format!(in alloc; "settle rejected"),
+        Entry::Audited(leaders, helpers, closing) => audit_text(alloc, leaders, helpers, closing),
+        Entry::Settled(accepted, closing) => settle_text(alloc, *accepted, closing),
         Entry::WasRead(box_number) => format!(in alloc; "read {box_number}"),
+        Entry::Retired(box_number) => format!(in alloc; "retire {box_number}"),
         Entry::Refused(command, refusal) => {
-            let command = command_text(command);
-            let text = refusal_text(alloc, refusal)?;
-            format!(in alloc; "{command} {text}")
+            let command = command_text(*command);
+            format!(in alloc; "{command} {refusal}")
         }
     }
 }
 
 #[tactic(auto, unfolding(crate::specs::Output::journal_line))]
 fn journal_line(alloc: Global, line: &JournalLine) -> Result<String, AllocError>
-    ensures { IfOk result (λ text. string_bytes text ≡ journal_line line.now) }
+    ensures { IfOk result (λ text. string_bytes text ≡ journal_line (line_in line.now)) }
 {
-    let JournalLine {
-        lane,
-        serial,
-        entry,
-    } = *line;
-    let entry = entry_text(alloc, entry)?;
+    let lane = line.lane;
+    let serial = line.serial;
+    let entry = entry_text(alloc, &line.entry)?;
     format!(in alloc; "journal {lane} {serial} {entry}\n")
 }
 
@@ -148,12 +155,17 @@ fn share_line(
     format!(in alloc; "share {box_number} {address} {zero} {one}\n")
 }
 
-pub fn add_outcomes(
-    alloc: Global,
-    text: &mut String,
-    lines: &[OutcomeLine],
-) -> Result<(), AllocError>
-    ensures { OnOk result (string_bytes text.new ≡ string_bytes text.old ++ flat_map outcome_line lines.now) }
+#[tactic(auto, unfolding(crate::specs::Output::shown_line))]
+fn shown_line(alloc: Global, shown: &Shown) -> Result<String, AllocError>
+    ensures { IfOk result (λ text. string_bytes text ≡ shown_line (shown_in shown.now)) }
+{
+    let number = shown.number;
+    let bytes = hex::encode(alloc, shown.bytes.as_slice())?;
+    format!(in alloc; "frame {number} {bytes}\n")
+}
+
+fn add_outcomes(alloc: Global, text: &mut String, lines: &[OutcomeLine]) -> Result<(), AllocError>
+    ensures { OnOk result (string_bytes text.new ≡ string_bytes text.old ++ flat_map outcome_line (outcomes_in lines.now)) }
 {
     for line in lines {
         let piece = outcome_line(alloc, line)?;
@@ -162,12 +174,8 @@ pub fn add_outcomes(
     Ok(())
 }
 
-pub fn add_journal(
-    alloc: Global,
-    text: &mut String,
-    lines: &[JournalLine],
-) -> Result<(), AllocError>
-    ensures { OnOk result (string_bytes text.new ≡ string_bytes text.old ++ flat_map journal_line lines.now) }
+fn add_journal(alloc: Global, text: &mut String, lines: &[JournalLine]) -> Result<(), AllocError>
+    ensures { OnOk result (string_bytes text.new ≡ string_bytes text.old ++ flat_map journal_line (journal_in lines.now)) }
 {
     for line in lines {
         let piece = journal_line(alloc, line)?;
@@ -176,26 +184,45 @@ pub fn add_journal(
     Ok(())
 }
 
-/// A line for each box of the helper, beside the leader's share of it.
-pub fn add_shares(
-    alloc: Global,
-    text: &mut String,
-    leader: &Server,
-    helper: &Server,
-) -> Result<(), AllocError>
-    requires { length leader.now.boxes ≡ length helper.now.boxes }
-    ensures { OnOk result (string_bytes text.new ≡ string_bytes text.old ++ share_lines 0 leader.now.boxes helper.now.boxes) }
+// A line for each box of the helper, beside the leader's share of it, which is zeros where it has no such box yet.
+fn add_shares(alloc: Global, text: &mut String, state: &State) -> Result<(), AllocError>
+    requires { state.now.helper.server.settings.boxes ≤ state.now.leader.settings.boxes }
+    ensures { OnOk result (string_bytes text.new ≡ string_bytes text.old ++ share_lines state.now.leader 0 state.now.helper.server.boxes) }
 {
-    for box_number in 0..helper.count() {
-        let address = helper.address_of(box_number);
+    for box_number in 0..state.helper.count() {
         let piece = share_line(
             alloc,
             box_number,
-            address,
-            leader.share(box_number),
-            helper.share(box_number),
+            state.helper.address_of(box_number),
+            state.leader.share(box_number),
+            state.helper.share(box_number),
         )?;
         text.push_str(piece.as_str())?;
     }
     Ok(())
+}
+
+fn add_shown(alloc: Global, text: &mut String, lines: &[Shown]) -> Result<(), AllocError>
+    ensures { OnOk result (string_bytes text.new ≡ string_bytes text.old ++ flat_map shown_line (shown_all_in lines.now)) }
+{
+    for line in lines {
+        let piece = shown_line(alloc, line)?;
+        text.push_str(piece.as_str())?;
+    }
+    Ok(())
+}
+
+/// The whole text of a run.
+#[tactic(auto, unfolding(crate::specs::Output::run_text))]
+pub fn text_of(alloc: Global, state: &State) -> Result<String, AllocError>
+    requires { state.now.helper.server.settings.boxes ≤ state.now.leader.settings.boxes }
+    ensures { (header : Header) → IfOk result (λ text. string_bytes text ≡ run_text (run_in header state.now)) }
+{
+    let mut text = String::new(alloc);
+    add_outcomes(alloc, &mut text, state.outcomes.as_slice())?;
+    add_journal(alloc, &mut text, state.journal.as_slice())?;
+    add_shares(alloc, &mut text, state)?;
+    add_shown(alloc, &mut text, state.shown.as_slice())?;
+    text.push_str("end\n")?;
+    Ok(text)
 }

@@ -1,11 +1,10 @@
 //! The world of a replay.
 use crate::lines::{JournalLine, OutcomeLine};
-use crate::share::Share;
 use crate::state::State;
-use crate::texts::{add_journal, add_outcomes, add_shares};
+use crate::texts::text_of;
 use express_words::NoMemory;
 use express_words::outside::Sink;
-use schedule_text::{Event, Header, MOST_EVENTS};
+use schedule_text::{Event, Header};
 use std::alloc::Global;
 
 /// Why a text wasn't written.
@@ -21,88 +20,78 @@ pub struct World {
     header: Header,
     events: Vec<Event>,
     state: State,
-    blank: Share,
 }
 
 impl World {
-    ghost use Rattle.std.specs.Prelude.{◌≡◌, ◌<◌, ◌≤◌, ◌++◌, [], length, OnOk, OnErr, IfOk, Err, string_bytes};
+    ghost use Rattle.std.specs.Prelude.{◌≡◌, ◌<◌, ◌≤◌, OnOk, IfOk, Err, [], string_bytes};
     ghost use Rattle.express_words.specs.Causes.{Rose};
     ghost use Rattle.express_words.specs.Streams.{Took, TookPrefix};
     ghost use Rattle.express_words.specs.Limits.{KeepsLimits};
-    ghost use Rattle.schedule_text.specs.Rules.{EventKeepsRules};
-    ghost use Rattle.replay_world.specs.WorldView.{played, IsWhole, with_event};
-    ghost use Rattle.replay_world.specs.Schedules.{outcomes_of, whole_journal, share_at};
-    ghost use Rattle.replay_world.specs.Output.{output_of};
+    ghost use Rattle.run_rules.specs.Run.{happens};
+    ghost use Rattle.schedule_text.specs.Rules.{KeepsRulesAfter};
+    ghost use Rattle.replay_world.specs.Parts.{event_in, journal_in, outcomes_in};
+    ghost use Rattle.replay_world.specs.Played.{output_of, played, run_of, share_at, stands, with_event, IsWhole};
 
     /// A world in which nothing has happened.
     pub fn open(alloc: Global, header: &Header) -> Result<World, NoMemory>
-        requires { KeepsLimits header.now.settings.width header.now.settings.boxes header.now.settings.lanes header.now.settings.window }
-        ensures whole { IfOk result (λ world. IsWhole world) }
+        requires limits { KeepsLimits header.now.settings.width header.now.settings.boxes header.now.settings.lanes header.now.settings.window }
         ensures schedule { IfOk result (λ world. played world ≡ record { header = header.now; events = [] }) }
+        ensures whole { IfOk result IsWhole }
     {
         Ok(World {
             header: *header,
             events: Vec::new(alloc),
-            state: State::open(alloc, header),
-            blank: Share::zeros(alloc, header.settings.width)?,
+            state: State::open(alloc, header)?,
         })
     }
 
-    /// One more event.
+    /// One more event. The servers, the clients and the pool move by the step of the run that it is.
     pub fn event(&mut self, alloc: Global, event: &Event) -> Result<(), NoMemory>
         requires whole { IsWhole self.old }
-        requires room { length (played self.old).events < MOST_EVENTS }
-        requires rules { EventKeepsRules (played self.old).header.settings event.now }
-        ensures whole { OnOk result (IsWhole self.new) }
+        requires rules { KeepsRulesAfter (played self.old).header.settings (played self.old).events event.now }
         ensures schedule { OnOk result (played self.new ≡ with_event (played self.old) event.now) }
+        ensures moved { OnOk result (stands self.new ≡ happens (stands self.old) (event_in event.now)) }
+        ensures whole { OnOk result (IsWhole self.new) }
     {
         self.events.push(event.copied(alloc)?)?;
-        self.state.event(alloc, event)?;
-        Ok(())
+        self.state.event(alloc, event)
     }
 
     /// What became of the requests, in the order in which it was told.
     pub fn outcomes(&self) -> &[OutcomeLine]
         requires { IsWhole self.now }
-        ensures { result.now ≡ outcomes_of (played self.now) }
+        ensures { outcomes_in result.now ≡ (run_of (played self.now)).outcomes }
     {
-        self.state.outcomes()
+        self.state.outcomes.as_slice()
     }
 
     /// The commands, in the order in which they were carried out.
     pub fn journal(&self) -> &[JournalLine]
         requires { IsWhole self.now }
-        ensures { result.now ≡ whole_journal (played self.now) }
+        ensures { journal_in result.now ≡ (run_of (played self.now)).journal }
     {
-        self.state.journal()
+        self.state.journal.as_slice()
     }
 
-    /// A server's share of a box. The leader is server 0. A box that isn't registered has zeros.
+    /// A server's share of a box. The leader is server 0. A box that isn't registered there has zeros.
     pub fn share(&self, server: u8, box_number: u32) -> &[u8]
         requires whole { IsWhole self.now }
         requires server { server < 2 }
         requires within { box_number < (played self.now).header.settings.boxes }
-        ensures { result.now ≡ share_at (played self.now) server box_number }
+        ensures { result.now ≡ share_at (run_of (played self.now)) server box_number }
     {
-        let server = self.state.server(server);
-        if box_number < server.count() {
-            server.share(box_number)
+        if server == 0 {
+            self.state.leader.share(box_number)
         } else {
-            self.blank.bytes()
+            self.state.helper.share(box_number)
         }
     }
 
-    #[tactic(auto, unfolding(crate::specs::Output::output_of))]
     fn text(&self, alloc: Global) -> Result<String, NoMemory>
         requires { IsWhole self.now }
         ensures { IfOk result (λ text. string_bytes text ≡ output_of (played self.now)) }
     {
-        let mut text = String::new(alloc);
-        add_outcomes(alloc, &mut text, self.outcomes())?;
-        add_journal(alloc, &mut text, self.journal())?;
-        add_shares(alloc, &mut text, self.state.server(0), self.state.server(1))?;
-        text.push_str("end\n")?;
-        Ok(text)
+        Ok(text_of(alloc, &self.state)?)
     }
 
     /// Writes the text of the run. Where the sink fails a prefix of it was written; where memory is wanting nothing was.

@@ -1,175 +1,253 @@
 -- A line is an event exactly where it spells one.
-use Rattle.std.proofs.Common.{◌≡◌, ℕ, zero, suc, ◌-◌, ◌<◌, ◌≤◌, ◌^◌, ◌⊎◌, inl, inr, List, [], ◌∷◌, ◌++◌, Some, option_map, Result, Ok, Err, codes, length, take, drop, arith, refl, sym, ◌∙◌, ap, subst}
+use Rattle.std.proofs.Common.{◌≡◌, ℕ, zero, suc, ◌-◌, ◌/◌, ◌<◌, ◌≤◌, ◌^◌, nat_le, ◌&&◌, Bool, true, false, cond, List, [], ◌∷◌, ◌++◌, Some, None, option_map, Result, Ok, Err, codes, length, arith, refl, ◌∙◌, ap, subst}
 use Rattle.std.specs.Fmt.{decimal}
-use Rattle.std.proofs.lemmas.List.{take-append-drop}
 use Rattle.std.specs.Result.{result_ok}
-use Rattle.hex.specs.Hex.{decode_sized}
-use Rattle.hex.proofs.HexLemmas.{decode_sized-ok}
+use Rattle.std.proofs.lemmas.Bool.{le-leb, leb-true}
+use Rattle.hex.specs.Hex.{decode_of}
+use Rattle.hex.proofs.HexLemmas.{decode_of-ok}
+use Rattle.frame_rules.specs.declared.frame.TheConstants.{FRAME_MAX}
 use Rattle.express_words.specs.declared.settings.Settings.{Settings}
 use Rattle.schedule_text.specs.declared.schedule.Asked.{Asked}
-use Rattle.schedule_text.specs.declared.schedule.Asked.TheVariants.{Register, Write, Read}
 use Rattle.schedule_text.specs.declared.schedule.Event.{Event}
-use Rattle.schedule_text.specs.declared.schedule.Event.TheVariants.{Ask, Finish}
-use Rattle.schedule_text.specs.Fields.{or_else, after, number_at, last_number, address_of, address_at, message_of}
-use Rattle.schedule_text.specs.Grammar.{register_of, read_of, target_of, write_of, asked_of, client_of, ask_of, finish_of, event_of}
-use Rattle.schedule_text.specs.Spelling.{SpellsAddress, SpellsAsked, SpellsEvent}
-use Rattle.schedule_text.proofs.FieldLaws.{bind_some, map_some, or_else_some, after_found, after_only, number_found, number_only, last_found, last_only, address_found, address_only}
+use Rattle.schedule_text.specs.declared.schedule.Event.TheVariants.{Ask, Send, Tick, Deliver, Show, Finish, Inject}
+use Rattle.schedule_text.specs.Fields.{after, end, number_at, server_at, bytes_of}
+use Rattle.schedule_text.specs.Grammar.{asked_of, asker_of, ask_of, numbered, send_of, tick_of, deliver_of, show_of, finish_of, plain_event_of, injected_in, inject_of, event_of}
+use Rattle.schedule_text.specs.Spelling.{SpellsAsked, SpellsEvent, server_letter}
+use Rattle.schedule_text.proofs.AskedLaws.{word_number_found, either_of, asked_found, asked_only}
+use Rattle.schedule_text.proofs.FieldLaws.{bind_some, map_some, after_found, after_only, number_found, number_only, last_only}
 
--- bytes in front and what follows them
-halves : (n : ℕ) (bytes : List ℕ) → bytes ≡ take n bytes ++ drop n bytes
-halves n bytes = sym (take-append-drop n bytes)
-
-front_of : (front rest : List ℕ) (n : ℕ) → length front ≡ n → (take n (front ++ rest) ≡ front) × (drop n (front ++ rest) ≡ rest)
-front_of [] rest zero h = (refl, refl)
-front_of [] rest (suc n) h = absurd (omega (arith, h))
-front_of (x ∷ front) rest zero h = absurd (omega (arith, h))
-front_of (x ∷ front) rest (suc n) h = let r = front_of front rest n (omega (arith, h)) in (ap (λ ys. x ∷ ys) r.0, r.1)
-
-message_found : (width : ℕ) (digits message : List ℕ) → message_of width digits ≡ Some message → decode_sized digits width ≡ Ok message
-unfolding message_of
-message_found width digits message h = at_read (decode_sized digits width) refl h
-  where
-    at_read : (r : Result (List ℕ) _) → decode_sized digits width ≡ r → result_ok r ≡ Some message → decode_sized digits width ≡ Ok message
-    at_read (Ok bytes) e k = cc
-    at_read (Err f) e k = cc
-
-message_only : (width : ℕ) (digits message : List ℕ) → decode_sized digits width ≡ Ok message → message_of width digits ≡ Some message
-unfolding message_of
-message_only width digits message h = rw h refl
-
-register_found : (settings : Settings) (text : List ℕ) (asked : Asked) → register_of text ≡ Some asked → SpellsAsked settings asked text
-unfolding register_of
-register_found settings text asked k =
-    let a = bind_some (after (codes "register ") text) (λ digits. option_map Register (address_of digits)) asked k in
-    let m = map_some Register (address_of a.0) asked a.2 in
-    subst (λ (x : Asked). SpellsAsked settings x text) m.2 (a.0, address_found a.0 m.0 m.1, after_found (codes "register ") text a.0 a.1)
-
-read_found : (settings : Settings) (text : List ℕ) (asked : Asked) → read_of text ≡ Some asked → SpellsAsked settings asked text
-unfolding read_of
-read_found settings text asked k =
-    let a = bind_some (after (codes "read ") text) (λ digits. option_map Read (last_number 0 4095 digits)) asked k in
-    let m = map_some Read (last_number 0 4095 a.0) asked a.2 in
-    let n = last_found 0 4095 a.0 m.0 (omega arith) m.1 in
-    subst (λ (x : Asked). SpellsAsked settings x text) m.2 (n.2, after_found (codes "read ") text a.0 a.1 ∙ ap (λ d. codes "read " ++ d) n.0)
-
--- what target_of finds
-target_found : (text : List ℕ) (found : ℕ × List ℕ) → target_of text ≡ Some found
-    → (digits : List ℕ) × SpellsAddress found.0 digits × (text ≡ codes "write " ++ (digits ++ (codes " " ++ found.1)))
-unfolding target_of address_at
-target_found text found k =
-    let a = bind_some (after (codes "write ") text) _ found k in
-    let b = bind_some (address_at a.0) _ found a.2 in
-    let d = bind_some (after (codes " ") b.0.1) _ found b.2 in
-    let m = map_some (λ address. (address, drop 32 a.0)) (address_of (take 32 a.0)) b.0 b.1 in
-    let target : m.0 ≡ b.0.0 = ap (λ (r : ℕ × List ℕ). r.0) m.2 in
-    let rest : drop 32 a.0 ≡ b.0.1 = ap (λ (r : ℕ × List ℕ). r.1) m.2 in
-    let is : (b.0.0, d.0) ≡ found = some_is _ _ d.2 in
-    let spelled : SpellsAddress found.0 (take 32 a.0) = subst (λ (x : ℕ). SpellsAddress x (take 32 a.0)) (target ∙ ap (λ (r : ℕ × List ℕ). r.0) is) (address_found (take 32 a.0) m.0 m.1) in (
-      take 32 a.0,
-      spelled,
-      after_found (codes "write ") text a.0 a.1
-          ∙ ap (λ r. codes "write " ++ r) (halves 32 a.0 ∙ ap (λ r. take 32 a.0 ++ r) (rest ∙ after_found (codes " ") b.0.1 d.0 d.1 ∙ ap (λ r. codes " " ++ r) (ap (λ (r : ℕ × List ℕ). r.1) is))),
-    )
-  where
-    some_is : (x y : ℕ × List ℕ) → Some x ≡ Some y → x ≡ y
-    some_is x y h = cc
-
-target_only : (target : ℕ) (digits more : List ℕ) → SpellsAddress target digits → target_of (codes "write " ++ (digits ++ (codes " " ++ more))) ≡ Some (target, more)
-unfolding target_of address_at
-target_only target digits more h =
-    let front = front_of digits (codes " " ++ more) 32 (decode_sized-ok digits 16 h.0 h.1) in
-    rw (after_only (codes "write ") (digits ++ (codes " " ++ more)), front.0, front.1, address_only digits target h, after_only (codes " ") more) refl
-
-write_found : (settings : Settings) (text : List ℕ) (asked : Asked) → write_of settings text ≡ Some asked → SpellsAsked settings asked text
-unfolding write_of
-write_found settings text asked k =
-    let a = bind_some (target_of text) (λ target. option_map (Write target.0) (message_of settings.width target.1)) asked k in
-    let m = map_some (Write a.0.0) (message_of settings.width a.0.1) asked a.2 in
-    let t = target_found text a.0 a.1 in
-    subst (λ (x : Asked). SpellsAsked settings x text) m.2 (t.0, a.0.1, t.1, message_found settings.width a.0.1 m.0 m.1, t.2)
-
-asked_found : (settings : Settings) (text : List ℕ) (asked : Asked) → asked_of settings text ≡ Some asked → SpellsAsked settings asked text
-asked_found settings text asked h = either (or_else_some (register_of text) (or_else (write_of settings text) (read_of text)) asked h)
-  where
-    others : (write_of settings text ≡ Some asked) ⊎ (read_of text ≡ Some asked) → SpellsAsked settings asked text
-    others (inl k) = write_found settings text asked k
-    others (inr k) = read_found settings text asked k
-
-    either : (register_of text ≡ Some asked) ⊎ (or_else (write_of settings text) (read_of text) ≡ Some asked) → SpellsAsked settings asked text
-    either (inl k) = register_found settings text asked k
-    either (inr k) = others (or_else_some (write_of settings text) (read_of text) asked k)
-
-register_only : (settings : Settings) (digits : List ℕ) (a : ℕ) → SpellsAddress a digits → asked_of settings (codes "register " ++ digits) ≡ Some (Register a)
-unfolding register_of
-register_only settings digits a h = rw (after_only (codes "register ") digits, address_only digits a h) refl
-
-write_only : (settings : Settings) (target : ℕ) (message digits more : List ℕ) → SpellsAddress target digits → decode_sized more settings.width ≡ Ok message
-    → asked_of settings (codes "write " ++ (digits ++ (codes " " ++ more))) ≡ Some (Write target message)
-unfolding register_of write_of after
-write_only settings target message digits more h k = rw (target_only target digits more h, message_only settings.width more message k) refl
-
-read_only : (settings : Settings) (own : ℕ) → own ≤ 4095 → asked_of settings (codes "read " ++ decimal own) ≡ Some (Read own)
-unfolding register_of write_of target_of read_of after
-read_only settings own h = rw (last_only 0 4095 own (omega arith) (omega arith) h) refl
-
-asked_only : (settings : Settings) (text : List ℕ) (asked : Asked) → SpellsAsked settings asked text → asked_of settings text ≡ Some asked
-asked_only settings text (Register a) h = rw (h.2) (register_only settings h.0 a h.1)
-asked_only settings text (Write target message) h = rw (h.4) (write_only settings target message h.0 h.1 h.2 h.3)
-asked_only settings text (Read own) h = rw (h.1) (read_only settings own h.0)
-
--- what client_of finds
-client_found : (settings : Settings) (line : List ℕ) (found : ℕ × List ℕ) → 0 < settings.lanes → settings.lanes < 2 ^ 16 → client_of settings line ≡ Some found
+-- what asker_of finds
+asker_found : (settings : Settings) (line : List ℕ) (found : ℕ × List ℕ) → 0 < settings.lanes
+    → settings.lanes < 2 ^ 16 → asker_of settings line ≡ Some found
     → (found.0 < settings.lanes) × (line ≡ codes "ask " ++ (decimal found.0 ++ (codes " " ++ found.1)))
-unfolding client_of
-client_found settings line found some small k =
+unfolding asker_of
+asker_found settings line found some small k =
     let a = bind_some (after (codes "ask ") line) _ found k in
     let b = bind_some (number_at 0 (settings.lanes - 1) a.0) _ found a.2 in
     let d = bind_some (after (codes " ") b.0.1) _ found b.2 in
     let n = number_found 0 (settings.lanes - 1) a.0 b.0 (omega arith) b.1 in
     let is : (b.0.0, d.0) ≡ found = some_is _ _ d.2 in
     let line_is : line ≡ codes "ask " ++ (decimal b.0.0 ++ (codes " " ++ d.0)) =
-    after_found (codes "ask ") line a.0 a.1 ∙ ap (λ r. codes "ask " ++ r) (n.text ∙ ap (λ r. decimal b.0.0 ++ r) (after_found (codes " ") b.0.1 d.0 d.1)) in
-    subst (λ (x : ℕ × List ℕ). (x.0 < settings.lanes) × (line ≡ codes "ask " ++ (decimal x.0 ++ (codes " " ++ x.1)))) is (omega (arith, n.at_most, some), line_is)
+    after_found (codes "ask ") line a.0 a.1
+    ∙ ap (λ r. codes "ask " ++ r) (n.text
+    ∙ ap (λ r. decimal b.0.0 ++ r) (after_found (codes " ") b.0.1 d.0 d.1)) in
+    subst (λ (x : ℕ × List ℕ). (x.0 < settings.lanes)
+    × (line ≡ codes "ask " ++ (decimal x.0 ++ (codes " " ++ x.1)))) is
+    (omega (arith, n.at_most, some), line_is)
   where
     some_is : (x y : ℕ × List ℕ) → Some x ≡ Some y → x ≡ y
     some_is x y h = cc
 
-client_only : (settings : Settings) (client : ℕ) (text : List ℕ) → settings.lanes < 2 ^ 16 → client < settings.lanes
-    → client_of settings (codes "ask " ++ (decimal client ++ (codes " " ++ text))) ≡ Some (client, text)
-unfolding client_of
-client_only settings client text small h =
+asker_only : (settings : Settings) (client : ℕ) (text : List ℕ) → settings.lanes < 2 ^ 16
+    → client < settings.lanes
+    → asker_of settings (codes "ask " ++ (decimal client ++ (codes " " ++ text))) ≡ Some (client, text)
+unfolding asker_of
+asker_only settings client text small h =
     rw (
       after_only (codes "ask ") (decimal client ++ (codes " " ++ text)),
-      number_only 0 (settings.lanes - 1) client (codes " " ++ text) (omega arith) (omega arith) (omega arith) refl,
+      number_only 0 (settings.lanes - 1) client (codes " " ++ text) (omega arith) (omega arith)
+          (omega arith) refl,
       after_only (codes " ") text,
     ) refl
 
-pub event_found : (settings : Settings) (line : List ℕ) (event : Event) → 0 < settings.lanes → settings.lanes < 2 ^ 16 → event_of settings line ≡ Some event → SpellsEvent settings event line
-unfolding ask_of finish_of
-event_found settings line event some small h = either (or_else_some (ask_of settings line) (finish_of settings line) event h)
-  where
-    either : (ask_of settings line ≡ Some event) ⊎ (finish_of settings line ≡ Some event) → SpellsEvent settings event line
-    either (inl k) =
-        let c = bind_some (client_of settings line) (λ c. option_map (Ask c.0) (asked_of settings c.1)) event k in
-        let m = map_some (Ask c.0.0) (asked_of settings c.0.1) event c.2 in
-        let f = client_found settings line c.0 some small c.1 in
-        subst (λ (x : Event). SpellsEvent settings x line) m.2 (f.0, (c.0.1, asked_found settings c.0.1 m.0 m.1, f.1))
-    either (inr k) =
-        let a = bind_some (after (codes "finish ") line) _ event k in
-        let b = bind_some (last_number 0 (settings.lanes - 1) a.0) _ event a.2 in
-        let n = last_found 0 (settings.lanes - 1) a.0 b.0 (omega arith) b.1 in
-        let e : Finish b.0 ≡ event = cc in
-        subst (λ (x : Event). SpellsEvent settings x line) e (omega (arith, n.2, some), after_found (codes "finish ") line a.0 a.1 ∙ ap (λ d. codes "finish " ++ d) n.0)
+ask_found : (settings : Settings) (line : List ℕ) (event : Event) → 0 < settings.lanes
+    → settings.lanes < 2 ^ 16 → ask_of settings line ≡ Some event → SpellsEvent settings event line
+unfolding ask_of
+ask_found settings line event some small k =
+    let c = bind_some (asker_of settings line) (λ c. option_map (Ask c.0) (asked_of settings c.1)) event k in
+    let m = map_some (Ask c.0.0) (asked_of settings c.0.1) event c.2 in
+    let f = asker_found settings line c.0 some small c.1 in
+    subst (λ (x : Event). SpellsEvent settings x line) m.2
+    (f.0, (c.0.1, asked_found settings c.0.1 m.0 m.1, f.1))
 
-ask_only : (settings : Settings) (client : ℕ) (text : List ℕ) (asked : Asked) → settings.lanes < 2 ^ 16 → client < settings.lanes → SpellsAsked settings asked text
+send_found : (settings : Settings) (line : List ℕ) (event : Event) → 0 < settings.lanes
+    → settings.lanes < 2 ^ 16 → send_of settings line ≡ Some event → SpellsEvent settings event line
+unfolding numbered
+send_found settings line event some small k =
+    let n = word_number_found (codes "send ") (settings.lanes - 1) Send line event (omega arith) k in
+    subst (λ (x : Event). SpellsEvent settings x line) n.3 (omega (arith, n.1, some), n.2)
+
+finish_found : (settings : Settings) (line : List ℕ) (event : Event) → 0 < settings.lanes
+    → settings.lanes < 2 ^ 16 → finish_of settings line ≡ Some event → SpellsEvent settings event line
+unfolding numbered
+finish_found settings line event some small k =
+    let n = word_number_found (codes "finish ") (settings.lanes - 1) Finish line event (omega arith) k in
+    subst (λ (x : Event). SpellsEvent settings x line) n.3 (omega (arith, n.1, some), n.2)
+
+deliver_found : (settings : Settings) (line : List ℕ) (event : Event) → deliver_of line ≡ Some event
+    → SpellsEvent settings event line
+unfolding numbered
+deliver_found settings line event k =
+    let n = word_number_found (codes "deliver ") 4294967295 Deliver line event (omega arith) k in
+    subst (λ (x : Event). SpellsEvent settings x line) n.3 (omega (arith, n.1), n.2)
+
+show_found : (settings : Settings) (line : List ℕ) (event : Event) → show_of line ≡ Some event
+    → SpellsEvent settings event line
+unfolding numbered
+show_found settings line event k =
+    let n = word_number_found (codes "show ") 4294967295 Show line event (omega arith) k in
+    subst (λ (x : Event). SpellsEvent settings x line) n.3 (omega (arith, n.1), n.2)
+
+ended : (rest : List ℕ) (u : Unit {0}) → end rest ≡ Some u → rest ≡ []
+ended [] u h = refl
+ended (b ∷ rest) u h = cc
+
+tick_found : (settings : Settings) (line : List ℕ) (event : Event) → tick_of line ≡ Some event
+    → SpellsEvent settings event line
+unfolding tick_of
+tick_found settings line event k =
+    let a = bind_some (after (codes "tick") line) _ event k in
+    let b = bind_some (end a.0) (λ u. Some Tick) event a.2 in
+    let e : Tick ≡ event = cc in
+    subst (λ (x : Event). SpellsEvent settings x line) e
+    (after_found (codes "tick") line a.0 a.1 ∙ ap (λ r. codes "tick" ++ r) (ended a.0 b.0 b.1))
+
+bytes_found : (digits bytes : List ℕ) → bytes_of digits ≡ Some bytes
+    → (decode_of digits ≡ Ok bytes) × (1 ≤ length bytes) × (length bytes ≤ FRAME_MAX)
+unfolding bytes_of
+bytes_found digits bytes h =
+    at_test (nat_le 1 (length digits / 2)) (nat_le (length digits / 2) FRAME_MAX) refl refl h
+  where
+    at_read : (r : Result (List ℕ) _) → decode_of digits ≡ r → result_ok r ≡ Some bytes
+        → decode_of digits ≡ Ok bytes
+    at_read (Ok others) e k = cc
+    at_read (Err f) e k = cc
+
+    at_test : (t u : Bool) → nat_le 1 (length digits / 2) ≡ t → nat_le (length digits / 2) FRAME_MAX ≡ u
+        → cond (t && u) (result_ok (decode_of digits)) None ≡ Some bytes
+        → (decode_of digits ≡ Ok bytes) × (1 ≤ length bytes) × (length bytes ≤ FRAME_MAX)
+    at_test true true e f k =
+        let decoded = at_read (decode_of digits) refl k in
+        let twice = (decode_of-ok digits bytes decoded).2 in
+        let least = leb-true _ _ e in
+        let most = leb-true _ _ f in
+        (decoded, omega (arith, twice, least), omega (arith, twice, most))
+    at_test true false e f k = cc
+    at_test false u e f k = cc
+
+bytes_only : (digits bytes : List ℕ) → decode_of digits ≡ Ok bytes → 1 ≤ length bytes
+    → length bytes ≤ FRAME_MAX → bytes_of digits ≡ Some bytes
+unfolding bytes_of
+bytes_only digits bytes decoded some most =
+    let twice = (decode_of-ok digits bytes decoded).2 in
+    let least : nat_le 1 (length digits / 2) ≡ true = le-leb _ _ (omega (arith, twice, some)) in
+    let greatest : nat_le (length digits / 2) FRAME_MAX ≡ true = le-leb _ _ (omega (arith, twice, most)) in
+    rw (least, greatest, decoded) refl
+
+server_found : (text : List ℕ) (found : ℕ × List ℕ) → server_at text ≡ Some found
+    → (found.0 ≤ 1) × (text ≡ server_letter found.0 ++ (codes " " ++ found.1))
+unfolding server_at
+server_found text found h =
+    either_of (λ (x : ℕ × List ℕ). (x.0 ≤ 1) × (text ≡ server_letter x.0 ++ (codes " " ++ x.1))) _ _ found
+    leader helper h
+  where
+    leader : (x : ℕ × List ℕ) → option_map (λ rest. (0, rest)) (after (codes "A ") text) ≡ Some x
+        → (x.0 ≤ 1) × (text ≡ server_letter x.0 ++ (codes " " ++ x.1))
+    leader x k =
+        let m = map_some (λ (rest : List ℕ). (0, rest)) (after (codes "A ") text) x k in
+        subst (λ (x : ℕ × List ℕ). (x.0 ≤ 1) × (text ≡ server_letter x.0 ++ (codes " " ++ x.1))) m.2
+        (omega arith, after_found (codes "A ") text m.0 m.1)
+
+    helper : (x : ℕ × List ℕ) → option_map (λ rest. (1, rest)) (after (codes "B ") text) ≡ Some x
+        → (x.0 ≤ 1) × (text ≡ server_letter x.0 ++ (codes " " ++ x.1))
+    helper x k =
+        let m = map_some (λ (rest : List ℕ). (1, rest)) (after (codes "B ") text) x k in
+        subst (λ (x : ℕ × List ℕ). (x.0 ≤ 1) × (text ≡ server_letter x.0 ++ (codes " " ++ x.1))) m.2
+        (omega arith, after_found (codes "B ") text m.0 m.1)
+
+inject_found : (settings : Settings) (line : List ℕ) (event : Event) → inject_of line ≡ Some event
+    → SpellsEvent settings event line
+unfolding inject_of injected_in
+inject_found settings line event k =
+    let a = bind_some (injected_in line) (λ server. option_map (Inject server.0) (bytes_of server.1)) event
+    k in
+    let b = bind_some (after (codes "inject ") line) (λ rest. server_at rest) a.0 a.1 in
+    let m = map_some (Inject a.0.0) (bytes_of a.0.1) event a.2 in
+    let s = server_found b.0 a.0 b.2 in
+    let d = bytes_found a.0.1 m.0 m.1 in
+    subst (λ (x : Event). SpellsEvent settings x line) m.2 (record {
+      of_two = s.0;
+      some = d.1;
+      most = d.2;
+      digits = a.0.1;
+      decoded = d.0;
+      text = after_found (codes "inject ") line b.0 b.1 ∙ ap (λ r. codes "inject " ++ r) s.1;
+    })
+
+plain_found : (settings : Settings) (line : List ℕ) (event : Event) → 0 < settings.lanes
+    → settings.lanes < 2 ^ 16
+    → plain_event_of settings line ≡ Some event → SpellsEvent settings event line
+plain_found settings line event some small h =
+    let P = λ (x : Event). SpellsEvent settings x line in
+    either_of P _ _ event (λ x. send_found settings line x some small)
+    (λ x. either_of P _ _ x (tick_found settings line)
+    (λ x. either_of P _ _ x (deliver_found settings line)
+    (λ x. either_of P _ _ x (show_found settings line) (λ y. finish_found settings line y some small))))
+    h
+
+pub event_found : (settings : Settings) (line : List ℕ) (event : Event) → 0 < settings.lanes
+    → settings.lanes < 2 ^ 16 → event_of settings line ≡ Some event → SpellsEvent settings event line
+event_found settings line event some small h =
+    let P = λ (x : Event). SpellsEvent settings x line in
+    either_of P _ _ event (λ x. ask_found settings line x some small)
+    (λ x. either_of P _ _ x (λ y. plain_found settings line y some small) (inject_found settings line))
+    h
+
+-- ---- what is spelled so is found
+
+ask_only : (settings : Settings) (client : ℕ) (text : List ℕ) (asked : Asked) → settings.lanes < 2 ^ 16
+    → client < settings.lanes → SpellsAsked settings asked text
     → event_of settings (codes "ask " ++ (decimal client ++ (codes " " ++ text))) ≡ Some (Ask client asked)
 unfolding ask_of
-ask_only settings client text asked small h spelled = rw (client_only settings client text small h, asked_only settings text asked spelled) refl
+ask_only settings client text asked small h spelled =
+    rw (asker_only settings client text small h, asked_only settings text asked spelled) refl
 
-finish_only : (settings : Settings) (client : ℕ) → settings.lanes < 2 ^ 16 → client < settings.lanes → event_of settings (codes "finish " ++ decimal client) ≡ Some (Finish client)
-unfolding ask_of client_of finish_of after
-finish_only settings client small h = rw (last_only 0 (settings.lanes - 1) client (omega arith) (omega arith) (omega arith)) refl
+send_only : (settings : Settings) (client : ℕ) → settings.lanes < 2 ^ 16 → client < settings.lanes
+    → event_of settings (codes "send " ++ decimal client) ≡ Some (Send client)
+unfolding ask_of asker_of numbered after
+send_only settings client small h =
+    rw (last_only 0 (settings.lanes - 1) client (omega arith) (omega arith) (omega arith)) refl
 
-pub event_only : (settings : Settings) (line : List ℕ) (event : Event) → settings.lanes < 2 ^ 16 → SpellsEvent settings event line → event_of settings line ≡ Some event
-event_only settings line (Ask client asked) small h = rw (h.1.2) (ask_only settings client h.1.0 asked small h.0 h.1.1)
+tick_only : (settings : Settings) → event_of settings (codes "tick") ≡ Some Tick
+unfolding ask_of asker_of numbered tick_of after
+tick_only settings = refl
+
+deliver_only : (settings : Settings) (number : ℕ) → number < 2 ^ 32
+    → event_of settings (codes "deliver " ++ decimal number) ≡ Some (Deliver number)
+unfolding ask_of asker_of numbered tick_of after
+deliver_only settings number h =
+    rw (last_only 0 4294967295 number (omega arith) (omega arith) (omega arith)) refl
+
+show_only : (settings : Settings) (number : ℕ) → number < 2 ^ 32
+    → event_of settings (codes "show " ++ decimal number) ≡ Some (Show number)
+unfolding ask_of asker_of numbered tick_of after
+show_only settings number h =
+    rw (last_only 0 4294967295 number (omega arith) (omega arith) (omega arith)) refl
+
+finish_only : (settings : Settings) (client : ℕ) → settings.lanes < 2 ^ 16 → client < settings.lanes
+    → event_of settings (codes "finish " ++ decimal client) ≡ Some (Finish client)
+unfolding ask_of asker_of numbered tick_of after
+finish_only settings client small h =
+    rw (last_only 0 (settings.lanes - 1) client (omega arith) (omega arith) (omega arith)) refl
+
+inject_only : (settings : Settings) (server : ℕ) (bytes digits : List ℕ) → server ≤ 1
+    → bytes_of digits ≡ Some bytes
+    → event_of settings (codes "inject " ++ (server_letter server ++ (codes " " ++ digits))) ≡ Some
+    (Inject server bytes)
+unfolding ask_of asker_of numbered tick_of injected_in inject_of server_at after
+inject_only settings zero bytes digits h k = rw k refl
+inject_only settings (suc zero) bytes digits h k = rw k refl
+inject_only settings (suc (suc n)) bytes digits h k = absurd (omega (arith, h))
+
+pub event_only : (settings : Settings) (line : List ℕ) (event : Event) → settings.lanes < 2 ^ 16
+    → SpellsEvent settings event line → event_of settings line ≡ Some event
+event_only settings line (Ask client asked) small h =
+    rw (h.1.2) (ask_only settings client h.1.0 asked small h.0 h.1.1)
+event_only settings line (Send client) small h = rw (h.1) (send_only settings client small h.0)
+event_only settings line Tick small h = rw h (tick_only settings)
+event_only settings line (Deliver number) small h = rw (h.1) (deliver_only settings number h.0)
+event_only settings line (Show number) small h = rw (h.1) (show_only settings number h.0)
 event_only settings line (Finish client) small h = rw (h.1) (finish_only settings client small h.0)
+event_only settings line (Inject server bytes) small h =
+    rw (h.text) (inject_only settings server bytes h.digits h.of_two
+    (bytes_only h.digits bytes h.decoded h.some h.most))

@@ -1,8 +1,13 @@
 pub mod Numerals
-pub mod TextLemmas
 pub mod FieldLaws
+pub mod LaneLemmas
 pub mod LineLaws
+pub mod AskedLaws
 pub mod EventLaws
 pub mod HeaderLaws
-pub mod ScheduleLaws
 pub mod RuleLaws
+pub mod TextLemmas
+pub mod LinesLaws
+pub mod ScheduleLaws
+pub mod PrintLaws
+pub mod MillLaws

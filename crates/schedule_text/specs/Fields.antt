@@ -1,9 +1,10 @@
 -- The fields of a line, as functions from its bytes: what each finds at the front, or that it isn't there.
-use Rattle.std.specs.Prelude.{ℕ, ◌+◌, ◌-◌, ◌*◌, nat_le, ◌==◌, ◌&&◌, if◌then◌else◌, Bool, true, false, List, [], ◌∷◌, take, drop, Option, Some, None, option_map}
+use Rattle.std.specs.Prelude.{ℕ, ◌+◌, ◌-◌, ◌*◌, ◌/◌, nat_le, ◌==◌, ◌&&◌, if◌then◌else◌, Bool, true, false, codes, length, List, [], ◌∷◌, take, drop, Option, Some, None, option_map}
 use Rattle.std.specs.Char.{is_ascii_digit}
 use Rattle.std.specs.Int.{w128, from_be_bytes}
 use Rattle.std.specs.Result.{result_ok}
-use Rattle.hex.specs.Hex.{decode_sized}
+use Rattle.hex.specs.Hex.{decode_of, decode_sized}
+use Rattle.frame_rules.specs.declared.frame.TheConstants.{FRAME_MAX}
 
 -- one field, and then the next
 infixl 10 ◌>>=◌
@@ -69,3 +70,15 @@ address_at bytes = option_map (λ address. (address, drop 32 bytes)) (address_of
 -- a message of a width, in twice as many hexadecimal digits
 unfoldable pub message_of : ℕ → List ℕ → Option (List ℕ)
 message_of width digits = result_ok (decode_sized digits width)
+
+-- a server and a space in front: A is 0, B is 1; and what follows
+unfoldable pub server_at : List ℕ → Option (ℕ × List ℕ)
+server_at bytes =
+    or_else (option_map (λ rest. (0, rest)) (after (codes "A ") bytes))
+    (option_map (λ rest. (1, rest)) (after (codes "B ") bytes))
+
+-- 1 to 8,213 bytes, in twice as many hexadecimal digits
+unfoldable pub bytes_of : List ℕ → Option (List ℕ)
+bytes_of digits =
+    if nat_le 1 (length digits / 2) && nat_le (length digits / 2) FRAME_MAX
+    then result_ok (decode_of digits) else None

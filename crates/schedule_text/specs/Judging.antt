@@ -1,8 +1,8 @@
 -- What the answer of `read` says of the text.
 use Rattle.std.specs.Prelude.{ℕ, List, Result, Ok, Err}
 use Rattle.schedule_text.specs.declared.schedule.Schedule.{Schedule}
-use Rattle.schedule_text.specs.declared.reader.ReadFault.{ReadFault}
-use Rattle.schedule_text.specs.declared.reader.ReadFault.TheVariants.{BadLine, NoMemory}
+use Rattle.schedule_text.specs.declared.fault.ReadFault.{ReadFault}
+use Rattle.schedule_text.specs.declared.fault.ReadFault.TheVariants.{BadLine, NoMemory}
 use Rattle.schedule_text.specs.Spelling.{SpellsSchedule, IsFirstBadLine}
 
 -- Ok has the schedule that the text spells, a bad line is the first, and want of memory says nothing.

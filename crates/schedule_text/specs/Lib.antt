@@ -1,6 +1,11 @@
 pub mod Fields
+pub mod Lanes
+pub mod Rules
 pub mod Grammar
 pub mod Spelling
+pub mod Printing
+pub mod Mill
 pub mod Reading
 pub mod Judging
-pub mod Rules
+pub mod Tables
+pub mod FaultText

@@ -1,7 +1,7 @@
 -- What a reader's answer says of a reading.
 use Rattle.std.specs.Prelude.{◌≡◌, ℕ, Result, Ok, Err}
-use Rattle.schedule_text.specs.declared.reader.ReadFault.{ReadFault}
-use Rattle.schedule_text.specs.declared.reader.ReadFault.TheVariants.{BadLine, NoMemory}
+use Rattle.schedule_text.specs.declared.fault.ReadFault.{ReadFault}
+use Rattle.schedule_text.specs.declared.fault.ReadFault.TheVariants.{BadLine, NoMemory}
 
 -- Ok has what is read, a bad line comes where that one is the first, and want of memory says nothing.
 abbrev pub Gives : {X Y : Type 0} → (X → Y) → Result X ReadFault → Result Y ℕ → Type 0

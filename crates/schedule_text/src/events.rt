@@ -1,70 +1,18 @@
 //! A line that is an event.
 ghost use Rattle.std.specs.Prelude.{◌≡◌, IfOk, option_map};
-ghost use Rattle.schedule_text.specs.Fields.{or_else};
-ghost use Rattle.schedule_text.specs.Grammar.{register_of, read_of, target_of, write_of, asked_of, client_of, ask_of, finish_of, event_of};
+ghost use Rattle.schedule_text.specs.Grammar.{asker_of, ask_of, send_of, tick_of, deliver_of, show_of};
+ghost use Rattle.schedule_text.specs.Grammar.{finish_of, plain_event_of, injected_in, inject_of, event_of};
 
-use crate::fields::{address_at, address_of, after, last_number, message_of, number_at};
-use crate::schedule::{Asked, Event};
+use crate::asked::asked_of;
+use crate::fields::{after, bytes_of, last_number, number_at, server_at};
+use crate::schedule::Event;
 use express_words::{List, NoMemory, Settings};
 use std::alloc::Global;
 
-#[tactic(auto, unfolding(crate::specs::Grammar::register_of))]
-fn register_of(text: &[u8]) -> Option<Asked>
-    ensures { result ≡ register_of text.now }
-{
-    let digits = after(b"register ", text)?;
-    let address = address_of(digits)?;
-    Some(Asked::Register(address))
-}
-
-#[tactic(auto, unfolding(crate::specs::Grammar::read_of))]
-fn read_of(text: &[u8]) -> Option<Asked>
-    ensures { result ≡ read_of text.now }
-{
-    let number = after(b"read ", text)?;
-    let own = last_number(0, 4095, number)?;
-    Some(Asked::Read(own as u32))
-}
-
-#[tactic(auto, unfolding(crate::specs::Grammar::target_of))]
-fn target_of(text: &[u8]) -> Option<(u128, &[u8])>
-    ensures { option_map (λ r. (r.0, r.1.now)) result ≡ target_of text.now }
-{
-    let rest = after(b"write ", text)?;
-    let (target, rest) = address_at(rest)?;
-    let digits = after(b" ", rest)?;
-    Some((target, digits))
-}
-
-#[tactic(auto, unfolding(crate::specs::Grammar::write_of))]
-fn write_of(alloc: Global, settings: &Settings, text: &[u8]) -> Result<Option<Asked>, NoMemory>
-    ensures { IfOk result (λ found. found ≡ write_of settings.now text.now) }
-{
-    match target_of(text) {
-        None => Ok(None),
-        Some((target, digits)) => match message_of(alloc, settings.width, digits)? {
-            None => Ok(None),
-            Some(message) => Ok(Some(Asked::Write(target, List::from_vec(message)))),
-        },
-    }
-}
-
-fn asked_of(alloc: Global, settings: &Settings, text: &[u8]) -> Result<Option<Asked>, NoMemory>
-    ensures { IfOk result (λ found. found ≡ asked_of settings.now text.now) }
-{
-    if let Some(asked) = register_of(text) {
-        return Ok(Some(asked));
-    }
-    match write_of(alloc, settings, text)? {
-        Some(asked) => Ok(Some(asked)),
-        None => Ok(read_of(text)),
-    }
-}
-
 // The client that is asked, and what it is asked.
-#[tactic(auto, unfolding(crate::specs::Grammar::client_of))]
-fn client_of<'a>(settings: &Settings, line: &'a [u8]) -> Option<(u16, &'a [u8])>
-    ensures { option_map (λ r. (r.0, r.1.now)) result ≡ client_of settings.now line.now }
+#[tactic(auto, unfolding(crate::specs::Grammar::asker_of))]
+fn asker_of<'a>(settings: &Settings, line: &'a [u8]) -> Option<(u16, &'a [u8])>
+    ensures { option_map (λ r. (r.0, r.1.now)) result ≡ asker_of settings.now line.now }
 {
     let rest = after(b"ask ", line)?;
     let (client, rest) = number_at(0, u64::from(settings.lanes.saturating_sub(1)), rest)?;
@@ -76,7 +24,7 @@ fn client_of<'a>(settings: &Settings, line: &'a [u8]) -> Option<(u16, &'a [u8])>
 fn ask_of(alloc: Global, settings: &Settings, line: &[u8]) -> Result<Option<Event>, NoMemory>
     ensures { IfOk result (λ found. found ≡ ask_of settings.now line.now) }
 {
-    match client_of(settings, line) {
+    match asker_of(settings, line) {
         None => Ok(None),
         Some((client, text)) => match asked_of(alloc, settings, text)? {
             None => Ok(None),
@@ -85,7 +33,46 @@ fn ask_of(alloc: Global, settings: &Settings, line: &[u8]) -> Result<Option<Even
     }
 }
 
-#[tactic(auto, unfolding(crate::specs::Grammar::finish_of))]
+#[tactic(auto, unfolding(crate::specs::Grammar::numbered))]
+fn send_of(settings: &Settings, line: &[u8]) -> Option<Event>
+    ensures { result ≡ send_of settings.now line.now }
+{
+    let rest = after(b"send ", line)?;
+    let client = last_number(0, u64::from(settings.lanes.saturating_sub(1)), rest)?;
+    Some(Event::Send(client as u16))
+}
+
+#[tactic(auto, unfolding(crate::specs::Grammar::tick_of))]
+fn tick_of(line: &[u8]) -> Option<Event>
+    ensures { result ≡ tick_of line.now }
+{
+    let rest = after(b"tick", line)?;
+    if rest.is_empty() {
+        Some(Event::Tick)
+    } else {
+        None
+    }
+}
+
+#[tactic(auto, unfolding(crate::specs::Grammar::numbered))]
+fn deliver_of(line: &[u8]) -> Option<Event>
+    ensures { result ≡ deliver_of line.now }
+{
+    let rest = after(b"deliver ", line)?;
+    let number = last_number(0, u64::from(u32::MAX), rest)?;
+    Some(Event::Deliver(number as u32))
+}
+
+#[tactic(auto, unfolding(crate::specs::Grammar::numbered))]
+fn show_of(line: &[u8]) -> Option<Event>
+    ensures { result ≡ show_of line.now }
+{
+    let rest = after(b"show ", line)?;
+    let number = last_number(0, u64::from(u32::MAX), rest)?;
+    Some(Event::Show(number as u32))
+}
+
+#[tactic(auto, unfolding(crate::specs::Grammar::numbered))]
 fn finish_of(settings: &Settings, line: &[u8]) -> Option<Event>
     ensures { result ≡ finish_of settings.now line.now }
 {
@@ -94,12 +81,56 @@ fn finish_of(settings: &Settings, line: &[u8]) -> Option<Event>
     Some(Event::Finish(client as u16))
 }
 
-/// The event that a line spells under these settings.
+// The server and the digits that a line injects.
+#[tactic(auto, unfolding(crate::specs::Grammar::injected_in))]
+fn injected_in(line: &[u8]) -> Option<(u8, &[u8])>
+    ensures { option_map (λ r. (r.0, r.1.now)) result ≡ injected_in line.now }
+{
+    let rest = after(b"inject ", line)?;
+    server_at(rest)
+}
+
+#[tactic(auto, unfolding(crate::specs::Grammar::inject_of))]
+fn inject_of(alloc: Global, line: &[u8]) -> Result<Option<Event>, NoMemory>
+    ensures { IfOk result (λ found. found ≡ inject_of line.now) }
+{
+    match injected_in(line) {
+        None => Ok(None),
+        Some((server, digits)) => match bytes_of(alloc, digits)? {
+            None => Ok(None),
+            Some(bytes) => Ok(Some(Event::Inject(server, List::from_vec(bytes)))),
+        },
+    }
+}
+
+// Lines that need no memory.
+fn plain_event_of(settings: &Settings, line: &[u8]) -> Option<Event>
+    ensures { result ≡ plain_event_of settings.now line.now }
+{
+    if let Some(event) = send_of(settings, line) {
+        return Some(event);
+    }
+    if let Some(event) = tick_of(line) {
+        return Some(event);
+    }
+    if let Some(event) = deliver_of(line) {
+        return Some(event);
+    }
+    if let Some(event) = show_of(line) {
+        return Some(event);
+    }
+    finish_of(settings, line)
+}
+
+/// The event that a line spells for itself under these settings.
 pub fn event_of(alloc: Global, settings: &Settings, line: &[u8]) -> Result<Option<Event>, NoMemory>
     ensures { IfOk result (λ found. found ≡ event_of settings.now line.now) }
 {
-    match ask_of(alloc, settings, line)? {
-        Some(event) => Ok(Some(event)),
-        None => Ok(finish_of(settings, line)),
+    if let Some(event) = ask_of(alloc, settings, line)? {
+        return Ok(Some(event));
     }
+    if let Some(event) = plain_event_of(settings, line) {
+        return Ok(Some(event));
+    }
+    inject_of(alloc, line)
 }

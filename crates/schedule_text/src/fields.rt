@@ -1,9 +1,11 @@
 //! The fields of a line: fixed words, numbers, and hexadecimal digits.
 ghost use Rattle.std.specs.Prelude.{◌≡◌, ◌<◌, ◌≤◌, ◌^◌, option_map, IfOk, IfSome};
 ghost use Rattle.std.specs.Option.{option_copied};
-ghost use Rattle.schedule_text.specs.Fields.{after, digits_on, within, number_at, last_number, address_of, address_at, message_of, seed_of};
+ghost use Rattle.schedule_text.specs.Fields.{after, digits_on, within, number_at, last_number, address_of};
+ghost use Rattle.schedule_text.specs.Fields.{address_at, message_of, seed_of, server_at, bytes_of};
 
 use express_words::NoMemory;
+use frame_rules::FRAME_MAX;
 use hex::FromHexError;
 use std::alloc::Global;
 
@@ -119,13 +121,41 @@ pub fn address_at(bytes: &[u8]) -> Option<(u128, &[u8])>
 /// A message of a width, in twice as many hexadecimal digits.
 #[tactic(auto, unfolding(crate::specs::Fields::message_of))]
 pub fn message_of(alloc: Global, width: u32, digits: &[u8]) -> Result<Option<Vec<u8>>, NoMemory>
-    ensures { IfOk result (λ found. option_map (λ message. message.items) found ≡ message_of width digits.now) }
+    ensures { IfOk result (λ found. option_map (λ m. m.items) found ≡ message_of width digits.now) }
 {
     if digits.len() != 2 * width as usize {
         return Ok(None);
     }
     match hex::decode(alloc, digits) {
         Ok(message) => Ok(Some(message)),
+        Err(FromHexError::OutOfMemory) => Err(NoMemory),
+        Err(_) => Ok(None),
+    }
+}
+
+/// A server and a space at the front, A for the leader (0) and B for the helper (1), and what follows.
+#[tactic(auto, unfolding(crate::specs::Fields::server_at))]
+pub fn server_at(bytes: &[u8]) -> Option<(u8, &[u8])>
+    ensures { option_map (λ r. (r.0, r.1.now)) result ≡ server_at bytes.now }
+{
+    if let Some(rest) = after(b"A ", bytes) {
+        return Some((0, rest));
+    }
+    let rest = after(b"B ", bytes)?;
+    Some((1, rest))
+}
+
+/// 1 to 8,213 bytes, in twice as many hexadecimal digits.
+#[tactic(auto, unfolding(crate::specs::Fields::bytes_of))]
+pub fn bytes_of(alloc: Global, digits: &[u8]) -> Result<Option<Vec<u8>>, NoMemory>
+    ensures { IfOk result (λ found. option_map (λ b. b.items) found ≡ bytes_of digits.now) }
+{
+    let count = digits.len() / 2;
+    if count < 1 || count > FRAME_MAX {
+        return Ok(None);
+    }
+    match hex::decode(alloc, digits) {
+        Ok(bytes) => Ok(Some(bytes)),
         Err(FromHexError::OutOfMemory) => Err(NoMemory),
         Err(_) => Ok(None),
     }

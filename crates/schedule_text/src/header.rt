@@ -19,9 +19,9 @@ pub fn header_of(line: &[u8]) -> Option<Header>
     let rest = after(b" ", rest)?;
     let (boxes, rest) = number_at(1, 4096, rest)?;
     let rest = after(b" ", rest)?;
-    let (lanes, rest) = number_at(1, 1, rest)?;
+    let (lanes, rest) = number_at(1, 256, rest)?;
     let rest = after(b" ", rest)?;
-    let (window, rest) = number_at(1, 1, rest)?;
+    let (window, rest) = number_at(1, 32, rest)?;
     let rest = after(b" ", rest)?;
     let seed = seed_of(rest)?;
     let settings = Settings {

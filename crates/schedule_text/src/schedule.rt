@@ -1,4 +1,4 @@
-//! A schedule: what clients are asked, and when it is worked off.
+//! A schedule: what clients are asked, and what then happens to frames.
 ghost use Rattle.std.specs.Prelude.{◌≡◌, IfOk};
 
 use express_words::{List, NoMemory, Settings};
@@ -6,6 +6,9 @@ use std::alloc::Global;
 
 /// A schedule has at most so many events.
 pub const MOST_EVENTS: usize = 20_000;
+
+/// A read or a retire names one of the boxes that its client got, up to this one, counted from 0.
+pub const MOST_OWN: u32 = 4_095;
 
 /// The settings of all, and the seed from which servers and clients draw.
 #[derive(Clone, Copy, Debug, PartialEq, Eq)]
@@ -23,6 +26,8 @@ pub enum Asked {
     Write(u128, List<u8>),
     /// To read one of its own boxes, counted from 0 as it got them.
     Read(u32),
+    /// To read one of its own boxes for the last time.
+    Retire(u32),
 }
 
 impl Asked {
@@ -37,16 +42,28 @@ impl Asked {
                 Ok(Asked::Write(*target, List::from_vec(message)))
             }
             Asked::Read(own) => Ok(Asked::Read(*own)),
+            Asked::Retire(own) => Ok(Asked::Retire(*own)),
         }
     }
 }
 
+/// One step of a run.
 #[derive(Drop)]
 pub enum Event {
     /// A client is asked; the request waits behind its others.
     Ask(u16, Asked),
+    /// A client's present frame goes into the pool.
+    Send(u16),
+    /// A copy of the leader's oldest outstanding command goes into the pool.
+    Tick,
+    /// The frame of this number in the pool is delivered.
+    Deliver(u32),
+    /// The frame of this number in the pool is noted for the output.
+    Show(u32),
     /// All requests of a client are worked off.
     Finish(u16),
+    /// Bytes go into the pool as from clients, for the leader (0) or the helper (1).
+    Inject(u8, List<u8>),
 }
 
 impl Event {
@@ -59,7 +76,15 @@ impl Event {
                 let asked = asked.copied(alloc)?;
                 Ok(Event::Ask(*client, asked))
             }
+            Event::Send(client) => Ok(Event::Send(*client)),
+            Event::Tick => Ok(Event::Tick),
+            Event::Deliver(number) => Ok(Event::Deliver(*number)),
+            Event::Show(number) => Ok(Event::Show(*number)),
             Event::Finish(client) => Ok(Event::Finish(*client)),
+            Event::Inject(server, bytes) => {
+                let bytes = Vec::from_slice(alloc, bytes.as_slice())?;
+                Ok(Event::Inject(*server, List::from_vec(bytes)))
+            }
         }
     }
 }

@@ -1,9 +1,9 @@
 use Rattle.std.proofs.Common.{Err, refl, sym, ap, subst}
 use Rattle.schedule_text.specs.Spelling.{SpellsSchedule}
 use Rattle.schedule_text.specs.declared.schedule.Schedule.{Schedule}
-use Rattle.replay_world.specs.Output.{output_of}
-use Rattle.replay_world.specs.WorldView.{played}
-use Rattle.express_cli.specs.Ends.{BadLineMay, ReplayMay}
+use Rattle.replay_world.specs.Played.{output_of, played}
+use Rattle.express_cli.specs.Ends.{BadLineMay, WorkMay}
+use Rattle.express_cli.specs.declared.words.Command.TheVariants.{Replay}
 use Rattle.express_cli.specs.declared.ends.End.TheVariants.{Done, OutOfMemory}
 use Rattle.express_cli.proofs.Writing.{more_may, said, unmoved, bad_line_may}
 use Rattle.express_cli.proofs.replay.replay.Goals as goal
@@ -11,13 +11,13 @@ use Rattle.express_cli.proofs.replay.replay.Goals as goal
 pub returns-in-Err-BadLine-clause-ends : goal.returns-in-Err-BadLine-clause-ends
 returns-in-Err-BadLine-clause-ends g c =
     let first = rw c.in-Err-BadLine.field-0-is at c.in-Err-BadLine.ensures.judges in
-    more_may (BadLineMay c.in-Err-BadLine.line) (ReplayMay c.args.text.now) _ _ _ _ _ (bad_line_may c.args.text.now c.in-Err-BadLine.line first) c.say_bad_line.ensures.says
+    more_may (BadLineMay c.in-Err-BadLine.line) (WorkMay Replay c.args.text.now) _ _ _ _ _ (bad_line_may Replay c.args.text.now c.in-Err-BadLine.line first) c.say_bad_line.ensures.says
 
 pub returns-in-Err-NoMemory-clause-ends : goal.returns-in-Err-NoMemory-clause-ends
-returns-in-Err-NoMemory-clause-ends g c = said (ReplayMay c.args.text.now) _ _ _ _ OutOfMemory _ _ refl c.say.ensures.says
+returns-in-Err-NoMemory-clause-ends g c = said (WorkMay Replay c.args.text.now) _ _ _ _ OutOfMemory _ _ refl c.say.ensures.says
 
 pub returns-in-Err-clause-ends : goal.returns-in-Err-clause-ends
-returns-in-Err-clause-ends g c = said (ReplayMay c.args.text.now) _ _ _ _ OutOfMemory _ _ refl c.say-in-Err.ensures.says
+returns-in-Err-clause-ends g c = said (WorkMay Replay c.args.text.now) _ _ _ _ OutOfMemory _ _ refl c.say-in-Err.ensures.says
 
 pub returns-in-Err-Failed-clause-ends : goal.returns-in-Err-Failed-clause-ends
 returns-in-Err-Failed-clause-ends g c =
@@ -31,5 +31,5 @@ returns-in-Err-Failed-clause-ends g c =
 pub returns-clause-ends : goal.returns-clause-ends
 returns-clause-ends g c =
     let same = c.in-Err-NoMemory-put.ensures.memory (ap Err c.in-Err-NoMemory-put.field-0-is) in
-    unmoved (ReplayMay c.args.text.now) _ _ _ _ _ _ _ (ap (λ out. g.K.Counted.written out) same) (ap (λ out. g.K.Counted.count out) same)
-    (said (ReplayMay c.args.text.now) _ _ _ _ OutOfMemory _ _ refl c.say-in-Err-NoMemory-put.ensures.says)
+    unmoved (WorkMay Replay c.args.text.now) _ _ _ _ _ _ _ (ap (λ out. g.K.Counted.written out) same) (ap (λ out. g.K.Counted.count out) same)
+    (said (WorkMay Replay c.args.text.now) _ _ _ _ OutOfMemory _ _ refl c.say-in-Err-NoMemory-put.ensures.says)

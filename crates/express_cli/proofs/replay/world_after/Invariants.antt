@@ -1,5 +1,5 @@
 use Rattle.std.proofs.Common.{◌≡◌, take}
-use Rattle.replay_world.specs.WorldView.{played, IsWhole}
+use Rattle.replay_world.specs.Played.{played, IsWhole}
 use Rattle.express_cli.proofs.replay.world_after.Given as goal
 
 abbrev pub invariant-loop-event : goal.invariant-loop-event

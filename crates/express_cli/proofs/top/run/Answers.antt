@@ -1,16 +1,27 @@
 use Rattle.std.proofs.Common.{ap, ◌∙◌}
 use Rattle.express_cli.specs.Ends.{status_of}
-use Rattle.express_cli.proofs.Causes.{statuses, usage_only, too_long_only}
-use Rattle.express_cli.proofs.Exact.{headline, names_bad_line, refuses_too_long}
+use Rattle.express_cli.proofs.Causes.{statuses, usage_only, worked, too_long_only}
+use Rattle.express_cli.proofs.Exact.{headline, batch, cloak, mills, names_bad_line, refuses_too_long}
 use Rattle.express_cli.proofs.top.run.Goals as goal
 
 pub returns-clause-headline : goal.returns-clause-headline
 returns-clause-headline g c =
-    rw c.status_of.ensures (headline (record { schedule = c.read_exactly.ensures.only; bad = c.read_exactly.ensures.only_bad }) _ _ _ _ _ _ _ _ _ _ c.finish.ensures.ends)
+    rw c.status_of.ensures (headline (record { schedule = c.read_exactly.ensures.only; bad_schedule = c.read_exactly.ensures.only_bad; pairs = c.batch_is_read_exactly.ensures.only; bad_pairs = c.batch_is_read_exactly.ensures.only_bad; game = c.game_is_read_exactly.ensures.only; bad_game = c.game_is_read_exactly.ensures.only_bad }) _ _ _ _ _ _ _ _ _ _ c.finish.ensures.ends)
+
+pub returns-clause-batch : goal.returns-clause-batch
+returns-clause-batch g c =
+    rw c.status_of.ensures (batch (record { schedule = c.read_exactly.ensures.only; bad_schedule = c.read_exactly.ensures.only_bad; pairs = c.batch_is_read_exactly.ensures.only; bad_pairs = c.batch_is_read_exactly.ensures.only_bad; game = c.game_is_read_exactly.ensures.only; bad_game = c.game_is_read_exactly.ensures.only_bad }) _ _ _ _ _ _ _ _ _ _ c.finish.ensures.ends)
+
+pub returns-clause-cloak : goal.returns-clause-cloak
+returns-clause-cloak g c =
+    rw c.status_of.ensures (cloak (record { schedule = c.read_exactly.ensures.only; bad_schedule = c.read_exactly.ensures.only_bad; pairs = c.batch_is_read_exactly.ensures.only; bad_pairs = c.batch_is_read_exactly.ensures.only_bad; game = c.game_is_read_exactly.ensures.only; bad_game = c.game_is_read_exactly.ensures.only_bad }) _ _ _ _ _ _ _ _ _ _ c.finish.ensures.ends)
+
+pub returns-clause-mill : goal.returns-clause-mill
+returns-clause-mill g c n = rw c.status_of.ensures (mills _ _ _ _ _ _ _ _ _ _ n c.finish.ensures.ends)
 
 pub returns-clause-names_bad_line : goal.returns-clause-names_bad_line
-returns-clause-names_bad_line g c =
-    rw c.status_of.ensures (names_bad_line (record { schedule = c.read_exactly.ensures.only; bad = c.read_exactly.ensures.only_bad }) _ _ _ _ _ _ _ _ _ _ c.finish.ensures.ends)
+returns-clause-names_bad_line g c command =
+    rw c.status_of.ensures (names_bad_line (record { schedule = c.read_exactly.ensures.only; bad_schedule = c.read_exactly.ensures.only_bad; pairs = c.batch_is_read_exactly.ensures.only; bad_pairs = c.batch_is_read_exactly.ensures.only_bad; game = c.game_is_read_exactly.ensures.only; bad_game = c.game_is_read_exactly.ensures.only_bad }) _ _ _ _ _ _ _ _ _ _ command c.finish.ensures.ends)
 
 pub returns-clause-refuses_too_long : goal.returns-clause-refuses_too_long
 returns-clause-refuses_too_long g c = rw c.status_of.ensures (refuses_too_long _ _ _ _ _ _ _ _ _ _ c.finish.ensures.ends)
@@ -24,15 +35,57 @@ returns-clause-usage_only g c = rw c.status_of.ensures (usage_only _ _ _ _ _ _ _
 pub returns-clause-too_long_only : goal.returns-clause-too_long_only
 returns-clause-too_long_only g c = rw c.status_of.ensures (too_long_only _ _ _ _ _ _ _ _ _ _ c.finish.ensures.ends)
 
-pub returns-clause-shares_add_up : goal.returns-clause-shares_add_up
-returns-clause-shares_add_up g c = c.shares_add_up.ensures.boxes
-
-pub returns-clause-reads_add_up : goal.returns-clause-reads_add_up
-returns-clause-reads_add_up g c = c.shares_add_up.ensures.reads
-
 pub returns-clause-source_unfailed : goal.returns-clause-source_unfailed
 returns-clause-source_unfailed g c read write =
     c.finish.ensures.source (λ e. read (c.status_of.ensures ∙ ap status_of e)) (λ e. write (c.status_of.ensures ∙ ap status_of e))
 
 pub returns-clause-sink_unfailed : goal.returns-clause-sink_unfailed
 returns-clause-sink_unfailed g c write = c.finish.ensures.sink (λ e. write (c.status_of.ensures ∙ ap status_of e))
+
+pub returns-clause-follows_protocol : goal.returns-clause-follows_protocol
+returns-clause-follows_protocol g c = c.schedules_hold.ensures.follows
+
+pub returns-clause-outcomes_are_plain : goal.returns-clause-outcomes_are_plain
+returns-clause-outcomes_are_plain g c = c.schedules_hold.ensures.outcomes
+
+pub returns-clause-journal_is_plain : goal.returns-clause-journal_is_plain
+returns-clause-journal_is_plain g c = c.schedules_hold.ensures.journal
+
+pub returns-clause-journal_in_order : goal.returns-clause-journal_in_order
+returns-clause-journal_in_order g c = c.schedules_hold.ensures.order
+
+pub returns-clause-shares_are_folds : goal.returns-clause-shares_are_folds
+returns-clause-shares_are_folds g c = c.schedules_hold.ensures.shares
+
+pub returns-clause-boxes_are_plain : goal.returns-clause-boxes_are_plain
+returns-clause-boxes_are_plain g c = c.schedules_hold.ensures.boxes
+
+pub returns-clause-finishes_answer : goal.returns-clause-finishes_answer
+returns-clause-finishes_answer g c = c.finishes_answer.ensures.ends
+
+pub returns-clause-sorts_are_one : goal.returns-clause-sorts_are_one
+returns-clause-sorts_are_one g c = c.sorts_are_one.ensures
+
+pub returns-clause-few_values_pass : goal.returns-clause-few_values_pass
+returns-clause-few_values_pass g c = c.few_values_pass.ensures
+
+pub returns-clause-choices_stay : goal.returns-clause-choices_stay
+returns-clause-choices_stay g c = c.views_stay.ensures.choices_stay
+
+pub returns-clause-views_stay : goal.returns-clause-views_stay
+returns-clause-views_stay g c = c.views_stay.ensures.views_stay
+
+pub returns-clause-moves_return : goal.returns-clause-moves_return
+returns-clause-moves_return g c = c.views_stay.ensures.moves_return
+
+pub returns-clause-distinct_stay : goal.returns-clause-distinct_stay
+returns-clause-distinct_stay g c = c.views_stay.ensures.distinct_stay
+
+pub returns-clause-writes_are_choices : goal.returns-clause-writes_are_choices
+returns-clause-writes_are_choices g c = c.writes_are_choices.ensures.choice
+
+pub returns-clause-writes_are_seen : goal.returns-clause-writes_are_seen
+returns-clause-writes_are_seen g c = c.writes_are_choices.ensures.seen
+
+pub returns-clause-worked : goal.returns-clause-worked
+returns-clause-worked g c = rw c.status_of.ensures (worked _ _ _ _ _ _ _ _ _ _ c.finish.ensures.ends)

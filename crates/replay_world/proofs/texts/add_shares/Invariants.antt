@@ -5,4 +5,5 @@ use Rattle.replay_world.proofs.texts.add_shares.Given as goal
 
 abbrev pub invariant-loop-box_number : goal.invariant-loop-box_number
 invariant-loop-box_number l =
-    string_bytes l.text ++ share_lines l.box_number (drop l.box_number l.leader.boxes) (drop l.box_number l.helper.boxes) ≡ string_bytes l.fn.text ++ share_lines 0 l.leader.boxes l.helper.boxes
+    string_bytes l.text ++ share_lines l.state.leader l.box_number (drop l.box_number l.state.helper.server.boxes)
+    ≡ string_bytes l.fn.text ++ share_lines l.state.leader 0 l.state.helper.server.boxes

@@ -29,14 +29,19 @@ drop_min (suc n) (x ∷ xs) = ap (λ k. drop k (x ∷ xs)) (less (length xs) n) 
 pub returns-in_err-address : goal.returns-in_err-address
 unfolding address_at
 returns-in_err-address c =
-    let digits = c.split_at.ensures.front ∙ ap (λ n. take n c.args.bytes.now) c.min.ensures ∙ take_min 32 c.args.bytes.now in
+    let digits = c.split_at.ensures.front ∙ ap (λ n. take n c.args.bytes.now) c.min.ensures
+    ∙ take_min 32 c.args.bytes.now in
     let missing = sym c.in_err-address.was ∙ c.address_of.ensures ∙ ap address_of digits in
-    ap (option_map (λ r. (r.0, r.1.now))) c.from_residual.ensures ∙ ap (option_map (λ address. (address, drop 32 c.args.bytes.now))) missing
+    ap (option_map (λ r. (r.0, r.1.now))) c.from_residual.ensures
+    ∙ ap (option_map (λ address. (address, drop 32 c.args.bytes.now))) missing
 
 pub returns : goal.returns
 unfolding address_at
 returns c =
-    let digits = c.split_at.ensures.front ∙ ap (λ n. take n c.args.bytes.now) c.min.ensures ∙ take_min 32 c.args.bytes.now in
-    let rest : c.split_at.result.1.now ≡ drop 32 c.args.bytes.now = c.split_at.ensures.back ∙ ap (λ n. drop n c.args.bytes.now) c.min.ensures ∙ drop_min 32 c.args.bytes.now in
+    let digits = c.split_at.ensures.front ∙ ap (λ n. take n c.args.bytes.now) c.min.ensures
+    ∙ take_min 32 c.args.bytes.now in
+    let rest : c.split_at.result.1.now ≡ drop 32 c.args.bytes.now = c.split_at.ensures.back
+    ∙ ap (λ n. drop n c.args.bytes.now) c.min.ensures ∙ drop_min 32 c.args.bytes.now in
     let found = sym c.in_ok-address.was ∙ c.address_of.ensures ∙ ap address_of digits in
-    ap (λ bytes. Some (c.in_ok-address.address, bytes)) rest ∙ ap (option_map (λ address. (address, drop 32 c.args.bytes.now))) found
+    ap (λ bytes. Some (c.in_ok-address.address, bytes)) rest
+    ∙ ap (option_map (λ address. (address, drop 32 c.args.bytes.now))) found

@@ -3,7 +3,8 @@ use Rattle.schedule_text.specs.Fields.{digits_on}
 use Rattle.schedule_text.proofs.fields.digits_on.Given as goal
 
 abbrev pub invariant-loop-rest : goal.invariant-loop-rest
-invariant-loop-rest l = record { same : digits_on l.value l.rest ≡ digits_on l.first l.bytes; bound : l.value ≤ l.high }
+invariant-loop-rest l =
+    record { same : digits_on l.value l.rest ≡ digits_on l.first l.bytes; bound : l.value ≤ l.high }
 
 abbrev pub decreases-loop-rest : goal.decreases-loop-rest
 decreases-loop-rest l = length l.rest

@@ -1,25 +1,22 @@
-use Rattle.std.proofs.Common.{◌∙◌, arith}
-use Rattle.mailbox_rules.specs.Tables.{table_after, table_from, results_after, results_from}
+use Rattle.std.proofs.Common.{ap, ◌∙◌}
+use Rattle.step_rules.specs.Helper.{Helper, opened_helper}
+use Rattle.step_rules.specs.Leader.{Leader, opened_leader}
+use Rattle.replay_world.proofs.Lanes.{opens, leader_settings, helper_settings}
 use Rattle.replay_world.proofs.state.State.open.Goals as goal
 
-pub returns : goal.returns
-unfolding table_after table_from results_after results_from
-returns c = record {
-  seed = c.new.ensures.seed ∙ c.draw32.ensures;
-  waiting = c.new.ensures.waiting;
-  sent = c.new.ensures.sent;
-  owned = c.new.ensures.owned;
-  owned_zero = c.new.ensures.owned;
-  owned_one = c.new.ensures.owned;
-  own_boxes = rw c.new.ensures.owned tt;
-  leader = c.open.ensures;
-  helper = c.open-2.ensures;
-  outcomes = c.new-2.ensures.items;
-  journal = c.new-3.ensures.items;
-  numbered = tt;
-  few = omega arith;
-  fit = tt;
-  addresses = tt;
-  askable = tt;
-  width = c.requires;
-}
+pub returns-clause-opened : goal.returns-clause-opened
+returns-clause-opened c =
+    let header = c.args.header.now in
+    opens header _ _ c.in_ok-all_askers.field-0.items c.new.result.items c.new-2.result.items c.new-3.result.items c.new-4.result.items
+    (c.leader.view_is ∙ (c.in_ok-leader.ensures ∙ ap (opened_leader header.settings) c.draw32.ensures))
+    (c.in_ok-helper.ensures ∙ ap (opened_helper header.settings) c.draw32-2.ensures)
+    c.in_ok-all_askers.ensures.fresh c.new.ensures.items c.new-2.ensures.items c.new-3.ensures.items c.new-4.ensures.items
+
+pub returns-clause-fit : goal.returns-clause-fit
+returns-clause-fit c =
+    let s = c.args.header.now.settings in
+    record {
+      leader = ap (λ (a : Leader). a.settings) (c.leader.view_is ∙ c.in_ok-leader.ensures) ∙ leader_settings s c.draw32.result;
+      helper = ap (λ (h : Helper). h.server.settings) c.in_ok-helper.ensures ∙ helper_settings s c.draw32-2.result;
+      lanes = c.in_ok-all_askers.ensures.count;
+    }

@@ -1,34 +1,33 @@
-use Rattle.std.proofs.Common.{length, sym, ◌∙◌, ap, subst, arith, ◌++◌, ◌∷◌, []}
-use Rattle.replay_world.specs.WorldView.{IsWhole}
-use Rattle.replay_world.specs.Shelf.{Shelf}
-use Rattle.replay_world.specs.View.{IsAt, HasAskable}
-use Rattle.replay_world.proofs.EventSteps.{has_askable}
-use Rattle.replay_world.specs.Run.{run_on, start}
-use Rattle.replay_world.proofs.Counts.{run_counts, run_then}
+use Rattle.std.proofs.Common.{List, [], ◌∷◌, ◌++◌, sym, ap, ◌∙◌}
+use Rattle.run_rules.specs.Run.{happens}
+use Rattle.schedule_text.specs.declared.schedule.Event.{Event}
+use Rattle.schedule_text.specs.declared.schedule.Schedule.{Schedule}
+use Rattle.replay_world.specs.Parts.{event_in}
+use Rattle.replay_world.specs.Played.{played, run_of}
+use Rattle.replay_world.proofs.Events.{on_ok}
+use Rattle.replay_world.proofs.Playing.{run_next}
 use Rattle.replay_world.proofs.world.World.event.Goals as goal
 
-pub event-requires-clause-run : goal.event-requires-clause-run
-unfolding IsWhole
-event-requires-clause-run c = (c.args.self.now.header, _, c.requires.whole.0)
+pub returns-clause-schedule : goal.returns-clause-schedule
+returns-clause-schedule c =
+    let s = played c.args.self.now in
+    let more = c.in_ok-push.ensures.items ∙ ap (λ (e : Event). s.events ++ e ∷ []) c.in_ok-copied.ensures in
+    on_ok c.event.result (λ m. ap (λ (xs : List Event). let t : Schedule = record { header = s.header; events = xs } in t) more) c.event.ensures.moved
 
-pub event-requires-clause-askable : goal.event-requires-clause-askable
-unfolding IsWhole
-event-requires-clause-askable c =
-    subst (λ width. HasAskable width c.args.event.now) (sym (ap (λ (s : Shelf). s.width) c.requires.whole.0.leader)) (has_askable c.args.self.now.header.settings c.args.event.now c.requires.rules)
-
-pub event-requires-clause-room : goal.event-requires-clause-room
-unfolding IsWhole
-event-requires-clause-room c =
-    let few = run_counts c.args.self.now.header.settings c.args.self.now.events.items in
-    let outcomes = ap length c.requires.whole.0.outcomes in
-    let waiting = ap length c.requires.whole.0.waiting in
-    omega (arith, few, outcomes, waiting, c.requires.room)
+pub returns-clause-moved : goal.returns-clause-moved
+returns-clause-moved c = on_ok c.event.result (λ m. m c.args.self.now.header) c.event.ensures.moved
 
 pub returns-clause-whole : goal.returns-clause-whole
-unfolding IsWhole
 returns-clause-whole c =
-    let settings = c.args.self.now.header.settings in (
-      subst (IsAt c.args.self.now.header c.event.new.self) (sym (ap (run_on settings start) (c.in_ok-push.ensures.items ∙ ap (λ event. c.args.self.now.events.items ++ event ∷ []) c.in_ok-copied.ensures) ∙ run_then settings c.args.self.now.events.items c.args.event.now start))
-          (c.in_ok-event.ensures.ok c.args.self.now.header (run_on settings start c.args.self.now.events.items) c.requires.whole.0),
-      c.requires.whole.1,
-    )
+    let s = played c.args.self.now in
+    let e = c.args.event.now in
+    let more = c.in_ok-push.ensures.items ∙ ap (λ (x : Event). s.events ++ x ∷ []) c.in_ok-copied.ensures in
+    let keeps = c.event.ensures.keeps in
+    let fit = c.requires.whole.fit in
+    on_ok c.event.result (λ m. record {
+      stands =
+          m s.header
+          ∙ (ap (λ w. happens w (event_in e)) c.requires.whole.stands
+          ∙ (run_next s e ∙ ap (λ (xs : List Event). run_of (record { header = s.header; events = xs })) (sym more)));
+      fit = record { leader = keeps.leader ∙ fit.leader; helper = keeps.helper ∙ fit.helper; lanes = keeps.lanes ∙ fit.lanes };
+    }) c.event.ensures.moved

@@ -1,9 +1,12 @@
-use Rattle.std.proofs.Common.{sym, subst}
-use Rattle.replay_world.specs.WorldView.{IsWhole}
-use Rattle.replay_world.specs.View.{IsAt}
-use Rattle.replay_world.specs.Run.{run_on, start}
+use Rattle.std.proofs.Common.{sym, ◌∙◌}
+use Rattle.schedule_text.specs.declared.schedule.Schedule.{Schedule}
+use Rattle.replay_world.proofs.Playing.{run_none}
 use Rattle.replay_world.proofs.world.World.open.Goals as goal
 
+pub open-requires : goal.open-requires
+open-requires c = record { limits = c.requires.limits }
+
 pub returns-clause-whole : goal.returns-clause-whole
-unfolding IsWhole run_on
-returns-clause-whole c = (subst (λ events. IsAt c.args.header.now c.open.result (run_on c.args.header.now.settings start events)) (sym c.new.ensures.items) c.open.ensures, c.in_ok-zeros.ensures)
+returns-clause-whole c =
+    let none : Schedule = record { header = c.args.header.now; events = c.new.result.items } in
+    record { stands = c.in_ok-open.ensures.opened ∙ sym (run_none none c.new.ensures.items); fit = c.in_ok-open.ensures.fit }

@@ -1,0 +1,92 @@
+//! Shows what one server sees of a write, and of another write under the moved choice.
+ghost use Rattle.std.specs.Prelude.{◌≡◌, ◌≢◌, ◌≤◌, ◌++◌, length, IfOk, string_bytes, AllPairs, Contains};
+ghost use Rattle.express_words.specs.Limits.{IsWidth};
+ghost use Rattle.express_cli.specs.Cloaks.{old_view, new_view, cloak_text, IsCloakText};
+ghost use Rattle.express_cli.specs.Ends.{Writes, WorkMay};
+ghost use Rattle.express_cli.specs.declared.words.Command.TheVariants.{Cloak};
+
+use crate::End;
+use crate::drawing::drawn_choice;
+use crate::texts::{OUT_OF_MEMORY, say, say_bad_line};
+use crate::views::view_text;
+use express_texts::{AimText, CloakGame, TextFault, read_cloak};
+use express_words::NoMemory;
+use express_words::outside::Sink;
+use std::alloc::Global;
+use write_hiding::{Aim, Game, View, moved, view};
+
+fn aim_of(aim: &AimText) -> Aim
+    ensures target { result.target ≡ aim.now.address }
+    ensures message { result.message.now ≡ aim.now.message }
+{
+    Aim {
+        target: aim.address,
+        message: aim.message.as_slice(),
+    }
+}
+
+// What the viewer sees of the write `from`, and of the write `to` under the moved choice.
+fn views(alloc: Global, game: &CloakGame) -> Result<(View, View), NoMemory>
+    requires viewer { game.now.viewer ≤ 1 }
+    requires width { IsWidth game.now.width }
+    requires old_message { length game.now.old_aim.message ≡ game.now.width }
+    requires new_message { length game.now.new_aim.message ≡ game.now.width }
+    requires distinct { AllPairs (λ p q. p ≢ q) game.now.addresses }
+    requires old_registered { Contains game.now.addresses game.now.old_aim.address }
+    requires new_registered { Contains game.now.addresses game.now.new_aim.address }
+    ensures old { IfOk result (λ seen. seen.0 ≡ old_view game.now) }
+    ensures new { IfOk result (λ seen. seen.1 ≡ new_view game.now) }
+    // The viewer can't tell the writes apart.
+    ensures alike { IfOk result (λ seen. seen.1 ≡ seen.0) }
+{
+    let choice = drawn_choice(alloc, game.viewer, &game.seed, game.width)?;
+    let from = aim_of(&game.old_aim);
+    let to = aim_of(&game.new_aim);
+    let ckey = game.ckey;
+    let rules = Game {
+        addresses: game.addresses.as_slice(),
+        ckey,
+        sigma: game.sigma,
+    };
+    let old = view(alloc, &choice, &from, &rules)?;
+    let gone = moved(alloc, &choice, &from, &to, &rules)?;
+    let new = view(alloc, &gone, &to, &rules)?;
+    Ok((old, new))
+}
+
+// The text of both views.
+#[tactic(auto, unfolding(crate::specs::Cloaks::cloak_text))]
+fn cloak_text(alloc: Global, game: &CloakGame) -> Result<String, NoMemory>
+    requires viewer { game.now.viewer ≤ 1 }
+    requires width { IsWidth game.now.width }
+    requires old_message { length game.now.old_aim.message ≡ game.now.width }
+    requires new_message { length game.now.new_aim.message ≡ game.now.width }
+    requires distinct { AllPairs (λ p q. p ≢ q) game.now.addresses }
+    requires old_registered { Contains game.now.addresses game.now.old_aim.address }
+    requires new_registered { Contains game.now.addresses game.now.new_aim.address }
+    ensures { IfOk result (λ text. IsCloakText game.now (string_bytes text)) }
+{
+    let (old, new) = views(alloc, game)?;
+    let old = view_text(alloc, &old)?;
+    let new = view_text(alloc, &new)?;
+    let text = format!(in alloc; "{old}{new}end\n")?;
+    Ok(text)
+}
+
+/// Shows both views of the game that the text spells.
+pub fn cloak<K: Sink>(alloc: Global, text: &[u8], out: &mut K) -> End
+    ensures ends { Writes (WorkMay Cloak text.now)
+        (K.written out.old) (K.written out.new) (K.count out.old) (K.count out.new) result }
+    ensures later { K.count out.old ≤ K.count out.new }
+    ensures told { result ≢ End.WriteFault → K.count out.new ≡ K.count out.old }
+{
+    let game = match read_cloak(alloc, text) {
+        Ok(game) => game,
+        Err(TextFault::Wrong(line)) => return say_bad_line(alloc, out, line),
+        Err(_) => return say(out, OUT_OF_MEMORY, End::OutOfMemory),
+    };
+    match cloak_text(alloc, &game) {
+        Err(_) => say(out, OUT_OF_MEMORY, End::OutOfMemory),
+        Ok(text) => say(out, text.as_str(), End::Done),
+    }
+}

@@ -1,0 +1,36 @@
+//! Batches of closings. The worked outputs are an independent program's.
+use super::ran;
+use std::test::Fail;
+
+const HEADER: &[u8] = b"batch 1 0000000000000000000000000000000000000000000000000000000000000000\n";
+
+const GOOD: &[u8] = b"pair 00000000000000000000000000000000 00000000000000000000000000000000 \
+00000000000000000000000000000000 00000000000000000000000000000000\n";
+
+const BAD: &[u8] = b"pair 00000000000000000000000000000001 00000000000000000000000000000000 \
+00000000000000000000000000000000 00000000000000000000000000000000\n";
+
+#[test]
+fn judges_pairs(rt: HostRuntime) -> Result<(), Fail> {
+    let alloc = rt.alloc();
+    let cases: [(&[&[u8]], u8, &[u8]); 4] = [
+        (&[HEADER], 0, b"accepted 0\njudged 0\nend\n"),
+        (
+            &[HEADER, GOOD, BAD],
+            0,
+            b"rejected 1\naccepted 1\njudged 3\nend\n",
+        ),
+        (&[], 3, b"bad line 1\n"),
+        (&[HEADER, GOOD, HEADER], 3, b"bad line 3\n"),
+    ];
+    for (lines, wanted, text) in &cases {
+        let mut input = Vec::new(alloc);
+        for line in *lines {
+            input.extend_from_slice(line)?;
+        }
+        let (status, written) = ran(alloc, &["batch"], &input, &[], &[])?;
+        assert_eq!(rt; status, *wanted);
+        assert_eq!(rt; written.as_slice(), *text);
+    }
+    Ok(())
+}

@@ -1,0 +1,25 @@
+//! The work of each command on its input.
+ghost use Rattle.std.specs.Prelude.{◌≡◌, ◌≢◌, ◌≤◌};
+ghost use Rattle.express_cli.specs.Ends.{Writes, WorkMay};
+
+use crate::End;
+use crate::batch::batch;
+use crate::cloak::cloak;
+use crate::replay::replay;
+use crate::words::Command;
+use express_words::outside::Sink;
+use std::alloc::Global;
+
+/// Does a command's work on the text of its input.
+pub fn work<K: Sink>(alloc: Global, command: Command, text: &[u8], out: &mut K) -> End
+    ensures ends { Writes (WorkMay command text.now)
+        (K.written out.old) (K.written out.new) (K.count out.old) (K.count out.new) result }
+    ensures later { K.count out.old ≤ K.count out.new }
+    ensures told { result ≢ End.WriteFault → K.count out.new ≡ K.count out.old }
+{
+    match command {
+        Command::Replay => replay(alloc, text, out),
+        Command::Batch => batch(alloc, text, out),
+        Command::Cloak => cloak(alloc, text, out),
+    }
+}
