@@ -4,9 +4,12 @@
 
 mod closings;
 mod nodes;
+mod parts;
 mod passes;
 mod products;
+mod servers;
 mod stores;
+mod streams;
 mod work;
 
 use std::process::ExitCode;

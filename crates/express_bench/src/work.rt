@@ -1,5 +1,5 @@
 //! The pieces of work.
-use crate::{closings, nodes, passes, products, stores};
+use crate::{closings, nodes, parts, passes, products, servers, stores, streams};
 use express_words::NoMemory;
 use std::alloc::Global;
 use std::fmt;
@@ -31,10 +31,29 @@ pub enum Work {
     Shares,
     /// The kept replies of the largest settings, likewise.
     Replies,
+    /// Sixteen blocks of a state.
+    Blocks,
+    /// The challenges at eight addresses, one after another.
+    Challenges,
+    /// The challenges at eight addresses at once.
+    Challenge8,
+    /// The sums of the leaves of so many boxes.
+    Sums(u32),
+    /// The write bytes of so many boxes of 1,024 bytes.
+    Outputs(u32),
+    /// What a client computes for a write.
+    Client,
+    /// A whole write to one of so many boxes of 1,024 bytes.
+    Writes(u32),
+    /// A leader of the largest settings, opened once, however often that is asked.
+    Leader,
+    /// A helper of the largest settings, likewise.
+    Helper,
 }
 
 impl Work {
-    pub fn named(name: &str) -> Option<Work> {
+    // A piece of work whose name has no number.
+    fn plain(name: &str) -> Option<Work> {
         match name {
             "children" => Some(Work::Children),
             "children8" => Some(Work::Children8),
@@ -44,17 +63,36 @@ impl Work {
             "judges" => Some(Work::Judges),
             "shares" => Some(Work::Shares),
             "replies" => Some(Work::Replies),
-            _ => {
-                let (kind, count) = name.split_once('_')?;
-                let count = count.parse::<u32>().ok()?;
-                match kind {
-                    "pass" => Some(Work::Pass(count)),
-                    "walks" => Some(Work::Walks(count)),
-                    "nodes" => Some(Work::Nodes(count)),
-                    "sorts" => Some(Work::Sorts(count)),
-                    _ => None,
-                }
-            }
+            "blocks" => Some(Work::Blocks),
+            "challenges" => Some(Work::Challenges),
+            "challenge8" => Some(Work::Challenge8),
+            "client" => Some(Work::Client),
+            "leader" => Some(Work::Leader),
+            "helper" => Some(Work::Helper),
+            _ => None,
+        }
+    }
+
+    // A piece of work whose name ends in a number.
+    fn counted(name: &str) -> Option<Work> {
+        let (kind, count) = name.split_once('_')?;
+        let count = count.parse::<u32>().ok()?;
+        match kind {
+            "pass" => Some(Work::Pass(count)),
+            "walks" => Some(Work::Walks(count)),
+            "nodes" => Some(Work::Nodes(count)),
+            "sorts" => Some(Work::Sorts(count)),
+            "sums" => Some(Work::Sums(count)),
+            "outputs" => Some(Work::Outputs(count)),
+            "writes" => Some(Work::Writes(count)),
+            _ => None,
+        }
+    }
+
+    pub fn named(name: &str) -> Option<Work> {
+        match Work::plain(name) {
+            Some(work) => Some(work),
+            None => Work::counted(name),
         }
     }
 
@@ -73,6 +111,15 @@ impl Work {
             Work::Judges => closings::judges(alloc, times),
             Work::Shares => stores::shares(alloc),
             Work::Replies => stores::replies(alloc),
+            Work::Blocks => Ok(streams::blocks(times)),
+            Work::Challenges => Ok(streams::one_by_one(times)),
+            Work::Challenge8 => Ok(streams::eight_at_once(times)),
+            Work::Sums(boxes) => parts::by_sums(alloc, boxes, times),
+            Work::Outputs(boxes) => parts::by_outputs(alloc, boxes, times),
+            Work::Client => Ok(parts::by_client(times)),
+            Work::Writes(boxes) => servers::by_writes(alloc, boxes, times),
+            Work::Leader => servers::leader(alloc),
+            Work::Helper => servers::helper(alloc),
         }
     }
 }
@@ -92,6 +139,15 @@ impl fmt::Display for Work {
             Work::Judges => write!(f, "judges"),
             Work::Shares => write!(f, "shares"),
             Work::Replies => write!(f, "replies"),
+            Work::Blocks => write!(f, "blocks"),
+            Work::Challenges => write!(f, "challenges"),
+            Work::Challenge8 => write!(f, "challenge8"),
+            Work::Sums(boxes) => write!(f, "sums_{boxes}"),
+            Work::Outputs(boxes) => write!(f, "outputs_{boxes}"),
+            Work::Client => write!(f, "client"),
+            Work::Writes(boxes) => write!(f, "writes_{boxes}"),
+            Work::Leader => write!(f, "leader"),
+            Work::Helper => write!(f, "helper"),
         }
     }
 }
