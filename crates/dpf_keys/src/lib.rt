@@ -9,7 +9,7 @@ mod walking;
 
 pub use generation::generate;
 pub use part::PublicPart;
-pub use walking::{output_into, walk};
+pub use walking::{output_into, output_through, walk};
 
 #[cfg(test)]
 mod tests;

@@ -34,13 +34,22 @@ fn leaf_bytes_into(part: &PublicPart, leaf: u128, own: &mut [u8])
     }
 }
 
+/// XORs the write bytes of a leaf into `out`. Both `out` and `room`, which is written over, are as long as the last
+/// correction.
+pub fn output_through(part: &PublicPart, leaf: u128, room: &mut [u8], out: &mut [u8])
+    requires room { length room.old ≡ length (last_of part.now) }
+    requires out { length out.old ≡ length (last_of part.now) }
+    ensures { out.new ≡ xor_bytes out.old (leaf_bytes part.now leaf) }
+{
+    leaf_bytes_into(part, leaf, room);
+    xor_into(out, room);
+}
+
 /// XORs the write bytes of a leaf into `out`, which is as long as the last correction.
 pub fn output_into(part: &PublicPart, leaf: u128, out: &mut [u8])
     requires { length out.old ≡ length (last_of part.now) }
     ensures { out.new ≡ xor_bytes out.old (leaf_bytes part.now leaf) }
 {
     let mut bytes = [0u8; 4096];
-    let own = &mut bytes[..part.last().len()];
-    leaf_bytes_into(part, leaf, own);
-    xor_into(out, own);
+    output_through(part, leaf, &mut bytes[..part.last().len()], out);
 }

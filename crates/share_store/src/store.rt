@@ -6,7 +6,7 @@ ghost use Rattle.share_store.specs.Shares.{empty_share, share_at, shares_of, sha
 ghost use Rattle.share_store.specs.Rows.{shares_in};
 
 use block_region::BlockArray;
-use dpf_keys::{PublicPart, output_into};
+use dpf_keys::{PublicPart, output_through};
 use dpf_rules::xor_into;
 use express_words::NoMemory;
 use std::alloc::Global;
@@ -108,9 +108,11 @@ fn add_leaves(shares: &mut BlockArray, live: &[bool], part: &PublicPart, leaves:
     ensures marks { length live.now ≡ length shares.new.blocks }
     ensures added { shares_in live.now shares.new.blocks ≡ shares_with part.now leaves.now (shares_in live.now shares.old.blocks) }
 {
+    let mut bytes = [0u8; 4096];
+    let room = &mut bytes[..part.last().len()];
     for k in 0..leaves.len() {
         if live[k] {
-            output_into(part, leaves[k], shares.get_mut(k));
+            output_through(part, leaves[k], room, shares.get_mut(k));
         }
     }
 }

@@ -19,22 +19,24 @@ loop-k-preserved c =
     let many : k < length first = omega (arith, length-shares_in live c.args.shares.now.blocks c.requires.marks) in
     elim c.if-live-k.branch [
       | then-live-k w ↦
-          let there : refill (length (get_or blocks k [])) (get_or blocks k []) w.output_into.new.out
+          let there : refill (length (get_or blocks k [])) (get_or blocks k []) w.output_through.new.out
           ≡ xor_bytes (get_or blocks k []) (leaf_bytes c.args.part.now (get_or c.args.leaves.now k 0)) =
-          lent_back (get_or blocks k []) w.get_mut.result.now w.output_into.new.out w.get_mut.ensures.value w.output_into.auto.out
-          ∙ w.output_into.ensures
+          lent_back (get_or blocks k []) w.get_mut.result.now w.output_through.new.out w.get_mut.ensures.value w.output_through.auto.out
+          ∙ w.output_through.ensures
           ∙ ap (λ (xs : List ℕ). xor_bytes xs (leaf_bytes c.args.part.now (get_or c.args.leaves.now k 0))) w.get_mut.ensures.value in
           record {
             size = ap (λ (b : Blocks). b.size) w.shares-is ∙ c.loop-k.invariant.size;
+            room = ap length w.room-is ∙ w.output_through.auto.room ∙ c.loop-k.invariant.room;
             marks = c.loop-k.invariant.marks
                 ∙ sym (ap (λ (b : Blocks). length b.blocks) w.shares-is
-                ∙ length-set blocks k (refill (length (get_or blocks k [])) (get_or blocks k []) w.output_into.new.out));
+                ∙ length-set blocks k (refill (length (get_or blocks k [])) (get_or blocks k []) w.output_through.new.out));
             added = rw w.shares-is (rw there
                 (added_live c.args.part.now c.args.leaves.now live first blocks k _ c.loop-k.invariant.marks inside (omega arith) many
                 c.loop-k.invariant.added w.if-live-k.true));
           }
       | else-live-k w ↦ record {
         size = ap (λ (b : Blocks). b.size) w.shares-is ∙ c.loop-k.invariant.size;
+        room = ap length w.room-is ∙ c.loop-k.invariant.room;
         marks = c.loop-k.invariant.marks ∙ ap (λ (b : Blocks). length b.blocks) (sym w.shares-is);
         added = rw w.shares-is
             (added_retired c.args.part.now c.args.leaves.now live first blocks k _ c.loop-k.invariant.marks inside (omega arith) many
