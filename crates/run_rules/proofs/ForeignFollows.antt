@@ -20,15 +20,17 @@ use Rattle.run_rules.specs.Follows.{Carries, Follows}
 use Rattle.run_rules.specs.Known.{Known}
 use Rattle.run_rules.specs.History.{frame_run, token_run}
 use Rattle.run_rules.specs.Acts.{AreFitting, AreTaken, Both, OutsideAt, Taken, both_come, brought_by, ended_of, history_of, leader_takes, taken_in, taken_of}
-use Rattle.run_rules.proofs.WholeForeign.{run_follows}
+use Rattle.run_rules.proofs.ForeignFits.{come_fits}
+use Rattle.run_rules.proofs.WholeForeign.{run_follows, run_unique}
 use Rattle.run_rules.proofs.WholeHelperRows.{comes_grow}
 use Rattle.run_rules.proofs.ForeignLeaderFirst.{HaveCommands, NamesForeignLane, taken_have}
 use Rattle.run_rules.proofs.ForeignLeaderFinds.{leader_are_taken}
 use Rattle.run_rules.proofs.ForeignHelperFinds.{HaveRows, helper_are_taken, rows_later, rows_more}
 
--- each frame that a server took has left its row or its command there
+-- Each frame that a server took has left its row or its command there, and each reply to a foreign command fitted.
 abbrev pub Unique : Both → Type 0
-Unique s = HaveRows s.frames.helper.server.rows s.taken × HaveCommands s.world.commands s.taken
+Unique s =
+    HaveRows s.frames.helper.server.rows s.taken × HaveCommands s.world.commands s.taken × (s.world.misfits ≡ 0)
 
 leaders_rows : (rows : List Row) (f : FrameWorld) (bytes : List ℕ) (read : Result PlainFrame Refusal) → HaveRows rows (taken_in true f bytes read)
 leaders_rows rows f bytes (Ok g) = of_answer (on_client f.leader bytes).answer
@@ -40,9 +42,12 @@ leaders_rows rows f bytes (Ok g) = of_answer (on_client f.leader bytes).answer
 leaders_rows rows f bytes (Err r) = tt
 
 stays : (s : Both) (g : FrameWorld) (u : World) (acts : List Act) → g.helper ≡ s.frames.helper → g.leader ≡ s.frames.leader → u.commands ≡ s.world.commands
-    → Unique s → Unique (record { frames = g; world = u; acts = acts; taken = s.taken })
-stays s g u acts helper leader commands unique =
-    (subst (λ h. HaveRows h.server.rows s.taken) (sym helper) unique.0, subst (λ ys. HaveCommands ys s.taken) (sym commands) unique.1)
+    → u.misfits ≡ s.world.misfits → Unique s → Unique (record { frames = g; world = u; acts = acts; taken = s.taken })
+stays s g u acts helper leader commands misfits unique = (
+  subst (λ h. HaveRows h.server.rows s.taken) (sym helper) unique.0,
+  subst (λ ys. HaveCommands ys s.taken) (sym commands) unique.1,
+  misfits ∙ unique.2,
+)
 
 module _ (b : Book) (v : World) (all : List Taken) (history : b.brought ≡ brought_by b.settings.width all) where
   named : (t : Token) (l : Letter) → OutsideAt b.foreign t l → NamesForeignLane b t
@@ -71,6 +76,7 @@ module _ (b : Book) (v : World) (all : List Taken) (history : b.brought ≡ brou
         (
           rows_more _ s.taken (taken_of s.frames t l) (rows_later _ _ s.taken (comes_grow s.frames l.to l.bytes) unique.0) one.1,
           taken_have b s.frames v s.world t l s.taken known h k (named t l out) unique.1,
+          come_fits b s.frames v s.world t i l known at h k ∙ unique.2,
         ),
       )
 
@@ -82,4 +88,13 @@ pub foreign_runs_agree : (settings : Settings) (seed : List ℕ) (foreign : ℕ 
 foreign_runs_agree settings seed foreign events limits fit few =
     let s = ended_of settings seed foreign events in
     run_follows settings seed foreign events limits fit few Unique
-    (takes (history_of settings seed foreign s) s.world s.taken refl) stays (tt, tt)
+    (takes (history_of settings seed foreign s) s.world s.taken refl) stays (tt, tt, refl)
+
+-- in a run over bytes each reply to a foreign command fits
+pub replies_fit : (settings : Settings) (seed : List ℕ) (foreign : ℕ → Bool) (events : List Event)
+    → KeepsLimits settings.width settings.boxes settings.lanes settings.window → AreFitting settings foreign events → length events ≤ 20000
+    → (ended_of settings seed foreign events).world.misfits ≡ 0
+replies_fit settings seed foreign events limits fit few =
+    let s = ended_of settings seed foreign events in
+    (run_unique settings seed foreign events limits fit few Unique
+    (takes (history_of settings seed foreign s) s.world s.taken refl) stays (tt, tt, refl)).2

@@ -24,7 +24,7 @@ use Rattle.run_rules.specs.Acts.{does_after}
 use Rattle.run_rules.specs.Book.{Book, begun_in}
 use Rattle.run_rules.specs.Values.{key_at, box_at, boxes_at, shares_at, writes_at}
 use Rattle.run_rules.specs.Frames.{frame_with, masked_at, reply_with}
-use Rattle.run_rules.specs.Follows.{ForeignHolds, brought_does, Sound}
+use Rattle.run_rules.specs.Follows.{ForeignHolds, SettlesBegun, brought_does, Sound}
 use Rattle.frame_rules.specs.Spelling.{IsFrame}
 use Rattle.run_rules.proofs.HelperCommands.{left_by, draws_same}
 use Rattle.run_rules.proofs.HelperRegisters.{place_same, register_made, shares_few, shares_next}
@@ -104,7 +104,7 @@ module _ (b : Book) (f : FrameWorld) (w : World) (c s : ℕ) (sound : Sound b) (
               k.follows foreign low k.serial entered tt tt
               (made.boxes_is ∙ ap (λ (u : Table). map (λ m. box_at b 1 m) u.boxes) r.same ∙ same_table b i line entered)
               (hh.draws ∙ same_draws w.journal line)
-              (refused_reply b i line r.refusal entered)
+              (refused_reply b i line r.refusal entered) tt
               (subst (λ body. IsFrame (frame_with c s (i + 1) body)) body (made.frame k.first)))
           | inr r ↦
               let body : made.body ≡ frame.LinkReply (frame.ReplyRegistered r.0) = made.body_is ∙ r.1 in
@@ -112,7 +112,7 @@ module _ (b : Book) (f : FrameWorld) (w : World) (c s : ℕ) (sound : Sound b) (
               k.follows foreign low k.serial entered tt tt
               (made.boxes_is ∙ ap (λ (u : Table). map (λ m. box_at b 1 m) u.boxes) (sym (shares_next b 1 i (entry line (AddBox address)) entered)))
               (hh.draws ∙ draws_same w.journal (entry line (AddBox address)) refl)
-              (foreign_reply b i line made.body (AddBox address) entered (ap AddBox brought) made.body_is)
+              (foreign_reply b i line made.body (AddBox address) entered (ap AddBox brought) made.body_is) tt
               (made.frame k.first))
         ])
 
@@ -154,6 +154,10 @@ module _ (b : Book) (f : FrameWorld) (w : World) (c s : ℕ) (sound : Sound b) (
         by_stays true = ap (given n) (sym there)
         by_stays false = ap (given n) (sym there)
 
+    no_settle : (t : Bool) → SettlesBegun b i read (does_for t n)
+    no_settle true = tt
+    no_settle false = tt
+
     does_brought : (t : Bool) → does_for t n ≡ brought_does b (line_of c s (command_for t))
     does_brought true = ap ReadBox brought
     does_brought false = ap RetireBox brought
@@ -173,7 +177,7 @@ module _ (b : Book) (f : FrameWorld) (w : World) (c s : ℕ) (sound : Sound b) (
         k.follows foreign low k.serial entered tt tt
         (made.boxes_is ∙ ap (map (λ m. box_at b 1 m)) (sym (after_read b 1 stays c s n (shares_at b 1 i)) ∙ ap (λ u. u.boxes) (sym (shares_next b 1 i (entry read (does_for stays n)) entered))))
         (hh.draws ∙ not_begun w.journal)
-        (foreign_reply b i read made.body (does_for stays n) entered (does_brought stays) (made.body_is ∙ ap (reply_with b i read) (result_for m there)))
+        (foreign_reply b i read made.body (does_for stays n) entered (does_brought stays) (made.body_is ∙ ap (reply_with b i read) (result_for m there))) (no_settle stays)
         (made.frame k.first)))
       where
         does_link : (t : Bool) → does_after (link_for t n) (frame.LinkReply (frame.ReplyMasked (masked_at b 1 i read n m.bytes))) ≡ does_for t n

@@ -23,7 +23,7 @@ use Rattle.run_rules.specs.Acts.{does_after}
 use Rattle.run_rules.specs.Book.{Book, begun_in}
 use Rattle.run_rules.specs.Values.{box_at, boxes_at, shares_at, writes_at}
 use Rattle.run_rules.specs.Frames.{frame_with, reply_with}
-use Rattle.run_rules.specs.Follows.{ForeignHolds, ForeignHelperRow, ForeignReply, brought_does, HasBegun, HaveBegun, HelperRows, Follows}
+use Rattle.run_rules.specs.Follows.{ForeignHolds, ForeignHelperRow, ForeignOrder, ForeignReply, HelperAnswers, IsForeignLine, brought_does, HasBegun, HaveBegun, HelperRows, SettlesBegun, Follows}
 use Rattle.run_rules.proofs.Basics.{put_part, pools_append}
 use Rattle.run_rules.proofs.Counts.{begun_more, has_begun_later}
 use Rattle.run_rules.proofs.ForeignHelperTurns.{bare_at, rows_stay, rows_change}
@@ -40,6 +40,7 @@ pub record After (b : Book) (w : World) (x : Line) (does : Operation) (e : Effec
   pub draws : e.server.draws ≡ begun_in (w.journal ++ entry x does ∷ [])
   pub begun : HaveBegun b e.server.rows (w.carried + 1)
   pub reply : ForeignReply b w.carried x e.body
+  pub settled : SettlesBegun b w.carried x does
   pub is_frame : IsFrame (frame_with x.lane x.serial (w.carried + 1) e.body)
 
 -- where the operation is the history's entry
@@ -56,11 +57,11 @@ made_as b w x order does e is make entered =
 -- both runs go on
 pub foreign_carried : (b : Book) (f : FrameWorld) (w : World) (x : Line) (does : Operation) (order : PlainBody) (e : Effect)
     → Follows b f w → b.foreign x.lane ≡ true → 0 < b.settings.window → length w.journal ≡ w.carried
-    → After b w x does e
+    → HelperAnswers b w.carried x order e.body → ForeignOrder b w.carried x order → After b w x does e
     → Follows b (frames.to_helper_link f (Some (frame_with x.lane x.serial (w.carried + 1) order)) (carried_with f.helper (frame_with x.lane x.serial (w.carried + 1) order) e))
     (carries (acted w) x (bare_at e.server x.lane) does)
 unfolding frames.helper_answers
-foreign_carried b f w x does order e h foreign room count a =
+foreign_carried b f w x does order e h foreign room count answers ordered a =
     let c = x.lane in
     let lane : Lane = record (w.lanes c) { helper = bare_at e.server c } in
     let hh = h.helper in
@@ -74,6 +75,9 @@ foreign_carried b f w x does order e h foreign room count a =
     let few : length f.helper.replies ≤ w.carried = few_replies b w.carried (lines_of w.journal) f.helper.replies lines hh.kept in
     let kept = kept_more b b.settings.window w.carried (lines_of w.journal) x f.helper.replies (spelling reply) lines few hh.most room hh.kept one in
     let counts = kept_count b.settings.window w.carried f.helper.replies (spelling reply) hh.most room hh.window in
+    let here : 0 + length w.journal ≡ w.carried = omega (arith, count) in
+    let line : IsForeignLine b w.carried (entry x does) (frames.journal_line (frame_with x.lane x.serial (w.carried + 1) order) reply) =
+    record { lane = refl; serial = refl; command = order; reply = e.body; ordered = ordered; replied = a.reply; answers = answers; value = refl; begun = a.settled } in
     record {
       limit = h.limit;
       width = h.width;
@@ -110,7 +114,7 @@ foreign_carried b f w x does order e h foreign room count a =
       waiting = h.waiting;
       told = h.told;
       pool = pools_append b w.pool _ f.pool _ h.pool (one, tt);
-      journal = journal_more b 0 w.journal f.journal (entry x does) _ h.journal (rw foreign (refl, refl));
+      journal = journal_more b 0 w.journal f.journal (entry x does) _ h.journal (rw (foreign, here) line);
       outcomes = h.outcomes;
     }
 
@@ -166,6 +170,7 @@ refused_made b f w x order r k small entered =
       draws = hh.draws ∙ same_draws w.journal x;
       begun = λ d low foreign. has_begun_later b w.carried d _ _ (entry x Refuse) entered (λ never. never) (hh.begun d low foreign);
       reply = refused_reply b w.carried x r entered;
+      settled = tt;
       is_frame = refused_frame b f w x r k small;
     }
 
@@ -176,9 +181,9 @@ pub row_after : (b : Book) (f : FrameWorld) (w : World) (x : Line) (stage : Stag
     → slice_get b.entries w.carried ≡ Some (entry x does)
     → ForeignHolds b x.lane x.serial stage → HasBegun b (w.carried + 1) x.lane x.serial stage
     → boxes ≡ boxes_at b 1 (w.carried + 1) → draws ≡ begun_in (w.journal ++ entry x does ∷ [])
-    → ForeignReply b w.carried x body → IsFrame (frame_with x.lane x.serial (w.carried + 1) body)
-    → After b w x does (effect (left_by f.helper.server x.lane (row x.serial stage) boxes draws) body)
-row_after b f w x stage does boxes draws body h foreign low small entered holds begun boxed drawn reply is_frame =
+    → ForeignReply b w.carried x body → SettlesBegun b w.carried x does
+    → IsFrame (frame_with x.lane x.serial (w.carried + 1) body) → After b w x does (effect (left_by f.helper.server x.lane (row x.serial stage) boxes draws) body)
+row_after b f w x stage does boxes draws body h foreign low small entered holds begun boxed drawn reply settled is_frame =
     let hh = h.helper in
     let r : Row = row x.serial stage in
     let hr : ForeignHelperRow b x.lane r (bare r) = record { bare = refl; small = small; holds = holds } in
@@ -191,6 +196,7 @@ row_after b f w x stage does boxes draws body h foreign low small entered holds 
       draws = drawn;
       begun = begun_more b f.helper.server.rows w.carried r (entry x does) hh.count low entered hh.begun (λ e. begun);
       reply = reply;
+      settled = settled;
       is_frame = is_frame;
     }
 
@@ -204,4 +210,4 @@ done_made b f w x order g want r k foreign low lane serial small =
     (subst (λ s. ForeignMade b w x order (steps.refuses (helper.with_row f.helper.server x.lane (row s (helper.Done want))) r)) (sym serial)
     (λ entered. row_after b f w x (helper.Done want) Refuse f.helper.server.boxes f.helper.server.draws (frame.LinkReply (frame.ReplyRefused r))
     k.follows foreign low k.serial entered tt tt
-    (hh.boxes ∙ same_table b w.carried x entered) (hh.draws ∙ same_draws w.journal x) (refused_reply b w.carried x r entered) (refused_frame b f w x r k small)))
+    (hh.boxes ∙ same_table b w.carried x entered) (hh.draws ∙ same_draws w.journal x) (refused_reply b w.carried x r entered) tt (refused_frame b f w x r k small)))

@@ -24,7 +24,7 @@ use Rattle.run_rules.specs.Acts.{act_of, does_after, order_act}
 use Rattle.run_rules.specs.Book.{Book, leaders_draw, place, place_or, same_line}
 use Rattle.run_rules.specs.Values.{part_at, sigma_at}
 use Rattle.run_rules.specs.Frames.{frame_with, command_body}
-use Rattle.run_rules.specs.Follows.{Spelled, IsForeignLink, ForeignOrder, ForeignHolds, ForeignHelperRow, ForeignCommands, HasBegun, HelperRowAt, Carries, Within, Sound, Follows}
+use Rattle.run_rules.specs.Follows.{Spelled, IsForeignLink, ForeignOrder, ForeignHolds, ForeignHelperRow, ForeignCommands, HasBegun, HelperAnswers, HelperFollows, HelperRowAt, Carries, Within, Sound, Follows}
 use Rattle.run_rules.specs.Known.{Known}
 use Rattle.run_rules.proofs.Places.{found_first, lines_same, line_itself}
 use Rattle.run_rules.proofs.HelperOrders.{ordered_follows, comes_next}
@@ -183,14 +183,20 @@ ordered_act f x n order =
     record no_act { row = bare_at e.server x.lane; does = does_after order e.body }
 
 next_made : (b : Book) (f : FrameWorld) (w : World) (x : Line) (does : Operation) (order : PlainBody) → Follows b f w → b.foreign x.lane ≡ true
-    → 0 < b.settings.window → length w.journal ≡ w.carried
+    → 0 < b.settings.window → length w.journal ≡ w.carried → w.journal ≡ take (length w.journal) b.entries → ForeignOrder b w.carried x order
     → After b w x does (ordered_effect f x (w.carried + 1) order)
     → Follows b (frames.to_helper_link f (Some (frame_with x.lane x.serial (w.carried + 1) order)) (steps.arrives f.helper (frame_with x.lane x.serial (w.carried + 1) order)))
     (carries (acted w) x (bare_at (ordered_effect f x (w.carried + 1) order).server x.lane) does)
 unfolding steps.arrives
-next_made b f w x does order h foreign room count a =
+next_made b f w x does order h foreign room count journal ordered a =
     let number : nat_eq (w.carried + 1) (f.helper.carried + 1) ≡ true = eq-eqb _ _ (ap (λ n. n + 1) (sym h.helper.number)) in
-    rw number (foreign_carried b f w x does order _ h foreign room count a)
+    let answers : HelperAnswers b w.carried x order (ordered_effect f x (w.carried + 1) order).body = record {
+      helper = f.helper;
+      lanes = w.lanes;
+      stands = subst (HelperFollows b f.helper w.lanes w.carried) (journal ∙ ap (λ n. take n b.entries) count) h.helper;
+      answers = refl;
+    } in
+    rw number (foreign_carried b f w x does order _ h foreign room count answers ordered a)
 
 foreign_next : (o : Oracle) (w : World) (x : Line) (act : Act) → w.foreign x.lane ≡ true → o w.moment ≡ act
     → carries_next o w x ≡ carries (acted w) x act.row act.does
@@ -227,7 +233,8 @@ foreign_ordered b o f v w n place x l known after there h foreign k acts =
     let small = fr.link in
     let orders : Orders b f w x = record { follows = h; lane = fr.lane; serial = fr.serial; first = order.first x.lane x.serial fr.addressed; number = omega (arith, small, e) } in
     let at : n - 1 ≡ w.carried = omega (arith, e) in
-    let made = carried_made b f v w x known foreign orders due body (subst (λ i. ForeignOrder b i x body) at link.body) in
+    let ordered : ForeignOrder b w.carried x body = subst (λ i. ForeignOrder b i x body) at link.body in
+    let made = carried_made b f v w x known foreign orders due body ordered in
     let honest : w.foreign x.lane ≡ true = ap (λ foreign. foreign x.lane) h.foreign ∙ foreign in
     let act = ordered_act f x (w.carried + 1) body in
     let same : o w.moment ≡ act = acts body (ap (linked is_command f.helper.server.settings.width) spelled.bytes ∙ read) e ∙ ap (λ m. ordered_act f x m body) e in
@@ -237,7 +244,7 @@ foreign_ordered b o f v w n place x l known after there h foreign k acts =
     let entered = entry_is b w x act.does count (ended.journal ∙ ap (λ m. take m b.entries) (length-append w.journal (entry x act.does ∷ []) ∙ ap (λ m. m + 1) count)) in
     subst (λ u. Follows b (frames.to_helper_link f (Some g) (steps.arrives f.helper g)) u) (sym is)
     (subst (λ m. Follows b (frames.to_helper_link f (Some (frame_with x.lane x.serial m body)) (steps.arrives f.helper (frame_with x.lane x.serial m body))) (carries (acted w) x act.row act.does)) (sym e)
-    (next_made b f w x act.does body h foreign (known.sound.limits.3.0) count (made entered)))))
+    (next_made b f w x act.does body h foreign (known.sound.limits.3.0) count known.within.journal ordered (made entered)))))
 
 -- ---- with the act that is read off the helper's turn
 

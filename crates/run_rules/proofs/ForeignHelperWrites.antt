@@ -164,7 +164,7 @@ module _ (b : Book) (f : FrameWorld) (w : World) (c s : ℕ) (sound : Sound b) (
         k.follows foreign low k.serial entered refl (now_begun entered)
         (k.follows.helper.boxes ∙ begin_boxes b i c s entered)
         (ap (λ n. n + 1) k.follows.helper.draws ∙ sym (draws_more w.journal (entry begin BeginWrite)))
-        (foreign_reply b i begin _ BeginWrite entered refl reply_is)
+        (foreign_reply b i begin _ BeginWrite entered refl reply_is) tt
         (record { lane = k.lane; serial = k.serial; addressed = k.first; link = k.number; linked = omega arith; body = (boxes_small, ap length drawn ∙ helpers_draw_length b i) }))
 
     none_begun : steps.held_root stage ≡ None
@@ -193,7 +193,7 @@ module _ (b : Book) (f : FrameWorld) (w : World) (c s : ℕ) (sound : Sound b) (
         k.follows foreign low k.serial entered (refl, refl) (begun_later b i c s (entry audit AuditWrite) entered (λ never. never) p.begun)
         (k.follows.helper.boxes ∙ audit_boxes b i c s entered)
         (k.follows.helper.draws ∙ draws_same w.journal (entry audit AuditWrite) refl)
-        (foreign_reply b i audit _ AuditWrite entered refl refl)
+        (foreign_reply b i audit _ AuditWrite entered refl refl) tt
         (record { lane = k.lane; serial = k.serial; addressed = k.first; link = k.number; linked = omega arith; body = (opened_is b 1 c s sound foreign (lit< tt), closing_is b 1 c s sound foreign) }))
 
     none_audited : steps.held_proof stage ≡ None
@@ -237,7 +237,7 @@ module _ (b : Book) (f : FrameWorld) (w : World) (c s : ℕ) (sound : Sound b) (
         k.follows foreign low k.serial entered tt tt
         (ap (written b c s) k.follows.helper.boxes ∙ settle_boxes b i c s entered counts)
         (k.follows.helper.draws ∙ draws_same w.journal (entry settle SettleWrite) refl)
-        (foreign_reply b i settle (frame.LinkReply (judged (accepted_at b c s))) SettleWrite entered refl judged_is)
+        (foreign_reply b i settle (frame.LinkReply (judged (accepted_at b c s))) SettleWrite entered refl judged_is) p.begun
         (by_test (accepted_at b c s))))
       where
         is_settled : (t : Bool) → does_after (frame.LinkSettle (closing_at b 0 c s)) (frame.LinkReply (judged t)) ≡ SettleWrite

@@ -1,6 +1,6 @@
 -- The reply to a foreign lane's command comes to the leader, with the act that is read off its turn.
 use Rattle.std.proofs.Common.{◌≡◌, ◌∙◌, ℕ, ◌<◌, ◌≤◌, ◌^◌, ◌+◌, ◌-◌, ◌&&◌, cond, nat_eq, nat_lt, true, false, Bool, List, length, Option, Some, None, Ok, slice_get, refl, sym, ap, subst, inl, inr, arith}
-use Rattle.std.proofs.lemmas.Bool.{cases_Bool, eq-eqb, eqb-true, lt-ltb}
+use Rattle.std.proofs.lemmas.Bool.{cases_Bool, cond_both, eq-eqb, eqb-true, lt-ltb}
 use Rattle.std.proofs.lemmas.Option.{slice_get_within}
 use Rattle.frame_rules.specs.Frames as frame
 use Rattle.frame_rules.specs.Frames.{PlainFrame, PlainBody}
@@ -8,8 +8,8 @@ use Rattle.frame_rules.specs.Spelling.{IsFrame, IsAddressed}
 use Rattle.frame_rules.specs.Whole.{whole, linked, is_reply, has_width}
 use Rattle.mailbox_rules.specs.Requests.{Command, Registers, Begins, Audits, Settles, Reads, Retires, Line}
 use Rattle.token_rules.specs.Tokens as token
-use Rattle.token_rules.specs.Tokens.{World, Oracle, Act, no_act}
-use Rattle.token_rules.specs.Run.{comes, reply_comes, reply_applied, foreign_reply_comes, foreign_acks, has_settle, misfitted, acted}
+use Rattle.token_rules.specs.Tokens.{World, Oracle, Act, Row, no_act}
+use Rattle.token_rules.specs.Run.{comes, reply_comes, reply_applied, foreign_reply_comes, foreign_acks, has_settle, acted}
 use Rattle.token_rules.specs.Invariant.{Numbered, state}
 use Rattle.step_rules.specs.Leader as leader
 use Rattle.step_rules.specs.Leader.{AckTurn, row_at}
@@ -25,11 +25,11 @@ use Rattle.run_rules.specs.Acts.{act_of, fits_of, settles_of}
 use Rattle.run_rules.proofs.Basics.{whole_spelled}
 use Rattle.run_rules.proofs.LeaderReplies.{oldest_is, none_out, get_first, no_letters}
 use Rattle.run_rules.proofs.ForeignLeaderApplied.{Oldest}
-use Rattle.run_rules.proofs.ForeignLeaderReplies.{LeaderAcks, Misfits, Answered, Settled}
+use Rattle.run_rules.proofs.ForeignLeaderReplies.{LeaderAcks, Answered, Settled, acks_fit}
 use Rattle.run_rules.proofs.ForeignLeaderReplied.{fitted_acks}
 
 -- the act of a turn at a reply
-abbrev ack_act : AckTurn → ℕ → Act
+abbrev pub ack_act : AckTurn → ℕ → Act
 ack_act t c = record no_act { row = bare (row_at t.leader c); fits = fits_of t.ack; settles = settles_of t.ack }
 
 -- nothing changes but what the token run counts
@@ -60,14 +60,23 @@ no_settle Settles = refl
 no_settle Reads = refl
 no_settle Retires = refl
 
--- the token run that takes the act goes on as the frames' run
+acks_misfits : (w : World) (x : Line) (r : Row) (t : Bool) → (foreign_acks w x r t).misfits ≡ w.misfits
+unfolding foreign_acks
+acks_misfits w x r true = refl
+acks_misfits w x r false = refl
+
+-- the token run goes on as the frames' run where the reply is ignored
+ignored_act : (b : Book) (f : FrameWorld) (w : World) (x : Line) (o : Oracle) → Follows b f w → w.foreign x.lane ≡ true
+    → o w.moment ≡ ack_act (steps.ignored f.leader) x.lane
+    → Follows b (frames.to_leader_link f (steps.ignored f.leader)) (reply_applied o w x)
+unfolding reply_applied foreign_reply_comes
+ignored_act b f w x o h foreign same = rw (foreign, same) (counts_follow b f w (w.moment + 1) (w.misfits + 1) h)
+
+-- and where it takes the act
 applied_act : (b : Book) (f : FrameWorld) (w : World) (x : Line) (t : AckTurn) (o : Oracle) → Follows b f w → LeaderAcks b f w x t
     → w.foreign x.lane ≡ true → o w.moment ≡ ack_act t x.lane
     → Follows b (frames.to_leader_link f t) (reply_applied o w x)
 unfolding reply_applied foreign_reply_comes foreign_acks
-applied_act b f w x t o h (Misfits ignored) foreign same =
-    let none : fits_of t.ack ≡ false = ap (λ (t : AckTurn). fits_of t.ack) ignored in
-    rw (foreign, same, none) (subst (λ t. Follows b (frames.to_leader_link f t) (misfitted (acted w))) (sym ignored) (counts_follow b f w (w.moment + 1) (w.misfits + 1) h))
 applied_act b f w x t o h (Answered r fits settles row k) foreign same =
     let none = no_settle x.command in
     rw (foreign, same, fits, settles, none, row) k
@@ -150,6 +159,17 @@ module _ (b : Book) (f : FrameWorld) (v w : World) (n : ℕ) (x : Line) (g : Pla
       subst (LeaderAcks b f w x) (sym turn)
       (subst (λ c. LeaderAcks b f w x (steps.if_fits f.leader (steps.fits f.leader c g.body (steps.refusal_in g.body)))) is acks)
 
+  -- where it is read it fits, so that none is counted that doesn't
+  pub fits_then : (o : Oracle) → o w.moment ≡ ack_act (steps.if_reply f.leader (Some g)) x.lane
+      → (reply_comes o w n x).misfits ≡ w.misfits
+  unfolding reply_comes reply_applied foreign_reply_comes
+  fits_then o same = elim (cases_Bool (nat_eq n (w.acknowledged + 1))) [
+    | inr t ↦ rw t refl
+    | inl t ↦
+        let fits = acks_fit b f w x (steps.if_reply f.leader (Some g)) (oldest_acks (eqb-true n (w.acknowledged + 1) t)) in
+        rw (t, other, same, fits) (cond_both {A = World} (nat_lt w.acknowledged (length w.commands)) _ _ (λ u. u.misfits ≡ w.misfits) (λ e. acks_misfits (acted w) x _ _) (λ e. refl))
+  ]
+
   -- read as it may be
   link_comes : (found : Bool) (o : Oracle) → o w.moment ≡ ack_act (steps.if_reply f.leader (cond found (Some g) None)) x.lane
       → Follows b (frames.to_leader_link f (steps.if_reply f.leader (cond found (Some g) None))) (reply_comes o w n x)
@@ -157,7 +177,7 @@ module _ (b : Book) (f : FrameWorld) (v w : World) (n : ℕ) (x : Line) (g : Pla
   link_comes false o same = by_place (nat_eq n (w.acknowledged + 1) && nat_lt w.acknowledged (length w.commands))
     where
       by_place : (t : Bool) → Follows b (frames.to_leader_link f (steps.ignored f.leader)) (cond t (reply_applied o w x) w)
-      by_place true = applied_act b f w x (steps.ignored f.leader) o h (Misfits refl) other same
+      by_place true = ignored_act b f w x o h other same
       by_place false = no_letters b f w h
   link_comes true o same = elim (cases_Bool (nat_eq n (w.acknowledged + 1))) [
     | inr t ↦
@@ -174,7 +194,7 @@ module _ (b : Book) (f : FrameWorld) (v w : World) (n : ℕ) (x : Line) (g : Pla
 
 -- ---- it comes
 
-linked_either : (width : ℕ) (g : PlainFrame) (bytes : List ℕ) → whole bytes ≡ Ok g
+pub linked_either : (width : ℕ) (g : PlainFrame) (bytes : List ℕ) → whole bytes ≡ Ok g
     → linked is_reply width bytes ≡ cond (is_reply g.body && has_width width g.body) (Some g) None
 unfolding linked
 linked_either width g bytes e = rw e refl

@@ -27,13 +27,17 @@ use Rattle.run_rules.specs.Acts.{fits_of, settles_of}
 use Rattle.run_rules.proofs.ForeignLeaderApplied.{Oldest, foreign_applied_follows}
 use Rattle.run_rules.proofs.LeaderReplies.{applied}
 
--- a turn and its act: it doesn't fit, the lane is answered, or the settle is issued
+-- a turn and its act: the reply fits, and the lane is answered or the settle is issued
 pub data LeaderAcks (b : Book) (f : FrameWorld) (w : World) (x : Line) (t : AckTurn) : Type 0 where
-  Misfits : t ≡ steps.ignored f.leader → LeaderAcks b f w x t
   Answered : (r : Row) → fits_of t.ack ≡ true → settles_of t.ack ≡ false → row_at t.leader x.lane ≡ r
       → Follows b (frames.to_leader_link f t) (sends (with_leader (acknowledges (acted w)) x.lane (bare r)) (token.Foreign x.lane)) → LeaderAcks b f w x t
   Settled : (r : Row) → fits_of t.ack ≡ true → settles_of t.ack ≡ true → x.command ≡ Audits → row_at t.leader x.lane ≡ r
       → Follows b (frames.to_leader_link f t) (issues (with_leader (acknowledges (acted w)) x.lane (bare r)) (line_of x.lane x.serial Settles)) → LeaderAcks b f w x t
+
+pub acks_fit : (b : Book) (f : FrameWorld) (w : World) (x : Line) (t : AckTurn) → LeaderAcks b f w x t
+    → fits_of t.ack ≡ true
+acks_fit b f w x t (Answered r fits settles row k) = fits
+acks_fit b f w x t (Settled r fits settles audits row k) = fits
 
 refusal_spelled : (r : Refusal) → IsReplyRefusal r → IsRefusal r
 refusal_spelled (refusal.Lane limit) h = h

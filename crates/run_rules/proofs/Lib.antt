@@ -75,6 +75,7 @@ pub mod WholeDrives
 pub mod WholePools
 pub mod PlainOutcomes
 pub mod PlainBoxes
+pub mod PlainStrangers
 pub mod PlainEnds
 pub mod PlainRegistered
 pub mod WholeTruths
@@ -93,6 +94,7 @@ pub mod ForeignLeaderTaken
 pub mod ForeignLeaderFirst
 pub mod ForeignLeaderFinds
 pub mod ForeignHelperFinds
+pub mod ForeignFits
 pub mod WholeBoth
 pub mod WholeActs
 pub mod WholeWorlds
@@ -105,3 +107,10 @@ pub mod WholeHelperRows
 pub mod WholeHelperTaken
 pub mod WholeLeaderLinks
 pub mod FaultLaws
+pub mod SoundPasses
+pub mod SoundChanges
+pub mod SoundEnds
+pub mod EveryEnd
+pub mod OutcomesGrow
+pub mod FinishAnswers
+pub mod PlainRefusals

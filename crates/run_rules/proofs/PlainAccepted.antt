@@ -17,7 +17,7 @@ use Rattle.mailbox_rules.proofs.Folds.{addresses_differ}
 use Rattle.mailbox_rules.proofs.Owners.{boxes_are_registered}
 use Rattle.token_rules.proofs.Lists.{get_taken}
 use Rattle.run_rules.specs.Book.{Book, table_at}
-use Rattle.run_rules.specs.Plain.{IsClients}
+use Rattle.run_rules.specs.Plain.{IsHistory}
 use Rattle.run_rules.proofs.PlainWrites.{addresses_small}
 use Rattle.audit_rules.specs.Audit.{ServersAccept, zero_share, one_share}
 use Rattle.audit_rules.specs.Ranges.{word_in_range}
@@ -61,7 +61,7 @@ honest_audit target message root0 root1 places key words sigma ht hs in_places i
 
 -- ---- the addresses of a history's boxes
 
-module _ (b : Book) (k : IsClients b) (i : ℕ) where
+module _ (b : Book) (k : IsHistory b) (i : ℕ) where
   abbrev places : List ℕ
   places = addresses (table_at b i).boxes
 

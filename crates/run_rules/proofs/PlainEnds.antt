@@ -1,9 +1,12 @@
 -- At the end of a schedule of clients each outcome and each printed line is that of the plain table.
-use Rattle.std.proofs.Common.{◌≡◌, ◌+◌, ◌-◌, ℕ, zero, suc, Bool, true, false, cond, List, [], ◌∷◌, length, take, Option, Some, None, slice_get, refl, sym, ap, ap₂, ◌∙◌, subst, arith}
+use Rattle.std.proofs.Common.{◌≡◌, ◌+◌, ◌-◌, ℕ, zero, suc, Bool, true, false, cond, List, [], ◌∷◌, length, take, Contains, Option, Some, None, slice_get, refl, sym, ap, ap₂, ◌∙◌, ◌⊎◌, subst, inl, inr, arith}
+use Rattle.std.proofs.lemmas.Bool.{cases_Bool}
 use Rattle.std.specs.Option.{option_map}
+use Rattle.express_words.specs.declared.refusal.Refusal.{Refusal}
 use Rattle.std.proofs.lemmas.Option.{slice_get-map}
-use Rattle.mailbox_rules.specs.Requests.{Request, Register, Write, Read, Retire, Command, Registers, Begins, Audits, Settles, Reads, Retires, Line, Entry, Refuse, lines_of, opening_of, opens_with, operation_of, reads_box, retires_box}
+use Rattle.mailbox_rules.specs.Requests.{Request, Register, Write, Read, Retire, Command, Registers, Begins, Audits, Settles, Reads, Retires, Line, Entry, SettleWrite, RetireBox, Refuse, lines_of, opening_of, opens_with, operation_of, reads_box, retires_box}
 use Rattle.mailbox_rules.specs.Tables.{Mailbox, Result, Registered, Taken, Full, Began, WasAudited, Settled, Gave, NoBox, Refused, given, result_of, result_outline, result_sum, no_writes, table_after}
+use Rattle.mailbox_rules.specs.Laws.{Did}
 use Rattle.token_rules.specs.Tokens as token
 use Rattle.token_rules.specs.Tokens.{World}
 use Rattle.token_rules.specs.Run.{line_of}
@@ -12,30 +15,37 @@ use Rattle.token_rules.specs.Laws.{HasLine, HasLines, IsJournaled, last_of, turn
 use Rattle.token_rules.specs.Invariant.{Backed, state}
 use Rattle.token_rules.specs.Stages.{IsOpening}
 use Rattle.token_rules.proofs.Lists.{get_taken}
+use Rattle.step_rules.specs.Client as client
 use Rattle.step_rules.specs.Client.{Outcome}
 use Rattle.run_rules.specs.Letters as run
 use Rattle.run_rules.specs.Letters.{Ended, FrameWorld, JournalLine, NoOwnBox, Told, Value}
 use Rattle.run_rules.specs.Book as book
 use Rattle.run_rules.specs.Book.{Book, all_boxes, place, request_of, table_at}
-use Rattle.run_rules.specs.Values.{boxes_at, shares_at, writes_at}
+use Rattle.run_rules.specs.Values.{accepted_at, boxes_at, counted_at, shares_at, writes_at}
 use Rattle.run_rules.proofs.ReadCommands.{journal_count}
 use Rattle.run_rules.specs.Frames.{answer_at, answer_with, last_at, last_in, line_value, result_at}
 use Rattle.run_rules.specs.Follows.{AreOutcomes, Follows, IsLineOf, IsOutcome, Journals, Sound, TellsSame, Within, given_in, message_told, says}
 use Rattle.run_rules.specs.Known.{IsWhole}
-use Rattle.run_rules.specs.Plain.{IsAnswered, IsClients, IsToldPlain, JournalIsPlain, OutcomesArePlain, SharesAreFolds, outcome_of, plain_result, printed_of}
+use Rattle.run_rules.specs.Plain.{IsAnswer, IsAnswered, IsClients, IsDue, IsHistory, IsPlainLine, IsRefusedLine, IsToldPlain, BoxesArePlain, JournalIsPlain, JournalIsTold, OutcomesArePlain, SharesAreFolds, outcome_of, plain_at, plain_of, plain_result, printed_of, shared_result}
 use Rattle.run_rules.proofs.Places.{place_is}
 use Rattle.run_rules.proofs.ReadBasics.{asks, holds_box}
-use Rattle.run_rules.proofs.PlainTables.{results_are_plain}
+use Rattle.run_rules.proofs.PlainTables.{results_are_plain, shares_are_plain}
+use Rattle.run_rules.proofs.PlainRegistered.{registered_accepted}
 use Rattle.run_rules.proofs.PlainBoxes.{owned_then}
+use Rattle.run_rules.proofs.PlainRefusals.{due, no_box}
 use Rattle.run_rules.proofs.PlainOutcomes.{IsOf, NamesSo, comes_to, outlines_agree, prints, tells}
+use Rattle.run_rules.proofs.PlainStrangers.{strange_line}
 
--- ---- the history is one of clients
+-- ---- the entries of clients answer requests
 
-module _ (b : Book) (v : World) (sound : Sound b) (whole : IsWhole b v) (honest : (c : ℕ) → b.foreign c ≡ false) where
-  hon : (c : ℕ) → v.foreign c ≡ false
-  hon c = ap (λ f. f c) whole.foreign ∙ honest c
+module _ (b : Book) (v : World) (whole : IsWhole b v) where
+  abbrev Honest : ℕ → Type 0
+  Honest c = b.foreign c ≡ false
 
-  entry_there : (i : ℕ) (e : Entry) → slice_get b.entries i ≡ Some e → slice_get v.journal i ≡ Some e
+  hon : (c : ℕ) → Honest c → v.foreign c ≡ false
+  hon c honest = ap (λ f. f c) whole.foreign ∙ honest
+
+  pub entry_there : (i : ℕ) (e : Entry) → slice_get b.entries i ≡ Some e → slice_get v.journal i ≡ Some e
   entry_there i e is = ap (λ es. slice_get es i) whole.journal ∙ is
 
   tables_same : (i : ℕ) → laws.table_at v i ≡ table_at b i
@@ -52,9 +62,9 @@ module _ (b : Book) (v : World) (sound : Sound b) (whole : IsWhole b v) (honest 
     pub does : e.does ≡ operation_of ((table_at b i).got e.line.lane) e.line.command (Some request)
     pub done : e.does ≡ Refuse → ⊥
 
-  pub answers : (i : ℕ) (e : Entry) → slice_get b.entries i ≡ Some e → Answers i e
-  answers i e is =
-      let by = whole.lawful.operations i e (entry_there i e is) (hon e.line.lane) in
+  pub answers : (i : ℕ) (e : Entry) → slice_get b.entries i ≡ Some e → Honest e.line.lane → Answers i e
+  answers i e is honest =
+      let by = whole.lawful.operations i e (entry_there i e is) (hon e.line.lane honest) in
       record {
         request = by.sent.request;
         asked = ap (λ rs. slice_get rs (e.line.serial - 1)) (sym (whole.sent e.line.lane)) ∙ by.sent.is;
@@ -63,21 +73,34 @@ module _ (b : Book) (v : World) (sound : Sound b) (whole : IsWhole b v) (honest 
         done = by.done;
       }
 
-  pub clients : IsClients b
-  clients = record {
-    sound = sound;
-    lanes = honest;
-    answers = λ i e is.
-        let a = answers i e is in
-        record { request = a.request; is = a.asked; does = a.does ∙ ap (operation_of ((table_at b i).got e.line.lane) e.line.command) (sym a.asked) };
-  }
+  pub is_answer : (i : ℕ) (e : Entry) → slice_get b.entries i ≡ Some e → Honest e.line.lane → IsAnswer b i e
+  is_answer i e is honest =
+      let a = answers i e is honest in
+      record { request = a.request; is = a.asked; does = a.does ∙ ap (operation_of ((table_at b i).got e.line.lane) e.line.command) (sym a.asked) }
+
+  -- where each lane is a client's the history is one of clients
+  pub clients : Sound b → ((c : ℕ) → Honest c) → IsClients b
+  clients sound honest = record { sound = sound; lanes = honest; answers = λ i e is. is_answer i e is (honest e.line.lane) }
 
   -- ---- an entry's results
 
-  is_of : (i : ℕ) (e : Entry) → slice_get b.entries i ≡ Some e → IsOf e.line.command (result_at b 1 i e.line)
+  -- they are what its request asks for
+  shared_is : (server i : ℕ) (e : Entry) → slice_get b.entries i ≡ Some e → Honest e.line.lane
+      → result_at b server i e.line ≡ shared_result b server i e
+  unfolding result_at shared_result
+  shared_is server i e is honest =
+      ap (result_of b.settings.boxes (writes_at b server) (shares_at b server i) e.line) (sym (is_answer i e is honest).does)
+
+  alike : (i : ℕ) (e : Entry) → slice_get b.entries i ≡ Some e → Honest e.line.lane
+      → result_outline (result_at b 0 i e.line) ≡ result_outline (result_at b 1 i e.line)
+  alike i e is honest =
+      ap (λ r. result_outline r) (shared_is 0 i e is honest) ∙ outlines_agree b i e is ∙ ap (λ r. result_outline r) (sym (shared_is 1 i e is honest))
+
+  is_of : (i : ℕ) (e : Entry) → slice_get b.entries i ≡ Some e → Honest e.line.lane
+      → IsOf e.line.command (result_at b 1 i e.line)
   unfolding result_at
-  is_of i e is =
-      let a = answers i e is in
+  is_of i e is honest =
+      let a = answers i e is honest in
       let got = (table_at b i).got e.line.lane in
       let t = shares_at b 1 i in
       subst (λ (r : Option Request). IsOf e.line.command (result_of b.settings.boxes (writes_at b 1) t e.line (operation_of got e.line.command r))) (sym a.asked)
@@ -140,41 +163,99 @@ module _ (b : Book) (v : World) (sound : Sound b) (whole : IsWhole b v) (honest 
       → message_told b c s ≡ given_in (result_sum (result_at b 0 i (line_of c s y)) (result_at b 1 i (line_of c s y)))
   message_is c s i y last at = rw (last, at) refl
 
-  module _ (within : Within b v) where
-    answered : (c s : ℕ) (opening : Command) (outcome : Outcome) → IsOpening opening → HasLines (lines_of v.journal) c s opening
-        → says (answer_at b c s) (message_told b c s) ≡ Some outcome → IsAnswered b c outcome
-    answered c s opening outcome opens has told =
+  -- the result at the plain table is the sum of both servers' results
+  sum_is : IsHistory b → (i : ℕ) (e : Entry) → slice_get b.entries i ≡ Some e → Honest e.line.lane
+      → result_sum (result_at b 0 i e.line) (result_at b 1 i e.line) ≡ plain_result b i e
+  sum_is k i e is honest =
+      ap₂ result_sum (shared_is 0 i e is honest) (shared_is 1 i e is honest) ∙ results_are_plain b k i e is
+
+  -- ---- refusals
+
+  plain_is_of : (i : ℕ) (e : Entry) → slice_get b.entries i ≡ Some e → Honest e.line.lane → IsOf e.line.command (plain_result b i e)
+  unfolding plain_result
+  plain_is_of i e is honest =
+      let a = answers i e is honest in
+      let got = (table_at b i).got e.line.lane in
+      subst (λ does. IsOf e.line.command (result_of b.settings.boxes (plain_of b) (plain_at b i) e.line does)) (sym a.does)
+      (comes_to b.settings.boxes (plain_of b) (plain_at b i) e.line got e.line.command a.request (λ refuse. a.done (a.does ∙ refuse)))
+
+  retired_before : (i : ℕ) (e : Entry) → slice_get b.entries i ≡ Some e → Honest e.line.lane → (n : ℕ) → plain_result b i e ≡ NoBox n
+      → Did (take i b.entries) (RetireBox n)
+  unfolding plain_result plain_at
+  retired_before i e is honest n none =
+      let writes = plain_of b in
+      let P : ℕ → ℕ → List Entry → Type 0 = λ limit width es. result_of limit writes (table_after limit width writes (take i es)) e.line e.does ≡ NoBox n in
+      let one = subst (λ limit. P limit b.settings.width b.entries) (sym whole.limit) none in
+      let two = subst (λ width. P v.limit width b.entries) (sym whole.width) one in
+      let three = subst (λ es. P v.limit v.width es) (sym whole.journal) two in
+      subst (λ es. Did (take i es) (RetireBox n)) whole.journal
+      (whole.lawful.reads writes i n e (entry_there i e is) (hon e.line.lane honest) (no_box _ _ _ e.line e.does n none) three)
+
+  settles_accepted : IsHistory b → (i : ℕ) (e : Entry) → slice_get b.entries i ≡ Some e → Honest e.line.lane
+      → e.line.command ≡ Settles → (target : ℕ) (message : List ℕ)
+      → request_of b e.line.lane e.line.serial ≡ Some (Write target message) → plain_result b i e ≡ Settled false
+      → Contains (counted_at b e.line.lane e.line.serial) target → ⊥
+  unfolding plain_result result_of
+  settles_accepted k i e is honest settles target message asked refused there =
+      let a = answers i e is honest in
+      let same : Some a.request ≡ Some (Write target message) = sym a.asked ∙ asked in
+      let does : e.does ≡ SettleWrite =
+      a.does ∙ ap (operation_of ((table_at b i).got e.line.lane) e.line.command) same
+      ∙ ap (λ y. operation_of ((table_at b i).got e.line.lane) y (Some (Write target message))) settles in
+      let result : plain_result b i e ≡ Settled (accepted_at b e.line.lane e.line.serial) =
+      ap (result_of b.settings.boxes (plain_of b) (plain_at b i) e.line) does in
+      let accepted = registered_accepted b k e.line.lane e.line.serial target message asked there in
+      cc (result, refused, accepted)
+
+  due_at : IsHistory b → (i : ℕ) (e : Entry) → slice_get b.entries i ≡ Some e → Honest e.line.lane → (request : Request)
+      → request_of b e.line.lane e.line.serial ≡ Some request → e.line.command ≡ last_of (opening_of request)
+      → (refused : Refusal) → outcome_of b e.line (plain_result b i e) ≡ Some (client.Refused refused)
+      → IsDue b i e.line request refused
+  due_at k i e is honest request asked last refused told =
+      due b i e.line refused request (plain_result b i e) (subst (λ y. IsOf y (plain_result b i e)) last (plain_is_of i e is honest)) told
+      (λ target message write settled.
+      settles_accepted k i e is honest (last ∙ ap (λ r. last_of (opening_of r)) write) target message (asked ∙ ap (λ r. Some r) write) settled)
+      (retired_before i e is honest)
+
+  module _ (k : IsHistory b) (within : Within b v) where
+    answered : (c s : ℕ) (opening : Command) (outcome : Outcome) → Honest c → IsOpening opening → HasLines (lines_of v.journal) c s opening
+        → says (answer_at b c s) (message_told b c s) ≡ Some outcome → IsAnswered b c s outcome
+    answered c s opening outcome honest opens has told =
         let y = last_of opening in
         let there = last_there (lines_of v.journal) c s opening has in
         let i = there.0 in
         let found = entry_of i (line_of c s y) there.1 in
         let e = found.entry in
-        let a = answers i e found.is in
         let lane : e.line.lane ≡ c = ap (λ x. x.lane) found.line in
+        let mine : Honest e.line.lane = ap b.foreign lane ∙ honest in
+        let a = answers i e found.is mine in
         let serial : e.line.serial ≡ s = ap (λ x. x.serial) found.line in
         let command : e.line.command ≡ y = ap (λ x. x.command) found.line in
         let asked : request_of b c s ≡ Some a.request = ap₂ (request_of b) (sym lane) (sym serial) ∙ a.asked in
         let opening_is : opening ≡ opening_of a.request = sym (opening_again opening opens) ∙ ap opens_with (sym command) ∙ a.opens in
         let last : last_at b c s ≡ y = ap last_in asked ∙ ap last_of (sym opening_is) in
         let issued = get_taken v.commands v.carried i (line_of c s y) (ap (λ xs. slice_get xs i) (sym whole.lawful.coherent.journal) ∙ there.1) in
-        let at = place_is b v whole.lawful.stages c s i y whole.lawful.coherent within (hon c) issued.1 in
+        let at = place_is b v whole.lawful.stages c s i y whole.lawful.coherent within (hon c honest) issued.1 in
         let says_it = ap₂ says (sym (answer_is c s i y last at)) (sym (message_is c s i y last at)) ∙ told in
         let kind : IsOf y (result_at b 1 i (line_of c s y)) =
-        subst (λ z. IsOf z (result_at b 1 i (line_of c s y))) command (subst (λ x. IsOf e.line.command (result_at b 1 i x)) found.line (is_of i e found.is)) in
+        subst (λ z. IsOf z (result_at b 1 i (line_of c s y))) command (subst (λ x. IsOf e.line.command (result_at b 1 i x)) found.line (is_of i e found.is mine)) in
         let alike : result_outline (result_at b 0 i (line_of c s y)) ≡ result_outline (result_at b 1 i (line_of c s y)) =
-        subst (λ x. result_outline (result_at b 0 i x) ≡ result_outline (result_at b 1 i x)) found.line (outlines_agree b clients i e found.is) in
+        subst (λ x. result_outline (result_at b 0 i x) ≡ result_outline (result_at b 1 i x)) found.line (alike i e found.is mine) in
         let tells_it = tells b i (line_of c s y) y _ _ kind (not_begin opening) (not_audit opening opens) alike outcome says_it in
+        let is_last = ap last_of opening_is in
+        let told_plain : outcome_of b e.line (plain_result b i e) ≡ Some outcome =
+        ap (outcome_of b e.line) (sym (sum_is k i e found.is mine))
+        ∙ subst (λ x. outcome_of b x (result_sum (result_at b 0 i x) (result_at b 1 i x)) ≡ Some outcome) (sym found.line) tells_it in
         record {
+          request = a.request;
+          asked = asked;
+          lines = subst (HasLines (lines_of b.entries) c s) opening_is (subst (λ es. HasLines (lines_of es) c s opening) whole.journal has);
           place = i;
           entry = e;
           is = found.is;
-          lane = lane;
-          request = a.request;
-          asked = ap (request_of b c) serial ∙ asked;
-          last = command ∙ ap last_of opening_is;
-          told =
-              ap (outcome_of b e.line) (sym (results_are_plain b clients i e found.is))
-              ∙ subst (λ x. outcome_of b x (result_sum (result_at b 0 i x) (result_at b 1 i x)) ≡ Some outcome) (sym found.line) tells_it;
+          last = found.line ∙ ap (line_of c s) is_last;
+          told = told_plain;
+          due = λ refused same. due_at k i e found.is mine a.request a.asked (command ∙ is_last) refused (told_plain ∙ ap (λ o. Some o) same);
         }
 
     outcome_at : (xs : List token.Outcome) (ys : List run.Outcome) (k : ℕ) (y : run.Outcome) → AreOutcomes b xs ys
@@ -190,23 +271,31 @@ module _ (b : Book) (v : World) (sound : Sound b) (whole : IsWhole b v) (honest 
         let at = outcome_at v.outcomes f.outcomes k y h.outcomes e in
         let x = at.0 in
         let stands = whole.lawful.outcomes k x at.1.0 in
-        let backed = (whole.lawful.coherent.outcomes k x at.1.0).1 in
-        subst (λ c. IsToldPlain b c y.told) (sym at.1.1.client) (by_told x.client x.told y.told stands backed at.1.1.told)
+        let backed = whole.lawful.coherent.outcomes k x at.1.0 in
+        let honest : Honest x.client = ap (λ f. f x.client) (sym whole.foreign) ∙ backed.0 in
+        record {
+          outcome = x;
+          is = at.1.0;
+          client = at.1.1.client;
+          request = at.1.1.request;
+          told = subst (λ c. IsToldPlain b c x.told y.told) (sym at.1.1.client) (by_told x.client x.told y.told honest stands backed.1 at.1.1.told);
+        }
       where
-        by_told : (c : ℕ) (t : token.Told) (u : Told) → IsJournaled (lines_of v.journal) c t
-            → Backed (state v whole.lawful.stages) c t → TellsSame b c t u → IsToldPlain b c u
-        by_told c (token.Answered s opening) (Ended outcome) stands backed told = answered c s opening outcome backed.0 stands told
-        by_told c (token.Answered s opening) (NoOwnBox own) stands backed told = absurd told
-        by_told c (token.NoOwnBox own) u stands backed told = subst (λ u. IsToldPlain b c u) (sym told) tt
+        by_told : (c : ℕ) (t : token.Told) (u : Told) → Honest c → IsJournaled (lines_of v.journal) c t
+            → Backed (state v whole.lawful.stages) c t → TellsSame b c t u → IsToldPlain b c t u
+        by_told c (token.Answered s opening) (Ended outcome) honest stands backed told = answered c s opening outcome honest backed.0 stands told
+        by_told c (token.Answered s opening) (NoOwnBox own) honest stands backed told = absurd told
+        by_told c (token.NoOwnBox own) (NoOwnBox other) honest stands backed told = cc told
+        by_told c (token.NoOwnBox own) (Ended outcome) honest stands backed told = absurd (cc told)
 
   -- ---- the journal
 
-  name_of_read : (stays : Bool) (i : ℕ) (e : Entry) (own : ℕ) → slice_get b.entries i ≡ Some e → turn e.line.command ≡ 0
+  name_of_read : (stays : Bool) (i : ℕ) (e : Entry) (own : ℕ) → slice_get b.entries i ≡ Some e → Honest e.line.lane → turn e.line.command ≡ 0
       → request_of b e.line.lane e.line.serial ≡ Some (asks stays own) → (n : ℕ)
       → slice_get ((table_at b i).got e.line.lane) own ≡ Some n → book.box_of b e.line.lane e.line.serial ≡ n
-  name_of_read stays i e own is opens q n got =
+  name_of_read stays i e own is honest opens q n got =
       (holds_box b stays e.line.lane e.line.serial own n q
-      (ap (λ ns. slice_get ns own) (owned_then b v whole e.line.lane i e is refl (honest e.line.lane) opens) ∙ got)).named
+      (ap (λ ns. slice_get ns own) (owned_then b v whole e.line.lane i e is refl honest opens) ∙ got)).named
 
   given_names : (n m : ℕ) (bytes : List ℕ) (o : Option Mailbox) → given n o ≡ Gave m bytes → n ≡ m
   given_names n m bytes None e = absurd (cc e)
@@ -238,41 +327,41 @@ module _ (b : Book) (v : World) (sound : Sound b) (whole : IsWhole b v) (honest 
   comes i e y r =
       result_of b.settings.boxes (writes_at b 1) (shares_at b 1 i) e.line (operation_of ((table_at b i).got e.line.lane) y (Some r))
 
-  box_given : (i : ℕ) (e : Entry) (n : ℕ) (bytes : List ℕ) (y : Command) (r : Request) → slice_get b.entries i ≡ Some e
+  box_given : (i : ℕ) (e : Entry) (n : ℕ) (bytes : List ℕ) (y : Command) (r : Request) → slice_get b.entries i ≡ Some e → Honest e.line.lane
       → IsOf y (Gave n bytes) → opens_with y ≡ opening_of r → e.line.command ≡ y
       → request_of b e.line.lane e.line.serial ≡ Some r → comes i e y r ≡ Gave n bytes
       → book.box_of b e.line.lane e.line.serial ≡ n
-  box_given i e n bytes Reads (Read own) is k opens y q h =
-      name_of_read true i e own is (ap turn y) q n (read_names i e.line (slice_get ((table_at b i).got e.line.lane) own) n bytes h)
-  box_given i e n bytes Retires (Retire own) is k opens y q h =
-      name_of_read false i e own is (ap turn y) q n (retire_names i e.line (slice_get ((table_at b i).got e.line.lane) own) n bytes h)
-  box_given i e n bytes Reads (Register a) is k opens y q h = absurd (cc opens)
-  box_given i e n bytes Reads (Write t m) is k opens y q h = absurd (cc opens)
-  box_given i e n bytes Reads (Retire own) is k opens y q h = absurd (cc opens)
-  box_given i e n bytes Retires (Register a) is k opens y q h = absurd (cc opens)
-  box_given i e n bytes Retires (Write t m) is k opens y q h = absurd (cc opens)
-  box_given i e n bytes Retires (Read own) is k opens y q h = absurd (cc opens)
-  box_given i e n bytes Registers r is k opens y q h = absurd k
-  box_given i e n bytes Begins r is k opens y q h = absurd k
-  box_given i e n bytes Audits r is k opens y q h = absurd k
-  box_given i e n bytes Settles r is k opens y q h = absurd k
+  box_given i e n bytes Reads (Read own) is honest k opens y q h =
+      name_of_read true i e own is honest (ap turn y) q n (read_names i e.line (slice_get ((table_at b i).got e.line.lane) own) n bytes h)
+  box_given i e n bytes Retires (Retire own) is honest k opens y q h =
+      name_of_read false i e own is honest (ap turn y) q n (retire_names i e.line (slice_get ((table_at b i).got e.line.lane) own) n bytes h)
+  box_given i e n bytes Reads (Register a) is honest k opens y q h = absurd (cc opens)
+  box_given i e n bytes Reads (Write t m) is honest k opens y q h = absurd (cc opens)
+  box_given i e n bytes Reads (Retire own) is honest k opens y q h = absurd (cc opens)
+  box_given i e n bytes Retires (Register a) is honest k opens y q h = absurd (cc opens)
+  box_given i e n bytes Retires (Write t m) is honest k opens y q h = absurd (cc opens)
+  box_given i e n bytes Retires (Read own) is honest k opens y q h = absurd (cc opens)
+  box_given i e n bytes Registers r is honest k opens y q h = absurd k
+  box_given i e n bytes Begins r is honest k opens y q h = absurd k
+  box_given i e n bytes Audits r is honest k opens y q h = absurd k
+  box_given i e n bytes Settles r is honest k opens y q h = absurd k
 
-  names_so : (i : ℕ) (e : Entry) → slice_get b.entries i ≡ Some e → (r : Result) → result_at b 1 i e.line ≡ r
+  names_so : (i : ℕ) (e : Entry) → slice_get b.entries i ≡ Some e → Honest e.line.lane → (r : Result) → result_at b 1 i e.line ≡ r
       → NamesSo b e.line.lane e.line.serial r
-  names_so i e is (Gave n bytes) gives =
-      let a = answers i e is in
-      box_given i e n bytes e.line.command a.request is (subst (IsOf e.line.command) gives (is_of i e is)) a.opens refl a.asked
+  names_so i e is honest (Gave n bytes) gives =
+      let a = answers i e is honest in
+      box_given i e n bytes e.line.command a.request is honest (subst (IsOf e.line.command) gives (is_of i e is honest)) a.opens refl a.asked
       (sym (result_is i e a) ∙ gives)
-  names_so i e is (Registered n) gives = tt
-  names_so i e is (Taken n) gives = tt
-  names_so i e is (Full n) gives = tt
-  names_so i e is (Began n) gives = tt
-  names_so i e is WasAudited gives = tt
-  names_so i e is (Settled t) gives = tt
-  names_so i e is (NoBox n) gives = tt
-  names_so i e is Refused gives = tt
+  names_so i e is honest (Registered n) gives = tt
+  names_so i e is honest (Taken n) gives = tt
+  names_so i e is honest (Full n) gives = tt
+  names_so i e is honest (Began n) gives = tt
+  names_so i e is honest WasAudited gives = tt
+  names_so i e is honest (Settled t) gives = tt
+  names_so i e is honest (NoBox n) gives = tt
+  names_so i e is honest Refused gives = tt
 
-  line_at : (n : ℕ) (es : List Entry) (ls : List JournalLine) (i : ℕ) (e : Entry) → Journals b n es ls → slice_get es i ≡ Some e
+  pub line_at : (n : ℕ) (es : List Entry) (ls : List JournalLine) (i : ℕ) (e : Entry) → Journals b n es ls → slice_get es i ≡ Some e
       → (l : JournalLine) × ((slice_get ls i ≡ Some l) × IsLineOf b (b.foreign e.line.lane) (n + i) e l)
   line_at n (x ∷ es) (l ∷ ls) zero e h is =
       let same : x ≡ e = cc in
@@ -291,26 +380,42 @@ module _ (b : Book) (v : World) (sound : Sound b) (whole : IsWhole b v) (honest 
   same_count n [] (l ∷ ls) h = absurd h
   same_count n (e ∷ es) [] h = absurd h
 
-  printed_is : (i : ℕ) (e : Entry) → slice_get b.entries i ≡ Some e
-      → line_value b i e.line ≡ record { lane = e.line.lane; serial = e.line.serial; value = printed_of b e.line (plain_result b i e) }
-  printed_is i e is =
-      let value = prints b i e.line.lane e.line.serial e.line.command (result_at b 0 i e.line) (result_at b 1 i e.line) (is_of i e is)
-      (names_so i e is (result_at b 1 i e.line) refl) (outlines_agree b clients i e is) in
-      ap (λ u. journal_of e.line u) (value ∙ ap (printed_of b e.line) (results_are_plain b clients i e is))
+  printed_is : IsHistory b → (i : ℕ) (e : Entry) → slice_get b.entries i ≡ Some e → Honest e.line.lane
+      → IsPlainLine b i e (line_value b i e.line)
+  printed_is k i e is honest =
+      let value = prints b i e.line.lane e.line.serial e.line.command (result_at b 0 i e.line) (result_at b 1 i e.line) (is_of i e is honest)
+      (names_so i e is honest (result_at b 1 i e.line) refl) (alike i e is honest) in
+      ap (λ u. journal_of e.line u) (value ∙ ap (printed_of b e.line) (sum_is k i e is honest))
     where
       journal_of : Line → Value → JournalLine
       journal_of x u = record { lane = x.lane; serial = x.serial; value = u }
 
-  pub journal_is_plain : (f : FrameWorld) → Follows b f v → JournalIsPlain b f v
-  journal_is_plain f h = record {
+  pub journal_is_told : (f : FrameWorld) → IsHistory b → Follows b f v → JournalIsTold b f v
+  journal_is_told f k h = record {
     count = same_count 0 v.journal f.journal h.journal ∙ ap length whole.journal;
     lines = λ i e is.
         let at = line_at 0 v.journal f.journal i e h.journal (entry_there i e is) in
         let none : 0 + i ≡ i = omega arith in
-        let line : at.0 ≡ line_value b i e.line =
-        subst (λ k. at.0 ≡ line_value b k e.line) none (subst (λ t. IsLineOf b t (0 + i) e at.0) (honest e.line.lane) at.1.1) in
-        at.1.0 ∙ ap (λ l. Some l) (line ∙ printed_is i e is);
+        let line = subst (λ n. IsLineOf b (b.foreign e.line.lane) n e at.0) none at.1.1 in (
+          at.0,
+          at.1.0,
+          elim (cases_Bool (b.foreign e.line.lane)) [
+            | inl foreign ↦ strange_line b k i e at.0 is foreign (subst (λ t. IsLineOf b t i e at.0) foreign line)
+            | inr honest ↦ inl (subst (λ t. IsLineOf b t i e at.0) honest line ∙ printed_is k i e is honest)
+          ],
+        );
   }
+
+  -- where each lane is a client's none is refused
+  pub journal_is_plain : (f : FrameWorld) → IsHistory b → ((c : ℕ) → Honest c) → Follows b f v → JournalIsPlain b f v
+  journal_is_plain f k honest h = let told = journal_is_told f k h in record {
+    count = told.count;
+    lines = λ i e is. let at = told.lines i e is in at.1 ∙ ap (λ l. Some l) (plain_line i e at.0 at.2);
+  }
+    where
+      plain_line : (i : ℕ) (e : Entry) (line : JournalLine) → IsPlainLine b i e line ⊎ IsRefusedLine b i e line → IsPlainLine b i e line
+      plain_line i e line (inl plain) = plain
+      plain_line i e line (inr refused) = absurd (cc (refused.foreign, honest e.line.lane))
 
   -- ---- the boxes
 
@@ -324,3 +429,9 @@ module _ (b : Book) (v : World) (sound : Sound b) (whole : IsWhole b v) (honest 
         leader = h.leader.boxes;
         acknowledged = omega (arith, count, before);
       }
+
+  pub boxes_are_plain : {f : FrameWorld} {w : World} → IsHistory b → BoxesArePlain b f w
+  boxes_are_plain k = record {
+    shares = λ i. shares_are_plain b k i;
+    accepted = λ c serial target message asked there. registered_accepted b k c serial target message asked there;
+  }

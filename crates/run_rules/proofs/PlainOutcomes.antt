@@ -14,9 +14,9 @@ use Rattle.run_rules.specs.Run.{value_of}
 use Rattle.run_rules.specs.Book as book
 use Rattle.run_rules.specs.Book.{Book, table_at}
 use Rattle.run_rules.specs.Values.{shares_at, writes_at}
-use Rattle.run_rules.specs.Frames.{answer_with, command_body, reply_with, result_at}
+use Rattle.run_rules.specs.Frames.{answer_with, command_body, reply_with}
 use Rattle.run_rules.specs.Follows.{given_in, says}
-use Rattle.run_rules.specs.Plain.{IsClients, outcome_of, printed_of}
+use Rattle.run_rules.specs.Plain.{outcome_of, printed_of, shared_result}
 
 -- ---- both servers' results differ in the bytes alone
 
@@ -33,30 +33,29 @@ all_settles P h (e ∷ entries) = (by_what e.does, all_settles P h entries)
     by_what (RetireBox n) = tt
     by_what Refuse = tt
 
-module _ (b : Book) (k : IsClients b) (i : ℕ) (e : Entry) (is : slice_get b.entries i ≡ Some e) where
+module _ (b : Book) (i : ℕ) (e : Entry) (is : slice_get b.entries i ≡ Some e) where
   abbrev results : ℕ → List Result
   results server = results_after b.settings.boxes b.settings.width (writes_at b server) b.entries
 
   outline_is : (server : ℕ) → slice_get (map (λ r. result_outline r) (results server)) i
-      ≡ Some (result_outline (result_at b server i e.line))
-  unfolding result_at shares_at
+      ≡ Some (result_outline (shared_result b server i e))
+  unfolding shared_result shares_at
   outline_is server =
       slice_get-map (λ r. result_outline r) (results server) i
       ∙ ap (option_map (λ r. result_outline r)) (results_stand b.settings.boxes b.settings.width (writes_at b server) b.entries i e is)
-      ∙ ap (λ does. Some (result_outline (result_of b.settings.boxes (writes_at b server) (shares_at b server i) e.line does))) (k.answers i e is).does
 
-  pub outlines_agree : result_outline (result_at b 0 i e.line) ≡ result_outline (result_at b 1 i e.line)
+  pub outlines_agree : result_outline (shared_result b 0 i e) ≡ result_outline (shared_result b 1 i e)
   outlines_agree =
       let same = result_outlines_agree b.settings.boxes b.settings.width b.settings.width (writes_at b 1) (writes_at b 0) b.entries
       (all_settles _ (λ c s. refl) b.entries) in
       cc (outline_is 0, outline_is 1, ap (λ rs. slice_get rs i) same)
 
 -- a result but a read's is its outline
-abbrev NotGave : Result → Type 0
+abbrev pub NotGave : Result → Type 0
 NotGave (Gave n bytes) = ⊥
 NotGave r = Unit {0}
 
-not_gave : (r s : Result) → result_outline r ≡ s → NotGave s → r ≡ s
+pub not_gave : (r s : Result) → result_outline r ≡ s → NotGave s → r ≡ s
 not_gave (Gave n bytes) s e h = absurd (subst NotGave (sym e) h)
 not_gave (Registered n) s e h = e
 not_gave (Taken n) s e h = e
@@ -72,7 +71,7 @@ pub record IsGave (n : ℕ) (r : Result) : Type 0 where
   pub bytes : List ℕ
   pub is : r ≡ Gave n bytes
 
-gave : (n : ℕ) (r : Result) → result_outline r ≡ Gave n [] → IsGave n r
+pub gave : (n : ℕ) (r : Result) → result_outline r ≡ Gave n [] → IsGave n r
 gave n (Gave m bytes) e = record { bytes = bytes; is = let same : m ≡ n = cc in ap (λ m. Gave m bytes) same }
 gave n (Registered m) e = absurd (cc e)
 gave n (Taken m) e = absurd (cc e)
@@ -98,15 +97,15 @@ IsOf Retires (Gave n bytes) = Unit {0}
 IsOf Retires (NoBox n) = Unit {0}
 IsOf command result = ⊥
 
-registers : (limit : ℕ) (t : Table) (o : Option ℕ) → IsOf Registers (register_result limit t o)
+pub registers : (limit : ℕ) (t : Table) (o : Option ℕ) → IsOf Registers (register_result limit t o)
 registers limit t (Some n) = tt
 registers limit t None = cond_both {A = Result} (nat_le limit (length t.boxes)) _ _ (IsOf Registers) (λ e. tt) (λ e. tt)
 
-reads : (n : ℕ) (o : Option Mailbox) → IsOf Reads (given n o)
+pub reads : (n : ℕ) (o : Option Mailbox) → IsOf Reads (given n o)
 reads n None = tt
 reads n (Some box) = cond_both {A = Result} box.live _ _ (IsOf Reads) (λ e. tt) (λ e. tt)
 
-retires : (n : ℕ) (o : Option Mailbox) → IsOf Retires (given n o)
+pub retires : (n : ℕ) (o : Option Mailbox) → IsOf Retires (given n o)
 retires n None = tt
 retires n (Some box) = cond_both {A = Result} box.live _ _ (IsOf Retires) (λ e. tt) (λ e. tt)
 

@@ -42,7 +42,7 @@ client_accepted k target message places key sigma ht hs in_places in_leaves diff
 pub registered_accepted : RegisteredAreAccepted
 registered_accepted b h c s target message asked there =
     let w : WriteIs b c s = record {
-      honest = h.lanes c;
+      honest = h.asked c s _ asked;
       target = target;
       message = message;
       is = asked;
@@ -53,7 +53,7 @@ registered_accepted b h c s target message asked there =
     let key = ckey_at b c s in
     let places = counted_at b c s in
     let sigma = sigma_at b c s in
-    let root_is : (server : ℕ) → root_at b server c s ≡ root k server = λ server. rw (h.lanes c) refl in
+    let root_is : (server : ℕ) → root_at b server c s ≡ root k server = λ server. rw w.honest refl in
     let P : List ℕ → ℕ → ℕ → ProofShare → ProofShare → Type 0 = λ part r0 r1 s0 s1.
     ServersAccept (sums_under key places (leaves part 0 r0 places)) (sums_under key places (leaves part 1 r1 places)) s0 s1 sigma in
     let own : P (public_part k target message) (root k 0) (root k 1) (share_for k target message key 0) (share_for k target message key 1) =

@@ -1,22 +1,25 @@
 -- A client's write in a history: its keys are honest, and both servers' write bytes add up to what the plain
 -- table adds.
-use Rattle.std.proofs.Common.{◌≡◌, ◌<◌, ◌≤◌, ◌^◌, ℕ, Bool, true, false, cond, nat_eq, List, [], length, replicate, Option, Some, None, slice_get, arith, refl, sym, ap, ap₂, ◌∙◌}
+use Rattle.std.proofs.Common.{◌≡◌, ◌<◌, ◌≤◌, ◌^◌, ℕ, Bool, true, false, cond, nat_eq, List, [], length, replicate, Option, Some, None, slice_get, arith, refl, sym, ap, ap₂, ◌∙◌, subst, inl, inr}
+use Rattle.std.proofs.lemmas.Bool.{cases_Bool}
 use Rattle.express_words.specs.Bytes.{xor_bytes}
-use Rattle.express_words.proofs.Bytes.{xor_nil, xor_bytes_zeros}
+use Rattle.express_words.proofs.Bytes.{length-xor_bytes, xor_nil, xor_bytes_zeros}
 use Rattle.dpf_rules.specs.Expansion.{choice}
-use Rattle.dpf_rules.specs.Walk.{write_bytes}
+use Rattle.dpf_rules.specs.Walk.{leaf_of, write_bytes}
 use Rattle.dpf_rules.specs.Keys.{honest_keys}
+use Rattle.dpf_rules.proofs.BoxLemmas.{length-write}
 use Rattle.dpf_rules.proofs.WriteLemmas.{write_sum}
 use Rattle.mailbox_rules.specs.Requests.{Request, Register, Write, Read, Retire, Command, Registers, Begins, Audits, Settles, Reads, Retires, Line, entry, AddBox, SettleWrite, reads_box, retires_box, operation_of}
 use Rattle.mailbox_rules.specs.Tables.{message_at, sum_of}
 use Rattle.mailbox_rules.specs.Widths.{AddsWithin}
 use Rattle.step_rules.specs.ClientAsks.{public_part}
 use Rattle.run_rules.specs.Letters.{client_seed}
-use Rattle.run_rules.specs.Book.{Book, request_of, target_of, message_of}
+use Rattle.run_rules.specs.Book.{Book, Brought, request_of, target_of, message_of}
 use Rattle.run_rules.specs.Values.{part_at, root_at, writes_at}
-use Rattle.run_rules.specs.Follows.{IsGood}
-use Rattle.run_rules.specs.Plain.{IsClients, IsAnswer, plain_of}
+use Rattle.run_rules.specs.Follows.{IsGood, Sound, does_by}
+use Rattle.run_rules.specs.Plain.{IsAnswer, IsHistory, both_add, plain_of}
 use Rattle.run_rules.proofs.Alike.{IsAlike, AddsAlike}
+use Rattle.run_rules.proofs.Widths.{brought_length}
 
 other_branch : {X : Type 0} (t : Bool) (x y : X) → t ≡ false → cond t x y ≡ y
 other_branch true x y e = absurd (cc e)
@@ -96,15 +99,18 @@ adds_registered got Retires (Retire own) a e = absurd (nor_address a (slice_get 
 
 -- ---- the write of a request
 
-module _ (b : Book) (k : IsClients b) (c s target : ℕ) (message : List ℕ)
+module _ (b : Book) (k : IsHistory b) (c s target : ℕ) (message : List ℕ)
     (asked : request_of b c s ≡ Some (Write target message)) where
+  honest : b.foreign c ≡ false
+  honest = k.asked c s (Write target message) asked
+
   pub root_is : (server : ℕ) → root_at b server c s ≡ choice (client_seed b.seed c) s server
-  root_is server = other_branch (b.foreign c) _ _ (k.lanes c)
+  root_is server = other_branch (b.foreign c) _ _ honest
 
   pub part_is : part_at b c s ≡ honest_keys target message (root_at b 0 c s) (root_at b 1 c s)
   unfolding public_part
   part_is =
-      other_branch (b.foreign c) _ _ (k.lanes c)
+      other_branch (b.foreign c) _ _ honest
       ∙ ap₂ (λ t m. honest_keys t m (choice (client_seed b.seed c) s 0) (choice (client_seed b.seed c) s 1))
       (ap target_of asked) (ap message_of asked)
       ∙ ap₂ (λ r0 r1. honest_keys target message r0 r1) (sym (root_is 0)) (sym (root_is 1))
@@ -122,6 +128,7 @@ module _ (b : Book) (k : IsClients b) (c s target : ℕ) (message : List ℕ)
       ∙ ap (λ t. xor_bytes bytes (cond t message (replicate (length message) 0))) (same_test a)
       ∙ by_test (nat_eq target a)
       ∙ ap (λ o. xor_bytes bytes (message_at o a)) (sym asked)
+      ∙ ap (λ t. xor_bytes bytes (cond t (both_add b c s a) (message_at (request_of b c s) a))) (sym honest)
     where
       by_test : (t : Bool) → xor_bytes bytes (cond t message (replicate (length message) 0)) ≡ xor_bytes bytes (cond t message [])
       by_test true = refl
@@ -129,22 +136,46 @@ module _ (b : Book) (k : IsClients b) (c s target : ℕ) (message : List ℕ)
 
 -- ---- all writes of a history
 
-pub writes_alike : (b : Book) → IsClients b → (i : ℕ) (line : Line) → slice_get b.entries i ≡ Some (entry line SettleWrite)
-    → IsAlike b.settings.width (plain_of b) (sum_of (writes_at b 0) (writes_at b 1)) line.lane line.serial
-writes_alike b k i line is =
-    let by : IsAnswer b i (entry line SettleWrite) = k.answers i (entry line SettleWrite) is in
-    let w : IsWrite by.request = settles_write _ line.command by.request (by.does ∙ ap (operation_of _ line.command) by.is) in
-    record {
-      accepts = refl;
-      adds = write_alike b k line.lane line.serial w.target w.message (by.is ∙ ap (λ r. Some r) w.is);
-    }
+-- a foreign lane's write adds what both servers add
+strange_alike : (b : Book) (c s : ℕ) → b.foreign c ≡ true
+    → AddsAlike b.settings.width (plain_of b) (sum_of (writes_at b 0) (writes_at b 1)) c s
+strange_alike b c s foreign bytes a wide small =
+    ap (λ t. xor_bytes bytes (cond t (both_add b c s a) (message_at (request_of b c s) a))) (sym foreign)
 
-pub addresses_small : (b : Book) → IsClients b → (i : ℕ) (line : Line) (a : ℕ)
+pub writes_alike : (b : Book) → IsHistory b → (i : ℕ) (line : Line) → slice_get b.entries i ≡ Some (entry line SettleWrite)
+    → IsAlike b.settings.width (plain_of b) (sum_of (writes_at b 0) (writes_at b 1)) line.lane line.serial
+writes_alike b k i line is = elim (cases_Bool (b.foreign line.lane)) [
+  | inl foreign ↦ record { accepts = refl; adds = strange_alike b line.lane line.serial foreign }
+  | inr honest ↦
+      let by : IsAnswer b i (entry line SettleWrite) = k.answers i (entry line SettleWrite) is honest in
+      let w : IsWrite by.request = settles_write _ line.command by.request (by.does ∙ ap (operation_of _ line.command) by.is) in
+      record {
+        accepts = refl;
+        adds = write_alike b k line.lane line.serial w.target w.message (by.is ∙ ap (λ r. Some r) w.is);
+      }
+]
+
+adds_brought : (b : Brought) (c s : ℕ) (command : Command) (a : ℕ) → AddBox a ≡ does_by b c s command
+    → a ≡ b.address c s
+adds_brought b c s Registers a e = cc e
+adds_brought b c s Begins a e = absurd (cc e)
+adds_brought b c s Audits a e = absurd (cc e)
+adds_brought b c s Settles a e = absurd (cc e)
+adds_brought b c s Reads a e = absurd (cc e)
+adds_brought b c s Retires a e = absurd (cc e)
+
+pub addresses_small : (b : Book) → IsHistory b → (i : ℕ) (line : Line) (a : ℕ)
     → slice_get b.entries i ≡ Some (entry line (AddBox a)) → a < 2 ^ 128
-addresses_small b k i line a is =
-    let by : IsAnswer b i (entry line (AddBox a)) = k.answers i (entry line (AddBox a)) is in
-    let r = adds_registered _ line.command by.request a (by.does ∙ ap (operation_of _ line.command) by.is) in
-    k.sound.requests line.lane line.serial (Register a) (by.is ∙ ap (λ r. Some r) r)
+addresses_small b k i line a is = elim (cases_Bool (b.foreign line.lane)) [
+  | inl foreign ↦ elim ((k.strange i (entry line (AddBox a)) is foreign).does) [
+    | inl none ↦ absurd (cc none)
+    | inr does ↦ subst (λ n. n < 2 ^ 128) (sym (adds_brought b.brought line.lane line.serial line.command a does)) (k.sound.brought.addresses line.lane line.serial)
+  ]
+  | inr honest ↦
+      let by : IsAnswer b i (entry line (AddBox a)) = k.answers i (entry line (AddBox a)) is honest in
+      let r = adds_registered _ line.command by.request a (by.does ∙ ap (operation_of _ line.command) by.is) in
+      k.sound.requests line.lane line.serial (Register a) (by.is ∙ ap (λ r. Some r) r)
+]
 
 message_fits : (b : Book) (o : Option Request) (a : ℕ) → ((r : Request) → o ≡ Some r → IsGood b r)
     → length (message_at o a) ≤ b.settings.width
@@ -158,6 +189,22 @@ message_fits b (Some (Write target message)) a good = by_test (nat_eq target a)
 message_fits b (Some (Read own)) a good = omega arith
 message_fits b (Some (Retire own)) a good = omega arith
 
-pub plain_within : (b : Book) → IsClients b → AddsWithin b.settings.width (plain_of b)
-plain_within b k lane serial a accepted =
-    message_fits b (request_of b lane serial) a (λ r e. k.sound.requests lane serial r e)
+-- a foreign lane's write adds the width to a box
+pub length-both_add : (b : Book) (c s a : ℕ) → Sound b → b.foreign c ≡ true → length (both_add b c s a) ≡ b.settings.width
+length-both_add b c s a sound foreign =
+    let part : part_at b c s ≡ b.brought.part c s = rw foreign refl in
+    let last = brought_length (b.brought.part c s) b.settings.width (sound.parts c s) in
+    let wide : (server : ℕ) → length (write_bytes (part_at b c s) server (root_at b server c s) a) ≡ b.settings.width =
+    λ server. subst (λ p. length (write_bytes p server (root_at b server c s) a) ≡ b.settings.width) (sym part)
+    (length-write (b.brought.part c s) (leaf_of (b.brought.part c s) server (root_at b server c s) a) ∙ last) in
+    length-xor_bytes _ _ (wide 0 ∙ sym (wide 1)) ∙ wide 0
+
+pub plain_within : (b : Book) → IsHistory b → AddsWithin b.settings.width (plain_of b)
+plain_within b k lane serial a accepted = elim (cases_Bool (b.foreign lane)) [
+  | inl foreign ↦
+      let size = length-both_add b lane serial a k.sound foreign in
+      subst (λ t. length (cond t (both_add b lane serial a) (message_at (request_of b lane serial) a)) ≤ b.settings.width) (sym foreign) (omega (arith, size))
+  | inr honest ↦
+      subst (λ t. length (cond t (both_add b lane serial a) (message_at (request_of b lane serial) a)) ≤ b.settings.width) (sym honest)
+      (message_fits b (request_of b lane serial) a (λ r e. k.sound.requests lane serial r e))
+]

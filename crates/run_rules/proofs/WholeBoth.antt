@@ -35,6 +35,7 @@ use Rattle.run_rules.specs.Known.{IsWhole, Known}
 use Rattle.run_rules.specs.Acts.{AreFitting, AreTaken, Both, IsFitting, act_at, acts_taken, taken_at, ForeignComesFollow, IsForeign, IsOutside, OutsideAt, Taken, act_of, both_ask, both_come, both_deliver, both_happen, both_hand, both_inject, both_moves, both_send, both_tick, run_both, taken_of}
 use Rattle.run_rules.proofs.Asked.{Found, last_same, pools_drop, same_busy, same_idle, same_outstanding, same_size, same_waiting}
 use Rattle.run_rules.proofs.Basics.{pools_length, whole_spelled}
+use Rattle.run_rules.proofs.ForeignFits.{asks_fit, sends_fit, ticks_fit}
 use Rattle.run_rules.proofs.Histories.{back_asks, back_sends, back_ticks, comes_extends, within_back}
 use Rattle.run_rules.proofs.Honest as lanes
 use Rattle.run_rules.proofs.Honest.{IsOfClient}
@@ -186,7 +187,7 @@ module _ (b : Book) (v : World) (all : List Taken) (sound : Sound b) (whole_is :
     (takes : (s : Both) (t : Token) (i : ℕ) (l : Letter) (more : List Taken) → Known b v s.world → slice_get s.world.pool i ≡ Some t → Follows b s.frames s.world
     → Carries b t l → OutsideAt b.foreign t l → all ≡ (s.taken ++ taken_of s.frames t l) ++ more → Unique s
     → AreTaken b (taken_of s.frames t l) × Unique (both_come s (Some t) (Some l)))
-    (stays : (s : Both) (g : FrameWorld) (u : World) (acts : List Act) → g.helper ≡ s.frames.helper → g.leader ≡ s.frames.leader → u.commands ≡ s.world.commands
+    (stays : (s : Both) (g : FrameWorld) (u : World) (acts : List Act) → g.helper ≡ s.frames.helper → g.leader ≡ s.frames.leader → u.commands ≡ s.world.commands → u.misfits ≡ s.world.misfits
     → Unique s → Unique (record { frames = g; world = u; acts = acts; taken = s.taken })) where
   pub record Kept (s : Both) : Type 0 where
     pub follows : Follows b s.frames s.world
@@ -251,7 +252,7 @@ module _ (b : Book) (v : World) (all : List Taken) (sound : Sound b) (whole_is :
     lawful = h.lawful;
     outside = h.outside;
     unique = subst (λ ts. Unique (record { frames = s.frames; world = s.world; acts = s.acts ++ acts_taken s.world s.world no_act; taken = ts })) (sym (append-nil s.taken))
-        (stays s s.frames s.world (s.acts ++ acts_taken s.world s.world no_act) refl refl refl h.unique);
+        (stays s s.frames s.world (s.acts ++ acts_taken s.world s.world no_act) refl refl refl refl h.unique);
   }
   letter_comes s (Some t) None h at allowed next = absurd at.found
   letter_comes s None (Some l) h at allowed next = absurd at.found
@@ -357,7 +358,7 @@ module _ (b : Book) (v : World) (all : List Taken) (sound : Sound b) (whole_is :
         follows = lanes.sends_follow b s.frames v s.world c (known s h.lawful h.follows.foreign (back_on_sends s c next)) h.follows;
         lawful = (moves_keep o).send s.world c h.lawful;
         outside = outside_more b.foreign s.world (client_sends s.world c) s.frames (frames.client_sends s.frames c) (pools_length b s.world.pool s.frames.pool h.follows.pool) h.outside (sends_add s.world c) (client_sends_post s.frames c);
-        unique = stays s (frames.client_sends s.frames c) (client_sends s.world c) s.acts refl refl (sends_commands s.world c) h.unique;
+        unique = stays s (frames.client_sends s.frames c) (client_sends s.world c) s.acts refl refl (sends_commands s.world c) (sends_fit s.world c) h.unique;
       }
 
   back_on_ticks : (s : Both) → Allowed (both_tick s) → Allowed s
@@ -371,7 +372,7 @@ module _ (b : Book) (v : World) (all : List Taken) (sound : Sound b) (whole_is :
         follows = ticks_follow b s.frames s.world h.follows;
         lawful = (moves_keep o).tick s.world h.lawful;
         outside = outside_more b.foreign s.world (ticks s.world) s.frames (frames.ticks s.frames) (pools_length b s.world.pool s.frames.pool h.follows.pool) h.outside (ticks_add s.world) (ticks_post s.frames);
-        unique = stays s (frames.ticks s.frames) (ticks s.world) s.acts refl refl (ticks_commands s.world) h.unique;
+        unique = stays s (frames.ticks s.frames) (ticks s.world) s.acts refl refl (ticks_commands s.world) (ticks_fit s.world) h.unique;
       }
 
   -- ---- a finish
@@ -409,7 +410,7 @@ module _ (b : Book) (v : World) (all : List Taken) (sound : Sound b) (whole_is :
       }
     where
       asks_unique : ((frames.asks s.frames c r).helper ≡ s.frames.helper) × ((frames.asks s.frames c r).leader ≡ s.frames.leader) → Unique (both_ask s c r)
-      asks_unique e = stays s (frames.asks s.frames c r) (asks s.world c r) s.acts e.0 e.1 (asks_commands s.world c r) h.unique
+      asks_unique e = stays s (frames.asks s.frames c r) (asks s.world c r) s.acts e.0 e.1 (asks_commands s.world c r) (asks_fit s.world c r) h.unique
 
   -- bytes come from outside
   back_on_injects : (s : Both) (to_leader : Bool) (bytes : List ℕ) → Allowed (both_inject s to_leader bytes) → Allowed s
@@ -424,13 +425,13 @@ module _ (b : Book) (v : World) (all : List Taken) (sound : Sound b) (whole_is :
     follows = injected_follows b s.frames s.world true (lane_from_client (whole bytes)) bytes h.follows (injected_is bytes out.bytes_are);
     lawful = ((moves_keep (λ n. no_act)).inject s.world true (lane_from_client (whole bytes)) h.lawful);
     outside = injected_outside b.foreign ToLeader true bytes out s.world.pool s.frames.pool (pools_length b s.world.pool s.frames.pool h.follows.pool) (λ i t l e d. h.outside i t l e d);
-    unique = stays s _ _ s.acts refl refl refl h.unique;
+    unique = stays s _ _ s.acts refl refl refl refl h.unique;
   }
   on_injects s false bytes out h next = record {
     follows = injected_follows b s.frames s.world false (lane_from_client (whole bytes)) bytes h.follows (injected_is bytes out.bytes_are);
     lawful = ((moves_keep (λ n. no_act)).inject s.world false (lane_from_client (whole bytes)) h.lawful);
     outside = injected_outside b.foreign ToHelper false bytes out s.world.pool s.frames.pool (pools_length b s.world.pool s.frames.pool h.follows.pool) (λ i t l e d. h.outside i t l e d);
-    unique = stays s _ _ s.acts refl refl refl h.unique;
+    unique = stays s _ _ s.acts refl refl refl refl h.unique;
   }
 
   shown_follows : (s : Both) (n : ℕ) → Kept s → (l : Option Letter) → Kept (record s { frames = frames.shows s.frames n l })
@@ -453,7 +454,7 @@ module _ (b : Book) (v : World) (all : List Taken) (sound : Sound b) (whole_is :
     };
     lawful = h.lawful;
     outside = h.outside;
-    unique = stays s _ s.world s.acts refl refl refl h.unique;
+    unique = stays s _ s.world s.acts refl refl refl refl h.unique;
   }
 
   -- ---- a whole schedule

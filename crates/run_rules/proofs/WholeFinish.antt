@@ -1,5 +1,5 @@
 -- A finish leaves its client no request without an outcome.
-use Rattle.std.proofs.Common.{◌≡◌, ◌≤◌, ℕ, zero, suc, Bool, true, false, cond, nat_eq, List, [], ◌∷◌, ◌++◌, length, filter, Option, None, refl, sym, ap, ◌∙◌, arith, append_assoc, length-append}
+use Rattle.std.proofs.Common.{◌≡◌, ◌<◌, ◌≤◌, ℕ, zero, suc, Bool, true, false, cond, nat_eq, List, [], ◌∷◌, ◌++◌, length, filter, Option, None, refl, sym, ap, ◌∙◌, arith, append_assoc, length-append}
 use Rattle.express_words.specs.declared.settings.Settings.{Settings}
 use Rattle.token_rules.specs.Tokens as token
 use Rattle.token_rules.specs.Tokens.{World, Oracle, oracle_of, start}
@@ -10,14 +10,15 @@ use Rattle.token_rules.proofs.Tallies.{finish_rests}
 use Rattle.step_rules.specs.Client.{Current}
 use Rattle.run_rules.specs.Letters as run
 use Rattle.run_rules.specs.Letters.{FrameWorld}
-use Rattle.run_rules.specs.Run.{Event, Finish}
+use Rattle.run_rules.specs.Run.{Event, Ask, Send, Tick, Deliver, Show, Finish, Inject}
 use Rattle.run_rules.specs.Book.{Book}
-use Rattle.run_rules.specs.Follows.{AreOutcomes, CurrentIs}
-use Rattle.run_rules.specs.History.{AreOfClients, FinishEnds, IsOfClients, frame_run, history, no_lane, token_events, token_events_of, token_run}
+use Rattle.run_rules.specs.Follows.{AreOutcomes, CurrentIs, Follows}
+use Rattle.run_rules.specs.History.{AreOfClients, FinishEnds, frame_run, no_lane, token_events, token_events_of, token_run}
+use Rattle.run_rules.specs.Acts.{AreFitting, IsFitting, ended_of, history_of}
+use Rattle.run_rules.specs.EveryEnd.{FinishAlwaysEnds}
 use Rattle.run_rules.proofs.ClientHears.{client_at}
-use Rattle.run_rules.proofs.WholeGrows.{finish_grows}
-use Rattle.run_rules.proofs.WholeLaw.{bounds, whole}
-use Rattle.run_rules.proofs.WholeTruths.{follows_at_end}
+use Rattle.run_rules.proofs.ForeignFollows.{foreign_runs_agree, replies_fit}
+use Rattle.run_rules.proofs.WholeForeign.{world_is}
 
 events_append : (xs ys : List Event) → token_events (xs ++ ys) ≡ token_events xs ++ token_events ys
 unfolding token_events
@@ -29,12 +30,12 @@ unfolding tokens.run
 run_append o w [] ys = refl
 run_append o w (x ∷ xs) ys = run_append o (tokens.happens o w x) xs ys
 
-fit_append : (settings : Settings) (xs : List Event) (x : Event) → AreOfClients settings xs → IsOfClients settings x
-    → AreOfClients settings (xs ++ x ∷ [])
-fit_append settings [] x h k = (k, tt)
-fit_append settings (y ∷ xs) x h k = (h.0, fit_append settings xs x h.1 k)
+fit_append : (settings : Settings) (foreign : ℕ → Bool) (xs : List Event) (x : Event) → AreFitting settings foreign xs
+    → IsFitting settings foreign x → AreFitting settings foreign (xs ++ x ∷ [])
+fit_append settings foreign [] x h k = (k, tt)
+fit_append settings foreign (y ∷ xs) x h k = (h.0, fit_append settings foreign xs x h.1 k)
 
-same_count : (b : Book) (c : ℕ) (xs : List token.Outcome) (ys : List run.Outcome) → AreOutcomes b xs ys
+pub same_count : (b : Book) (c : ℕ) (xs : List token.Outcome) (ys : List run.Outcome) → AreOutcomes b xs ys
     → length (filter (λ (o : run.Outcome). nat_eq o.client c) ys) ≡ length (outcomes_of c xs)
 same_count b c [] [] h = refl
 same_count b c (x ∷ xs) (y ∷ ys) h =
@@ -55,38 +56,50 @@ current_none : (b : Book) (c n s : ℕ) (current : Option Current) → n ≡ 0 �
 current_none b c zero s current e h = h
 current_none b c (suc n) s current e h = absurd (omega (arith, e))
 
-pub finish_ends : FinishEnds
-unfolding token_events tokens.run tokens.happens
-finish_ends settings seed events c limits fit few =
-    let o : Oracle = oracle_of [] in
+last_is : (o : Oracle) (first : World) (events : List Event) (c : ℕ)
+    → tokens.run o first (token_events (events ++ Finish c ∷ [])) ≡ tokens.happens o (tokens.run o first (token_events events)) (tokens.Finish c)
+unfolding token_events tokens.run
+last_is o first events c =
+    ap (tokens.run o first) (events_append events (Finish c ∷ [])) ∙ run_append o first (token_events events) (tokens.Finish c ∷ [])
+
+pub finish_always_ends : FinishAlwaysEnds
+finish_always_ends settings seed foreign events c limits fit honest few =
     let all = events ++ Finish c ∷ [] in
-    let first = start settings.width settings.boxes settings.window no_lane in
-    let w = token_run o settings no_lane events in
-    let v = token_run o settings no_lane all in
     let many : length all ≤ 20000 = omega (arith, few, length-append events (Finish c ∷ [])) in
-    let fits = fit_append settings events (Finish c) fit tt in
-    let h = follows_at_end o settings seed all limits fits many in
-    let v_is : v ≡ tokens.happens o w (tokens.Finish c) = last_is o first events c in
-    let before = bounds o settings seed events limits fit (omega (arith, few)) in
-    let grown = finish_grows o w c (length events) before.lawful (let e = before.window_is in let s = before.small in omega (arith, e, s)) (before.load c) in
-    let honest = (whole o settings seed events limits fit (omega (arith, few))).foreign in
-    let same : (tokens.happens o w (tokens.Finish c)).misfits ≡ w.misfits = happens_is o w c ∙ grown.misfits (λ d. ap (λ f. f d) honest) in
-    let rests = finish_rests o settings.width settings.boxes settings.window no_lane (token_events events) c (omega (arith, limits.3.0)) refl (omega (arith, same)) in
+    let fits = fit_append settings foreign events (Finish c) fit tt in
+    let s = ended_of settings seed foreign all in
+    let o : Oracle = oracle_of s.acts in
+    let w = token_run o settings foreign events in
+    let v = token_run o settings foreign all in
+    let b = history_of settings seed foreign s in
+    let f = frame_run settings seed all in
+    let h : Follows b f v = foreign_runs_agree settings seed foreign all limits fits many in
+    let v_is : v ≡ tokens.happens o w (tokens.Finish c) = last_is o (start settings.width settings.boxes settings.window foreign) events c in
+    let none : (tokens.happens o w (tokens.Finish c)).misfits ≡ 0 =
+    ap (λ (u : World). u.misfits) (sym v_is ∙ sym (world_is settings seed foreign all limits fits many)) ∙ replies_fit settings seed foreign all limits fits many in
+    let room : 0 < settings.window = omega (arith, limits.3.0) in
+    let rests = finish_rests o settings.width settings.boxes settings.window foreign (token_events events) c room honest (omega (arith, none)) in
     let step : (v.lanes c).step ≡ 0 = ap (λ (u : World). (u.lanes c).step) v_is ∙ rests.step in
     let waiting : (v.requests c).waiting ≡ [] = ap (λ (u : World). (u.requests c).waiting) v_is ∙ rests.waiting in
     let told : (v.requests c).told ≡ asks_of c (token_events events) = ap (λ (u : World). (u.requests c).told) v_is ∙ rests.told in
-    let b = history settings seed v in
-    let numbered = outcomes_numbered o settings.width settings.boxes settings.window no_lane (token_events all) (omega (arith, limits.3.0)) c in
+    let numbered = outcomes_numbered o settings.width settings.boxes settings.window foreign (token_events all) room c in
     record {
-      current = current_none b c (v.lanes c).step (v.lanes c).serial _ step (client_at b (frame_run settings seed all) v c h refl).current;
+      current = current_none b c (v.lanes c).step (v.lanes c).serial _ step (client_at b f v c h honest).current;
       waiting = h.waiting c ∙ waiting;
-      outcomes = same_count b c v.outcomes (frame_run settings seed all).outcomes h.outcomes ∙ numbered.count ∙ told;
+      outcomes = same_count b c v.outcomes f.outcomes h.outcomes ∙ numbered.count ∙ told;
     }
-  where
-    last_is : (o : Oracle) (first : World) (events : List Event) (c : ℕ)
-        → tokens.run o first (token_events (events ++ Finish c ∷ [])) ≡ tokens.happens o (tokens.run o first (token_events events)) (tokens.Finish c)
-    last_is o first events c =
-        ap (tokens.run o first) (events_append events (Finish c ∷ [])) ∙ run_append o first (token_events events) (tokens.Finish c ∷ [])
 
-    happens_is : (o : Oracle) (w : World) (c : ℕ) → (tokens.happens o w (tokens.Finish c)).misfits ≡ (tokens.finished o w c).misfits
-    happens_is o w c = refl
+-- in a schedule of clients no lane is foreign
+clients_fit : (settings : Settings) (events : List Event) → AreOfClients settings events → AreFitting settings no_lane events
+clients_fit settings [] fit = tt
+clients_fit settings (Ask c r ∷ events) fit = ((fit.0.0, refl, fit.0.1), clients_fit settings events fit.1)
+clients_fit settings (Send c ∷ events) fit = (tt, clients_fit settings events fit.1)
+clients_fit settings (Tick ∷ events) fit = (tt, clients_fit settings events fit.1)
+clients_fit settings (Deliver n ∷ events) fit = (tt, clients_fit settings events fit.1)
+clients_fit settings (Show n ∷ events) fit = (tt, clients_fit settings events fit.1)
+clients_fit settings (Finish c ∷ events) fit = (tt, clients_fit settings events fit.1)
+clients_fit settings (Inject to_leader bytes ∷ events) fit = absurd fit.0
+
+pub finish_ends : FinishEnds
+finish_ends settings seed events c limits fit few =
+    finish_always_ends settings seed no_lane events c limits (clients_fit settings events fit) refl few

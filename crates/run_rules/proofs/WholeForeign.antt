@@ -54,7 +54,7 @@ module _ (settings : Settings) (seed : List ℕ) (foreign : ℕ → Bool) (event
   abbrev pub ended : Both
   ended = run_both opened_both events
 
-  abbrev v : World
+  abbrev pub v : World
   v = ended.world
 
   abbrev pub b : Book
@@ -67,7 +67,7 @@ module _ (settings : Settings) (seed : List ℕ) (foreign : ℕ → Bool) (event
   agrees : HasActs o ended.acts
   agrees n act is = ap act_or_none is
 
-  room : 0 < settings.window
+  pub room : 0 < settings.window
   room = let l = limits.3.0 in omega (arith, l)
 
   at_start : Lawful (first b)
@@ -92,7 +92,7 @@ module _ (settings : Settings) (seed : List ℕ) (foreign : ℕ → Bool) (event
       subst (Few settings.window (length events)) (sym world_is)
       (subst (λ n. Few settings.window n (token_run o settings foreign events)) none (run_few_any o settings events settings.window 0 (first b) (omega (arith, few)) h))
 
-  whole : IsWhole b v
+  pub whole : IsWhole b v
   whole = record {
     lawful = told.lawful;
     limit = told.since.limit;
@@ -104,7 +104,7 @@ module _ (settings : Settings) (seed : List ℕ) (foreign : ℕ → Bool) (event
     journal = refl;
   }
 
-  sound : Sound b
+  pub sound : Sound b
   sound = record {
     limits = limits;
     requests = λ c s r e.
@@ -116,7 +116,7 @@ module _ (settings : Settings) (seed : List ℕ) (foreign : ℕ → Bool) (event
     numbers = let l = bounds.commands in omega (arith, l, few);
   }
 
-  within : Within b v
+  pub within : Within b v
   within = record { sent = λ c. take_all (sent_of v c); commands = take_all v.commands; journal = take_all v.journal }
 
   foreign_follow : ForeignComesFollow b v
@@ -126,17 +126,26 @@ module _ (settings : Settings) (seed : List ℕ) (foreign : ℕ → Bool) (event
       (takes : (s : Both) (t : Token) (i : ℕ) (l : Letter) (more : List Taken) → Known b v s.world → slice_get s.world.pool i ≡ Some t → Follows b s.frames s.world
       → Carries b t l → OutsideAt b.foreign t l → ended.taken ≡ (s.taken ++ taken_of s.frames t l) ++ more → Unique s
       → AreTaken b (taken_of s.frames t l) × Unique (both_come s (Some t) (Some l)))
-      (stays : (s : Both) (g : FrameWorld) (u : World) (acts : List Act) → g.helper ≡ s.frames.helper → g.leader ≡ s.frames.leader → u.commands ≡ s.world.commands
+      (stays : (s : Both) (g : FrameWorld) (u : World) (acts : List Act) → g.helper ≡ s.frames.helper → g.leader ≡ s.frames.leader → u.commands ≡ s.world.commands → u.misfits ≡ s.world.misfits
       → Unique s → Unique (record { frames = g; world = u; acts = acts; taken = s.taken }))
       (at_first : Unique opened_both) where
+    allowed : Allowed b v ended.taken sound whole Unique foreign_follow takes stays ended
+    allowed lawful same = (within, since_itself v, ([], sym (append-nil ended.taken)))
+
+    kept : Kept b v ended.taken sound whole Unique foreign_follow takes stays opened_both
+    kept =
+        let k = run_back b v ended.taken sound whole Unique foreign_follow takes stays events opened_both fit allowed at_start refl in
+        let known : Known b v (first b) = record { sound = sound; whole = whole; lawful = at_start; since = k.1; within = k.0 } in
+        record { follows = start_follows b v known; lawful = at_start; outside = λ i t l e d. absurd (cc e); unique = at_first }
+
+    kept_to_end : Kept b v ended.taken sound whole Unique foreign_follow takes stays ended
+    kept_to_end = run_keeps b v ended.taken sound whole Unique foreign_follow takes stays events opened_both fit kept allowed
+
     pub run_follows : Follows b (frame_run settings seed events) (token_run o settings foreign events)
     run_follows =
-        let allowed : Allowed b v ended.taken sound whole Unique foreign_follow takes stays ended = λ l f. (within, since_itself v, ([], sym (append-nil ended.taken))) in
-        let back = run_back b v ended.taken sound whole Unique foreign_follow takes stays events opened_both fit allowed in
-        let k = back at_start refl in
-        let known : Known b v (first b) = record { sound = sound; whole = whole; lawful = at_start; since = k.1; within = k.0 } in
-        let kept : Kept b v ended.taken sound whole Unique foreign_follow takes stays opened_both =
-        record { follows = start_follows b v known; lawful = at_start; outside = λ i t l e d. absurd (cc e); unique = at_first } in
-        let h = run_keeps b v ended.taken sound whole Unique foreign_follow takes stays events opened_both fit kept allowed in
         let same = run_same b v ended.taken sound whole Unique foreign_follow takes stays events opened_both fit kept allowed in
-        subst (λ f. Follows b f (token_run o settings foreign events)) same (subst (Follows b ended.frames) world_is h.follows)
+        subst (λ f. Follows b f (token_run o settings foreign events)) same (subst (Follows b ended.frames) world_is kept_to_end.follows)
+
+    -- what is kept of both runs
+    pub run_unique : Unique ended
+    run_unique = kept_to_end.unique

@@ -2,12 +2,12 @@
 use Rattle.std.proofs.Common.{refl}
 use Rattle.run_rules.specs.Follows.{Follows}
 use Rattle.run_rules.specs.History.{AtEnd, frame_run, history, no_lane, token_run}
-use Rattle.run_rules.specs.Plain.{BoxesArePlain, HistoryIsClients, JournalInOrder, JournalIsPlain, OutcomesArePlain, SharesAreFolds}
-use Rattle.run_rules.proofs.PlainRegistered.{registered_accepted}
-use Rattle.run_rules.proofs.PlainTables.{shares_are_plain}
+use Rattle.run_rules.specs.Book.{Book}
+use Rattle.run_rules.specs.EveryEnd.{HistoryIsSo}
+use Rattle.run_rules.specs.Plain.{BoxesArePlain, HistoryIsClients, IsClients, IsHistory, JournalInOrder, JournalIsPlain, OutcomesArePlain, SharesAreFolds}
 use Rattle.run_rules.proofs.WholeLaw.{run_follows, sound, whole, within}
 use Rattle.run_rules.proofs.WholeTokens.{comes_follow, sends_follow}
-use Rattle.run_rules.proofs.PlainEnds.{clients, journal_is_plain, outcomes_are_plain, shares_are_folds}
+use Rattle.run_rules.proofs.PlainEnds.{boxes_are_plain, clients, journal_is_plain, outcomes_are_plain, shares_are_folds}
 
 pub follows_at_end : AtEnd Follows
 follows_at_end o settings seed events limits fit few =
@@ -18,34 +18,43 @@ follows_at_end o settings seed events limits fit few =
 pub clients_at_end : AtEnd HistoryIsClients
 clients_at_end o settings seed events limits fit few =
     let v = token_run o settings no_lane events in
-    clients (history settings seed v) v (sound o settings seed events limits fit few) (whole o settings seed events limits fit few) (λ c. refl)
+    clients (history settings seed v) v (whole o settings seed events limits fit few) (sound o settings seed events limits fit few) (λ c. refl)
+
+-- no entry is a foreign lane's
+clients_are_history : (b : Book) → IsClients b → IsHistory b
+clients_are_history b k = record {
+  sound = k.sound;
+  asked = λ c s r is. k.lanes c;
+  answers = λ i e is honest. k.answers i e is;
+  strange = λ i e is foreign. absurd (cc (foreign, k.lanes e.line.lane));
+}
+
+history_at_end : AtEnd HistoryIsSo
+history_at_end o settings seed events limits fit few =
+    clients_are_history (history settings seed (token_run o settings no_lane events)) (clients_at_end o settings seed events limits fit few)
 
 pub outcomes_at_end : AtEnd OutcomesArePlain
 outcomes_at_end o settings seed events limits fit few =
     let v = token_run o settings no_lane events in
-    outcomes_are_plain (history settings seed v) v (sound o settings seed events limits fit few) (whole o settings seed events limits fit few) (λ c. refl)
+    outcomes_are_plain (history settings seed v) v (whole o settings seed events limits fit few) (history_at_end o settings seed events limits fit few)
     (within o settings seed events limits fit few) (frame_run settings seed events) (follows_at_end o settings seed events limits fit few)
 
 pub journal_at_end : AtEnd JournalIsPlain
 journal_at_end o settings seed events limits fit few =
     let v = token_run o settings no_lane events in
-    journal_is_plain (history settings seed v) v (sound o settings seed events limits fit few) (whole o settings seed events limits fit few) (λ c. refl)
-    (frame_run settings seed events) (follows_at_end o settings seed events limits fit few)
+    journal_is_plain (history settings seed v) v (whole o settings seed events limits fit few) (frame_run settings seed events)
+    (history_at_end o settings seed events limits fit few) (λ c. refl) (follows_at_end o settings seed events limits fit few)
 
 pub shares_at_end : AtEnd SharesAreFolds
 shares_at_end o settings seed events limits fit few =
     let v = token_run o settings no_lane events in
-    shares_are_folds (history settings seed v) v (sound o settings seed events limits fit few) (whole o settings seed events limits fit few) (λ c. refl)
-    (frame_run settings seed events) (follows_at_end o settings seed events limits fit few)
+    shares_are_folds (history settings seed v) v (whole o settings seed events limits fit few) (frame_run settings seed events)
+    (follows_at_end o settings seed events limits fit few)
 
 pub boxes_at_end : AtEnd BoxesArePlain
 boxes_at_end o settings seed events limits fit few =
-    let b = history settings seed (token_run o settings no_lane events) in
-    let k = clients_at_end o settings seed events limits fit few in
-    record {
-      shares = λ i. shares_are_plain b k i;
-      accepted = λ c serial target message asked there. registered_accepted b k c serial target message asked there;
-    }
+    let v = token_run o settings no_lane events in
+    boxes_are_plain (history settings seed v) v (whole o settings seed events limits fit few) (history_at_end o settings seed events limits fit few)
 
 pub order_at_end : AtEnd JournalInOrder
 order_at_end o settings seed events limits fit few =

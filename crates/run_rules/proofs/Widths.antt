@@ -23,7 +23,7 @@ message_few b (Some (Read own)) h = omega arith
 message_few b (Some (Retire own)) h = omega arith
 message_few b None h = omega arith
 
-brought_length : (part : List ℕ) (width : ℕ) → length part ≡ levels_len + width → length (last_of part) ≡ width
+pub brought_length : (part : List ℕ) (width : ℕ) → length part ≡ levels_len + width → length (last_of part) ≡ width
 unfolding last_of
 brought_length part width e = length-drop 2064 part ∙ ap (λ n. n - 2064) e ∙ omega arith
 

@@ -61,7 +61,7 @@ addresses_stay b i j low =
 
 -- ---- counts
 
-entry_there : (xs : List Entry) (i : ℕ) → i < length xs → (e : Entry) × (slice_get xs i ≡ Some e)
+pub entry_there : (xs : List Entry) (i : ℕ) → i < length xs → (e : Entry) × (slice_get xs i ≡ Some e)
 entry_there [] i h = absurd (omega (arith, h))
 entry_there (x ∷ xs) zero h = (x, refl)
 entry_there (x ∷ xs) (suc i) h = entry_there xs i (omega (arith, h))

@@ -19,6 +19,7 @@ use Rattle.token_rules.specs.Run.{sent_of, line_of}
 use Rattle.token_rules.specs.Clients.{answered_below}
 use Rattle.step_rules.specs.Helper as helper
 use Rattle.step_rules.specs.Helper.{Helper}
+use Rattle.step_rules.specs.HelperCommands.{carries_out}
 use Rattle.step_rules.specs.Leader as leader
 use Rattle.step_rules.specs.Leader.{Leader}
 use Rattle.step_rules.specs.Client as client
@@ -28,6 +29,7 @@ use Rattle.step_tokens.specs.HelperRows as helper_rows
 use Rattle.step_tokens.specs.LeaderRows as leader_rows
 use Rattle.step_tokens.specs.ClientSteps.{IsLater}
 use Rattle.run_rules.specs.Letters.{Addressee, ToClient, ToLeader, ToHelper, ToLeaderLink, ToHelperLink, Letter, letter, JournalLine, Told, Ended, NoOwnBox, Outcome, FrameWorld, leader_seed, client_seed, helper_seed, capacity}
+use Rattle.run_rules.specs.Run.{value_of}
 use Rattle.run_rules.specs.Book.{Book, Brought, place, table_at, request_of, wants, own_boxes, leaders_draw, drawn_in, begun_in}
 use Rattle.run_rules.specs.Values.{key_at, counted_at, part_at, root_at, ckey_at, write_at, share_at, sigma_at, opened_at, closing_at, writes_at, shares_at, boxes_at}
 use Rattle.run_rules.specs.Frames.{frame_with, deposit_at, submission_at, reply_with, result_at, last_line, answer_at, frame_of, line_value}
@@ -420,9 +422,33 @@ ClientsFollow b clients lanes =
 
 -- ---- what is printed
 
+-- a write that settles had begun
+abbrev pub SettlesBegun : Book → ℕ → Line → Operation → Type 0
+SettlesBegun b i x SettleWrite = BegunAt b i x.lane x.serial
+SettlesBegun b i x does = Unit {0}
+
+-- the helper, as it stands after the first entries, carries a command out with this reply
+pub record HelperAnswers (b : Book) (i : ℕ) (x : Line) (command reply : PlainBody) : Type 0 where
+  pub helper : Helper
+  pub lanes : ℕ → Lane
+  pub stands : HelperFollows b helper lanes i (take i b.entries)
+  pub answers : reply ≡ (carries_out helper.server (frame_with x.lane x.serial (i + 1) command)).body
+
+-- a foreign entry's line tells of its command and the helper's reply
+pub record IsForeignLine (b : Book) (i : ℕ) (e : Entry) (line : JournalLine) : Type 0 where
+  pub lane : line.lane ≡ e.line.lane
+  pub serial : line.serial ≡ e.line.serial
+  pub command : PlainBody
+  pub reply : PlainBody
+  pub ordered : ForeignOrder b i e.line command
+  pub replied : ForeignReply b i e.line reply
+  pub answers : HelperAnswers b i e.line command reply
+  pub value : line.value ≡ value_of command reply
+  pub begun : SettlesBegun b i e.line e.does
+
 abbrev pub IsLineOf : Book → Bool → ℕ → Entry → JournalLine → Type 0
 IsLineOf b false i e line = line ≡ line_value b i e.line
-IsLineOf b true i e line = (line.lane ≡ e.line.lane) × (line.serial ≡ e.line.serial)
+IsLineOf b true i e line = IsForeignLine b i e line
 
 abbrev pub Journals : Book → ℕ → List Entry → List JournalLine → Type 0
 Journals b i [] [] = Unit {0}

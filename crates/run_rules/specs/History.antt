@@ -1,5 +1,5 @@
 -- The two runs of a schedule, over tokens and over bytes, and the history that both have.
-use Rattle.std.specs.Prelude.{◌≡◌, ◌<◌, ◌≤◌, ◌^◌, ℕ, false, Bool, List, [], ◌∷◌, ◌++◌, ◌+◌, filter, length, nat_eq, replicate, suc, Option, Some, None, Result, Ok, Err, if◌then◌else◌}
+use Rattle.std.specs.Prelude.{◌≡◌, ◌<◌, ◌≤◌, ◌^◌, ℕ, false, Bool, List, [], ◌∷◌, ◌++◌, ◌+◌, filter, length, nat_eq, replicate, slice_get, suc, Option, Some, None, Result, Ok, Err, if◌then◌else◌}
 use Rattle.express_words.specs.declared.settings.Settings.{Settings}
 use Rattle.express_words.specs.declared.refusal.Refusal.{Refusal}
 use Rattle.express_words.specs.Limits.{KeepsLimits, levels_len}
@@ -10,7 +10,7 @@ use Rattle.token_rules.specs.Tokens.{World, Oracle, start}
 use Rattle.token_rules.specs.Run as tokens
 use Rattle.token_rules.specs.Run.{sent_of}
 use Rattle.token_rules.specs.Laws.{asks_of}
-use Rattle.run_rules.specs.Letters.{FrameWorld, opened}
+use Rattle.run_rules.specs.Letters.{FrameWorld, Outcome, opened}
 use Rattle.run_rules.specs.Run.{Event, Ask, Send, Tick, Deliver, Show, Finish, Inject, run}
 use Rattle.run_rules.specs.Book.{Book, Brought}
 
@@ -108,3 +108,11 @@ FinishEnds = (settings : Settings) (seed : List ℕ) (events : List Event) (c : 
     → KeepsLimits settings.width settings.boxes settings.lanes settings.window → AreOfClients settings events
     → suc (length events) ≤ 20000
     → HasEnded c (asks_of c (token_events events)) (frame_run settings seed (events ++ Finish c ∷ []))
+
+-- the outcome of a client's request of this number, from 0 on
+pub record HasOutcome (c number : ℕ) (f : FrameWorld) : Type 0 where
+  pub place : ℕ
+  pub outcome : Outcome
+  pub is : slice_get f.outcomes place ≡ Some outcome
+  pub client : outcome.client ≡ c
+  pub request : outcome.request ≡ number

@@ -9,3 +9,5 @@ pub mod Laws
 pub mod Plain
 pub mod History
 pub mod Acts
+pub mod EveryEnd
+pub mod Soundness

@@ -1,5 +1,12 @@
-use Rattle.run_rules.proofs.WholeFinish.{finish_ends}
+use Rattle.run_rules.proofs.FinishAnswers.{finish_answers}
+use Rattle.run_rules.proofs.WholeFinish.{finish_always_ends, finish_ends}
 use Rattle.run_rules.proofs.finish_answers.Goals as goal
 
-pub returns : goal.returns
-returns c = record { ends = finish_ends }
+pub returns-clause-ends : goal.returns-clause-ends
+returns-clause-ends c = finish_ends
+
+pub returns-clause-always : goal.returns-clause-always
+returns-clause-always c = finish_always_ends
+
+pub returns-clause-answers : goal.returns-clause-answers
+returns-clause-answers c = finish_answers
