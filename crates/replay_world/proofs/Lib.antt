@@ -7,3 +7,4 @@ pub mod ShareLines
 pub mod Lanes
 pub mod Letters
 pub mod ClientSchedules
+pub mod Strangers

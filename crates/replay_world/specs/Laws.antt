@@ -1,10 +1,10 @@
 -- What holds of every schedule of clients, whatever frames are lost, repeated or reordered.
-use Rattle.std.specs.Prelude.{◌≡◌, ◌<◌, ℕ, List, [], ◌∷◌, ◌++◌, length}
+use Rattle.std.specs.Prelude.{ℕ, List, [], ◌∷◌}
 use Rattle.token_rules.specs.Tokens.{World, Oracle}
-use Rattle.token_rules.specs.Laws.{asks_of}
+use Rattle.token_rules.specs.Laws.{Accounts, AreNumbered, asked_by}
 use Rattle.run_rules.specs.Letters.{FrameWorld}
 use Rattle.run_rules.specs.Book.{Book}
-use Rattle.run_rules.specs.History.{HasEnded, history, no_lane, token_events, token_run}
+use Rattle.run_rules.specs.History.{history, no_lane, token_events, token_run}
 use Rattle.schedule_text.specs.declared.schedule.Event.{Event}
 use Rattle.schedule_text.specs.declared.schedule.Event.TheVariants.{Ask, Send, Tick, Deliver, Show, Finish, Inject}
 use Rattle.schedule_text.specs.declared.schedule.Schedule.{Schedule}
@@ -32,8 +32,10 @@ OfSchedules P = (o : Oracle) (schedule : Schedule) → KeepsRules schedule → A
     → let w = token_run o schedule.header.settings no_lane (events_in schedule.events) in
     P (history schedule.header.settings schedule.header.seed w) (run_of schedule) w
 
--- After a `finish` at its end a schedule leaves that client no request without an outcome.
-abbrev pub FinishesAnswer : Type 0
-FinishesAnswer = (schedule : Schedule) (client : ℕ) (events : List Event) → KeepsRules schedule
-    → AreFromClients schedule.events → schedule.events ≡ events ++ Finish client ∷ []
-    → HasEnded client (asks_of client (token_events (events_in events))) (run_of schedule)
+-- A client's outcomes are those of its requests 0, 1, 2 and so on. The requests that it was asked are those that have
+-- their outcomes, in this order, then the current one, and then those that wait; each that was sent has the next serial.
+abbrev pub RequestsAreTold : Type 0
+RequestsAreTold = (o : Oracle) (schedule : Schedule) (client : ℕ) → KeepsRules schedule
+    → AreFromClients schedule.events
+    → let w = token_run o schedule.header.settings no_lane (events_in schedule.events) in
+    AreNumbered w client × Accounts (asked_by client (token_events (events_in schedule.events))) w client

@@ -4,3 +4,4 @@ pub mod View
 pub mod Output
 pub mod Played
 pub mod Laws
+pub mod Strangers

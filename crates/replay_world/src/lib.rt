@@ -21,6 +21,8 @@ pub use client_core::Outcome;
 pub use express_words::outside::{
     Conn, Counted, Failed, MemoryConn, MemoryNet, MemorySink, MemorySource, Net, Sink, Source,
 };
-pub use laws::{finishes_answer, schedules_hold};
+pub use laws::{
+    accepted_writes_pass, requests_are_told, schedules_fit, schedules_hold, strangers_hold,
+};
 pub use lines::{Command, Entry, JournalLine, OutcomeLine, Told};
 pub use world::{PutFault, World};

@@ -202,9 +202,21 @@ fn add_shares(alloc: Global, text: &mut String, state: &State) -> Result<(), All
     Ok(())
 }
 
+// About as many bytes as the lines of the shown frames take: so their text, which may be the most of all, is never grown
+// by copying it.
+fn shown_room(lines: &[Shown]) -> usize {
+    let mut room: usize = 0;
+    for line in lines {
+        let digits = line.bytes.as_slice().len().saturating_mul(2);
+        room = room.saturating_add(digits).saturating_add(20);
+    }
+    room
+}
+
 fn add_shown(alloc: Global, text: &mut String, lines: &[Shown]) -> Result<(), AllocError>
     ensures { OnOk result (string_bytes text.new ≡ string_bytes text.old ++ flat_map shown_line (shown_all_in lines.now)) }
 {
+    text.reserve_exact(shown_room(lines))?;
     for line in lines {
         let piece = shown_line(alloc, line)?;
         text.push_str(piece.as_str())?;

@@ -1,0 +1,59 @@
+-- What holds of every schedule, with whatever bytes from outside, frames lost, repeated or reordered.
+use Rattle.std.specs.Prelude.{◌≡◌, ◌<◌, ◌++◌, ◌∷◌, ℕ, false, Bool, List}
+use Rattle.token_rules.specs.Tokens.{World, oracle_of}
+use Rattle.token_rules.specs.Laws.{Accounts, AreNumbered, asked_by, asks_of}
+use Rattle.run_rules.specs.Letters.{FrameWorld}
+use Rattle.run_rules.specs.Book.{Book}
+use Rattle.run_rules.specs.History.{HasOutcome, token_events, token_run}
+use Rattle.run_rules.specs.Acts.{AreFitting, Both, ended_of, foreign_in, history_of}
+use Rattle.schedule_text.specs.declared.schedule.Event.{Event}
+use Rattle.schedule_text.specs.declared.schedule.Event.TheVariants.{Finish}
+use Rattle.schedule_text.specs.declared.schedule.Schedule.{Schedule}
+use Rattle.schedule_text.specs.Lanes.{is_foreign}
+use Rattle.schedule_text.specs.Rules.{KeepsRules}
+use Rattle.replay_world.specs.Parts.{events_in}
+use Rattle.replay_world.specs.Played.{run_of}
+
+-- the lanes that bytes from outside name in a frame of a client
+abbrev pub strangers_in : Schedule → ℕ → Bool
+strangers_in schedule = foreign_in (events_in schedule.events)
+
+-- they are the lanes that the rules call foreign
+abbrev pub StrangersAreForeign : Type 0
+StrangersAreForeign = (schedule : Schedule) (c : ℕ) → strangers_in schedule c ≡ is_foreign schedule.events c
+
+-- and no client of a schedule that keeps the rules has such a lane
+abbrev pub SchedulesFit : Type 0
+SchedulesFit = (schedule : Schedule) → KeepsRules schedule
+    → AreFitting schedule.header.settings (strangers_in schedule) (events_in schedule.events)
+
+-- both runs of a schedule at its end, with what its foreign lanes brought
+abbrev pub runs_of : Schedule → Both
+runs_of schedule =
+    ended_of schedule.header.settings schedule.header.seed (strangers_in schedule) (events_in schedule.events)
+
+-- the history of a schedule's run
+abbrev pub history_in : Schedule → Book
+history_in schedule =
+    history_of schedule.header.settings schedule.header.seed (strangers_in schedule) (runs_of schedule)
+
+-- Of the history that both runs have, the run over bytes, and the token run.
+abbrev pub OfEverySchedule : (Book → FrameWorld → World → Type 0) → Type 0
+OfEverySchedule P = (schedule : Schedule) → KeepsRules schedule
+    → P (history_in schedule) (run_of schedule)
+    (token_run (oracle_of (runs_of schedule).acts) schedule.header.settings (strangers_in schedule)
+    (events_in schedule.events))
+
+-- The requests that the client of a lane which isn't foreign was asked are those that have their outcomes, numbered in
+-- order, then the current one, and then those that wait; each that was sent has the next serial.
+abbrev pub OthersAreTold : Type 0
+OthersAreTold = (schedule : Schedule) (client : ℕ) → KeepsRules schedule → strangers_in schedule client ≡ false
+    → let w = token_run (oracle_of (runs_of schedule).acts) schedule.header.settings (strangers_in schedule) (events_in schedule.events) in
+    AreNumbered w client × Accounts (asked_by client (token_events (events_in schedule.events))) w client
+
+-- Each request that a client was asked before a `finish` of it has its outcome, whatever comes after.
+abbrev pub FinishesAnswer : Type 0
+FinishesAnswer = (schedule : Schedule) (client number : ℕ) (before after : List Event) → KeepsRules schedule
+    → schedule.events ≡ before ++ Finish client ∷ after
+    → number < asks_of client (token_events (events_in before))
+    → HasOutcome client number (run_of schedule)
