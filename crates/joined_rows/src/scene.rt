@@ -1,0 +1,164 @@
+//! The leader, the helper and the clients of a recording.
+ghost use Rattle.std.specs.Prelude.{◌≤◌, length};
+ghost use Rattle.express_words.specs.Limits.{KeepsLimits};
+
+use crate::fault::Fault;
+use crate::fields::{bytes_of, first_of, number_of, seed_of, settings_of, small_number_of};
+use crate::texts::no_frame;
+use crate::told::ToldClient;
+use crate::{at_helper, at_leader};
+use express_words::Settings;
+use frame_rules::FRAME_MAX;
+use helper_core::Helper;
+use leader_core::Leader;
+use std::alloc::Global;
+
+#[derive(Drop)]
+pub struct Scene {
+    settings: Settings,
+    leader: Leader,
+    helper: Helper,
+    /// The clients of the first lanes.
+    clients: Vec<ToldClient>,
+    /// Room for a frame.
+    out: Vec<u8>,
+    ghost limits: { KeepsLimits settings.width settings.boxes settings.lanes settings.window },
+    ghost room: { 8213 ≤ length out.items },
+}
+
+impl Scene {
+    ghost use Rattle.std.specs.Prelude.{◌<◌, ◌≤◌, length, IfOk};
+    ghost use Rattle.express_words.specs.Limits.{KeepsLimits};
+
+    /// Both servers with no boxes and seeds of zeros, and no clients.
+    pub fn open(alloc: Global, settings: &Settings) -> Result<Scene, Fault>
+        requires limits { KeepsLimits settings.now.width settings.now.boxes settings.now.lanes settings.now.window }
+    {
+        Ok(Scene {
+            settings: *settings,
+            leader: Leader::open(alloc, settings, &[0; 32])?,
+            helper: Helper::open(alloc, settings, &[0; 32])?,
+            clients: Vec::new(alloc),
+            out: vec![in alloc; 0u8; FRAME_MAX]?,
+        })
+    }
+
+    // The place of the client of this number.
+    fn place_of(&self, digits: &str) -> Result<usize, Fault>
+        ensures { IfOk result (λ place. place < length self.now.clients.items) }
+    {
+        let number = small_number_of(digits)?;
+        let place = usize::from(number);
+        if place < self.clients.len() {
+            Ok(place)
+        } else {
+            Err(Fault::NoClient(number))
+        }
+    }
+
+    // One more client, which has the next lane, with room for these boxes and this first serial.
+    fn join(
+        &mut self,
+        alloc: Global,
+        lane: u16,
+        seed: &[u8; 32],
+        capacity: u32,
+        first_serial: u32,
+    ) -> Result<(), Fault> {
+        if usize::from(lane) != self.clients.len() || capacity > 4097 || first_serial == 0 {
+            return Err(Fault::Unknown);
+        }
+        let width = self.settings.width;
+        let client = ToldClient::open(alloc, lane, seed, width, capacity, first_serial)?;
+        self.clients.push(client)?;
+        Ok(())
+    }
+
+    // A client's seed; behind it may stand how many boxes it has room for, and its first serial.
+    fn client_seed(&mut self, alloc: Global, text: &str) -> Result<(), Fault> {
+        let (lane, text) = first_of(text)?;
+        let lane = small_number_of(lane)?;
+        match text.split_once(' ') {
+            None => {
+                let capacity = self.settings.boxes + 1;
+                self.join(alloc, lane, &seed_of(text)?, capacity, 1)
+            }
+            Some((seed, text)) => {
+                let (capacity, serial) = first_of(text)?;
+                let capacity = number_of(capacity)?;
+                let serial = number_of(serial)?;
+                self.join(alloc, lane, &seed_of(seed)?, capacity, serial)
+            }
+        }
+    }
+
+    // A line that begins a recording, or tells a seed of it. Whether it is one.
+    fn prepare(&mut self, alloc: Global, word: &str, text: &str) -> Result<bool, Fault> {
+        match word {
+            "settings" => *self = Scene::open(alloc, &settings_of(text)?)?,
+            "leaderseed" => self.leader = Leader::open(alloc, &self.settings, &seed_of(text)?)?,
+            "helperseed" => self.helper = Helper::open(alloc, &self.settings, &seed_of(text)?)?,
+            "clientseed" => self.client_seed(alloc, text)?,
+            _ => return Ok(false),
+        }
+        Ok(true)
+    }
+
+    // What a client is asked, what it sends, and what it was told.
+    fn ask(&mut self, alloc: Global, text: &str) -> Result<String, Fault> {
+        let (number, text) = first_of(text)?;
+        let place = self.place_of(number)?;
+        self.clients[place].ask(alloc, text)
+    }
+
+    fn send(&mut self, alloc: Global, number: &str) -> Result<String, Fault> {
+        let place = self.place_of(number)?;
+        self.clients[place].send(alloc, &mut self.out)
+    }
+
+    fn told(&self, alloc: Global, number: &str) -> Result<String, Fault> {
+        let place = self.place_of(number)?;
+        self.clients[place].told(alloc)
+    }
+
+    fn hear(&mut self, alloc: Global, addressee: &str, frame: &[u8]) -> Result<String, Fault> {
+        let number = addressee.strip_prefix("client").ok_or(Fault::Unknown)?;
+        let place = self.place_of(number)?;
+        self.clients[place].hear(frame);
+        no_frame(alloc)
+    }
+
+    // What the addressee of a frame answers.
+    fn deliver(&mut self, alloc: Global, addressee: &str, digits: &str) -> Result<String, Fault> {
+        let frame = bytes_of(alloc, digits)?;
+        let frame = frame.as_slice();
+        match addressee {
+            "leader.client" => {
+                at_leader::frame_comes(alloc, &mut self.leader, frame, &mut self.out)
+            }
+            "leader.reply" => at_leader::reply_comes(alloc, &mut self.leader, frame, &mut self.out),
+            "helper.client" => {
+                at_helper::frame_comes(alloc, &mut self.helper, frame, &mut self.out)
+            }
+            "helper.link" => {
+                at_helper::command_comes(alloc, &mut self.helper, frame, &mut self.out)
+            }
+            _ => self.hear(alloc, addressee, frame),
+        }
+    }
+
+    /// The answer to a line's question; None where the line asks nothing.
+    pub fn answer(&mut self, alloc: Global, question: &str) -> Result<Option<String>, Fault> {
+        let (word, text) = first_of(question)?;
+        if self.prepare(alloc, word, text)? {
+            return Ok(None);
+        }
+        let answer = match word {
+            "ask" => self.ask(alloc, text)?,
+            "send" => self.send(alloc, text)?,
+            "told" => self.told(alloc, text)?,
+            _ => self.deliver(alloc, word, text)?,
+        };
+        Ok(Some(answer))
+    }
+}

@@ -1,0 +1,96 @@
+//! A client, and what it says of the last frame that came to it.
+ghost use Rattle.std.specs.Prelude.{◌≡◌, ◌≤◌, length};
+ghost use Rattle.express_words.specs.Limits.{IsWidth};
+
+use crate::fault::Fault;
+use crate::fields::{address_of, bytes_of, first_of, number_of};
+use crate::texts::{no_frame, progress_text, sent_text, words};
+use client_core::{Client, Progress, Request};
+use std::alloc::Global;
+
+#[derive(Drop)]
+pub struct ToldClient {
+    client: Client,
+    told: Progress,
+    /// The message that was read last.
+    message: Vec<u8>,
+    ghost room: { length message.items ≡ client.width },
+}
+
+impl ToldClient {
+    /// A client of this lane, to which no frame has come. Lane, seed, width, room for boxes and first serial are as
+    /// `Client::open` takes them.
+    pub fn open(
+        alloc: Global,
+        lane: u16,
+        seed: &[u8; 32],
+        width: u32,
+        capacity: u32,
+        first_serial: u32,
+    ) -> Result<ToldClient, Fault>
+        requires width { IsWidth width }
+        requires capacity { capacity ≤ 4097 }
+        requires serial { 1 ≤ first_serial }
+    {
+        let client = Client::open(alloc, lane, seed, width, capacity, first_serial)?;
+        Ok(ToldClient {
+            client,
+            told: Progress::Ignored,
+            message: vec![in alloc; 0u8; width as usize]?,
+        })
+    }
+
+    fn take(&mut self, alloc: Global, request: &Request<'_>) -> Result<String, Fault> {
+        match self.client.ask(request) {
+            Ok(()) => words(alloc, "taken"),
+            Err(fault) => Ok(format!(in alloc; "{fault}")?),
+        }
+    }
+
+    /// Whether it takes a request, and if not, why: `register ADDRESS`, `write ADDRESS MESSAGE`, `read K` or `retire K`.
+    pub fn ask(&mut self, alloc: Global, text: &str) -> Result<String, Fault> {
+        let (kind, text) = first_of(text)?;
+        match kind {
+            "register" => {
+                let address = address_of(text)?;
+                self.take(alloc, &Request::Register { address })
+            }
+            "write" => {
+                let (target, digits) = first_of(text)?;
+                let target = address_of(target)?;
+                let message = bytes_of(alloc, digits)?;
+                let message = message.as_slice();
+                self.take(alloc, &Request::Write { target, message })
+            }
+            "read" => {
+                let own = number_of(text)?;
+                self.take(alloc, &Request::Read { own })
+            }
+            "retire" => {
+                let own = number_of(text)?;
+                self.take(alloc, &Request::Retire { own })
+            }
+            _ => Err(Fault::Unknown),
+        }
+    }
+
+    /// The frame of its present step, if it has a request, and whom it is for.
+    pub fn send(&self, alloc: Global, out: &mut [u8]) -> Result<String, Fault>
+        requires room { 8213 ≤ length out.old }
+    {
+        match self.client.send(out) {
+            None => no_frame(alloc),
+            Some((server, length)) => sent_text(alloc, server, &out[..length]),
+        }
+    }
+
+    /// A frame comes. A client answers none.
+    pub fn hear(&mut self, frame: &[u8]) {
+        self.told = self.client.on_reply(frame, &mut self.message);
+    }
+
+    /// What the last frame did; as long as none has come, `ignored`.
+    pub fn told(&self, alloc: Global) -> Result<String, Fault> {
+        progress_text(alloc, self.told, self.message.as_slice())
+    }
+}
