@@ -1,0 +1,18 @@
+-- What a reader's answer says of a text: the value, or the name of a key.
+use Rattle.std.specs.Prelude.{◌≡◌, ℕ, List, string_bytes, Result, Ok, Err}
+use Rattle.express_texts.specs.declared.fault.TextFault.{TextFault}
+use Rattle.express_texts.specs.declared.fault.TextFault.TheVariants.{Wrong, WrongKey, NoMemory}
+
+-- Ok has what is read, a wrong key comes where that one is to be named, and want of memory says nothing. No
+-- line is wrong.
+abbrev pub Gives : {X Y : Type 0} → (X → Y) → Result X TextFault → Result Y (List ℕ) → Type 0
+Gives view (Ok x) read = read ≡ Ok (view x)
+Gives view (Err (Wrong n)) read = ⊥
+Gives view (Err (WrongKey key)) read = read ≡ Err (string_bytes key)
+Gives view (Err NoMemory) read = Unit {0}
+
+-- the fault names this key, or is want of memory
+abbrev pub Names : List ℕ → TextFault → Type 0
+Names key (Wrong n) = ⊥
+Names key (WrongKey named) = string_bytes named ≡ key
+Names key NoMemory = Unit {0}

@@ -1,0 +1,10 @@
+pub mod Values
+pub mod Judging
+pub mod Keys
+pub mod Tables
+pub mod Serve
+pub mod Owned
+pub mod Requests
+pub mod Client
+pub mod Files
+pub mod Carry

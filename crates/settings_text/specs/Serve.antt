@@ -1,0 +1,40 @@
+-- The keys of a server's settings, in the order in which they are judged.
+use Rattle.std.specs.Prelude.{ℕ, ◌==◌, if◌then◌else◌, List, [], codes}
+use Rattle.std.specs.Prelude.{Option, Some, None, option_and_then, Result, Ok}
+use Rattle.std.specs.Str.{bytes_eq}
+use Rattle.toml.specs.Data.{Data, Members, as_str}
+use Rattle.express_words.specs.declared.settings.Settings.{Settings}
+use Rattle.settings_text.specs.declared.serve.ServeSettings.{ServeSettings}
+use Rattle.settings_text.specs.declared.serve.TheConstants.{LEADER, HELPER}
+use Rattle.settings_text.specs.Keys.{◌>>=◌, needed}
+use Rattle.settings_text.specs.Values.{number_in, width_in}
+
+abbrev pub role_of : List ℕ → Option ℕ
+role_of name =
+    if bytes_eq name (codes "leader") then Some LEADER
+    else if bytes_eq name (codes "helper") then Some HELPER
+    else None
+
+unfoldable pub role_in : Data → Option ℕ
+role_in value = option_and_then role_of (as_str value)
+
+-- a leader needs its helper's place, and a helper doesn't look at it
+unfoldable pub peer_of : ℕ → Members → Result (List ℕ) (List ℕ)
+peer_of role table = if role == LEADER then needed (codes "peer") as_str table else Ok []
+
+unfoldable pub settings_of : Members → Result Settings (List ℕ)
+settings_of table = do
+  width ← needed (codes "width") (width_in 16) table
+  boxes ← needed (codes "boxes") (number_in 1 4096) table
+  lanes ← needed (codes "lanes") (number_in 1 256) table
+  window ← needed (codes "window") (number_in 1 32) table
+  Ok (record { width = width; boxes = boxes; lanes = lanes; window = window })
+
+unfoldable pub serve_of : Members → Result ServeSettings (List ℕ)
+serve_of table = do
+  role ← needed (codes "role") role_in table
+  listen ← needed (codes "listen") as_str table
+  peer ← peer_of role table
+  settings ← settings_of table
+  connections ← needed (codes "connections") (number_in 1 1000000) table
+  Ok (record { role = role; listen = listen; peer = peer; settings = settings; connections = connections })
