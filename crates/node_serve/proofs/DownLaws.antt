@@ -1,0 +1,50 @@
+-- What is said and written where an exchange broke.
+use Rattle.std.proofs.Common.{◌≡◌, ℕ, List, Option, Some, Result, Ok, Err, sym, subst, inl, inr}
+use Rattle.frame_rules.specs.Frames.{PlainFrame}
+use Rattle.frame_rules.specs.Spelling.{spelling}
+use Rattle.step_rules.specs.Leader.{Leader}
+use Rattle.node_serve.specs.Exchanging.{Exchange}
+use Rattle.node_serve.specs.Draining.{Breaks}
+use Rattle.node_serve.specs.Leading.{BreaksDown, IsSent, Leads, link_down}
+use Rattle.node_serve.specs.Serving.{IsPut, Writes}
+use Rattle.node_serve.specs.declared.exchanging.Broken.{Broken}
+use Rattle.node_serve.specs.declared.exchanging.Broken.TheVariants as broken
+use Rattle.node_serve.specs.declared.node.Served.{Served}
+use Rattle.node_serve.specs.declared.node.Served.TheVariants as served
+
+abbrev pub IsLink : Served → Type 0
+IsLink (served.LinkFault count) = Unit {0}
+IsLink served.LinkBad = Unit {0}
+IsLink other = ⊥
+
+off_link : (a : Leader) (answer : Result (List ℕ) Broken) (why : Served) → Breaks a answer why → IsLink why
+off_link a (Ok bytes) why (ignored, e) = subst IsLink (sym e) tt
+off_link a (Err (broken.Fault count)) why e = subst IsLink (sym e) tt
+off_link a (Err (broken.Early count)) why e = subst IsLink (sym e) tt
+off_link a (Err (broken.Wrong fault)) why e = subst IsLink (sym e) tt
+
+pub down_link : (a : Leader) (bytes : List ℕ) (b : Leader) (made : List Exchange) (why : Served) → BreaksDown a bytes b made why → IsLink why
+down_link a bytes b made why (inl off) = off_link b off.failed.answer why off.broken
+down_link a bytes b made why (inr late) = off_link b late.second.failed.answer why late.second.broken
+
+pub leads_down : (f : PlainFrame) (a : Leader) (bytes : List ℕ) (b : Leader) (made : List Exchange) (count : ℕ) (why : Served) (reply : List ℕ)
+    → BreaksDown a bytes b made why → reply ≡ spelling (link_down f count) → Leads (Some f) a bytes b made count why reply
+leads_down f a bytes b made count served.Answered reply down is = absurd (down_link a bytes b made served.Answered down)
+leads_down f a bytes b made count (served.ConnFault n) reply down is = absurd (down_link a bytes b made (served.ConnFault n) down)
+leads_down f a bytes b made count served.Ended reply down is = absurd (down_link a bytes b made served.Ended down)
+leads_down f a bytes b made count (served.LinkFault n) reply down is = (down, is)
+leads_down f a bytes b made count served.LinkBad reply down is = (down, is)
+
+put_is : (sent : Served) (old new : Option (List ℕ)) (before now : ℕ) (reply : List ℕ) → IsSent sent → Writes sent old new before now reply → IsPut old new before now reply
+put_is served.Answered old new before now reply is w = inl w
+put_is (served.ConnFault count) old new before now reply is w = inr (w.0, w.1)
+put_is served.Ended old new before now reply is w = absurd is
+put_is (served.LinkFault count) old new before now reply is w = absurd is
+put_is served.LinkBad old new before now reply is w = absurd is
+
+pub writes_down : (why sent : Served) (old new : Option (List ℕ)) (before now : ℕ) (reply : List ℕ) → IsLink why → IsSent sent → Writes sent old new before now reply → Writes why old new before now reply
+writes_down served.Answered sent old new before now reply link is w = absurd link
+writes_down (served.ConnFault count) sent old new before now reply link is w = absurd link
+writes_down served.Ended sent old new before now reply link is w = absurd link
+writes_down (served.LinkFault count) sent old new before now reply link is w = put_is sent old new before now reply is w
+writes_down served.LinkBad sent old new before now reply link is w = put_is sent old new before now reply is w

@@ -1,0 +1,7 @@
+pub mod TakingLaws
+pub mod CallLaws
+pub mod DrainLaws
+pub mod StandLaws
+pub mod LeadLaws
+pub mod HeldLaws
+pub mod DownLaws

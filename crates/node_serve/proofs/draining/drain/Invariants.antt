@@ -1,0 +1,17 @@
+use Rattle.std.proofs.Common.{◌≡◌, ◌≤◌, length, take}
+use Rattle.node_serve.specs.Draining.{stand, rounds_left}
+use Rattle.node_serve.proofs.StandLaws.{Stands}
+use Rattle.node_serve.proofs.draining.drain.Given as goal
+
+abbrev pub invariant-draining : goal.invariant-draining
+invariant-draining g l = record {
+  room : 8213 ≤ length l.out;
+  answer_room : 8213 ≤ length l.answer;
+  within : l.reply ≤ length l.out;
+  stands : Stands (stand l.fn.leader (take l.fn.told l.fn.out)) l.fn.peer l.leader (take l.reply l.out) (g.N.Net.calls l.fn.net) (g.N.Net.calls l.net);
+  count : g.N.Counted.count l.net ≡ g.N.Counted.count l.fn.net;
+  door : g.N.Net.doors l.net ≡ g.N.Net.doors l.fn.net;
+}
+
+abbrev pub decreases-draining : goal.decreases-draining
+decreases-draining g l = rounds_left l.leader.outstanding

@@ -1,0 +1,121 @@
+-- A leader's exchanges with its helper, each with the oldest outstanding command.
+use Rattle.std.specs.Prelude.{◌≡◌, ◌≢◌, ℕ, List, [], ◌∷◌, ◌++◌, sum_by, Option, Some, None, option_map, Result, Ok, Err}
+use Rattle.express_words.specs.Causes.{Rose}
+use Rattle.express_words.specs.Calls.{Call}
+use Rattle.frame_rules.specs.Frames as frame
+use Rattle.frame_rules.specs.Frames.{PlainFrame, PlainBody}
+use Rattle.frame_rules.specs.Spelling.{spelling}
+use Rattle.step_rules.specs.Leader.{Leader, Ack, ToLane, Settles, Ignored}
+use Rattle.step_rules.specs.LeaderReplies.{on_reply_bytes, resent}
+use Rattle.node_serve.specs.Exchanging.{Makes, Exchange, IsExchange}
+use Rattle.node_serve.specs.declared.exchanging.Broken.{Broken}
+use Rattle.node_serve.specs.declared.exchanging.Broken.TheVariants as broken
+use Rattle.node_serve.specs.declared.node.Served.{Served}
+use Rattle.node_serve.specs.declared.node.Served.TheVariants as served
+
+-- ---- one after another
+
+-- from one state of a net to another these exchanges were made, and nothing else
+abbrev pub ExchangeOn : List ℕ → Exchange → Option (List Call) → Option (List Call) → Type 0
+ExchangeOn peer e before now = (calls : List Call) × Makes before now calls × IsExchange peer e calls
+
+abbrev pub ExchangesOn : List ℕ → List Exchange → Option (List Call) → Option (List Call) → Type 0
+ExchangesOn peer [] before now = now ≡ before
+ExchangesOn peer (e ∷ others) before now =
+    (next : Option (List Call)) × ExchangeOn peer e before next × ExchangesOn peer others next now
+
+-- ---- a drain
+
+-- the leader, the reply for the client that it has given last, and the exchanges so far
+pub record Stand : Type 0 where
+  pub leader : Leader
+  pub reply : List ℕ
+  pub made : List Exchange
+
+abbrev pub stand : Leader → List ℕ → Stand
+stand a reply = record { leader = a; reply = reply; made = [] }
+
+-- the bytes are those of the oldest outstanding command
+abbrev pub IsOldest : Leader → List ℕ → Type 0
+IsOldest a sent = option_map spelling (resent a) ≡ Some sent
+
+-- the reply for a client; a settle's is still to come
+abbrev pub reply_of : Ack → List ℕ
+reply_of (ToLane lane reply) = spelling reply
+reply_of (Settles number command) = []
+reply_of Ignored = []
+
+-- these bytes were sent, and the helper answered those
+abbrev pub answered : Stand → (sent bytes : List ℕ) → Stand
+answered s sent bytes = record {
+  leader = (on_reply_bytes s.leader bytes).leader;
+  reply = reply_of (on_reply_bytes s.leader bytes).ack;
+  made = s.made ++ record { sent = sent; answer = Ok bytes } ∷ [];
+}
+
+-- exchanges of the oldest outstanding command, each answered by a reply that fits
+pub data Drains (start : Stand) : Stand → Type 0 where
+  none : Drains start start
+  then : (s : Stand) (sent bytes : List ℕ) →
+      Drains start s → IsOldest s.leader sent → (on_reply_bytes s.leader bytes).ack ≢ Ignored →
+      Drains start (answered s sent bytes)
+
+-- until no command is outstanding
+pub record Drained (start end : Stand) : Type 0 where
+  pub drains : Drains start end
+  pub empty : resent end.leader ≡ None
+
+-- an answer that is no reply that fits, and what is said of it
+abbrev pub Breaks : Leader → Result (List ℕ) Broken → Served → Type 0
+Breaks a (Ok bytes) why = ((on_reply_bytes a bytes).ack ≡ Ignored) × (why ≡ served.LinkBad)
+Breaks a (Err (broken.Fault count)) why = why ≡ served.LinkFault count
+Breaks a (Err (broken.Early count)) why = why ≡ served.LinkBad
+Breaks a (Err (broken.Wrong fault)) why = why ≡ served.LinkBad
+
+-- a drain that one exchange broke off: its command is still the oldest outstanding one
+pub record BreaksOff (start : Stand) (end : Leader) (made : List Exchange) (why : Served) : Type 0 where
+  pub last : Stand
+  pub drains : Drains start last
+  pub stays : end ≡ last.leader
+  pub failed : Exchange
+  pub oldest : IsOldest end failed.sent
+  pub broken : Breaks end failed.answer why
+  pub all : made ≡ last.made ++ failed ∷ []
+
+-- ---- a bound on its rounds
+
+-- an audit is followed by a settle
+abbrev pub rounds : PlainBody → ℕ
+rounds (frame.LinkAudit sigma opened) = 2
+rounds body = 1
+
+abbrev pub rounds_left : List PlainFrame → ℕ
+rounds_left commands = sum_by (λ c. rounds c.body) commands
+
+-- ---- one exchange of a drain
+
+-- these bytes were sent, and the helper answered with a reply that fits
+pub record Replied (peer : List ℕ) (old new : Leader) (sent reply : List ℕ)
+    (before now : Option (List Call)) : Type 0 where
+  pub bytes : List ℕ
+  pub fits : (on_reply_bytes old bytes).ack ≢ Ignored
+  pub leader : new ≡ (on_reply_bytes old bytes).leader
+  pub reply_is : reply ≡ reply_of (on_reply_bytes old bytes).ack
+  pub calls : ExchangeOn peer (record { sent = sent; answer = Ok bytes }) before now
+
+-- these bytes were sent, and no reply came that fits
+pub record Unanswered (peer : List ℕ) (old new : Leader) (sent : List ℕ)
+    (before now : Option (List Call)) (why : Served) : Type 0 where
+  pub stays : new ≡ old
+  pub answer : Result (List ℕ) Broken
+  pub broken : Breaks old answer why
+  pub calls : ExchangeOn peer (record { sent = sent; answer = answer }) before now
+
+-- the net's count by what is said of the exchanges: it rose where one failed, and only then
+abbrev pub FaultIn : Served → (before now : ℕ) → Type 0
+FaultIn (served.LinkFault count) before now = Rose before now × (count ≡ now)
+FaultIn other before now = now ≡ before
+
+abbrev pub FaultBy : {A : Type 0} → Result A Served → (before now : ℕ) → Type 0
+FaultBy (Ok x) before now = now ≡ before
+FaultBy (Err why) before now = FaultIn why before now

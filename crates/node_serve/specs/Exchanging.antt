@@ -1,0 +1,58 @@
+-- One exchange with a peer, and the calls that it makes on a net.
+use Rattle.std.specs.Prelude.{◌≡◌, ℕ, Bool, true, false, List, [], ◌∷◌, ◌++◌, length, take, Option, Some, None, Result, Ok, Err}
+use Rattle.express_words.specs.Causes.{Rose}
+use Rattle.express_words.specs.Streams.{Stream, IsAtEnd}
+use Rattle.express_words.specs.Calls.{Call, Dialled, Closed, AddsClose}
+use Rattle.frame_rules.specs.Reading.{decoded}
+use Rattle.frame_rules.specs.declared.fault.FrameFault.TheVariants.{Short}
+use Rattle.node_serve.specs.Taking.{IsWanted, IsOneFrame, IsNoFrame}
+use Rattle.node_serve.specs.declared.exchanging.Broken.{Broken}
+use Rattle.node_serve.specs.declared.exchanging.Broken.TheVariants as broken
+
+-- From old to new a net made these calls. Of one that doesn't tell its calls now nothing is said.
+abbrev pub Makes : Option (List Call) → Option (List Call) → List Call → Type 0
+Makes old None calls = Unit {0}
+Makes None (Some new) calls = ⊥
+Makes (Some old) (Some new) calls = new ≡ old ++ calls
+
+-- what was sent to a peer, and what came of it: the bytes of its answer, or why there is none
+pub record Exchange : Type 0 where
+  pub sent : List ℕ
+  pub answer : Result (List ℕ) Broken
+
+abbrev pub answer_in : Result ℕ Broken → List ℕ → Result (List ℕ) Broken
+answer_in (Ok count) into = Ok (take count into)
+answer_in (Err why) into = Err why
+
+abbrev pub IsFault : Result (List ℕ) Broken → Type 0
+IsFault (Err (broken.Fault count)) = Unit {0}
+IsFault other = ⊥
+
+-- what comes of the bytes that a connection gave where nothing failed
+abbrev pub IsAnswer : Result (List ℕ) Broken → List ℕ → Type 0
+IsAnswer (Ok reply) given = (reply ≡ given) × IsOneFrame given
+IsAnswer (Err (broken.Early count)) given = (decoded given ≡ Err Short) × (count ≡ length given)
+IsAnswer (Err (broken.Wrong fault)) given = IsNoFrame fault given
+IsAnswer (Err (broken.Fault count)) given = ⊥
+
+-- by whether the connection stayed whole: then it took all that was sent, else a front of it
+abbrev pub IsTalk : Bool → Exchange → (given taken : List ℕ) → Type 0
+IsTalk true e given taken = (taken ≡ e.sent) × IsWanted given × IsAnswer e.answer given
+IsTalk false e given taken = ((rest : List ℕ) × (e.sent ≡ taken ++ rest)) × IsWanted given × IsFault e.answer
+
+-- the calls of an exchange: a dial that failed, or a dial and the close of its connection
+abbrev pub IsExchange : List ℕ → Exchange → List Call → Type 0
+IsExchange peer e (Dialled to true ∷ []) = (to ≡ peer) × IsFault e.answer
+IsExchange peer e (Dialled to false ∷ Closed given taken whole ∷ []) =
+    (to ≡ peer) × IsTalk whole e given taken
+IsExchange peer e calls = ⊥
+
+-- the net's count by what came of an exchange: it rose where one is told, and only then
+abbrev pub CountBy : Result ℕ Broken → (before now : ℕ) → Type 0
+CountBy (Err (broken.Fault count)) before now = Rose before now × (count ≡ now)
+CountBy other before now = now ≡ before
+
+-- the last call closed a connection of which this is the content at its end
+abbrev pub ClosedAtEnd : Option (List Call) → Option Stream → Option (List ℕ) → ℕ → Type 0
+ClosedAtEnd calls content written count =
+    IsAtEnd content × ((before : Option (List Call)) × AddsClose before calls content written count)

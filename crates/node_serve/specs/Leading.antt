@@ -1,0 +1,98 @@
+-- What a leader does with the bytes that one connection brings, by what its helper answers.
+use Rattle.std.specs.Prelude.{◌≡◌, ◌⊎◌, ℕ, Bool, true, false, List, [], ◌++◌, Option, Some, None, Result, Ok, Err}
+use Rattle.express_words.specs.declared.refusal.Refusal.{Refusal}
+use Rattle.express_words.specs.declared.refusal.Refusal.TheVariants as refusal
+use Rattle.frame_rules.specs.Frames as frame
+use Rattle.frame_rules.specs.Frames.{PlainFrame, PlainBody}
+use Rattle.frame_rules.specs.Spelling.{spelling}
+use Rattle.frame_rules.specs.Whole.{answer}
+use Rattle.step_rules.specs.Leader.{Leader, Answer, Reply, Link, StillWaiting}
+use Rattle.step_rules.specs.LeaderClients.{on_client}
+use Rattle.node_serve.specs.Exchanging.{Exchange}
+use Rattle.node_serve.specs.Draining.{Stand, stand, Drained, BreaksOff}
+use Rattle.node_serve.specs.declared.node.Served.{Served}
+use Rattle.node_serve.specs.declared.node.Served.TheVariants as served
+
+-- ---- the client's frame
+
+-- what a leader takes from clients
+abbrev pub is_taken : PlainBody → Bool
+is_taken (frame.Register address key) = true
+is_taken (frame.Write root part) = true
+is_taken (frame.Read box_number token) = true
+is_taken (frame.Proof share) = true
+is_taken (frame.Retire box_number token) = true
+is_taken body = false
+
+abbrev pub taken_if : Bool → PlainFrame → Option PlainFrame
+taken_if true f = Some f
+taken_if false f = None
+
+-- the frame that bytes are, if a leader takes it from clients
+abbrev pub taken_in : Result PlainFrame Refusal → Option PlainFrame
+taken_in (Ok f) = taken_if (is_taken f.body) f
+taken_in (Err why) = None
+
+-- the reply that a step gives at once, if it gives one
+abbrev pub reply_to : Answer → List ℕ
+reply_to (Reply reply) = spelling reply
+reply_to (Link number command) = []
+reply_to (StillWaiting number) = []
+
+-- where the leader stands once it has taken its step
+abbrev pub stepped : Leader → List ℕ → Stand
+stepped a bytes = stand (on_client a bytes).leader (reply_to (on_client a bytes).answer)
+
+-- ---- a drain, the step, and a drain
+
+pub record Handles (a : Leader) (bytes : List ℕ) (b : Leader) (reply : List ℕ)
+    (made : List Exchange) : Type 0 where
+  pub before : Stand
+  pub after : Stand
+  pub first : Drained (stand a []) before
+  pub second : Drained (stepped before.leader bytes) after
+  pub leader : b ≡ after.leader
+  pub reply_is : reply ≡ after.reply
+  pub all : made ≡ before.made ++ after.made
+
+-- the second drain broke off
+pub record BreaksLate (a : Leader) (bytes : List ℕ) (b : Leader) (made : List Exchange)
+    (why : Served) : Type 0 where
+  pub before : Stand
+  pub first : Drained (stand a []) before
+  pub more : List Exchange
+  pub second : BreaksOff (stepped before.leader bytes) b more why
+  pub all : made ≡ before.made ++ more
+
+-- one of the two drains broke off; where it was the first, the leader took no step
+abbrev pub BreaksDown : Leader → List ℕ → Leader → List Exchange → Served → Type 0
+BreaksDown a bytes b made why = BreaksOff (stand a []) b made why ⊎ BreaksLate a bytes b made why
+
+-- the client is told that the link failed, with the net's count of faults
+abbrev pub link_down : PlainFrame → ℕ → PlainFrame
+link_down f count = answer f (frame.Refused (refusal.LinkDown count))
+
+-- bytes that are no frame that a leader takes from clients get their refusal, and no exchange is made
+pub record Refuses (a : Leader) (bytes : List ℕ) (b : Leader) (reply : List ℕ)
+    (made : List Exchange) : Type 0 where
+  pub leader : b ≡ (on_client a bytes).leader
+  pub reply_is : reply ≡ reply_to (on_client a bytes).answer
+  pub none : made ≡ []
+
+-- what was only to be sent to the client, with no exchange broken
+abbrev pub IsSent : Served → Type 0
+IsSent served.Answered = Unit {0}
+IsSent (served.ConnFault count) = Unit {0}
+IsSent other = ⊥
+
+-- What a leader did, by the client's frame if the bytes are one, and by the answer: made are its exchanges,
+-- count is the net's count of faults, reply what the client is to get.
+abbrev pub Leads : Option PlainFrame → Leader → List ℕ → Leader → List Exchange → ℕ → Served → List ℕ → Type 0
+Leads None a bytes b made count why reply = IsSent why × Refuses a bytes b reply made
+Leads (Some f) a bytes b made count served.Answered reply = Handles a bytes b reply made
+Leads (Some f) a bytes b made count (served.ConnFault faults) reply = Handles a bytes b reply made
+Leads (Some f) a bytes b made count served.Ended reply = ⊥
+Leads (Some f) a bytes b made count (served.LinkFault faults) reply =
+    BreaksDown a bytes b made (served.LinkFault faults) × (reply ≡ spelling (link_down f count))
+Leads (Some f) a bytes b made count served.LinkBad reply =
+    BreaksDown a bytes b made served.LinkBad × (reply ≡ spelling (link_down f count))

@@ -1,0 +1,6 @@
+pub mod Taking
+pub mod Exchanging
+pub mod Helping
+pub mod Draining
+pub mod Leading
+pub mod Serving

@@ -1,0 +1,56 @@
+-- One connection of a server.
+use Rattle.std.specs.Prelude.{◌≡◌, ◌⊎◌, ℕ, List, [], Option, string_bytes}
+use Rattle.express_words.specs.Causes.{Rose}
+use Rattle.express_words.specs.Streams.{Stream, Gave, IsAtEnd, Took, TookPrefix}
+use Rattle.express_words.specs.Calls.{Call}
+use Rattle.frame_rules.specs.Gathering.{gathered}
+use Rattle.frame_rules.specs.Whole.{whole}
+use Rattle.step_rules.specs.Leader.{Leader}
+use Rattle.node_serve.specs.Taking.{IsWanted}
+use Rattle.node_serve.specs.Helping.{helper_step}
+use Rattle.node_serve.specs.Exchanging.{Exchange}
+use Rattle.node_serve.specs.Draining.{ExchangesOn}
+use Rattle.node_serve.specs.Leading.{taken_in, IsSent, Leads}
+use Rattle.node_serve.specs.declared.node.Node.{Node}
+use Rattle.node_serve.specs.declared.node.Node.TheVariants as node
+use Rattle.node_serve.specs.declared.node.Served.{Served}
+use Rattle.node_serve.specs.declared.node.Served.TheVariants as served
+
+-- held is what a connection gave, up to the end of a frame or to the byte at which it is known to be none;
+-- never more was taken than was wanted
+abbrev pub Brings : Option Stream → Option Stream → List ℕ → Type 0
+Brings old new held = (given : List ℕ) × Gave old new given × IsWanted given × (held ≡ gathered [] given)
+
+-- where the connection ended or failed before that
+abbrev pub IsCut : Served → Option Stream → (before now : ℕ) → Type 0
+IsCut served.Ended content before now = IsAtEnd content × (now ≡ before)
+IsCut (served.ConnFault count) content before now = Rose before now × (count ≡ now)
+IsCut other content before now = ⊥
+
+-- all of the bytes were written, or the connection failed after a front of them
+abbrev pub IsPut : Option (List ℕ) → Option (List ℕ) → (before now : ℕ) → List ℕ → Type 0
+IsPut old new before now bytes =
+    (Took old new bytes × (now ≡ before)) ⊎ (TookPrefix old new bytes × Rose before now)
+
+-- what was written of a reply, by the answer
+abbrev pub Writes : Served → Option (List ℕ) → Option (List ℕ) → (before now : ℕ) → List ℕ → Type 0
+Writes served.Answered old new before now reply = Took old new reply × (now ≡ before)
+Writes (served.ConnFault count) old new before now reply =
+    TookPrefix old new reply × Rose before now × (count ≡ now)
+Writes served.Ended old new before now reply = ⊥
+Writes (served.LinkFault count) old new before now reply = IsPut old new before now reply
+Writes served.LinkBad old new before now reply = IsPut old new before now reply
+
+abbrev pub IsHelper : Node → Type 0
+IsHelper (node.Help h) = Unit {0}
+IsHelper (node.Lead a peer) = ⊥
+
+-- What a server did with these bytes: its step, the calls on the net from before to now, whose count of
+-- faults is count then, and the reply that the client is to get.
+abbrev pub Serves : Node → List ℕ → Node → (before now : Option (List Call)) → ℕ → Served → List ℕ → Type 0
+Serves (node.Help h) bytes new before now count why reply =
+    IsSent why × (new ≡ node.Help (helper_step h bytes).helper) × (reply ≡ (helper_step h bytes).answer)
+Serves (node.Lead a peer) bytes new before now count why reply =
+    (b : Leader) × (new ≡ node.Lead b peer)
+    × ((made : List Exchange) × ExchangesOn (string_bytes peer) made before now
+    × Leads (taken_in (whole bytes)) a bytes b made count why reply)

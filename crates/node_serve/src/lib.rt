@@ -1,0 +1,18 @@
+//! One connection of a server: a frame is read, the core takes its step, and one reply is written.
+#![tactic(auto)]
+
+mod draining;
+mod exchanging;
+mod helping;
+mod leading;
+mod node;
+mod reading;
+mod serving;
+mod wanting;
+
+pub use exchanging::{Broken, exchange};
+pub use node::{Node, Served};
+pub use serving::serve_one;
+
+#[cfg(test)]
+mod tests;
