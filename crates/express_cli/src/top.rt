@@ -5,8 +5,10 @@ ghost use Rattle.express_words.specs.Streams.{Took, TookPrefix};
 ghost use Rattle.schedule_text.specs.Spelling.{SpellsSchedule};
 ghost use Rattle.schedule_text.specs.declared.schedule.Schedule.{Schedule};
 ghost use Rattle.run_rules.specs.Follows.{Follows};
-ghost use Rattle.run_rules.specs.Plain.{BoxesArePlain, JournalInOrder, JournalIsPlain, OutcomesArePlain, SharesAreFolds};
-ghost use Rattle.replay_world.specs.Laws.{FinishesAnswer, OfSchedules};
+ghost use Rattle.run_rules.specs.Plain.{BoxesArePlain, JournalInOrder, JournalIsPlain, JournalIsTold, OutcomesArePlain, SharesAreFolds};
+ghost use Rattle.run_rules.specs.Soundness.{AcceptedPass, BadWritesAreCaught};
+ghost use Rattle.replay_world.specs.Laws.{OfSchedules, RequestsAreTold};
+ghost use Rattle.replay_world.specs.Strangers.{FinishesAnswer, OfEverySchedule, OthersAreTold, SchedulesFit, StrangersAreForeign};
 ghost use Rattle.replay_world.specs.Played.{output_of};
 ghost use Rattle.batch_audit.specs.Batch.{FewValuesPass};
 ghost use Rattle.batch_audit.specs.Sorting.{SortsAreOne};
@@ -37,7 +39,9 @@ use crate::work::work;
 use batch_audit::{few_values_pass, sorts_are_one};
 use express_texts::{batch_is_read_exactly, game_is_read_exactly};
 use express_words::outside::{Net, Sink, Source};
-use replay_world::{finishes_answer, schedules_hold};
+use replay_world::{
+    accepted_writes_pass, requests_are_told, schedules_fit, schedules_hold, strangers_hold,
+};
 use schedule_text::read_exactly;
 use std::alloc::Global;
 use write_hiding::{views_stay, writes_are_choices};
@@ -119,7 +123,26 @@ pub fn run<S: Source, K: Sink, N: Net>(
     ensures journal_in_order { OfSchedules JournalInOrder }
     ensures shares_are_folds { OfSchedules SharesAreFolds }
     ensures boxes_are_plain { OfSchedules BoxesArePlain }
+    // Each client's requests are told in the order in which it was asked.
+    ensures requests_are_told { RequestsAreTold }
+    // With whatever bytes from outside the same holds of the clients, whose lanes no such bytes name: the plain table has
+    // the accepted writes of foreign lanes as what both servers add to each box, and a foreign command's line has the
+    // plain table's result, or the helper's refusal of a command that did nothing.
+    ensures lanes_stay_apart { SchedulesFit }
+    ensures foreign_lanes { StrangersAreForeign }
+    ensures all_follow_protocol { OfEverySchedule Follows }
+    ensures all_outcomes_are_plain { OfEverySchedule OutcomesArePlain }
+    ensures all_lines_are_told { OfEverySchedule JournalIsTold }
+    ensures all_clients_in_order { OfEverySchedule JournalInOrder }
+    ensures all_shares_are_folds { OfEverySchedule SharesAreFolds }
+    ensures all_boxes_are_plain { OfEverySchedule BoxesArePlain }
+    ensures all_requests_are_told { OthersAreTold }
+    // At the end each request that a client was asked before a `finish` of it has its outcome.
     ensures finishes_answer { FinishesAnswer }
+    // Each accepted write's proof passes at its point; a foreign one that changes two boxes has a bad challenge, or its
+    // proof passes at five points at most.
+    ensures accepted_writes_pass { OfEverySchedule AcceptedPass }
+    ensures bad_writes_are_caught { OfEverySchedule BadWritesAreCaught }
     // Pairs and seed determine what a sort rejects; a range with a bad pair passes at few random values.
     ensures sorts_are_one { SortsAreOne }
     ensures few_values_pass { FewValuesPass }
@@ -156,7 +179,10 @@ pub fn run<S: Source, K: Sink, N: Net>(
 {
     read_exactly();
     schedules_hold();
-    finishes_answer();
+    requests_are_told();
+    schedules_fit();
+    strangers_hold();
+    accepted_writes_pass();
     batch_is_read_exactly();
     sorts_are_one();
     few_values_pass();

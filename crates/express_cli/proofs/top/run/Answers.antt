@@ -61,7 +61,43 @@ pub returns-clause-boxes_are_plain : goal.returns-clause-boxes_are_plain
 returns-clause-boxes_are_plain g c = c.schedules_hold.ensures.boxes
 
 pub returns-clause-finishes_answer : goal.returns-clause-finishes_answer
-returns-clause-finishes_answer g c = c.finishes_answer.ensures.ends
+returns-clause-finishes_answer g c = c.requests_are_told.ensures.finished
+
+pub returns-clause-requests_are_told : goal.returns-clause-requests_are_told
+returns-clause-requests_are_told g c = c.requests_are_told.ensures.told
+
+pub returns-clause-lanes_stay_apart : goal.returns-clause-lanes_stay_apart
+returns-clause-lanes_stay_apart g c = c.schedules_fit.ensures.fit
+
+pub returns-clause-foreign_lanes : goal.returns-clause-foreign_lanes
+returns-clause-foreign_lanes g c = c.schedules_fit.ensures.lanes
+
+pub returns-clause-all_follow_protocol : goal.returns-clause-all_follow_protocol
+returns-clause-all_follow_protocol g c = c.strangers_hold.ensures.follows
+
+pub returns-clause-all_outcomes_are_plain : goal.returns-clause-all_outcomes_are_plain
+returns-clause-all_outcomes_are_plain g c = c.strangers_hold.ensures.outcomes
+
+pub returns-clause-all_lines_are_told : goal.returns-clause-all_lines_are_told
+returns-clause-all_lines_are_told g c = c.strangers_hold.ensures.journal
+
+pub returns-clause-all_clients_in_order : goal.returns-clause-all_clients_in_order
+returns-clause-all_clients_in_order g c = c.strangers_hold.ensures.order
+
+pub returns-clause-all_shares_are_folds : goal.returns-clause-all_shares_are_folds
+returns-clause-all_shares_are_folds g c = c.strangers_hold.ensures.shares
+
+pub returns-clause-all_boxes_are_plain : goal.returns-clause-all_boxes_are_plain
+returns-clause-all_boxes_are_plain g c = c.strangers_hold.ensures.boxes
+
+pub returns-clause-all_requests_are_told : goal.returns-clause-all_requests_are_told
+returns-clause-all_requests_are_told g c = c.requests_are_told.ensures.others
+
+pub returns-clause-accepted_writes_pass : goal.returns-clause-accepted_writes_pass
+returns-clause-accepted_writes_pass g c = c.accepted_writes_pass.ensures.passes
+
+pub returns-clause-bad_writes_are_caught : goal.returns-clause-bad_writes_are_caught
+returns-clause-bad_writes_are_caught g c = c.accepted_writes_pass.ensures.caught
 
 pub returns-clause-sorts_are_one : goal.returns-clause-sorts_are_one
 returns-clause-sorts_are_one g c = c.sorts_are_one.ensures
