@@ -13,6 +13,3 @@ mod wanting;
 pub use exchanging::{Broken, exchange};
 pub use node::{Node, Served};
 pub use serving::serve_one;
-
-#[cfg(test)]
-mod tests;
