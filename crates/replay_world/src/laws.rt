@@ -21,20 +21,21 @@ pub fn schedules_hold()
     ensures boxes { OfSchedules BoxesArePlain }
 {}
 
-/// A schedule that keeps the rules has its foreign lanes apart from its clients' lanes: they are the lanes that bytes from
-/// outside name in a frame of a client.
+/// A schedule that keeps the rules has its foreign lanes apart from its clients' lanes: they are the lanes
+/// that bytes from outside name in a frame of a client.
 pub fn schedules_fit()
     ensures lanes { StrangersAreForeign }
     ensures fit { SchedulesFit }
 {}
 
-/// So every schedule, with whatever bytes from outside: its run over bytes is the protocol's machine with content. Each
-/// outcome of a client tells what the plain table of mailboxes gives at the place of its request's last entry in the
-/// journal, where the plain table has accepted writes of foreign lanes as what both servers add to each box. Each line
-/// of the journal is printed with the plain table's result, or is that of a foreign command that was refused and did
-/// nothing; a client's stand once, and in its order. The helper's boxes are the fold of its shares over the whole
-/// journal, the leader's that over the entries that it has acknowledged; they add up to the plain table, and a client's
-/// write whose target stood among the boxes when it began is accepted.
+/// So every schedule, with whatever bytes from outside: its run over bytes is the protocol's machine with
+/// content. Each outcome of a client tells what the plain table of mailboxes gives at the place of its
+/// request's last entry in the journal, where the plain table has accepted writes of foreign lanes as what
+/// both servers add to each box. Each line of the journal is printed with the plain table's result, or is
+/// that of a foreign command that was refused and did nothing; a client's stand once, and in its order. The
+/// helper's boxes are the fold of its shares over the whole journal, the leader's that over the entries that
+/// it has acknowledged; they add up to the plain table, and a client's write whose target stood among the
+/// boxes when it began is accepted.
 pub fn strangers_hold()
     ensures history { OfEverySchedule HistoryIsSo }
     ensures follows { OfEverySchedule Follows }
@@ -45,18 +46,19 @@ pub fn strangers_hold()
     ensures boxes { OfEverySchedule BoxesArePlain }
 {}
 
-/// Each line of a replay that is printed as accepted, of a client or a foreign lane, is of a write whose proof passes at
-/// its point for its own difference vector and proof words. A foreign lane's write that changes two boxes of the plain
-/// table or more has two places or more in its vector that aren't zero; it passes at its point, and one of its challenges
-/// is the one bad value, or its proof passes at five points at most.
+/// Each line of a replay that is printed as accepted, of a client or a foreign lane, is of a write whose
+/// proof passes at its point for its own difference vector and proof words. A foreign lane's write that
+/// changes two boxes of the plain table or more has two places or more in its vector that aren't zero; it
+/// passes at its point, and one of its challenges is the one bad value, or its proof passes at five points at
+/// most.
 pub fn accepted_writes_pass()
     ensures passes { OfEverySchedule AcceptedPass }
     ensures caught { OfEverySchedule BadWritesAreCaught }
 {}
 
-/// Each client's requests are told in the order in which it was asked: in a schedule of clients, and in every schedule
-/// those of each lane that isn't foreign. Each request that a client was asked before a `finish` of it has its outcome,
-/// whatever comes after.
+/// Each client's requests are told in the order in which it was asked: in a schedule of clients, and in every
+/// schedule those of each lane that isn't foreign. Each request that a client was asked before a `finish` of it
+/// has its outcome, whatever comes after.
 pub fn requests_are_told()
     ensures told { RequestsAreTold }
     ensures others { OthersAreTold }

@@ -11,8 +11,9 @@ use Rattle.run_rules.specs.History.{HasEnded, HasOutcome, frame_run, token_event
 use Rattle.run_rules.specs.Acts.{AreFitting, ended_of, history_of}
 use Rattle.run_rules.specs.Plain.{IsHistory}
 
--- Of the history, the run over bytes and the token run of every schedule whose clients' lanes aren't foreign and whose
--- bytes from outside name foreign lanes. The token run's oracle and the history are read off both runs.
+-- Of the history, the run over bytes and the token run of every schedule whose clients' lanes aren't foreign
+-- and whose bytes from outside name foreign lanes. The token run's oracle and the history are read off both
+-- runs.
 abbrev pub AtEveryEnd : (Book → FrameWorld → World → Type 0) → Type 0
 AtEveryEnd P = (settings : Settings) (seed : List ℕ) (foreign : ℕ → Bool) (events : List Event)
     → KeepsLimits settings.width settings.boxes settings.lanes settings.window

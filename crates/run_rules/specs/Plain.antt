@@ -28,8 +28,8 @@ both_add b c serial address =
     xor_bytes (write_bytes (part_at b c serial) 0 (root_at b 0 c serial) address)
     (write_bytes (part_at b c serial) 1 (root_at b 1 c serial) address)
 
--- An accepted write of a client adds its message to the box of its target, one of a foreign lane to each box what
--- both servers add.
+-- An accepted write of a client adds its message to the box of its target, one of a foreign lane to each box
+-- what both servers add.
 abbrev pub plain_of : Book → Writes
 plain_of b =
     let clients = plain_writes b.sent (λ c serial. accepted_at b c serial) in
@@ -66,7 +66,8 @@ pub record IsStrange (b : Book) (i : ℕ) (e : Entry) : Type 0 where
   pub does : (e.does ≡ Refuse) ⊎ (e.does ≡ brought_does b e.line)
   pub begun : SettlesBegun b i e.line e.does
 
--- a history of clients and foreign lanes: none of these is asked, and each entry of a client answers a request
+-- a history of clients and foreign lanes: none of these is asked, and each entry of a client answers a
+-- request
 pub record IsHistory (b : Book) : Type 0 where
   pub sound : Sound b
   pub asked : (c serial : ℕ) (r : Request) → request_of b c serial ≡ Some r → b.foreign c ≡ false
@@ -182,8 +183,8 @@ pub record JournalIsPlain (b : Book) (f : FrameWorld) (w : World) : Type 0 where
         value = printed_of b e.line (plain_result b i e);
       })
 
--- A printed line tells the plain table's result, or the refusal that the helper's step gives of a foreign command, which
--- did nothing.
+-- A printed line tells the plain table's result, or the refusal that the helper's step gives of a foreign
+-- command, which did nothing.
 abbrev pub IsPlainLine : Book → ℕ → Entry → JournalLine → Type 0
 IsPlainLine b i e line =
     line ≡ record {

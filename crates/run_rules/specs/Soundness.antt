@@ -45,9 +45,9 @@ IsCaught b c serial =
     ⊎ ((points : List ℕ) → AllPairs (λ p q. p ≢ q) points → All (λ p. p < 2 ^ 128) points
     → All (λ p. PassesThere b c serial p) points → length points ≤ 5)
 
--- A foreign lane's write that changes two boxes of the plain table or more has two places or more in its vector that
--- aren't zero. It passes at its point, and is caught but for the bad values, as each of a foreign lane with such a
--- vector is.
+-- A foreign lane's write that changes two boxes of the plain table or more has two places or more in its
+-- vector that aren't zero. It passes at its point, and is caught but for the bad values, as each of a foreign
+-- lane with such a vector is.
 pub record BadWritesAreCaught (b : Book) (f : FrameWorld) (w : World) : Type 0 where
   pub seen : (i : ℕ) (e : Entry) → slice_get b.entries i ≡ Some e → b.foreign e.line.lane ≡ true
       → e.does ≡ SettleWrite → DifferTwice (plain_at b i).boxes (plain_at b (suc i)).boxes

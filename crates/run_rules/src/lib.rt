@@ -36,12 +36,12 @@ pub fn schedules_are_plain()
     ensures order { AtEnd JournalInOrder }
 {}
 
-/// At the end of every schedule, whatever bytes come from outside and whatever frames are lost, repeated or reordered:
-/// each outcome of a client is what the plain table gives at its place in the journal, where the plain table has
-/// the accepted writes of foreign lanes too, as what both servers add to each box. Each line is printed with the plain
-/// table's result, or is that of a foreign command which was refused and did nothing. A client's lines stand once
-/// and in order. The servers' boxes are the folds of what each was sent by clients and foreign lanes, and add up to
-/// the plain table.
+/// At the end of every schedule, whatever bytes come from outside and whatever frames are lost, repeated or
+/// reordered: each outcome of a client is what the plain table gives at its place in the journal, where the
+/// plain table has the accepted writes of foreign lanes too, as what both servers add to each box. Each line
+/// is printed with the plain table's result, or is that of a foreign command which was refused and did
+/// nothing. A client's lines stand once and in order. The servers' boxes are the folds of what each was sent
+/// by clients and foreign lanes, and add up to the plain table.
 pub fn strangers_are_counted()
     ensures history { AtEveryEnd HistoryIsSo }
     ensures outcomes { AtEveryEnd OutcomesArePlain }
@@ -51,27 +51,27 @@ pub fn strangers_are_counted()
     ensures boxes { AtEveryEnd BoxesArePlain }
 {}
 
-/// So too: each line that is printed as accepted, of a client or a foreign lane, is of a write whose proof passes at its
-/// point for its own difference vector and proof words. A foreign lane's write that changes two boxes of the plain table
-/// or more has two places or more in its vector that aren't zero; it passes at its point, and one of its challenges is
-/// the one bad value, or its proof passes at five points at most.
+/// So too: each line that is printed as accepted, of a client or a foreign lane, is of a write whose proof
+/// passes at its point for its own difference vector and proof words. A foreign lane's write that changes two
+/// boxes of the plain table or more has two places or more in its vector that aren't zero; it passes at its
+/// point, and one of its challenges is the one bad value, or its proof passes at five points at most.
 pub fn accepted_writes_pass()
     ensures passes { AtEveryEnd AcceptedPass }
     ensures caught { AtEveryEnd BadWritesAreCaught }
 {}
 
-/// In every history both servers' shares add up to the plain table, box by box, after each entry; each entry's result
-/// is the plain table's, a read the sum of both servers' shares; and a client's write whose target stood among the boxes
-/// when it began is accepted.
+/// In every history both servers' shares add up to the plain table, box by box, after each entry; each
+/// entry's result is the plain table's, a read the sum of both servers' shares; and a client's write whose
+/// target stood among the boxes when it began is accepted.
 pub fn shares_are_plain()
     ensures boxes { SharesArePlain }
     ensures results { ResultsArePlain }
     ensures accepted { RegisteredAreAccepted }
 {}
 
-/// After a `finish` its client has no current request and none that waits, and each request that it was asked has its
-/// outcome: in every schedule of clients, whatever was lost before, and so for a client of a lane that isn't foreign
-/// whatever bytes come from outside. These outcomes stand whatever comes after.
+/// After a `finish` its client has no current request and none that waits, and each request that it was asked
+/// has its outcome: in every schedule of clients, whatever was lost before, and so for a client of a lane
+/// that isn't foreign whatever bytes come from outside. These outcomes stand whatever comes after.
 pub fn finish_answers()
     ensures ends { FinishEnds }
     ensures always { FinishAlwaysEnds }
