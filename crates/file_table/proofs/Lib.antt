@@ -1,0 +1,5 @@
+pub mod Boxes
+pub mod Journals
+pub mod Joins
+pub mod Plain
+pub mod Worked
