@@ -3,3 +3,4 @@ pub mod Journals
 pub mod Joins
 pub mod Plain
 pub mod Worked
+pub mod Registers

@@ -1,7 +1,7 @@
 -- What holds of parts that are carried over the table.
 use Rattle.std.specs.Prelude.{◌≡◌, ◌<◌, ◌-◌, ◌++◌, ℕ, Bool, List, ◌∷◌, length, Some, Ok, Err}
 use Rattle.mailbox_rules.specs.Requests.{Request, Write, ReadBox, request_at}
-use Rattle.mailbox_rules.specs.Tables.{Gave, result_of, plain_writes}
+use Rattle.mailbox_rules.specs.Tables.{Gave, Registered, result_of, plain_writes}
 use Rattle.file_carry.specs.Parts.{count_of}
 use Rattle.file_carry.specs.Boxes.{join}
 use Rattle.file_carry.specs.Laws.{CanBeCut}
@@ -30,6 +30,11 @@ UnwrittenIsMissing = (j : Journal) (file : List ℕ) (id : ℕ) (addresses reads
     (more : List ℕ) → CanBeCut file id j.width → length addresses < count_of (length file) (j.width - 16)
     → AreCarried j file id 0 addresses reads → IsUnwritten j read
     → join (answers j (reads ++ read ∷ more)) ≡ Err (length addresses)
+
+-- a box that a line registered is there ever after: so each write that begins later counts it
+abbrev pub RegisteredStay : Type 0
+RegisteredStay = (j : Journal) (register later box : ℕ) → result_at j register ≡ Some (Registered box)
+    → register < later → box < length (table_at j later).boxes
 
 -- what a client's write adds at its target and at each other address
 pub record AddsItsMessage (sent : ℕ → List Request) (accepts : ℕ → ℕ → Bool) (lane serial target : ℕ)

@@ -8,6 +8,7 @@ ghost use Rattle.file_table.specs.Laws.{
   AnswersJoin,
   PartsAreGiven,
   PlainWritesAdd,
+  RegisteredStay,
   UnwrittenIsMissing,
 };
 ghost use Rattle.file_table.specs.Worked.{TwoPartsAreCarried};
@@ -23,6 +24,11 @@ pub fn answers_join()
 /// answers don't join, and this part is named as missing.
 pub fn unwritten_is_missing()
     ensures { UnwrittenIsMissing }
+{}
+
+/// A box that a line registered is there ever after, for each write that begins later.
+pub fn registered_stay()
+    ensures { RegisteredStay }
 {}
 
 /// In the plain table a client's write adds its message to the box of its target, and nothing to the others.
