@@ -1,0 +1,7 @@
+pub mod TalkLaws
+pub mod TurnLaws
+pub mod AskLaws
+pub mod StepLaws
+pub mod WalkLaws
+pub mod RequestLaws
+pub mod WorkLaws

@@ -1,0 +1,4 @@
+pub mod Talks
+pub mod Steps
+pub mod Work
+pub mod Texts

@@ -1,0 +1,17 @@
+//! A client's requests, worked off by exchanges with its two servers over a net.
+#![tactic(auto)]
+
+mod asking;
+mod finished;
+mod peers;
+mod stepping;
+mod stop;
+mod working;
+
+pub use finished::{Finished, Told};
+pub use peers::Peers;
+pub use stop::Stop;
+pub use working::{Work, work_off};
+
+#[cfg(test)]
+mod tests;
