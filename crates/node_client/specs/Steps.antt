@@ -68,11 +68,12 @@ abbrev pub said : Client → Result (List ℕ) Broken → Result (Option Ending)
 said c (Ok bytes) = said_of (on_reply c bytes).progress
 said c (Err why) = Err (stop_at why)
 
+-- as the call tells it, where a message's bytes stand apart
 abbrev pub told_step : Result (Option Ending) Stop → Result (Option Told) Stop
 told_step (Ok end) = Ok (option_map told_in end)
 told_step (Err why) = Err why
 
--- one step on a net
+-- One step on a net. A message that is read goes where `message` stood, and else that is kept.
 pub record Stepped (peers : Peers) (old new : Client) (message kept : List ℕ)
     (result : Result (Option Told) Stop) (before now : Option (List Call)) : Type 0 where
   pub talk : Talk
@@ -91,6 +92,7 @@ pub data GoesOn (start : Client) : Client → List Talk → Type 0 where
       GoesOn start c made → IsStep c t → said c t.exchange.answer ≡ Ok None →
       GoesOn start (heard c t.exchange.answer).client (made ++ t ∷ [])
 
+-- how a request ends, as its last step says it
 abbrev pub last_said : Result Ending Stop → Result (Option Ending) Stop
 last_said (Ok end) = Ok (Some end)
 last_said (Err why) = Err why
@@ -106,6 +108,7 @@ pub record Walks (start new : Client) (made : List Talk) (end : Result Ending St
   pub client : new ≡ (heard last talk.exchange.answer).client
   pub all : made ≡ before ++ talk ∷ []
 
+-- as the call tells it
 abbrev pub told_as : Result Ending Stop → Result Told Stop
 told_as (Ok end) = Ok (told_in end)
 told_as (Err why) = Err why

@@ -52,9 +52,11 @@ pub record Came (peers : Peers) (old : Client) (r : Request) (new : Client) (mes
 
 -- ---- what is told
 
+-- what is told of the request of this number
 abbrev pub line_of : ℕ → Ending → Finished
 line_of number end = record { request = number; told = told_in end; message = message_in end }
 
+-- the same of what a call tells, where a message's bytes stand apart
 abbrev pub read_message : Told → List ℕ → List ℕ
 read_message (told.Done outcome.Message) message = message
 read_message other message = []
