@@ -32,8 +32,9 @@ OfSchedules P = (o : Oracle) (schedule : Schedule) → KeepsRules schedule → A
     → let w = token_run o schedule.header.settings no_lane (events_in schedule.events) in
     P (history schedule.header.settings schedule.header.seed w) (run_of schedule) w
 
--- A client's outcomes are those of its requests 0, 1, 2 and so on. The requests that it was asked are those that have
--- their outcomes, in this order, then the current one, and then those that wait; each that was sent has the next serial.
+-- A client's outcomes are those of its requests 0, 1, 2 and so on. The requests that it was asked are those
+-- that have their outcomes, in this order, then the current one, and then those that wait; each that was sent
+-- has the next serial.
 abbrev pub RequestsAreTold : Type 0
 RequestsAreTold = (o : Oracle) (schedule : Schedule) (client : ℕ) → KeepsRules schedule
     → AreFromClients schedule.events

@@ -13,7 +13,7 @@ use Rattle.run_rules.specs.Letters.{FrameWorld}
 use Rattle.run_rules.specs.Run.{Event, Ask, Send, Tick, Deliver, Show, Finish, Inject}
 use Rattle.run_rules.specs.Book.{Book}
 use Rattle.run_rules.specs.Follows.{AreOutcomes, CurrentIs, Follows}
-use Rattle.run_rules.specs.History.{AreOfClients, FinishEnds, frame_run, no_lane, token_events, token_events_of, token_run}
+use Rattle.run_rules.specs.History.{frame_run, token_events, token_events_of, token_run}
 use Rattle.run_rules.specs.Acts.{AreFitting, IsFitting, ended_of, history_of}
 use Rattle.run_rules.specs.EveryEnd.{FinishAlwaysEnds}
 use Rattle.run_rules.proofs.ClientHears.{client_at}
@@ -88,18 +88,3 @@ finish_always_ends settings seed foreign events c limits fit honest few =
       waiting = h.waiting c ∙ waiting;
       outcomes = same_count b c v.outcomes f.outcomes h.outcomes ∙ numbered.count ∙ told;
     }
-
--- in a schedule of clients no lane is foreign
-clients_fit : (settings : Settings) (events : List Event) → AreOfClients settings events → AreFitting settings no_lane events
-clients_fit settings [] fit = tt
-clients_fit settings (Ask c r ∷ events) fit = ((fit.0.0, refl, fit.0.1), clients_fit settings events fit.1)
-clients_fit settings (Send c ∷ events) fit = (tt, clients_fit settings events fit.1)
-clients_fit settings (Tick ∷ events) fit = (tt, clients_fit settings events fit.1)
-clients_fit settings (Deliver n ∷ events) fit = (tt, clients_fit settings events fit.1)
-clients_fit settings (Show n ∷ events) fit = (tt, clients_fit settings events fit.1)
-clients_fit settings (Finish c ∷ events) fit = (tt, clients_fit settings events fit.1)
-clients_fit settings (Inject to_leader bytes ∷ events) fit = absurd fit.0
-
-pub finish_ends : FinishEnds
-finish_ends settings seed events c limits fit few =
-    finish_always_ends settings seed no_lane events c limits (clients_fit settings events fit) refl few

@@ -102,13 +102,6 @@ pub record HasEnded (c asked : ℕ) (f : FrameWorld) : Type 0 where
   pub waiting : f.waiting c ≡ []
   pub outcomes : length (filter (λ o. nat_eq o.client c) f.outcomes) ≡ asked
 
--- so is a client after its `finish`, in every schedule of clients
-abbrev pub FinishEnds : Type 0
-FinishEnds = (settings : Settings) (seed : List ℕ) (events : List Event) (c : ℕ)
-    → KeepsLimits settings.width settings.boxes settings.lanes settings.window → AreOfClients settings events
-    → suc (length events) ≤ 20000
-    → HasEnded c (asks_of c (token_events events)) (frame_run settings seed (events ++ Finish c ∷ []))
-
 -- the outcome of a client's request of this number, from 0 on
 pub record HasOutcome (c number : ℕ) (f : FrameWorld) : Type 0 where
   pub place : ℕ

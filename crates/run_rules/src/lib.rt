@@ -8,7 +8,7 @@
 ghost use Rattle.run_rules.specs.Acts.{StrangersFollow};
 ghost use Rattle.run_rules.specs.EveryEnd.{AtEveryEnd, FinishAlwaysEnds, FinishAnswers, HistoryIsSo};
 ghost use Rattle.run_rules.specs.Follows.{Follows};
-ghost use Rattle.run_rules.specs.History.{AtEnd, FinishEnds};
+ghost use Rattle.run_rules.specs.History.{AtEnd};
 ghost use Rattle.run_rules.specs.Plain.{BoxesArePlain, HistoryIsClients, JournalInOrder, JournalIsPlain, JournalIsTold, OutcomesArePlain, RegisteredAreAccepted, ResultsArePlain, SharesAreFolds, SharesArePlain};
 ghost use Rattle.run_rules.specs.Soundness.{AcceptedPass, BadWritesAreCaught};
 
@@ -70,10 +70,9 @@ pub fn shares_are_plain()
 {}
 
 /// After a `finish` its client has no current request and none that waits, and each request that it was asked
-/// has its outcome: in every schedule of clients, whatever was lost before, and so for a client of a lane
-/// that isn't foreign whatever bytes come from outside. These outcomes stand whatever comes after.
+/// has its outcome: in every schedule, whatever was lost before and whatever bytes come from outside, for a
+/// client of a lane that isn't foreign. These outcomes stand whatever comes after.
 pub fn finish_answers()
-    ensures ends { FinishEnds }
     ensures always { FinishAlwaysEnds }
     ensures answers { FinishAnswers }
 {}

@@ -1,9 +1,6 @@
 use Rattle.run_rules.proofs.FinishAnswers.{finish_answers}
-use Rattle.run_rules.proofs.WholeFinish.{finish_always_ends, finish_ends}
+use Rattle.run_rules.proofs.WholeFinish.{finish_always_ends}
 use Rattle.run_rules.proofs.finish_answers.Goals as goal
-
-pub returns-clause-ends : goal.returns-clause-ends
-returns-clause-ends c = finish_ends
 
 pub returns-clause-always : goal.returns-clause-always
 returns-clause-always c = finish_always_ends
