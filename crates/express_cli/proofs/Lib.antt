@@ -7,3 +7,4 @@ pub mod Exact
 pub mod BatchText
 pub mod CloakLemmas
 pub mod MillText
+pub mod Seeding

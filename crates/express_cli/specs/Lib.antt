@@ -1,5 +1,6 @@
 pub mod CommandLine
 pub mod Reading
+pub mod Seeds
 pub mod Batches
 pub mod Cloaks
 pub mod Mills

@@ -8,6 +8,7 @@ mod ends;
 mod mill;
 mod reading;
 mod replay;
+mod seed;
 mod texts;
 mod top;
 mod views;
@@ -16,6 +17,7 @@ mod work;
 
 pub use ends::End;
 pub use reading::{InputFault, LONGEST, read_all};
+pub use seed::{SeedFault, seed_of};
 pub use top::run;
 pub use words::Command;
 

@@ -1,0 +1,15 @@
+use Rattle.std.proofs.Common.{◌≡◌, ◌≤◌, ◌-◌, length, take}
+use Rattle.express_words.specs.Streams.{Gave}
+use Rattle.express_cli.specs.Seeds.{seed_bytes}
+use Rattle.express_cli.proofs.seed.seed_of.Given as goal
+
+abbrev pub invariant-taking : goal.invariant-taking
+invariant-taking g l = record {
+  gave : Gave (g.S.Counted.content l.fn.random) (g.S.Counted.content l.random) (take l.length l.seed);
+  unfailed : g.S.Counted.count l.random ≡ g.S.Counted.count l.fn.random;
+  short : l.length ≤ seed_bytes;
+  long : length l.seed ≡ seed_bytes;
+}
+
+abbrev pub decreases-taking : goal.decreases-taking
+decreases-taking g l = seed_bytes - l.length
