@@ -4,17 +4,23 @@
 ghost use Rattle.std.specs.Prelude.{◌≡◌, ◌≢◌};
 ghost use Rattle.std.specs.IoError.{error_kind};
 
-mod adapters;
+mod adapter;
+mod tcp_net;
 
-use adapters::{ReaderSource, WriterSink};
-use express_cli::run;
-use express_words::outside::MemoryNet;
+use adapter::Adapter;
+use express_cli::{run, seed_of};
+use std::fs::File;
 use std::io::ErrorKind;
 use std::process::ExitCode;
+use std::rt::{Env, Files};
 use std::{env, io};
+use tcp_net::TcpNet;
 
 /// The status where memory is wanting before the top call.
 const OUT_OF_MEMORY: u8 = 7;
+
+/// The status where no seed can be had.
+const NO_SEED: u8 = 9;
 
 /// The status where the words can't be had for another cause.
 const NO_WORDS: u8 = 14;
@@ -31,23 +37,30 @@ fn status_without_words(error: &io::Error) -> u8
     }
 }
 
+// The words after the program's name, or the status without them.
+fn words_of<R: Env + AllocGlobal>(rt: &R) -> Result<Vec<String>, u8> {
+    let all = env::args(rt).map_err(|error| status_without_words(&error))?;
+    all.skip(1).collect(rt.alloc()).map_err(|_| OUT_OF_MEMORY)
+}
+
+// 32 random bytes, or the status without them.
+fn random_seed<R: Files>(rt: &R) -> Result<[u8; 32], u8> {
+    let random = File::open(rt, "/dev/urandom").map_err(|_| NO_SEED)?;
+    seed_of(&mut Adapter::new(random)).map_err(|_| NO_SEED)
+}
+
+// Hands the real objects to the top call, and answers its status; or that of what is missing before it.
+fn start(rt: &HostRuntime) -> Result<u8, u8> {
+    let words = words_of(rt)?;
+    let seed = random_seed(rt)?;
+    let mut input = Adapter::new(rt.reader());
+    let mut out = Adapter::new(io::writer(rt));
+    let mut net = TcpNet::new(rt);
+    Ok(run(rt.alloc(), &words, &seed, &mut input, &mut out, &mut net))
+}
+
 fn main(rt: HostRuntime) -> ExitCode {
-    let alloc = rt.alloc();
-    let mut words = Vec::new(alloc);
-    match env::args(&rt) {
-        Err(error) => return ExitCode::from(status_without_words(&error)),
-        Ok(all) => {
-            for word in all.skip(1) {
-                if words.push(word).is_err() {
-                    return ExitCode::from(OUT_OF_MEMORY);
-                }
-            }
-        }
+    match start(&rt) {
+        Ok(status) | Err(status) => ExitCode::from(status),
     }
-    let mut input = ReaderSource::new(rt.reader());
-    let mut out = WriterSink::new(io::writer(&rt));
-    let Ok(mut net) = MemoryNet::new(alloc, Vec::new(alloc), 0, 0, &[]) else {
-        return ExitCode::from(OUT_OF_MEMORY);
-    };
-    ExitCode::from(run(alloc, &words, &[0; 32], &mut input, &mut out, &mut net))
 }

@@ -1,39 +1,42 @@
-//! A source over any reader and a sink over any writer, each with a count of its faults. As a source and a sink
-//! neither tells its bytes; over a reader or a writer that is known to have some, the clauses `bytes` say what of
-//! them was given and taken.
-ghost use Rattle.std.specs.Prelude.{◌≤◌, length, IfOk, MatchBool, MatchResult};
+//! Readers, writers and both in one, as sources, sinks and connections with a count of their faults.
+ghost use Rattle.std.specs.Prelude.{◌≡◌, ◌≤◌, length, IfOk, MatchBool, MatchResult};
 ghost use Rattle.std.specs.Io.KnownBytes.{ReadConsumes};
 ghost use Rattle.express_words.specs.Causes.{HasCause, CountsFault};
 ghost use Rattle.express_words.specs.Streams.{Took, TookPrefix};
 
-use express_words::outside::{Counted, Failed, Sink, Source};
+use express_words::outside::{Conn, Counted, Failed, Sink, Source};
 use std::io::{Read, Write};
 
-/// Gives what a reader reads. Each error of the reader is a fault.
+/// A reader, a writer or both, whose every error is a fault, and so is a write that takes nothing.
+///
+/// As a source and a sink it doesn't tell its bytes; over a reader or a writer that is known to have some, the
+/// clauses `bytes` say what of them was given and taken.
 #[derive(Drop)]
-pub struct ReaderSource<R: Read> {
-    inner: R,
+pub struct Adapter<T> {
+    inner: T,
     faults: u64,
 }
 
-impl<R: Read> ReaderSource<R> {
-    pub fn new(inner: R) -> Self {
-        ReaderSource { inner, faults: 0 }
+impl<T> Adapter<T> {
+    pub fn new(inner: T) -> Self
+        ensures { result ≡ record { inner = inner; faults = 0 } }
+    {
+        Adapter { inner, faults: 0 }
     }
 }
 
-impl<R: Read> Counted for ReaderSource<R> {
-    ghost count = { λ s. s.faults };
+impl<T> Counted for Adapter<T> {
+    ghost count = { λ a. a.faults };
 
     fn faults(&self) -> u64 {
         self.faults
     }
 }
 
-impl<R: Read> Source for ReaderSource<R> {
+impl<T: Read> Source for Adapter<T> {
     fn take(&mut self, buf: &mut [u8]) -> Result<usize, Failed>
         ensures bound { IfOk result (λ n. n ≤ length buf.new) }
-        ensures bytes { ReadConsumes (R.remaining self.old.inner) (R.remaining self.new.inner) result buf.new }
+        ensures bytes { ReadConsumes (T.remaining self.old.inner) (T.remaining self.new.inner) result buf.new }
         ensures cause { HasCause self.old.faults self.new.faults result }
         ensures counts { CountsFault self.old.faults self.new.faults result }
     {
@@ -44,27 +47,6 @@ impl<R: Read> Source for ReaderSource<R> {
                 Err(Failed)
             }
         }
-    }
-}
-
-/// Writes to a writer, whose every error is a fault, and so is a write that takes nothing.
-#[derive(Drop)]
-pub struct WriterSink<W: Write> {
-    inner: W,
-    faults: u64,
-}
-
-impl<W: Write> WriterSink<W> {
-    pub fn new(inner: W) -> Self {
-        WriterSink { inner, faults: 0 }
-    }
-}
-
-impl<W: Write> Counted for WriterSink<W> {
-    ghost count = { λ s. s.faults };
-
-    fn faults(&self) -> u64 {
-        self.faults
     }
 }
 
@@ -83,10 +65,10 @@ fn write_whole<W: Write>(inner: &mut W, bytes: &[u8]) -> bool
     inner.flush().is_ok()
 }
 
-impl<W: Write> Sink for WriterSink<W> {
+impl<T: Write> Sink for Adapter<T> {
     fn put(&mut self, bytes: &[u8]) -> Result<(), Failed>
-        ensures bytes { MatchResult result (λ _. Took (W.contents self.old.inner) (W.contents self.new.inner) bytes.now)
-            (λ _. TookPrefix (W.contents self.old.inner) (W.contents self.new.inner) bytes.now) }
+        ensures bytes { MatchResult result (λ _. Took (T.contents self.old.inner) (T.contents self.new.inner) bytes.now)
+            (λ _. TookPrefix (T.contents self.old.inner) (T.contents self.new.inner) bytes.now) }
         ensures cause { HasCause self.old.faults self.new.faults result }
         ensures counts { CountsFault self.old.faults self.new.faults result }
     {
@@ -98,6 +80,8 @@ impl<W: Write> Sink for WriterSink<W> {
         }
     }
 }
+
+impl<T: Read + Write> Conn for Adapter<T> {}
 
 #[cfg(test)]
 mod tests;

@@ -25,7 +25,7 @@ impl Read for Interrupted {
 
 #[test]
 fn a_source_counts_errors(rt: HostRuntime) {
-    let mut source = ReaderSource::new(Interrupted { reads: 0 });
+    let mut source = Adapter::new(Interrupted { reads: 0 });
     let mut buf = [0u8; 8];
     assert_eq!(rt; source.take(&mut buf), Ok(2));
     assert_eq!(rt; &buf[..2], b"ok".as_slice());
@@ -61,7 +61,7 @@ impl Write for Narrow {
 
 #[test]
 fn a_sink_writes_on_and_counts_what_is_not_taken(rt: HostRuntime) {
-    let mut sink = WriterSink::new(Narrow {
+    let mut sink = Adapter::new(Narrow {
         room: 7,
         flushes: true,
     });
@@ -69,7 +69,7 @@ fn a_sink_writes_on_and_counts_what_is_not_taken(rt: HostRuntime) {
     assert_eq!(rt; sink.faults(), 0);
     assert_eq!(rt; sink.put(b"longer"), Err(Failed));
     assert_eq!(rt; sink.faults(), 1);
-    let mut unflushed = WriterSink::new(Narrow {
+    let mut unflushed = Adapter::new(Narrow {
         room: 7,
         flushes: false,
     });
