@@ -1,0 +1,4 @@
+pub mod AskingLaws
+pub mod OwnLaws
+pub mod FitLaws
+pub mod RunLaws

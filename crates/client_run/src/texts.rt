@@ -1,0 +1,67 @@
+//! The lines that a run prints.
+ghost use Rattle.std.specs.Prelude.{◌≡◌, ◌++◌, IfOk, OnOk, codes, flat_map, string_bytes};
+ghost use Rattle.client_run.specs.Texts.{refused_text, told_text, outcome_line, end_line};
+
+use client_core::Outcome;
+use express_words::Refusal;
+use node_client::{Finished, Stop, Told};
+use std::alloc::{AllocError, Global};
+
+fn refused_text(alloc: Global, refusal: Refusal) -> Result<String, AllocError>
+    ensures { IfOk result (λ text. string_bytes text ≡ refused_text refusal) }
+{
+    if let Refusal::Rejected(_, _, _, _) = refusal {
+        return format!(in alloc; "rejected");
+    }
+    format!(in alloc; "refused {refusal}")
+}
+
+fn told_text(alloc: Global, told: Told, message: &[u8]) -> Result<String, AllocError>
+    ensures { IfOk result (λ text. string_bytes text ≡ told_text told message.now) }
+{
+    match told {
+        Told::Done(Outcome::Registered(box_number)) => format!(in alloc; "registered {box_number}"),
+        Told::Done(Outcome::Accepted) => format!(in alloc; "accepted"),
+        Told::Done(Outcome::Message) => {
+            let digits = hex::encode(alloc, message)?;
+            format!(in alloc; "message {digits}")
+        }
+        Told::Done(Outcome::Refused(refusal)) => refused_text(alloc, refusal),
+        Told::NoOwnBox(own) => format!(in alloc; "no box {own}"),
+    }
+}
+
+#[tactic(auto, unfolding(crate::specs::Texts::outcome_line))]
+fn outcome_line(alloc: Global, finished: &Finished) -> Result<String, AllocError>
+    ensures { IfOk result (λ text. string_bytes text ≡ outcome_line finished.now) }
+{
+    let request = finished.request;
+    let told = told_text(alloc, finished.told, finished.message.as_slice())?;
+    format!(in alloc; "outcome {request} {told}\n")
+}
+
+/// A line for each request that came to its end.
+pub fn add_outcomes(
+    alloc: Global,
+    text: &mut String,
+    finished: &[Finished],
+) -> Result<(), AllocError>
+    ensures { OnOk result (string_bytes text.new ≡ string_bytes text.old ++ flat_map outcome_line finished.now) }
+{
+    for one in finished {
+        let line = outcome_line(alloc, one)?;
+        text.push_str(line.as_str())?;
+    }
+    Ok(())
+}
+
+/// The last line, by how the work ended.
+pub fn end_line(alloc: Global, end: Result<(), Stop>) -> Result<String, AllocError>
+    ensures { IfOk result (λ text. string_bytes text ≡ end_line end) }
+{
+    match end {
+        Ok(()) => format!(in alloc; "end\n"),
+        Err(Stop::Fault(_)) => format!(in alloc; "net fault\n"),
+        Err(why) => format!(in alloc; "stopped {why}\n"),
+    }
+}
