@@ -1,0 +1,89 @@
+-- The calls of a visit.
+use Rattle.std.proofs.Common.{◌≡◌, ◌≢◌, ℕ, ◌==◌, false, List, [], ◌∷◌, ◌++◌, Option, Some, None, refl, sym, ap, ◌∙◌, subst, append_assoc}
+use Rattle.std.specs.Prelude.{string_bytes}
+use Rattle.std.proofs.lemmas.List.{append-nil}
+use Rattle.express_words.specs.Streams.{Stream, Gave}
+use Rattle.express_words.specs.Calls.{Call, Accepted, Closed, Adds, AddsClose, GivesTelling}
+use Rattle.node_serve.specs.Exchanging.{Makes, Exchange}
+use Rattle.node_serve.specs.Draining.{ExchangesOn}
+use Rattle.node_serve.specs.Serving.{IsHelper, Serves}
+use Rattle.node_serve.specs.declared.node.Node.{Node}
+use Rattle.node_serve.specs.declared.node.Node.TheVariants as node
+use Rattle.node_serve.specs.declared.node.Served.{Served}
+use Rattle.node_host.specs.Visits.{Visit, visit_calls, IsOf}
+
+pub makes_none : (a : Option (List Call)) → Makes a a []
+makes_none None = tt
+makes_none (Some a) = sym (append-nil a)
+
+pub makes_one : (a b : Option (List Call)) (call : Call) → Adds a b call → Makes a b (call ∷ [])
+makes_one a None call h = tt
+makes_one None (Some b) call h = absurd h
+makes_one (Some a) (Some b) call h = h
+
+pub makes_both : (a b c : Option (List Call)) (x y : List Call) → Makes a b x → Makes b c y → Makes a c (x ++ y)
+makes_both a b None x y g h = tt
+makes_both a None (Some c) x y g h = absurd h
+makes_both None (Some b) (Some c) x y g h = absurd g
+makes_both (Some a) (Some b) (Some c) x y g h = h ∙ ap (λ (t : List Call). t ++ y) g ∙ append_assoc a x y
+
+-- ---- a server's own calls
+
+-- the same exchanges behind other calls
+told : (peer : List ℕ) (es : List Exchange) (a b : Option (List Call)) (before : List Call) → ExchangesOn peer es a b
+    → (calls : List Call) × Makes a b calls × ExchangesOn peer es (Some before) (Some (before ++ calls))
+told peer [] a b before same = ([], subst (λ (x : Option (List Call)). Makes a x []) (sym same) (makes_none a), ap Some (append-nil before))
+told peer (e ∷ es) a b before (next, (calls, makes, is), others) =
+    let rest = told peer es next b (before ++ calls) others in (
+      calls ++ rest.0,
+      makes_both a next b calls rest.0 makes rest.1,
+      (
+        Some (before ++ calls),
+        (calls, refl, is),
+        subst (λ (x : List Call). ExchangesOn peer es (Some (before ++ calls)) (Some x)) (append_assoc before calls rest.0) rest.2,
+      ),
+    )
+
+pub serves_told : (old : Node) (bytes : List ℕ) (new : Node) (a b : Option (List Call)) (count : ℕ) (why : Served) (reply : List ℕ)
+    → Serves old bytes new a b count why reply → (IsHelper old → b ≡ a)
+    → (calls : List Call) × Makes a b calls × Serves old bytes new (Some []) (Some calls) count why reply × (IsHelper old → calls ≡ [])
+serves_told (node.Help h) bytes new a b count why reply serves rests =
+    ([], subst (λ (x : Option (List Call)). Makes a x []) (sym (rests tt)) (makes_none a), serves, λ is. refl)
+serves_told (node.Lead l peer) bytes new a b count why reply (now, is, (made, on, leads)) rests =
+    let calls = told (string_bytes peer) made a b [] on in
+    (calls.0, calls.1, (now, is, (made, calls.2, leads)), λ none. absurd none)
+
+-- ---- an accept, these calls, and a close
+
+abbrev pub left_in : Option Stream → List ℕ
+left_in None = []
+left_in (Some stream) = stream.left
+
+abbrev stream : (given left : List ℕ) → Stream
+stream given left = record { given = given; left = left }
+
+same_stream : (a b x y : List ℕ) → a ≡ b → x ≡ y → stream a x ≡ stream b y
+same_stream a b x y given left = cc
+
+pub visit_made : (a b c d : Option (List Call)) (s t : Option Stream) (w x : Option (List ℕ)) (v : Visit)
+    → Adds a b (Accepted false) → GivesTelling b s w → Gave s t v.given → v.left ≡ left_in t → (w ≢ None → x ≡ Some v.taken)
+    → Makes b c v.calls → AddsClose c d t x v.faults → Makes a d (visit_calls v) × IsOf d v t x v.faults
+visit_made a b c None s t w x v accept tells gave left took makes close = (tt, tt)
+visit_made a b c (Some d) s None w x v accept tells gave left took makes close = absurd close
+visit_made a b c (Some d) s (Some t) w None v accept tells gave left took makes close = absurd close
+visit_made a b None (Some d) s (Some t) w (Some x) v accept tells gave left took makes close = absurd close
+visit_made a None (Some c) (Some d) s (Some t) w (Some x) v accept tells gave left took makes close = absurd makes
+visit_made None (Some b) (Some c) (Some d) s (Some t) w (Some x) v accept tells gave left took makes close = absurd accept
+visit_made (Some a) (Some b) (Some c) (Some d) None (Some t) w (Some x) v accept tells gave left took makes close = absurd tells
+visit_made (Some a) (Some b) (Some c) (Some d) (Some s) (Some t) None (Some x) v accept tells gave left took makes close = absurd tells
+visit_made (Some a) (Some b) (Some c) (Some d) (Some s) (Some t) (Some w) (Some x) v accept tells gave left took makes close =
+    let given_is : t.given ≡ v.given = gave.1 ∙ ap (λ (y : List ℕ). y ++ v.given) tells.0 in
+    let taken_is : Some x ≡ Some v.taken = took (λ (e : Some w ≡ None). absurd (cc e)) in
+    let same : x ≡ v.taken = cc in
+    let last : Call = Closed v.given v.taken (v.faults == 0) in
+    let close_is : Closed t.given x (v.faults == 0) ≡ last = cc in
+    let content_is : t ≡ stream v.given v.left = same_stream t.given v.given t.left v.left given_is (sym left) in (
+      close ∙ ap (λ (y : Call). c ++ y ∷ []) close_is ∙ ap (λ (y : List Call). y ++ last ∷ []) (makes ∙ ap (λ (y : List Call). y ++ v.calls) accept)
+          ∙ append_assoc (a ++ Accepted false ∷ []) v.calls (last ∷ []) ∙ append_assoc a (Accepted false ∷ []) (v.calls ++ last ∷ []),
+      (ap Some content_is, taken_is, refl),
+    )

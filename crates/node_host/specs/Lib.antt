@@ -1,0 +1,4 @@
+pub mod Opening
+pub mod Visits
+pub mod Tallies
+pub mod Hosting
