@@ -2,3 +2,5 @@ pub mod AskingLaws
 pub mod OwnLaws
 pub mod FitLaws
 pub mod RunLaws
+pub mod CarryLaws
+pub mod PartLaws

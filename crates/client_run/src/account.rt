@@ -2,10 +2,11 @@
 ghost use Rattle.std.specs.Prelude.{◌≡◌, ◌<◌, ◌≤◌, None, length, IfOk};
 ghost use Rattle.express_words.specs.Limits.{IsWidth};
 ghost use Rattle.client_run.specs.Accounts.{account_in, client_account, opened};
+ghost use Rattle.client_run.specs.Carrying.{carry_account};
 
 use client_core::Client;
 use express_words::NoMemory;
-use settings_text::{ClientSettings, OwnedBox};
+use settings_text::{CarrySettings, ClientSettings, OwnedBox};
 use std::alloc::Global;
 
 /// What a client is opened with.
@@ -22,6 +23,23 @@ pub struct Account<'a> {
 /// The account of a client's settings, where this seed stands for one that they don't have.
 pub fn client_account<'a>(settings: &'a ClientSettings, seed: &'a [u8; 32]) -> Account<'a>
     ensures { account_in result ≡ client_account settings.now seed.now }
+{
+    Account {
+        lane: settings.lane,
+        seed: match &settings.seed {
+            Some(own) => own,
+            None => seed,
+        },
+        width: settings.width,
+        boxes: settings.boxes,
+        serial: settings.serial,
+        owned: settings.owned.as_slice(),
+    }
+}
+
+/// The account of a carrier's settings, where this seed stands for one that they don't have.
+pub fn carry_account<'a>(settings: &'a CarrySettings, seed: &'a [u8; 32]) -> Account<'a>
+    ensures { account_in result ≡ carry_account settings.now seed.now }
 {
     Account {
         lane: settings.lane,

@@ -13,7 +13,8 @@ use node_client::{Peers, Stop, Work, work_off};
 use settings_text::ClientSettings;
 use std::alloc::Global;
 
-fn end_of(end: Result<(), Stop>) -> RunEnd
+/// How a run ends, by how the work ended.
+pub fn end_of(end: Result<(), Stop>) -> RunEnd
     ensures { result ≡ end_of end }
 {
     match end {

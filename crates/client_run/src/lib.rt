@@ -3,10 +3,16 @@
 
 mod account;
 mod asking;
+mod carry;
+mod carrying;
 mod client;
+mod fetched;
+mod parts;
 mod ran;
+mod sent;
 mod texts;
 
+pub use carry::run_carry;
 pub use client::run_client;
 pub use ran::{Ran, RunEnd};
 

@@ -31,8 +31,9 @@ fn told_text(alloc: Global, told: Told, message: &[u8]) -> Result<String, AllocE
     }
 }
 
+/// The line of a request that came to its end.
 #[tactic(auto, unfolding(crate::specs::Texts::outcome_line))]
-fn outcome_line(alloc: Global, finished: &Finished) -> Result<String, AllocError>
+pub fn outcome_line(alloc: Global, finished: &Finished) -> Result<String, AllocError>
     ensures { IfOk result (λ text. string_bytes text ≡ outcome_line finished.now) }
 {
     let request = finished.request;

@@ -8,7 +8,8 @@ mod stepping;
 mod stop;
 mod working;
 
-pub use finished::{Finished, Told};
+pub use asking::one_request;
+pub use finished::{Finished, Told, line};
 pub use peers::Peers;
 pub use stop::Stop;
 pub use working::{Work, work_off};

@@ -2,7 +2,7 @@ use Rattle.std.proofs.Common.{◌≡◌, ◌∙◌, map, ap}
 use Rattle.node_client.specs.declared.peers.Peers.{Peers}
 use Rattle.client_run.specs.Accounts.{Account, account_in, client_account, opened, request_of}
 use Rattle.client_core.specs.Requests.{plain_request}
-use Rattle.client_run.proofs.FitLaws.{lent_fit}
+use Rattle.client_run.proofs.FitLaws.{askings_fit, lent_fit}
 use Rattle.client_run.proofs.RunLaws.{ran_so}
 use Rattle.client_run.proofs.client.run_client.Goals as goal
 
@@ -11,7 +11,7 @@ work_off-requires-clause-fits g c =
     let settings = c.args.settings.now in
     let account : account_in c.client_account.result ≡ client_account settings c.args.seed.now = c.client_account.ensures in
     let width : c.in_ok-client.client.width ≡ settings.width = c.in_ok-client.ensures.width ∙ ap (λ (a : Account). a.width) account in
-    lent_fit settings.width _ settings.requests _ _ _ width c.as_slice.ensures c.as_slice-2.ensures.value c.in_ok-requests.ensures c.requires.settings.requests
+    lent_fit settings.width _ settings.requests _ _ _ width c.as_slice.ensures c.as_slice-2.ensures.value c.in_ok-requests.ensures (askings_fit settings.width settings.requests c.requires.settings.requests)
 
 pub returns-clause-runs : goal.returns-clause-runs
 returns-clause-runs g c =

@@ -1,0 +1,85 @@
+-- A carrier's requests, worked off up to the first that doesn't carry.
+use Rattle.std.specs.Prelude.{◌≡◌, ℕ, ◌≤◌, Bool, true, false, List, [], ◌∷◌, ◌++◌, length, map, slice_index, Result, Ok, Err}
+use Rattle.std.specs.List.{range_with_len, AllPass}
+use Rattle.file_carry.specs.Parts.{IsPartWidth, part_of}
+use Rattle.mailbox_rules.specs.Requests.{Request}
+use Rattle.step_rules.specs.Client.{Client}
+use Rattle.client_core.specs.declared.progress.Outcome.TheVariants.{Accepted, Message}
+use Rattle.node_client.specs.declared.finished.Finished.{Finished}
+use Rattle.node_client.specs.declared.finished.Told.{Told}
+use Rattle.node_client.specs.declared.finished.Told.TheVariants.{Done}
+use Rattle.node_client.specs.Talks.{Talk}
+use Rattle.node_client.specs.Work.{Works, StopsAt}
+use Rattle.settings_text.specs.declared.carry.CarryJob.{CarryJob}
+use Rattle.settings_text.specs.declared.carry.CarryJob.TheVariants.{Send, Fetch}
+use Rattle.settings_text.specs.declared.carry.CarrySettings.{CarrySettings}
+use Rattle.settings_text.specs.declared.owned.OwnedBox.{OwnedBox}
+use Rattle.settings_text.specs.declared.requests.Asking.{Asking}
+use Rattle.settings_text.specs.declared.requests.Asking.TheVariants.{Write, Read}
+use Rattle.settings_text.specs.Carry.{IsJob}
+use Rattle.client_run.specs.Accounts.{Account, seed_or}
+use Rattle.client_run.specs.declared.ran.RunEnd.{RunEnd}
+use Rattle.client_run.specs.declared.ran.RunEnd.TheVariants as run
+use Rattle.client_run.specs.Runs.{end_of}
+use Rattle.client_run.specs.declared.carrying.Halt.{Halt}
+use Rattle.client_run.specs.declared.carrying.Halt.TheVariants.{Broken, Stopped}
+
+-- ---- a carrier's settings
+
+-- what holds of a carrier's settings that are read
+pub record IsCarrier (settings : CarrySettings) : Type 0 where
+  pub width : IsPartWidth settings.width
+  pub boxes : settings.boxes ≤ 4096
+  pub serial : 1 ≤ settings.serial
+  pub owned : length settings.owned ≤ settings.boxes
+  pub job : IsJob settings.width settings.owned settings.job
+
+abbrev pub carry_account : CarrySettings → List ℕ → Account
+carry_account settings seed = record {
+  lane = settings.lane;
+  seed = seed_or settings.seed seed;
+  width = settings.width;
+  boxes = settings.boxes;
+  serial = settings.serial;
+  owned = settings.owned;
+}
+
+-- to send is to write each part of the file to its address, and to fetch is to read each own box, in order
+abbrev pub askings_of : ℕ → List OwnedBox → CarryJob → List Asking
+askings_of width owned (Send id file addresses) =
+    map (λ i. Write (slice_index addresses i) (part_of file id width i)) (range_with_len 0 (length addresses))
+askings_of width owned Fetch = map Read (range_with_len 0 (length owned))
+
+-- ---- the work
+
+-- an outcome with which a carrier goes on
+abbrev pub carries : Told → Bool
+carries (Done Accepted) = true
+carries (Done Message) = true
+carries other = false
+
+abbrev pub AllCarry : List Finished → Type 0
+AllCarry finished = AllPass (λ f. carries f.told) finished
+
+-- one request came to an end with which a carrier doesn't go on, and none behind it was taken
+pub record BreaksAt (start : Client) (requests : List Request) (new : Client) (finished : List Finished)
+    (broken : Finished) (made : List Talk) : Type 0 where
+  pub asked : List Request
+  pub behind : List Request
+  pub all : requests ≡ asked ++ behind
+  pub works : Works start asked (record { client = new; finished = finished ++ broken ∷ []; made = made })
+  pub breaks : carries broken.told ≡ false
+
+-- by how the work ended, where these requests carried
+abbrev pub CarriesOff : Client → List Request → Client → List Finished → List Talk → Result Unit Halt → Type 0
+CarriesOff start requests new finished made (Ok done) =
+    Works start requests (record { client = new; finished = finished; made = made })
+CarriesOff start requests new finished made (Err (Broken broken)) =
+    BreaksAt start requests new finished broken made
+CarriesOff start requests new finished made (Err (Stopped why)) =
+    StopsAt start requests (record { client = new; finished = finished; made = made }) why
+
+-- a run ends by a fault of the net where that stopped the work
+abbrev pub carry_end : Result Unit Halt → RunEnd
+carry_end (Err (Stopped why)) = end_of (Err why)
+carry_end other = run.Done

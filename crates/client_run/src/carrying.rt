@@ -1,0 +1,89 @@
+//! A carrier's requests, worked off up to the first that doesn't carry.
+ghost use Rattle.std.specs.Prelude.{◌≡◌, ◌≤◌, List, None, length, map, All, IfOk};
+ghost use Rattle.client_core.specs.Requests.{plain_request};
+ghost use Rattle.node_client.specs.Talks.{Talk, TalksOn};
+ghost use Rattle.node_client.specs.Work.{Fits};
+ghost use Rattle.client_run.specs.Carrying.{carries, AllCarry, CarriesOff, carry_end};
+ghost use Rattle.client_run.specs.Carries.{AreWhole};
+ghost use Rattle.client_run.specs.Runs.{RunFault};
+
+use client_core::{Client, Outcome, Request};
+use express_words::NoMemory;
+use express_words::outside::Net;
+use node_client::{Finished, Peers, Stop, Told, line, one_request};
+use std::alloc::Global;
+
+/// Why a carrier doesn't go on.
+#[derive(Drop)]
+pub enum Halt {
+    /// A request came to another end than an accepted write or a message.
+    Broken(Finished),
+    /// What stops any client's work.
+    Stopped(Stop),
+}
+
+/// What was told of the requests that carried, in order, and how the work on them ended: with the last, or
+/// halted at the one behind those.
+#[derive(Drop)]
+pub struct Carried {
+    pub finished: Vec<Finished>,
+    pub end: Result<(), Halt>,
+}
+
+fn carries(told: Told) -> bool
+    ensures { result ≡ carries told }
+{
+    match told {
+        Told::Done(Outcome::Accepted) => true,
+        Told::Done(Outcome::Message) => true,
+        _ => false,
+    }
+}
+
+/// Works off a client's requests in order, up to the first that comes to another end than an accepted write or
+/// a message. `message` is room for a message.
+pub fn carry_off<N: Net>(
+    alloc: Global,
+    client: &mut Client,
+    requests: &[Request<'_>],
+    peers: &Peers<'_>,
+    net: &mut N,
+    message: &mut [u8],
+) -> Result<Carried, NoMemory>
+    requires idle { client.old.current ≡ None }
+    requires width { length message.old ≡ client.old.width }
+    requires fits { All (λ r. Fits client.old.width (plain_request r)) requests.now }
+    ensures works { IfOk result (λ c. (made : List Talk)
+        × CarriesOff client.old (map plain_request requests.now) client.new c.finished.items made c.end
+        × TalksOn peers.now made (N.calls net.old) (N.calls net.new)) }
+    ensures carried { IfOk result (λ c. AllCarry c.finished.items) }
+    ensures whole { IfOk result (λ c. AreWhole client.old.width c.finished.items) }
+    ensures few { IfOk result (λ c. length c.finished.items ≤ length requests.now) }
+    ensures fault { IfOk result (λ c. RunFault (carry_end c.end) (N.count net.old) (N.count net.new)) }
+    ensures door { N.doors net.new ≡ N.doors net.old }
+{
+    let mut finished = Vec::new(alloc);
+    for (number, request) in requests.iter().enumerate() {
+        let told = match one_request(client, request, peers, net, message) {
+            Ok(told) => told,
+            Err(why) => {
+                return Ok(Carried {
+                    finished,
+                    end: Err(Halt::Stopped(why)),
+                });
+            }
+        };
+        let one = line(alloc, number, told, message)?;
+        if !carries(told) {
+            return Ok(Carried {
+                finished,
+                end: Err(Halt::Broken(one)),
+            });
+        }
+        finished.push(one)?;
+    }
+    Ok(Carried {
+        finished,
+        end: Ok(()),
+    })
+}
