@@ -32,22 +32,39 @@ fn question_of(line: &str) -> &str {
     }
 }
 
-fn main(rt: HostRuntime) -> io::Result<ExitCode> {
-    let alloc = rt.alloc();
-    let Ok(mut scene) = Scene::open(alloc, &LEAST) else {
-        return Ok(ExitCode::FAILURE);
-    };
-    for line in BufReader::new(alloc, rt.reader())?.lines(alloc) {
-        let line = line?;
-        let question = question_of(line.as_str());
-        match scene.answer(alloc, question) {
-            Ok(None) => println!(rt; "{question}")?,
-            Ok(Some(answer)) => println!(rt; "{question} > {answer}")?,
-            Err(fault) => {
-                eprintln!(rt; "{fault}: {question}")?;
-                return Ok(ExitCode::FAILURE);
-            }
+// Prints a line with its answer. Whether it has one.
+fn print_answer(rt: &HostRuntime, scene: &mut Scene, line: &str) -> io::Result<bool> {
+    let question = question_of(line);
+    match scene.answer(rt.alloc(), question) {
+        Ok(None) => println!(rt; "{question}")?,
+        Ok(Some(answer)) => println!(rt; "{question} > {answer}")?,
+        Err(fault) => {
+            eprintln!(rt; "{fault}: {question}")?;
+            return Ok(false);
         }
     }
-    Ok(ExitCode::SUCCESS)
+    Ok(true)
+}
+
+// Prints the lines up to the first that has no answer. Whether each has one.
+fn print_all(rt: &HostRuntime, scene: &mut Scene) -> io::Result<bool> {
+    let alloc = rt.alloc();
+    for line in BufReader::new(alloc, rt.reader())?.lines(alloc) {
+        let line = line?;
+        if !print_answer(rt, scene, line.as_str())? {
+            return Ok(false);
+        }
+    }
+    Ok(true)
+}
+
+fn main(rt: HostRuntime) -> io::Result<ExitCode> {
+    let Ok(mut scene) = Scene::open(rt.alloc(), &LEAST) else {
+        return Ok(ExitCode::FAILURE);
+    };
+    if print_all(&rt, &mut scene)? {
+        Ok(ExitCode::SUCCESS)
+    } else {
+        Ok(ExitCode::FAILURE)
+    }
 }

@@ -1,29 +1,23 @@
 //! The leader, the helper and the clients of a recording.
-ghost use Rattle.std.specs.Prelude.{◌≤◌, length};
 ghost use Rattle.express_words.specs.Limits.{KeepsLimits};
 
+use crate::at_helper::AtHelper;
+use crate::at_leader::AtLeader;
 use crate::fault::Fault;
 use crate::fields::{bytes_of, first_of, number_of, seed_of, settings_of, small_number_of};
 use crate::texts::no_frame;
 use crate::told::ToldClient;
-use crate::{at_helper, at_leader};
 use express_words::Settings;
-use frame_rules::FRAME_MAX;
-use helper_core::Helper;
-use leader_core::Leader;
 use std::alloc::Global;
 
 #[derive(Drop)]
 pub struct Scene {
     settings: Settings,
-    leader: Leader,
-    helper: Helper,
+    leader: AtLeader,
+    helper: AtHelper,
     /// The clients of the first lanes.
     clients: Vec<ToldClient>,
-    /// Room for a frame.
-    out: Vec<u8>,
     ghost limits: { KeepsLimits settings.width settings.boxes settings.lanes settings.window },
-    ghost room: { 8213 ≤ length out.items },
 }
 
 impl Scene {
@@ -36,10 +30,9 @@ impl Scene {
     {
         Ok(Scene {
             settings: *settings,
-            leader: Leader::open(alloc, settings, &[0; 32])?,
-            helper: Helper::open(alloc, settings, &[0; 32])?,
+            leader: AtLeader::open(alloc, settings, &[0; 32])?,
+            helper: AtHelper::open(alloc, settings, &[0; 32])?,
             clients: Vec::new(alloc),
-            out: vec![in alloc; 0u8; FRAME_MAX]?,
         })
     }
 
@@ -96,8 +89,8 @@ impl Scene {
     fn prepare(&mut self, alloc: Global, word: &str, text: &str) -> Result<bool, Fault> {
         match word {
             "settings" => *self = Scene::open(alloc, &settings_of(text)?)?,
-            "leaderseed" => self.leader = Leader::open(alloc, &self.settings, &seed_of(text)?)?,
-            "helperseed" => self.helper = Helper::open(alloc, &self.settings, &seed_of(text)?)?,
+            "leaderseed" => self.leader = AtLeader::open(alloc, &self.settings, &seed_of(text)?)?,
+            "helperseed" => self.helper = AtHelper::open(alloc, &self.settings, &seed_of(text)?)?,
             "clientseed" => self.client_seed(alloc, text)?,
             _ => return Ok(false),
         }
@@ -113,7 +106,7 @@ impl Scene {
 
     fn send(&mut self, alloc: Global, number: &str) -> Result<String, Fault> {
         let place = self.place_of(number)?;
-        self.clients[place].send(alloc, &mut self.out)
+        self.clients[place].send(alloc)
     }
 
     fn told(&self, alloc: Global, number: &str) -> Result<String, Fault> {
@@ -133,16 +126,10 @@ impl Scene {
         let frame = bytes_of(alloc, digits)?;
         let frame = frame.as_slice();
         match addressee {
-            "leader.client" => {
-                at_leader::frame_comes(alloc, &mut self.leader, frame, &mut self.out)
-            }
-            "leader.reply" => at_leader::reply_comes(alloc, &mut self.leader, frame, &mut self.out),
-            "helper.client" => {
-                at_helper::frame_comes(alloc, &mut self.helper, frame, &mut self.out)
-            }
-            "helper.link" => {
-                at_helper::command_comes(alloc, &mut self.helper, frame, &mut self.out)
-            }
+            "leader.client" => self.leader.frame_comes(alloc, frame),
+            "leader.reply" => self.leader.reply_comes(alloc, frame),
+            "helper.client" => self.helper.frame_comes(alloc, frame),
+            "helper.link" => self.helper.command_comes(alloc, frame),
             _ => self.hear(alloc, addressee, frame),
         }
     }

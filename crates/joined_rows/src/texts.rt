@@ -13,14 +13,24 @@ pub fn no_frame(alloc: Global) -> Result<String, Fault> {
     words(alloc, "-")
 }
 
-/// A frame in hexadecimal digits.
-pub fn frame_text(alloc: Global, frame: &[u8]) -> Result<String, Fault> {
+fn frame_text(alloc: Global, frame: &[u8]) -> Result<String, Fault> {
     Ok(hex::encode(alloc, frame)?)
 }
 
-/// A client's frame behind the name of its addressee: the leader is server 0, the helper 1.
-pub fn sent_text(alloc: Global, server: u8, frame: &[u8]) -> Result<String, Fault> {
-    let digits = frame_text(alloc, frame)?;
+// The first bytes of the room that a frame was written to. No core writes more than the room holds.
+fn front_of(room: &[u8], length: usize) -> &[u8] {
+    &room[..length.min(room.len())]
+}
+
+/// A frame that stands at the front of this room, in hexadecimal digits.
+pub fn front_text(alloc: Global, room: &[u8], length: usize) -> Result<String, Fault> {
+    frame_text(alloc, front_of(room, length))
+}
+
+/// A client's frame, which stands at the front of this room, behind the name of its addressee.
+/// The leader is server 0, the helper 1.
+pub fn sent_text(alloc: Global, server: u8, room: &[u8], length: usize) -> Result<String, Fault> {
+    let digits = front_text(alloc, room, length)?;
     let name = if server == 0 { "leader" } else { "helper" };
     Ok(format!(in alloc; "{name}.client {digits}")?)
 }

@@ -1,12 +1,14 @@
-//! A client, and what it says of the last frame that came to it.
+//! A client, and what it says of the last frame that came to it. Its contracts hide what it holds.
 ghost use Rattle.std.specs.Prelude.{◌≡◌, ◌≤◌, length};
 ghost use Rattle.express_words.specs.Limits.{IsWidth};
 
 use crate::fault::Fault;
 use crate::fields::{address_of, bytes_of, first_of, number_of};
 use crate::texts::{no_frame, progress_text, sent_text, words};
-use client_core::{Client, Progress, Request};
+use client_core::{AskFault, Client, Progress, Request};
+use frame_rules::FRAME_MAX;
 use std::alloc::Global;
+use std::marker::Model;
 
 #[derive(Drop)]
 pub struct ToldClient {
@@ -14,7 +16,14 @@ pub struct ToldClient {
     told: Progress,
     /// The message that was read last.
     message: Vec<u8>,
-    ghost room: { length message.items ≡ client.width },
+}
+
+impl Model for ToldClient {
+    ghost Value = { Unit {0} };
+
+    ghost view = { λ _. tt };
+
+    ghost invariant = { λ c. length c.message.items ≡ c.client.width };
 }
 
 impl ToldClient {
@@ -40,8 +49,12 @@ impl ToldClient {
         })
     }
 
-    fn take(&mut self, alloc: Global, request: &Request<'_>) -> Result<String, Fault> {
-        match self.client.ask(request) {
+    fn take(&mut self, request: &Request<'_>) -> Result<(), AskFault> {
+        self.client.ask(request)
+    }
+
+    fn taken(&mut self, alloc: Global, request: &Request<'_>) -> Result<String, Fault> {
+        match self.take(request) {
             Ok(()) => words(alloc, "taken"),
             Err(fault) => Ok(format!(in alloc; "{fault}")?),
         }
@@ -53,34 +66,39 @@ impl ToldClient {
         match kind {
             "register" => {
                 let address = address_of(text)?;
-                self.take(alloc, &Request::Register { address })
+                self.taken(alloc, &Request::Register { address })
             }
             "write" => {
                 let (target, digits) = first_of(text)?;
                 let target = address_of(target)?;
                 let message = bytes_of(alloc, digits)?;
                 let message = message.as_slice();
-                self.take(alloc, &Request::Write { target, message })
+                self.taken(alloc, &Request::Write { target, message })
             }
             "read" => {
                 let own = number_of(text)?;
-                self.take(alloc, &Request::Read { own })
+                self.taken(alloc, &Request::Read { own })
             }
             "retire" => {
                 let own = number_of(text)?;
-                self.take(alloc, &Request::Retire { own })
+                self.taken(alloc, &Request::Retire { own })
             }
             _ => Err(Fault::Unknown),
         }
     }
 
-    /// The frame of its present step, if it has a request, and whom it is for.
-    pub fn send(&self, alloc: Global, out: &mut [u8]) -> Result<String, Fault>
+    fn sent(&self, out: &mut [u8]) -> Option<(u8, usize)>
         requires room { 8213 ≤ length out.old }
     {
-        match self.client.send(out) {
+        self.client.send(out)
+    }
+
+    /// The frame of its present step, if it has a request, and whom it is for.
+    pub fn send(&self, alloc: Global) -> Result<String, Fault> {
+        let mut out = [0u8; FRAME_MAX];
+        match self.sent(&mut out) {
             None => no_frame(alloc),
-            Some((server, length)) => sent_text(alloc, server, &out[..length]),
+            Some((server, length)) => sent_text(alloc, server, &out, length),
         }
     }
 
