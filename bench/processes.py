@@ -1,0 +1,132 @@
+"""Servers and clients of the built program as processes on loopback, for bench/serve and bench/soak."""
+
+import os
+import random
+import socket
+import subprocess
+import sys
+import threading
+
+TOP = os.path.dirname(os.path.dirname(os.path.abspath(__file__)))
+PROGRAM = os.path.join(TOP, "crates/express/out/express")
+
+
+class Sizes:
+    """What servers and clients agree on."""
+
+    def __init__(self, width, boxes, lanes, window):
+        self.width, self.boxes, self.lanes, self.window = width, boxes, lanes, window
+
+
+def program(words):
+    """The program that the words name, or the one that .ci/run left."""
+    path = os.path.abspath(words[0]) if words else PROGRAM
+    if not os.access(path, os.X_OK):
+        sys.exit(f"there is no program {path}: .ci/run leaves the proved one, or name another")
+    return path
+
+
+def free_port():
+    with socket.socket() as door:
+        door.bind(("127.0.0.1", 0))
+        return door.getsockname()[1]
+
+
+def digits(count):
+    """Random bytes as hexadecimal digits, the same in each run."""
+    return random.getrandbits(8 * count).to_bytes(count, "big").hex()
+
+
+class Server:
+    """A server that listens, as a process."""
+
+    def __init__(self, path, role, port, peer, sizes, connections):
+        settings = f"""role = "{role}"
+listen = "127.0.0.1:{port}"
+peer = "127.0.0.1:{peer}"
+width = {sizes.width}
+boxes = {sizes.boxes}
+lanes = {sizes.lanes}
+window = {sizes.window}
+connections = {connections}
+"""
+        self.role, self.port = role, port
+        self.process = subprocess.Popen([path, "serve"], stdin=subprocess.PIPE, stdout=subprocess.PIPE, text=True)
+        self.process.stdin.write(settings)
+        self.process.stdin.close()
+        line = self.process.stdout.readline()
+        if line != "listening\n":
+            self.stop()
+            sys.exit(f"the {role} says {line!r} in place of that it listens")
+
+    def resident(self):
+        """The KiB that it has in memory now, and the most that it had."""
+        with open(f"/proc/{self.process.pid}/status") as status:
+            lines = dict(line.split(":", 1) for line in status)
+        return [int(lines[name].split()[0]) for name in ("VmRSS", "VmHWM")]
+
+    def runs(self):
+        return self.process.poll() is None
+
+    def last_line(self):
+        """What it prints when a connection without a frame has ended it."""
+        socket.create_connection(("127.0.0.1", self.port)).close()
+        line = self.process.stdout.readline()
+        self.process.wait(timeout=30)
+        return line
+
+    def stop(self):
+        if self.runs():
+            self.process.kill()
+        self.process.wait()
+        self.process.stdout.close()
+
+
+def client_settings(leader, helper, sizes, lane, seed, serial, owned, requests):
+    """The text of a client's settings. A request is a list of pairs of key and value."""
+    text = f"""lane = {lane}
+leader = "127.0.0.1:{leader}"
+helper = "127.0.0.1:{helper}"
+width = {sizes.width}
+boxes = {sizes.boxes}
+serial = {serial}
+seed = "{seed}"
+"""
+    for box, box_serial in owned:
+        text += f"\n[[owned]]\nbox = {box}\nserial = {box_serial}\n"
+    for request in requests:
+        text += "\n[[request]]\n"
+        for key, value in request:
+            text += f'{key} = "{value}"\n' if isinstance(value, str) else f"{key} = {value}\n"
+    return text
+
+
+def register(address):
+    return [("kind", "register"), ("address", address)]
+
+
+def write(address, message):
+    return [("kind", "write"), ("address", address), ("message", message)]
+
+
+def read(own, kind="read"):
+    return [("kind", kind), ("own", own)]
+
+
+class Client:
+    """A client as a process, with its settings on its standard input."""
+
+    def __init__(self, path, settings):
+        self.process = subprocess.Popen([path, "client"], stdin=subprocess.PIPE, stdout=subprocess.PIPE, text=True)
+        self.process.stdin.write(settings)
+        self.process.stdin.close()
+
+    def lines(self):
+        """The lines that it wrote until its end, and its status. It is killed where it takes too long."""
+        watch = threading.Timer(100, self.process.kill)
+        watch.start()
+        lines = self.process.stdout.read().splitlines()
+        self.process.stdout.close()
+        status = self.process.wait()
+        watch.cancel()
+        return lines, status
