@@ -141,6 +141,7 @@ impl Journal {
             → IsUndamaged self.old.limit self.old.end c → IsUndamaged self.old.limit self.new.end c }
 
         ensures moved { (n : ℕ) → result ≡ Ok (Some n) → self.new ≡ longer n self.old }
+        ensures fits { (n : ℕ) → result ≡ Ok (Some n) → self.old.end + 5 + n + 1 ≤ self.old.limit }
         ensures ended { result ≡ Ok None → self.new ≡ at_end self.old }
         ensures stays { (n : ℕ) → IsErrOf result (JournalFault.Damaged n) → self.new ≡ self.old }
         ensures broken { (n : ℕ) → IsErrOf result (JournalFault.Disk n) → self.new ≡ broken self.old }
