@@ -1,0 +1,20 @@
+-- What is said of a fault says what follows from it.
+use Rattle.std.proofs.Common.{ℕ}
+use Rattle.node_journal.specs.declared.fault.JournalFault.TheVariants.{Closed, NotEmpty, Full, Disk, Damaged}
+use Rattle.node_restart.specs.declared.fault.KeepFault.{KeepFault}
+use Rattle.node_restart.specs.declared.fault.KeepFault.TheVariants.{Journal, NoMemory, Foreign}
+use Rattle.node_restart.specs.Faults.{OnForeign, OnDamaged}
+
+pub on_foreign : (why : KeepFault) (P Q : ℕ → Type 0) → ((n : ℕ) → P n → Q n) → OnForeign why P → OnForeign why Q
+on_foreign (Foreign n) P Q follows p = follows n p
+on_foreign NoMemory P Q follows p = tt
+on_foreign (Journal why) P Q follows p = tt
+
+pub on_damaged : (why : KeepFault) (P Q : ℕ → Type 0) → ((n : ℕ) → P n → Q n) → OnDamaged why P → OnDamaged why Q
+on_damaged (Journal (Damaged at)) P Q follows p = follows at p
+on_damaged (Journal Closed) P Q follows p = tt
+on_damaged (Journal NotEmpty) P Q follows p = tt
+on_damaged (Journal (Full end)) P Q follows p = tt
+on_damaged (Journal (Disk faults)) P Q follows p = tt
+on_damaged NoMemory P Q follows p = tt
+on_damaged (Foreign n) P Q follows p = tt

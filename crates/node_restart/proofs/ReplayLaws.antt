@@ -1,0 +1,118 @@
+-- The frames of a journal, taken one after another.
+use Rattle.std.proofs.Common.{◌≡◌, ℕ, ◌+◌, ◌≤◌, ◌<◌, List, [], ◌∷◌, ◌++◌, length, map, refl, sym, ◌∙◌, ap, subst, arith, append_assoc, length-append}
+use Rattle.node_journal.specs.Disk.{IsUntouched}
+use Rattle.node_journal.specs.Records.{records_from, IsUndamaged}
+use Rattle.node_journal.specs.Journal.{JournalState}
+use Rattle.node_restart.specs.declared.server.Core.{Core}
+use Rattle.node_restart.specs.Frames.{Handed, frame_record}
+use Rattle.node_restart.specs.Steps.{settings_of, role_of, step_of}
+use Rattle.node_restart.specs.Replays.{IsReading, StepsBy, StepsOnce, StepsThrough, StandsForeign, StandsDamaged, EndsForeign, EndsDamaged}
+use Rattle.node_restart.proofs.FrameLaws.{all_push, map_push}
+use Rattle.node_restart.proofs.StepLaws.{fold_push}
+
+pub untouched_trans : {reads reads_then reads_now may_leave may_leave_then may_leave_now : List ℕ → Type 0}
+    → IsUntouched reads reads_then may_leave may_leave_then → IsUntouched reads_then reads_now may_leave_then may_leave_now → IsUntouched reads reads_now may_leave may_leave_now
+untouched_trans first second = record {
+  gives = λ d read. first.gives d (second.gives d read);
+  still = λ d read. second.still d (first.still d read);
+  crash = λ d left. first.crash d (second.crash d left);
+}
+
+-- so far these frames were read and their steps taken
+pub record Replays (limit start number : ℕ) (j : JournalState) (before now : Core) (reads reads_now may_leave may_leave_now : List ℕ → Type 0) : Type 0 where
+  pub frames : List Handed
+  pub steps : StepsThrough frames start j.end before now reads
+  pub place : number ≡ length frames + 1
+  pub reading : IsReading limit j reads_now may_leave_now
+  pub untouched : IsUntouched reads reads_now may_leave may_leave_now
+  pub undamaged : (d : List ℕ) → reads d → IsUndamaged limit start d → IsUndamaged limit j.end d
+  pub settings : settings_of now ≡ settings_of before
+  pub role : role_of now ≡ role_of before
+  pub below : number ≤ j.end
+
+pub replays_start : (j : JournalState) (before : Core) (reads may_leave : List ℕ → Type 0)
+    → IsReading j.limit j reads may_leave → 1 ≤ j.end → Replays j.limit j.end 1 j before before reads reads may_leave may_leave
+replays_start j before reads may_leave reading some = record {
+  frames = [];
+  steps = record { whole = tt; folded = refl; split = λ d read. refl };
+  place = refl;
+  reading = reading;
+  untouched = record { gives = λ d read. read; still = λ d read. read; crash = λ d left. left };
+  undamaged = λ d read whole. whole;
+  settings = refl;
+  role = refl;
+  below = some;
+}
+
+push_through : (frames : List Handed) (start end more : ℕ) (before then now : Core) (reads reads_now : List ℕ → Type 0)
+    → StepsThrough frames start end before then reads → (r : List ℕ) → (s : StepsBy r then now)
+    → ((d : List ℕ) → reads d → records_from end d ≡ r ∷ records_from more d)
+    → StepsThrough (frames ++ s.frame ∷ []) start more before now reads
+push_through frames start end more before then now reads reads_now through r s split =
+    let h = s.frame in
+    record {
+      whole = all_push frames h through.whole s.whole;
+      folded = s.step ∙ ap (λ (k : Core). (step_of k h.sender h.frame).core) through.folded ∙ sym (fold_push before frames h);
+      split = λ d read.
+          through.split d read
+          ∙ ap (λ (l : List (List ℕ)). map frame_record frames ++ l) (split d read ∙ ap (λ (x : List ℕ). x ∷ records_from more d) s.is)
+          ∙ sym (append_assoc (map frame_record frames) (frame_record h ∷ []) (records_from more d))
+          ∙ ap (λ (l : List (List ℕ)). l ++ records_from more d) (sym (map_push frames h));
+    }
+
+pub replays_on : (limit start number : ℕ) (j k : JournalState) (before then now : Core) (reads reads_then reads_now may_leave may_leave_then may_leave_now : List ℕ → Type 0)
+    → Replays limit start number j before then reads reads_then may_leave may_leave_then
+    → StepsOnce j.end k.end then now reads_then → IsReading j.limit k reads_now may_leave_now
+    → IsUntouched reads_then reads_now may_leave_then may_leave_now
+    → ((d : List ℕ) → reads_then d → IsUndamaged j.limit j.end d → IsUndamaged j.limit k.end d)
+    → j.end < k.end → settings_of now ≡ settings_of then → role_of now ≡ role_of then
+    → Replays limit start (number + 1) k before now reads reads_now may_leave may_leave_now
+replays_on limit start number j k before then now reads reads_then reads_now may_leave may_leave_then may_leave_now so once reading untouched undamaged longer settings role =
+    let same : j.limit ≡ limit = so.reading.same_limit in
+    record {
+      frames = so.frames ++ once.1.frame ∷ [];
+      steps = push_through so.frames start j.end k.end before then now reads reads_now so.steps once.0 once.1 (λ d read. once.2 d (so.untouched.still d read));
+      place = omega (arith, so.place, length-append so.frames (once.1.frame ∷ []));
+      reading = record { still_open = reading.still_open; same_limit = reading.same_limit ∙ same; in_place = reading.in_place };
+      untouched = untouched_trans so.untouched untouched;
+      undamaged = λ d read whole.
+          subst (λ (n : ℕ). IsUndamaged n k.end d) same
+          (undamaged d (so.untouched.still d read) (subst (λ (n : ℕ). IsUndamaged n j.end d) (sym same) (so.undamaged d read whole)));
+      settings = settings ∙ so.settings;
+      role = role ∙ so.role;
+      below = omega (arith, so.below, longer);
+    }
+
+pub replays_foreign : (limit start number n : ℕ) (j : JournalState) (before now : Core) (reads reads_now may_leave may_leave_now : List ℕ → Type 0)
+    → Replays limit start number j before now reads reads_now may_leave may_leave_now
+    → n ≡ number → StandsForeign j.end reads_now → EndsForeign n start reads
+replays_foreign limit start number n j before now reads reads_now may_leave may_leave_now so is stands = (
+  so.frames,
+  so.steps.whole,
+  is ∙ so.place,
+  (
+    stands.0,
+    stands.1,
+    λ d read.
+        let here = stands.2 d (so.untouched.still d read) in
+        (here.0, so.steps.split d read ∙ ap (λ (l : List (List ℕ)). map frame_record so.frames ++ l) here.1),
+  ),
+)
+
+pub replays_damaged : (limit start number n : ℕ) (j : JournalState) (before now : Core) (reads reads_now may_leave may_leave_now : List ℕ → Type 0)
+    → Replays limit start number j before now reads reads_now may_leave may_leave_now
+    → n ≡ j.end → StandsDamaged j.limit j.end reads_now → EndsDamaged limit n start reads
+replays_damaged limit start number n j before now reads reads_now may_leave may_leave_now so is stands =
+    let at : StandsDamaged limit n reads_now =
+    subst (λ (e : ℕ). StandsDamaged limit e reads_now) (sym is) (subst (λ (l : ℕ). StandsDamaged l j.end reads_now) so.reading.same_limit stands) in
+    let place : (e : ℕ) → e ≡ j.end → ((d : List ℕ) → reads d → records_from start d ≡ map frame_record so.frames ++ records_from e d) =
+    λ (e : ℕ) same d read. so.steps.split d read ∙ ap (λ (x : ℕ). map frame_record so.frames ++ records_from x d) (sym same) in (
+      so.frames,
+      so.steps.whole,
+      λ d read.
+          let here = at d (so.untouched.still d read) in (
+            place n is d read,
+            here.0,
+            λ whole. here.1 (subst (λ (e : ℕ). IsUndamaged limit e d) (sym is) (so.undamaged d read whole)),
+          ),
+    )

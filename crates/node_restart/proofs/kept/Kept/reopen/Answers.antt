@@ -1,0 +1,15 @@
+use Rattle.node_journal.specs.Records.{content}
+use Rattle.node_restart.proofs.FaultLaws.{on_foreign}
+use Rattle.node_restart.proofs.FrameLaws.{never_foreign}
+use Rattle.node_restart.proofs.KeptLaws.{one_fold}
+use Rattle.node_restart.proofs.kept.Kept.reopen.Goals as goal
+
+pub returns-in-Ok-clause-told : goal.returns-in-Ok-clause-told
+returns-in-Ok-clause-told g c o frames d read is_opening held =
+    one_fold o c.in-Ok.found.opening frames c.in-Ok.found.core (g.D.Disk.reads c.args.disk) d read is_opening c.in-Ok.ensures.is_opening c.in-Ok.ensures.stands held
+
+pub returns-in-Err-clause-never_foreign : goal.returns-in-Err-clause-never_foreign
+returns-in-Err-clause-never_foreign g c =
+    on_foreign c.in-Err.fault _ _
+    (λ n here o frames d read is_opening all held. never_foreign n o frames (content d) is_opening all (held d read) (here d read))
+    c.in-Err.ensures.foreign

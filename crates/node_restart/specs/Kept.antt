@@ -1,0 +1,60 @@
+-- A server with its journal, and what stands on its disk.
+use Rattle.std.specs.Prelude.{◌≡◌, ◌⊎◌, ℕ, List, [], ◌∷◌, ◌++◌, drop, true, false, Err}
+use Rattle.node_journal.specs.Records.{content, records_from, IsUndamaged}
+use Rattle.node_journal.specs.Next.{found}
+use Rattle.node_journal.specs.Journal.{JournalState, IsInPlace}
+use Rattle.node_journal.specs.declared.fault.JournalFault.TheVariants.{Damaged}
+use Rattle.node_restart.specs.declared.server.Core.{Core}
+use Rattle.node_restart.specs.declared.opening.Opening.{Opening}
+use Rattle.node_restart.specs.Openings.{IsOpening}
+use Rattle.node_restart.specs.Frames.{Handed, AllFrames, records_of}
+use Rattle.node_restart.specs.Steps.{fold, settings_of, role_of}
+
+-- how the server was opened, the server, its journal and the journal's disk
+pub record KeptState (D : Type 0) : Type 0 where
+  pub opening : Opening
+  pub core : Core
+  pub journal : JournalState
+  pub disk : D
+
+-- the disk's content is the records of the opening and of these frames
+abbrev pub HoldsFrames : Opening → List Handed → (List ℕ → Type 0) → Type 0
+HoldsFrames o frames reads = (c : List ℕ) → reads c → content c ≡ records_of o frames
+
+-- The server is the fold of the opening and of the frames that stand on the disk.
+pub record Stands (o : Opening) (core : Core) (reads : List ℕ → Type 0) : Type 0 where
+  pub frames : List Handed
+  pub whole : AllFrames frames
+  pub folded : core ≡ fold o frames
+  pub held : HoldsFrames o frames reads
+
+-- A crash leaves the records of the opening and these frames, or of these and one more, and nothing that a
+-- journal under the same limit would find damaged.
+abbrev pub LeavesFrames : ℕ → Opening → List Handed → Handed → List ℕ → Type 0
+LeavesFrames limit o frames added c =
+    ((content c ≡ records_of o frames) ⊎ (content c ≡ records_of o (frames ++ added ∷ [])))
+    × IsUndamaged limit 0 c
+
+-- until a call on the disk fails, the journal is in place and what stands on its disk gives the server
+pub record IsKept (o : Opening) (core : Core) (journal : JournalState) (reads may_leave : List ℕ → Type 0)
+    : Type 0 where
+  pub is_opening : IsOpening o
+  pub settings : settings_of core ≡ o.settings
+  pub role : role_of core ≡ o.role
+  pub ready : journal.ready ≡ true
+  pub in_place : journal.closed ≡ false → IsInPlace journal reads may_leave
+  pub stands : journal.closed ≡ false → Stands o core reads
+
+-- Records of the form stand before byte n.
+pub record HasBefore (n : ℕ) (c : List ℕ) : Type 0 where
+  pub opening : Opening
+  pub is_opening : IsOpening opening
+  pub frames : List Handed
+  pub whole : AllFrames frames
+  pub split : content c ≡ records_of opening frames ++ records_from n c
+
+-- The gate at byte n is open with no whole record within the limit behind it, and every record before it is
+-- of the form.
+pub record IsDamagedAt (limit n : ℕ) (c : List ℕ) : Type 0 where
+  pub found : found n limit (drop n c) ≡ Err (Damaged n)
+  pub before : (n ≡ 0) ⊎ HasBefore n c

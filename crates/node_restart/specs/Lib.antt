@@ -1,0 +1,7 @@
+pub mod Faults
+pub mod Frames
+pub mod Kept
+pub mod Openings
+pub mod Replays
+pub mod Steps
+pub mod Texts

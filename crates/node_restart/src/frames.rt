@@ -1,0 +1,77 @@
+//! The frames that a server is handed, and the records of them.
+ghost use Rattle.std.specs.Prelude.{◌≡◌, ◌≤◌, ◌+◌, ◌↔◌, IsTrue, IsNone, IfSome, length};
+ghost use Rattle.node_restart.specs.Frames.{IsOneFrame, IsNoFrame, handed, frame_record, sender_tag};
+
+use frame_rules::FRAME_MAX;
+use wire_frames::whole;
+
+/// Room for a tag and the longest frame.
+pub(crate) const RECORD_MAX: usize = FRAME_MAX + 1;
+
+/// Who handed a frame to a server.
+#[derive(Clone, Copy, Debug, PartialEq, Eq)]
+pub enum Sender {
+    Client,
+    /// The other server.
+    Peer,
+}
+
+fn tag_of(sender: Sender) -> u8
+    ensures { result ≡ sender_tag sender }
+{
+    match sender {
+        Sender::Client => 1,
+        Sender::Peer => 2,
+    }
+}
+
+fn sender_tagged(tag: u8) -> Option<Sender>
+    ensures some { IfSome result (λ sender. sender_tag sender ≡ tag) }
+    ensures none { IsNone result → (sender : Sender) → sender_tag sender ≡ tag → ⊥ }
+{
+    match tag {
+        1 => Some(Sender::Client),
+        2 => Some(Sender::Peer),
+        _ => None,
+    }
+}
+
+/// Whether the bytes are exactly one frame.
+#[tactic(auto, using(frame_rules::proofs::GrammarLaws::spelling_limit))]
+pub(crate) fn is_one_frame(bytes: &[u8]) -> bool
+    ensures exact { IsTrue result ↔ IsOneFrame bytes.now }
+    ensures some { IsTrue result → 1 ≤ length bytes.now }
+    ensures few { IsTrue result → length bytes.now ≤ 8213 }
+{
+    whole(bytes).is_ok()
+}
+
+/// The record of a frame.
+pub(crate) fn put_record<'a>(
+    sender: Sender,
+    frame: &[u8],
+    room: &'a mut [u8; RECORD_MAX],
+) -> &'a [u8]
+    requires { length frame.now ≤ 8213 }
+    ensures { result.now ≡ frame_record (handed sender frame.now) }
+{
+    let end = 1 + frame.len();
+    room[..1].copy_from_slice(&[tag_of(sender)]);
+    room[1..end].copy_from_slice(frame);
+    &room[..end]
+}
+
+/// The frame of a record, and who handed it, if it is one.
+pub(crate) fn frame_in(bytes: &[u8]) -> Option<(Sender, &[u8])>
+    ensures some { IfSome result (λ x. IsOneFrame x.1.now) }
+    ensures is { IfSome result (λ x. bytes.now ≡ frame_record (handed x.0 x.1.now)) }
+    ensures none { IsNone result → IsNoFrame bytes.now }
+{
+    let (tag, frame) = bytes.split_first()?;
+    let sender = sender_tagged(*tag)?;
+    if is_one_frame(frame) {
+        Some((sender, frame))
+    } else {
+        None
+    }
+}

@@ -1,0 +1,333 @@
+//! A server that writes each frame to a journal before it acts on it.
+ghost use Rattle.std.specs.Prelude.{◌≡◌, ◌≢◌, ◌↔◌, ◌≤◌, ◌<◌, ◌+◌, ◌^◌, ℕ, List, [], ◌∷◌, ◌++◌, true, false, length, take, drop, Some, None, Ok, Err, IfOk, IfErr, OnOk, OnErr, IsOk, IfSome, IsNone, option_map};
+ghost use Rattle.express_words.specs.Limits.{KeepsLimits};
+ghost use Rattle.frame_rules.specs.Spelling.{spelling};
+ghost use Rattle.leader_core.specs.Told.{sent_length};
+ghost use Rattle.node_journal.specs.Disk.{IsUntouched, Within, LeavesOnly};
+ghost use Rattle.node_journal.specs.Records.{content, IsUndamaged};
+ghost use Rattle.node_journal.specs.Journal.{Passes, longer, broken};
+ghost use Rattle.node_restart.specs.Openings.{IsOpening};
+ghost use Rattle.node_restart.specs.Frames.{Handed, AllFrames, IsForeign, IsOneFrame, handed, records_of};
+ghost use Rattle.node_restart.specs.Steps.{fold, share_in, resent_by, IsOldest, settings_of, role_of, step_of, Takes};
+ghost use Rattle.node_restart.specs.Faults.{OnForeign, OnDamaged, OnNotEmpty, OnFull, OnNoMemory, IsOfCreate, IsOfReopen, IsOkOrDiskFault, CountsFault, Counts};
+
+use crate::did::Did;
+use crate::fault::KeepFault;
+use crate::frames::Sender;
+use crate::keeping::keep;
+use crate::opening::Opening;
+use crate::reopening::{Found, find};
+use crate::server::Core;
+use node_journal::{Disk, Journal, JournalFault};
+use std::alloc::Global;
+use std::marker::Model;
+
+/// A server with its journal and the journal's disk. All of the server's memory is taken when it is made.
+#[derive(Drop)]
+pub struct Kept<D: Disk> {
+    opening: Opening,
+    core: Core,
+    journal: Journal,
+    disk: D,
+}
+
+impl<D: Disk> Model for Kept<D> {
+    ghost use Rattle.node_restart.specs.Kept.{KeptState, IsKept};
+
+    ghost Value = { KeptState D };
+
+    ghost view = { λ k. record { opening = k.opening; core = k.core; journal = k.journal; disk = k.disk } };
+
+    ghost invariant = { λ k. IsKept k.opening k.core k.journal (D.reads k.disk) (D.may_leave k.disk) };
+}
+
+impl<D: Disk> Kept<D> {
+    ghost use Rattle.node_restart.specs.Kept.{HoldsFrames, Stands, LeavesFrames, IsDamagedAt};
+
+    /// A server before its first frame, on a disk with no byte. No more than `limit` bytes of the disk will
+    /// be used.
+    pub fn create(
+        alloc: Global,
+        opening: &Opening,
+        disk: D,
+        limit: u64,
+    ) -> Result<Kept<D>, (KeepFault, D)>
+        requires settings { KeepsLimits opening.now.settings.width opening.now.settings.boxes
+            opening.now.settings.lanes opening.now.settings.window }
+        requires limit { limit ≤ 2 ^ 62 }
+        ensures opening { IfOk result (λ k. k.opening ≡ opening.now) }
+        ensures core { IfOk result (λ k. k.core ≡ fold opening.now []) }
+        ensures journal { IfOk result (λ k.
+            k.journal ≡ record { end = 50; limit = limit; ready = true; closed = false }) }
+        ensures held { IfOk result (λ k. HoldsFrames opening.now [] (D.reads k.disk)) }
+        ensures undamaged { IfOk result (λ k. (c : List ℕ) → D.reads k.disk c → IsUndamaged limit 0 c) }
+        ensures durable { IfOk result (λ k. Within (D.may_leave k.disk) (D.reads k.disk)) }
+        ensures empty { OnOk result ((c : List ℕ) → D.reads disk c → c ≡ []) }
+        ensures fits { OnOk result (51 ≤ limit) }
+
+        ensures cause { IfErr result (λ x. IsOfCreate x.0) }
+        ensures not_empty { IfErr result (λ x. OnNotEmpty x.0 ((c : List ℕ) → D.reads disk c → c ≢ [])) }
+        ensures full { IfErr result (λ x. OnFull x.0 (λ n. (n ≡ 0) × (limit < 51)
+            × ((c : List ℕ) → D.reads disk c → c ≡ []))) }
+        ensures not_empty_stays { IfErr result (λ x. OnNotEmpty x.0 (IsUntouched (D.reads disk) (D.reads x.1)
+            (D.may_leave disk) (D.may_leave x.1))) }
+        ensures full_stays { IfErr result (λ x. OnFull x.0 (λ n. IsUntouched (D.reads disk) (D.reads x.1)
+            (D.may_leave disk) (D.may_leave x.1))) }
+        ensures no_memory_stays { IfErr result (λ x. OnNoMemory x.0 (x.1 ≡ disk)) }
+        ensures counts_ok { IfOk result (λ k. D.Counted.count k.disk ≡ D.Counted.count disk) }
+        ensures counts { IfErr result (λ x. CountsFault (D.Counted.count disk) (D.Counted.count x.1) x.0) }
+    {
+        let Ok(core) = Core::open(alloc, opening) else {
+            return Err((KeepFault::NoMemory, disk));
+        };
+        let mut disk = disk;
+        match Journal::create(&mut disk, limit, &opening.record()) {
+            Ok(journal) => Ok(Kept {
+                opening: *opening,
+                core,
+                journal,
+                disk,
+            }),
+            Err(fault) => Err((KeepFault::Journal(fault), disk)),
+        }
+    }
+
+    /// The server that the records on a disk give.
+    pub fn reopen(alloc: Global, disk: D, limit: u64) -> Result<Kept<D>, (KeepFault, D)>
+        requires limit { limit ≤ 2 ^ 62 }
+        // What stands on the disk is an opening and frames, and the server is their fold.
+        ensures is_opening { IfOk result (λ k. IsOpening k.opening) }
+        ensures stands { IfOk result (λ k. Stands k.opening k.core (D.reads disk)) }
+        ensures told { IfOk result (λ k. (o : Opening) (frames : List Handed) (c : List ℕ) → D.reads disk c
+            → IsOpening o → HoldsFrames o frames (D.reads disk)
+            → (k.opening ≡ o) × (k.core ≡ fold o frames)) }
+        ensures undamaged { IfOk result (λ k. (c : List ℕ) → D.reads k.disk c → IsUndamaged limit 0 c) }
+        ensures durable { IfOk result (λ k. Within (D.may_leave k.disk) (D.reads k.disk)) }
+        ensures limit { IfOk result (λ k. k.journal.limit ≡ limit) }
+        ensures still_open { IfOk result (λ k. k.journal.closed ≡ false) }
+        ensures untouched_ok { IfOk result (λ k. IsUntouched (D.reads disk) (D.reads k.disk)
+            (D.may_leave disk) (D.may_leave k.disk)) }
+
+        ensures cause { IfErr result (λ x. IsOfReopen x.0) }
+        ensures foreign { IfErr result (λ x. OnForeign x.0 (λ n. (c : List ℕ) → D.reads disk c
+            → IsForeign n (content c))) }
+        ensures never_foreign { IfErr result (λ x. OnForeign x.0 (λ n. (o : Opening) (frames : List Handed)
+            (c : List ℕ) → D.reads disk c → IsOpening o → AllFrames frames
+            → HoldsFrames o frames (D.reads disk) → ⊥)) }
+        ensures damaged { IfErr result (λ x. OnDamaged x.0 (λ n. (c : List ℕ) → D.reads disk c
+            → IsDamagedAt limit n c)) }
+        ensures never_damaged { IfErr result (λ x. OnDamaged x.0 (λ n. (c : List ℕ) → D.reads disk c
+            → IsUndamaged limit 0 c → ⊥)) }
+        ensures untouched { IfErr result (λ x. IsUntouched (D.reads disk) (D.reads x.1) (D.may_leave disk)
+            (D.may_leave x.1)) }
+        ensures counts_ok { IfOk result (λ k. D.Counted.count k.disk ≡ D.Counted.count disk) }
+        ensures counts { IfErr result (λ x. CountsFault (D.Counted.count disk) (D.Counted.count x.1) x.0) }
+    {
+        let mut disk = disk;
+        match find(alloc, &mut disk, limit) {
+            Ok(found) => {
+                let Found {
+                    opening,
+                    core,
+                    journal,
+                } = found;
+                Ok(Kept {
+                    opening,
+                    core,
+                    journal,
+                    disk,
+                })
+            }
+            Err(fault) => Err((fault, disk)),
+        }
+    }
+
+    /// A client's frame. Where the bytes are exactly one frame they are on the disk before the server's step.
+    pub fn on_client(&mut self, frame: &[u8], out: &mut [u8]) -> Result<Did, KeepFault>
+        requires room { 8213 ≤ length out.old }
+        // The step is that of the tables. Where the answer is a fault no step was taken and nothing written.
+        ensures step { IfOk result (λ did. Takes (step_of self.old.core Sender.Client frame.now)
+            self.new.core did out.old out.new) }
+        ensures no_step { OnErr result ((self.new.core ≡ self.old.core) × (out.new ≡ out.old)) }
+        ensures opening { self.new.opening ≡ self.old.opening }
+
+        // Bytes that aren't exactly one frame aren't kept, and change nothing.
+        ensures no_frame { (IsOneFrame frame.now → ⊥) → IsOk result × (self.new ≡ self.old) }
+
+        // Before its step the frame is on the disk, and a crash from then on leaves it there.
+        ensures added { IsOneFrame frame.now → OnOk result ((frames : List Handed)
+            → HoldsFrames self.old.opening frames (D.reads self.old.disk)
+            → HoldsFrames self.new.opening (frames ++ handed Sender.Client frame.now ∷ []) (D.reads self.new.disk)) }
+        ensures longer { IsOneFrame frame.now
+            → OnOk result (self.new.journal ≡ longer (length frame.now + 1) self.old.journal) }
+        ensures stands { self.new.journal.closed ≡ false
+            → Stands self.new.opening self.new.core (D.reads self.new.disk) }
+        ensures durable { self.new.journal.closed ≡ false
+            → Within (D.may_leave self.new.disk) (D.reads self.new.disk) }
+
+        // A crash at any moment of the call leaves the frames from before it, with its own or without.
+        ensures any_moment { IsOneFrame frame.now → self.old.journal.closed ≡ false → (frames : List Handed)
+            → HoldsFrames self.old.opening frames (D.reads self.old.disk)
+            → LeavesOnly D.moment D.left_since self.old.disk self.new.disk
+            (LeavesFrames self.old.journal.limit self.old.opening frames (handed Sender.Client frame.now)) }
+
+        // The faults of a frame, in the order in which they are judged. Closed and Full change nothing.
+        ensures closed { IsOneFrame frame.now → self.old.journal.closed ≡ true
+            → (result ≡ Err (KeepFault.Journal JournalFault.Closed)) × (self.new ≡ self.old) }
+        ensures full { IsOneFrame frame.now → self.old.journal.closed ≡ false
+            → Passes self.old.journal.end (length frame.now + 1) self.old.journal.limit
+            → (result ≡ Err (KeepFault.Journal (JournalFault.Full self.old.journal.end)))
+            × (self.new ≡ self.old) }
+        ensures fits { IsOneFrame frame.now → self.old.journal.closed ≡ false
+            → self.old.journal.end + 5 + (length frame.now + 1) + 1 ≤ self.old.journal.limit
+            → IsOkOrDiskFault result }
+        ensures broken { IsOneFrame frame.now → self.old.journal.closed ≡ false
+            → self.old.journal.end + 5 + (length frame.now + 1) + 1 ≤ self.old.journal.limit
+            → OnErr result (self.new.journal ≡ broken self.old.journal) }
+        ensures counts { Counts (D.Counted.count self.old.disk) (D.Counted.count self.new.disk) result }
+    {
+        self.take(Sender::Client, frame, out)
+    }
+
+    /// Bytes of the other server. Where they are exactly one frame they are on the disk before the step.
+    pub fn on_peer(&mut self, frame: &[u8], out: &mut [u8]) -> Result<Did, KeepFault>
+        requires room { 8213 ≤ length out.old }
+        // The step is that of the tables. Where the answer is a fault no step was taken and nothing written.
+        ensures step { IfOk result (λ did. Takes (step_of self.old.core Sender.Peer frame.now)
+            self.new.core did out.old out.new) }
+        ensures no_step { OnErr result ((self.new.core ≡ self.old.core) × (out.new ≡ out.old)) }
+        ensures opening { self.new.opening ≡ self.old.opening }
+
+        // Bytes that aren't exactly one frame aren't kept, and change nothing.
+        ensures no_frame { (IsOneFrame frame.now → ⊥) → IsOk result × (self.new ≡ self.old) }
+
+        // Before its step the frame is on the disk, and a crash from then on leaves it there.
+        ensures added { IsOneFrame frame.now → OnOk result ((frames : List Handed)
+            → HoldsFrames self.old.opening frames (D.reads self.old.disk)
+            → HoldsFrames self.new.opening (frames ++ handed Sender.Peer frame.now ∷ []) (D.reads self.new.disk)) }
+        ensures longer { IsOneFrame frame.now
+            → OnOk result (self.new.journal ≡ longer (length frame.now + 1) self.old.journal) }
+        ensures stands { self.new.journal.closed ≡ false
+            → Stands self.new.opening self.new.core (D.reads self.new.disk) }
+        ensures durable { self.new.journal.closed ≡ false
+            → Within (D.may_leave self.new.disk) (D.reads self.new.disk) }
+
+        // A crash at any moment of the call leaves the frames from before it, with its own or without.
+        ensures any_moment { IsOneFrame frame.now → self.old.journal.closed ≡ false → (frames : List Handed)
+            → HoldsFrames self.old.opening frames (D.reads self.old.disk)
+            → LeavesOnly D.moment D.left_since self.old.disk self.new.disk
+            (LeavesFrames self.old.journal.limit self.old.opening frames (handed Sender.Peer frame.now)) }
+
+        // The faults of a frame, in the order in which they are judged. Closed and Full change nothing.
+        ensures closed { IsOneFrame frame.now → self.old.journal.closed ≡ true
+            → (result ≡ Err (KeepFault.Journal JournalFault.Closed)) × (self.new ≡ self.old) }
+        ensures full { IsOneFrame frame.now → self.old.journal.closed ≡ false
+            → Passes self.old.journal.end (length frame.now + 1) self.old.journal.limit
+            → (result ≡ Err (KeepFault.Journal (JournalFault.Full self.old.journal.end)))
+            × (self.new ≡ self.old) }
+        ensures fits { IsOneFrame frame.now → self.old.journal.closed ≡ false
+            → self.old.journal.end + 5 + (length frame.now + 1) + 1 ≤ self.old.journal.limit
+            → IsOkOrDiskFault result }
+        ensures broken { IsOneFrame frame.now → self.old.journal.closed ≡ false
+            → self.old.journal.end + 5 + (length frame.now + 1) + 1 ≤ self.old.journal.limit
+            → OnErr result (self.new.journal ≡ broken self.old.journal) }
+        ensures counts { Counts (D.Counted.count self.old.disk) (D.Counted.count self.new.disk) result }
+    {
+        self.take(Sender::Peer, frame, out)
+    }
+
+    // A frame, of whichever sender.
+    fn take(&mut self, sender: Sender, frame: &[u8], out: &mut [u8]) -> Result<Did, KeepFault>
+        requires room { 8213 ≤ length out.old }
+        // The step is that of the tables. Where the answer is a fault no step was taken and nothing written.
+        ensures step { IfOk result (λ did. Takes (step_of self.old.core sender frame.now)
+            self.new.core did out.old out.new) }
+        ensures no_step { OnErr result ((self.new.core ≡ self.old.core) × (out.new ≡ out.old)) }
+        ensures opening { self.new.opening ≡ self.old.opening }
+
+        // Bytes that aren't exactly one frame aren't kept, and change nothing.
+        ensures no_frame { (IsOneFrame frame.now → ⊥) → IsOk result × (self.new ≡ self.old) }
+
+        // Before its step the frame is on the disk, and a crash from then on leaves it there.
+        ensures added { IsOneFrame frame.now → OnOk result ((frames : List Handed)
+            → HoldsFrames self.old.opening frames (D.reads self.old.disk)
+            → HoldsFrames self.new.opening (frames ++ handed sender frame.now ∷ []) (D.reads self.new.disk)) }
+        ensures longer { IsOneFrame frame.now
+            → OnOk result (self.new.journal ≡ longer (length frame.now + 1) self.old.journal) }
+        ensures stands { self.new.journal.closed ≡ false
+            → Stands self.new.opening self.new.core (D.reads self.new.disk) }
+        ensures durable { self.new.journal.closed ≡ false
+            → Within (D.may_leave self.new.disk) (D.reads self.new.disk) }
+
+        // A crash at any moment of the call leaves the frames from before it, with its own or without.
+        ensures any_moment { IsOneFrame frame.now → self.old.journal.closed ≡ false → (frames : List Handed)
+            → HoldsFrames self.old.opening frames (D.reads self.old.disk)
+            → LeavesOnly D.moment D.left_since self.old.disk self.new.disk
+            (LeavesFrames self.old.journal.limit self.old.opening frames (handed sender frame.now)) }
+
+        // The faults of a frame, in the order in which they are judged. Closed and Full change nothing.
+        ensures closed { IsOneFrame frame.now → self.old.journal.closed ≡ true
+            → (result ≡ Err (KeepFault.Journal JournalFault.Closed)) × (self.new ≡ self.old) }
+        ensures full { IsOneFrame frame.now → self.old.journal.closed ≡ false
+            → Passes self.old.journal.end (length frame.now + 1) self.old.journal.limit
+            → (result ≡ Err (KeepFault.Journal (JournalFault.Full self.old.journal.end)))
+            × (self.new ≡ self.old) }
+        ensures fits { IsOneFrame frame.now → self.old.journal.closed ≡ false
+            → self.old.journal.end + 5 + (length frame.now + 1) + 1 ≤ self.old.journal.limit
+            → IsOkOrDiskFault result }
+        ensures broken { IsOneFrame frame.now → self.old.journal.closed ≡ false
+            → self.old.journal.end + 5 + (length frame.now + 1) + 1 ≤ self.old.journal.limit
+            → OnErr result (self.new.journal ≡ broken self.old.journal) }
+        ensures counts { Counts (D.Counted.count self.old.disk) (D.Counted.count self.new.disk) result }
+    {
+        match keep(&mut self.journal, &mut self.disk, sender, frame) {
+            Ok(()) => Ok(self.core.step(sender, frame, out)),
+            Err(fault) => Err(KeepFault::Journal(fault)),
+        }
+    }
+
+    /// The disk, as the last call left it.
+    pub fn into_disk(self) -> D
+        ensures { result ≡ self.disk }
+    {
+        let Kept {
+            opening: _,
+            core: _,
+            journal: _,
+            disk,
+        } = self;
+        disk
+    }
+
+    /// How the server was opened.
+    pub fn opening(&self) -> &Opening
+        ensures value { result.now ≡ self.now.opening }
+        ensures role { role_of self.now.core ≡ self.now.opening.role }
+        ensures settings { settings_of self.now.core ≡ self.now.opening.settings }
+    {
+        &self.opening
+    }
+
+    /// The share of a box; zeros where there is no box of this number yet.
+    pub fn share(&self, box_number: u32) -> &[u8]
+        requires { box_number < self.now.opening.settings.boxes }
+        ensures { result.now ≡ share_in self.now.core box_number }
+    {
+        self.core.share(box_number)
+    }
+
+    /// Writes the leader's oldest outstanding command to the front of `out` again, and gives its number and
+    /// its length; None exactly where none is outstanding, as at a helper, and then nothing is written.
+    pub fn resend(&self, out: &mut [u8]) -> Option<(u64, usize)>
+        requires room { 8213 ≤ length out.old }
+        ensures none { IsNone result ↔ (resent_by self.now.core ≡ None) }
+        ensures number { IfSome result (λ x. IsOldest self.now.core x.0) }
+        ensures length { IfSome result (λ x. option_map (λ c. length (spelling c)) (resent_by self.now.core)
+            ≡ Some x.1) }
+        ensures written { IfSome result (λ x. option_map spelling (resent_by self.now.core)
+            ≡ Some (take x.1 out.new)) }
+        ensures rest { drop (sent_length result) out.new ≡ drop (sent_length result) out.old }
+    {
+        self.core.resend(out)
+    }
+}

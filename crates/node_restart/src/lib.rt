@@ -1,0 +1,24 @@
+//! A server that is opened again from a journal of the frames that it was handed.
+#![tactic(auto)]
+
+mod did;
+mod fault;
+mod frames;
+mod keeping;
+mod kept;
+pub mod laws;
+mod opening;
+mod reopening;
+mod replaying;
+mod server;
+mod steps;
+
+pub use did::Did;
+pub use fault::KeepFault;
+pub use frames::Sender;
+pub use kept::Kept;
+pub use opening::{Opening, Role};
+pub use server::Core;
+
+#[cfg(test)]
+mod tests;
