@@ -1,5 +1,6 @@
 -- The run of a carrier over a net, and the text that it prints.
-use Rattle.std.specs.Prelude.{◌≡◌, ℕ, Bool, true, false, List, ◌++◌, codes, length, filter, map, flat_map, All, Option, Result, Ok, Err}
+use Rattle.std.specs.Prelude.{◌≡◌, ℕ, Bool, true, false, List, ◌++◌, codes, length, filter, map, flat_map}
+use Rattle.std.specs.Prelude.{All, Option, Result, Ok, Err}
 use Rattle.std.specs.Fmt.{decimal}
 use Rattle.hex.specs.Hex.{encode_lower}
 use Rattle.express_words.specs.Calls.{Call}
@@ -71,8 +72,9 @@ abbrev pub carry_text : CarryJob → List Finished → Result Unit Halt → List
 carry_text (Send id file addresses) finished end = send_text (length addresses) finished end
 carry_text Fetch finished end = fetch_text finished end
 
--- The client of the settings works the requests of their job off by exchanges with their servers, in order and
--- with no call on the net beside them, up to the first that comes to an end with which a carrier doesn't go on.
+-- The client of the settings works the requests of their job off by exchanges with their servers, in order
+-- and with no call on the net beside them, up to the first that comes to an end with which a carrier doesn't
+-- go on.
 pub record CarryRuns (settings : CarrySettings) (seed : List ℕ) (before now : Option (List Call))
     (text : List ℕ) (end : RunEnd) : Type 0 where
   pub client : Client

@@ -1,5 +1,6 @@
 -- A carrier's requests, worked off up to the first that doesn't carry.
-use Rattle.std.specs.Prelude.{◌≡◌, ℕ, ◌≤◌, Bool, true, false, List, [], ◌∷◌, ◌++◌, length, map, slice_index, Result, Ok, Err}
+use Rattle.std.specs.Prelude.{◌≡◌, ℕ, ◌≤◌, Bool, true, false, List, [], ◌∷◌, ◌++◌, length, map, slice_index}
+use Rattle.std.specs.Prelude.{Result, Ok, Err}
 use Rattle.std.specs.List.{range_with_len, AllPass}
 use Rattle.file_carry.specs.Parts.{IsPartWidth, part_of}
 use Rattle.mailbox_rules.specs.Requests.{Request}

@@ -68,12 +68,13 @@ fn carry_ran(alloc: Global, settings: &CarrySettings, carried: &Carried) -> Resu
     })
 }
 
-/// Opens the client of the settings, with this seed where they have none, and works their job off over the net. To
-/// send is to write each part of the file to its address: it prints `outcome N TEXT` for each, then `sent COUNT` and
-/// `end`. To fetch is to read each own box: it prints `file HEX`, or `missing I` and a line `box K HEX` for each box
-/// that was read; then `end`. A request that comes to another end than an accepted write or a message is the last: its
-/// outcome is printed, then the boxes that were read, where the job is to fetch, and `stopped outcome`. The other
-/// `stopped` lines and `net fault` are those of `run_client`, after the boxes that were read.
+/// Opens the client of the settings, with this seed where they have none, and works their job off over the
+/// net. To send is to write each part of the file to its address: it prints `outcome N TEXT` for each, then
+/// `sent COUNT` and `end`. To fetch is to read each own box: it prints `file HEX`, or `missing I` and a line
+/// `box K HEX` for each box that was read; then `end`. A request that comes to another end than an accepted
+/// write or a message is the last: its outcome is printed, then the boxes that were read, where the job is to
+/// fetch, and `stopped outcome`. The other `stopped` lines and `net fault` are those of `run_client`, behind
+/// the boxes that were read.
 pub fn run_carry<N: Net>(
     alloc: Global,
     settings: &CarrySettings,

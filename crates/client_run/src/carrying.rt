@@ -40,8 +40,8 @@ fn carries(told: Told) -> bool
     }
 }
 
-/// Works off a client's requests in order, up to the first that comes to another end than an accepted write or
-/// a message. `message` is room for a message.
+/// Works off a client's requests in order, up to the first that comes to another end than an accepted write
+/// or a message. `message` is room for a message.
 pub fn carry_off<N: Net>(
     alloc: Global,
     client: &mut Client,

@@ -37,9 +37,9 @@ fn ran(alloc: Global, work: &Work) -> Result<Ran, NoMemory>
     })
 }
 
-/// Opens the client of the settings, with this seed where they have none, works its requests off over the net, and
-/// gives what is printed of them: `outcome N TEXT` for each request that came to its end, then `end`, or
-/// `stopped ` and what stopped the work, or `net fault` where an exchange failed.
+/// Opens the client of the settings, with this seed where they have none, works its requests off over the
+/// net, and gives what is printed of them: `outcome N TEXT` for each request that came to its end, then
+/// `end`, or `stopped ` and what stopped the work, or `net fault` where an exchange failed.
 pub fn run_client<N: Net>(
     alloc: Global,
     settings: &ClientSettings,

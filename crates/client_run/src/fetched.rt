@@ -2,7 +2,8 @@
 ghost use Rattle.std.specs.Prelude.{◌≡◌, ◌≤◌, ◌++◌, [], length, IfOk, OnOk, string_bytes};
 ghost use Rattle.file_carry.specs.Parts.{IsPartWidth};
 ghost use Rattle.file_carry.specs.Boxes.{join};
-ghost use Rattle.client_run.specs.Carries.{is_message, box_line, box_lines, boxes_of, AreWhole, joined_text, fetch_text};
+ghost use Rattle.client_run.specs.Carries.{is_message, box_line, box_lines, boxes_of, AreWhole};
+ghost use Rattle.client_run.specs.Carries.{joined_text, fetch_text};
 
 use crate::carrying::{Carried, Halt};
 use crate::texts::{end_line, outcome_line};
@@ -103,7 +104,8 @@ pub fn fetch_text(
     requires width { IsPartWidth width }
     requires few { length carried.now.finished.items ≤ boxes }
     requires whole { AreWhole width carried.now.finished.items }
-    ensures { IfOk result (λ text. string_bytes text ≡ fetch_text carried.now.finished.items carried.now.end) }
+    ensures { IfOk result (λ text.
+        string_bytes text ≡ fetch_text carried.now.finished.items carried.now.end) }
 {
     let finished = carried.finished.as_slice();
     let mut text = String::new(alloc);

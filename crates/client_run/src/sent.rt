@@ -9,7 +9,8 @@ use std::alloc::{AllocError, Global};
 /// The text of a file that was sent in so many parts.
 #[tactic(auto, unfolding(crate::specs::Carries::send_text))]
 pub fn send_text(alloc: Global, carried: &Carried, parts: usize) -> Result<String, AllocError>
-    ensures { IfOk result (λ text. string_bytes text ≡ send_text parts carried.now.finished.items carried.now.end) }
+    ensures { IfOk result (λ text.
+        string_bytes text ≡ send_text parts carried.now.finished.items carried.now.end) }
 {
     let mut text = String::new(alloc);
     add_outcomes(alloc, &mut text, carried.finished.as_slice())?;

@@ -123,7 +123,8 @@ fn carries(rt: HostRuntime) -> Result<(), Fail> {
     assert_eq!(rt; broken.end, RunEnd::Done);
     assert_eq!(rt;
         broken.text.as_str(),
-        "outcome 1 refused nobox 9\nbox 0 0000000000000007000000010003000000010200000000000000000000000000\nstopped outcome\n"
+        "outcome 1 refused nobox 9\n\
+        box 0 0000000000000007000000010003000000010200000000000000000000000000\nstopped outcome\n"
     );
     Ok(())
 }

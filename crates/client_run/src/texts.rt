@@ -47,7 +47,8 @@ pub fn add_outcomes(
     text: &mut String,
     finished: &[Finished],
 ) -> Result<(), AllocError>
-    ensures { OnOk result (string_bytes text.new ≡ string_bytes text.old ++ flat_map outcome_line finished.now) }
+    ensures { OnOk result (string_bytes text.new
+        ≡ string_bytes text.old ++ flat_map outcome_line finished.now) }
 {
     for one in finished {
         let line = outcome_line(alloc, one)?;
