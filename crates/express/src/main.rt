@@ -1,7 +1,7 @@
 //! The program: the real objects, handed to the top call.
 #![tactic(auto)]
 
-ghost use Rattle.std.specs.Prelude.{◌≡◌, ◌≢◌};
+ghost use Rattle.std.specs.Prelude.{◌≡◌, ◌≢◌, [], ◌∷◌, Contains, IfErr};
 ghost use Rattle.std.specs.IoError.{error_kind};
 
 mod adapter;
@@ -29,6 +29,7 @@ const NO_WORDS: u8 = 14;
 fn status_without_words(error: &io::Error) -> u8
     ensures memory { error_kind error.now ≡ ErrorKind.OutOfMemory → result ≡ 7 }
     ensures other { error_kind error.now ≢ ErrorKind.OutOfMemory → result ≡ 14 }
+    ensures either { Contains (7 ∷ 14 ∷ []) result }
 {
     if error.kind() == ErrorKind::OutOfMemory {
         OUT_OF_MEMORY
@@ -38,25 +39,36 @@ fn status_without_words(error: &io::Error) -> u8
 }
 
 // The words after the program's name, or the status without them.
-fn words_of<R: Env + AllocGlobal>(rt: &R) -> Result<Vec<String>, u8> {
+fn words_of<R: Env + AllocGlobal>(rt: &R) -> Result<Vec<String>, u8>
+    ensures { IfErr result (λ status. Contains (7 ∷ 14 ∷ []) status) }
+{
     let all = env::args(rt).map_err(|error| status_without_words(&error))?;
     all.skip(1).collect(rt.alloc()).map_err(|_| OUT_OF_MEMORY)
 }
 
 // 32 random bytes, or the status without them.
-fn random_seed<R: Files>(rt: &R) -> Result<[u8; 32], u8> {
+fn random_seed<R: Files>(rt: &R) -> Result<[u8; 32], u8>
+    ensures { IfErr result (λ status. status ≡ 9) }
+{
     let random = File::open(rt, "/dev/urandom").map_err(|_| NO_SEED)?;
     seed_of(&mut Adapter::new(random)).map_err(|_| NO_SEED)
 }
 
-// Hands the real objects to the top call, and answers its status; or that of what is missing before it.
-fn start(rt: &HostRuntime) -> Result<u8, u8> {
-    let words = words_of(rt)?;
-    let seed = random_seed(rt)?;
+// Hands the real objects to the top call, and answers its status.
+fn work(rt: &HostRuntime, words: &Vec<String>, seed: &[u8; 32]) -> u8 {
     let mut input = Adapter::new(rt.reader());
     let mut out = Adapter::new(io::writer(rt));
     let mut net = TcpNet::new(rt);
-    Ok(run(rt.alloc(), &words, &seed, &mut input, &mut out, &mut net))
+    run(rt.alloc(), words, seed, &mut input, &mut out, &mut net)
+}
+
+// The status of the top call, or that of what is missing before it.
+fn start(rt: &HostRuntime) -> Result<u8, u8>
+    ensures { IfErr result (λ status. Contains (7 ∷ 9 ∷ 14 ∷ []) status) }
+{
+    let words = words_of(rt)?;
+    let seed = random_seed(rt)?;
+    Ok(work(rt, &words, &seed))
 }
 
 fn main(rt: HostRuntime) -> ExitCode {
