@@ -76,3 +76,6 @@ fn main(rt: HostRuntime) -> ExitCode {
         Ok(status) | Err(status) => ExitCode::from(status),
     }
 }
+
+#[cfg(test)]
+mod tests;

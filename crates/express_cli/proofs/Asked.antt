@@ -4,8 +4,9 @@ use Rattle.std.specs.Fmt.{decimal}
 use Rattle.std.specs.Str.Parse.{ParsesUnsigned}
 use Rattle.std.proofs.lemmas.Fmt.{parse-decimal}
 use Rattle.clap.specs.Words.{Text, fault_of}
-use Rattle.express_cli.specs.CommandLine.{express_app, value_of, Names, NamesMill, IsNamed, IsNumber, IsMill, Asks, AsksMill, AskNothing, IsAsked}
+use Rattle.express_cli.specs.CommandLine.{express_app, value_of, Names, NamesMill, NamesNet, IsNamed, IsNumber, IsMill, Asks, AsksMill, AsksNet, AskNothing, IsAsked}
 use Rattle.express_cli.specs.declared.words.Command.{Command}
+use Rattle.express_cli.specs.declared.words.NetCommand.{NetCommand}
 use Rattle.express_cli.specs.declared.words.Task.{Task}
 
 some_is : (x y : Text) → Some x ≡ Some y → x ≡ y
@@ -21,12 +22,17 @@ mill_of name text None is number = λ n named. number n named.2 (some_is _ _ nam
 
 -- words that clap refuses ask for nothing
 pub refused : (words : List Text) → fault_of express_app words ≢ [] → AskNothing words
-refused words bad = record { work = λ command h. bad h.read; mill = λ n h. bad h.read }
+refused words bad = record { work = λ command h. bad h.read; net = λ command h. bad h.read; mill = λ n h. bad h.read }
 
 pub works : (words : List Text) (name number : Option Text) (command : Command) → name ≡ value_of (codes "COMMAND") words → number ≡ value_of (codes "NUMBER") words
     → fault_of express_app words ≡ [] → Names name number command → Asks words command
 works words name number command is_name is_number read named =
     record { read = read; named = subst (λ v. Names (value_of (codes "COMMAND") words) v command) is_number (subst (λ v. Names v number command) is_name named) }
+
+pub talks : (words : List Text) (name number : Option Text) (command : NetCommand) → name ≡ value_of (codes "COMMAND") words → number ≡ value_of (codes "NUMBER") words
+    → fault_of express_app words ≡ [] → NamesNet name number command → AsksNet words command
+talks words name number command is_name is_number read named =
+    record { read = read; named = subst (λ v. NamesNet (value_of (codes "COMMAND") words) v command) is_number (subst (λ v. NamesNet v number command) is_name named) }
 
 pub mills : (words : List Text) (name number : Option Text) (n : ℕ) → name ≡ value_of (codes "COMMAND") words → number ≡ value_of (codes "NUMBER") words
     → fault_of express_app words ≡ [] → NamesMill name number n → AsksMill words n
@@ -34,9 +40,10 @@ mills words name number n is_name is_number read named =
     record { read = read; named = (sym is_name ∙ named.0, sym is_number ∙ named.1, named.2) }
 
 pub nothing : (words : List Text) (name number : Option Text) → name ≡ value_of (codes "COMMAND") words → number ≡ value_of (codes "NUMBER") words
-    → ((command : Command) → Names name number command → ⊥) → ((n : ℕ) → NamesMill name number n → ⊥) → AskNothing words
-nothing words name number is_name is_number no_work no_mill = record {
+    → ((command : Command) → Names name number command → ⊥) → ((command : NetCommand) → NamesNet name number command → ⊥) → ((n : ℕ) → NamesMill name number n → ⊥) → AskNothing words
+nothing words name number is_name is_number no_work no_net no_mill = record {
   work = λ command h. no_work command (subst (λ v. Names name v command) (sym is_number) (subst (λ v. Names v (value_of (codes "NUMBER") words) command) (sym is_name) h.named));
+  net = λ command h. no_net command (subst (λ v. NamesNet name v command) (sym is_number) (subst (λ v. NamesNet v (value_of (codes "NUMBER") words) command) (sym is_name) h.named));
   mill = λ n h. no_mill n (is_name ∙ h.named.0, is_number ∙ h.named.1, h.named.2);
 }
 

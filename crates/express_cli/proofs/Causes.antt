@@ -5,94 +5,117 @@ use Rattle.express_words.specs.Causes.{Rose}
 use Rattle.express_words.specs.Streams.{Stream, Took, TookPrefix}
 use Rattle.express_cli.specs.CommandLine.{Asks, AskSome, AskNothing}
 use Rattle.express_cli.specs.Reading.{GaveSome, GaveMore, most_bytes}
-use Rattle.express_cli.specs.Ends.{Writes, RunMay, MayWork, MayMill, status_of, usage_text, read_fault_text, out_of_memory_text, too_long_text}
-use Rattle.express_cli.specs.Headline.{Worked, Refused}
+use Rattle.express_cli.specs.Ends.{Writes, status_of, usage_text, read_fault_text, out_of_memory_text, too_long_text}
+use Rattle.express_cli.specs.Talking.{Around}
+use Rattle.express_cli.specs.Runs.{MayDo, MayTalk, RunMay}
+use Rattle.express_cli.specs.Headline.{Worked, Refused, BrokeOff, WantsMemory}
 use Rattle.express_cli.specs.declared.ends.End.{End}
 use Rattle.express_cli.specs.declared.ends.End.TheVariants as ends
+use Rattle.express_cli.proofs.OneReading.{nothing_of_some}
 use Rattle.express_cli.proofs.Told.{not_more, not_moved}
 
 pub took_as : (old new : Option (List ℕ)) (text other : List ℕ) → text ≡ other → Took old new text → Took old new other
 took_as old new text other same took = let P : List ℕ → Type 0 = λ t. Took old new t in subst P same took
 
-pub statuses : (end : End) → Contains (0 ∷ 2 ∷ 3 ∷ 4 ∷ 5 ∷ 7 ∷ 8 ∷ []) (status_of end)
+pub statuses : (end : End) → Contains (0 ∷ 2 ∷ 3 ∷ 4 ∷ 5 ∷ 6 ∷ 7 ∷ 8 ∷ []) (status_of end)
 statuses ends.Done = (0, lit< tt, refl)
 statuses ends.Usage = (1, lit< tt, refl)
 statuses (ends.BadLine n) = (2, lit< tt, refl)
+statuses ends.BadKey = (2, lit< tt, refl)
 statuses ends.ReadFault = (3, lit< tt, refl)
 statuses ends.WriteFault = (4, lit< tt, refl)
-statuses ends.OutOfMemory = (5, lit< tt, refl)
-statuses ends.TooLong = (6, lit< tt, refl)
+statuses ends.NetFault = (5, lit< tt, refl)
+statuses ends.OutOfMemory = (6, lit< tt, refl)
+statuses ends.TooLong = (7, lit< tt, refl)
 
-pub usage : (words : List Text) (from to : Option Stream) (c d : ℕ) (old new : Option (List ℕ)) (before now : ℕ) (end : End)
-    → Writes (RunMay words from to c d) old new before now end → status_of end ≡ 2 → AskNothing words × (to ≡ from) × Took old new usage_text
-usage words from to c d old new before now ends.Usage h e = (h.1.0, h.1.1, took_as old new _ _ h.1.2 h.2)
-usage words from to c d old new before now _ h e = cc
+pub usage : (words : List Text) (from to : Option Stream) (c d : ℕ) (net : Around) (old new : Option (List ℕ)) (before now : ℕ) (end : End)
+    → Writes (RunMay words from to c d net) old new before now end → status_of end ≡ 2 → AskNothing words × (to ≡ from) × Took old new usage_text
+usage words from to c d net old new before now ends.Usage h e = (h.1.0, h.1.1, took_as old new _ _ h.1.2 h.2)
+usage words from to c d net old new before now _ h e = cc
 
 -- what was done was asked for
-not_done : (words : List Text) (from to : Option Stream) (text : List ℕ) → MayWork words from to ends.Done text ⊎ MayMill words from to text → AskNothing words → ⊥
-not_done words from to text (inl work) none = none.work work.0 work.1
-not_done words from to text (inr mill) none = none.mill mill.0 mill.1
+not_done : (words : List Text) (from to : Option Stream) (net : Around) (text : List ℕ) → MayDo words from to net text → AskNothing words → ⊥
+not_done words from to net text (inl work) none = none.work work.0 work.1
+not_done words from to net text (inr (inl talk)) none = none.net talk.0 talk.1
+not_done words from to net text (inr (inr mill)) none = none.mill mill.0 mill.1
 
-pub usage_only : (words : List Text) (from to : Option Stream) (c d : ℕ) (old new : Option (List ℕ)) (before now : ℕ) (end : End)
-    → Writes (RunMay words from to c d) old new before now end → AskNothing words → Contains (2 ∷ 5 ∷ 7 ∷ []) (status_of end)
-usage_only words from to c d old new before now ends.Done h none = absurd (not_done words from to h.0 h.1 none)
-usage_only words from to c d old new before now ends.Usage h none = (0, lit< tt, refl)
-usage_only words from to c d old new before now (ends.BadLine n) h none = absurd (none.work h.1.0 h.1.1)
-usage_only words from to c d old new before now ends.ReadFault h none = absurd (none.work h.1.0.0 h.1.0.1)
-usage_only words from to c d old new before now ends.WriteFault h none = (1, lit< tt, refl)
-usage_only words from to c d old new before now ends.OutOfMemory h none = (2, lit< tt, refl)
-usage_only words from to c d old new before now ends.TooLong h none = absurd (none.work h.1.0.0 h.1.0.1)
+pub usage_only : (words : List Text) (from to : Option Stream) (c d : ℕ) (net : Around) (old new : Option (List ℕ)) (before now : ℕ) (end : End)
+    → Writes (RunMay words from to c d net) old new before now end → AskNothing words → Contains (2 ∷ 5 ∷ 7 ∷ []) (status_of end)
+usage_only words from to c d net old new before now ends.Done h none = absurd (not_done words from to net h.0 h.1 none)
+usage_only words from to c d net old new before now ends.Usage h none = (0, lit< tt, refl)
+usage_only words from to c d net old new before now (ends.BadLine n) h none = absurd (none.work h.1.0 h.1.1)
+usage_only words from to c d net old new before now ends.BadKey h none = absurd (none.net h.1.0 h.1.1)
+usage_only words from to c d net old new before now ends.ReadFault h none = absurd (nothing_of_some words none h.1.0)
+usage_only words from to c d net old new before now ends.WriteFault h none = (1, lit< tt, refl)
+usage_only words from to c d net old new before now ends.NetFault h none = absurd (none.net h.1.0 h.1.1)
+usage_only words from to c d net old new before now ends.OutOfMemory h none = (2, lit< tt, refl)
+usage_only words from to c d net old new before now ends.TooLong h none = absurd (nothing_of_some words none h.1.0)
 
-done : (words : List Text) (from to : Option Stream) (old new : Option (List ℕ)) (text : List ℕ)
-    → MayWork words from to ends.Done text ⊎ MayMill words from to text → Took old new text → Worked words from to old new
-done words from to old new text (inl work) took = inl (work.0, work.1, (work.2.0, work.2.1, (text, work.2.2, took)))
-done words from to old new text (inr mill) took = inr (mill.0, mill.1, mill.2, took_as old new _ _ mill.3 took)
+done : (words : List Text) (from to : Option Stream) (net : Around) (old new : Option (List ℕ)) (text : List ℕ)
+    → MayDo words from to net text → Took old new text → Worked words from to net old new
+done words from to net old new text (inl work) took = inl (work.0, work.1, (work.2.0, work.2.1, (text, work.2.2, took)))
+done words from to net old new text (inr (inl talk)) took = inr (inl (text, talk, took))
+done words from to net old new text (inr (inr mill)) took = inr (inr (mill.0, mill.1, mill.2, took_as old new _ _ mill.3 took))
 
-pub worked : (words : List Text) (from to : Option Stream) (c d : ℕ) (old new : Option (List ℕ)) (before now : ℕ) (end : End)
-    → Writes (RunMay words from to c d) old new before now end → status_of end ≡ 0 → Worked words from to old new
-worked words from to c d old new before now ends.Done h e = done words from to old new h.0 h.1 h.2
-worked words from to c d old new before now _ h e = cc
+pub worked : (words : List Text) (from to : Option Stream) (c d : ℕ) (net : Around) (old new : Option (List ℕ)) (before now : ℕ) (end : End)
+    → Writes (RunMay words from to c d net) old new before now end → status_of end ≡ 0 → Worked words from to net old new
+worked words from to c d net old new before now ends.Done h e = done words from to net old new h.0 h.1 h.2
+worked words from to c d net old new before now _ h e = cc
 
-pub bad_line : (words : List Text) (from to : Option Stream) (c d : ℕ) (old new : Option (List ℕ)) (before now : ℕ) (end : End)
-    → Writes (RunMay words from to c d) old new before now end → status_of end ≡ 3 → Refused words from to old new
-bad_line words from to c d old new before now (ends.BadLine n) h e =
-    (h.1.0, h.1.1, (h.1.2.0, h.1.2.1, (n, h.1.2.2.0, took_as old new _ _ h.1.2.2.1 h.2)))
-bad_line words from to c d old new before now _ h e = cc
+pub refused : (words : List Text) (from to : Option Stream) (c d : ℕ) (net : Around) (old new : Option (List ℕ)) (before now : ℕ) (end : End)
+    → Writes (RunMay words from to c d net) old new before now end → status_of end ≡ 3 → Refused words from to net old new
+refused words from to c d net old new before now (ends.BadLine n) h e =
+    inl (h.1.0, h.1.1, (h.1.2.0, h.1.2.1, (n, h.1.2.2.0, took_as old new _ _ h.1.2.2.1 h.2)))
+refused words from to c d net old new before now ends.BadKey h e = inr (h.0, h.1, h.2)
+refused words from to c d net old new before now _ h e = cc
 
-pub read_fault : (words : List Text) (from to : Option Stream) (c d : ℕ) (old new : Option (List ℕ)) (before now : ℕ) (end : End)
-    → Writes (RunMay words from to c d) old new before now end → status_of end ≡ 4
+pub net_fault : (words : List Text) (from to : Option Stream) (c d : ℕ) (net : Around) (old new : Option (List ℕ)) (before now : ℕ) (end : End)
+    → Writes (RunMay words from to c d net) old new before now end → status_of end ≡ 6 → BrokeOff words from to net old new
+net_fault words from to c d net old new before now ends.NetFault h e = (h.0, h.1, h.2)
+net_fault words from to c d net old new before now _ h e = cc
+
+pub read_fault : (words : List Text) (from to : Option Stream) (c d : ℕ) (net : Around) (old new : Option (List ℕ)) (before now : ℕ) (end : End)
+    → Writes (RunMay words from to c d net) old new before now end → status_of end ≡ 4
     → AskSome words × Rose c d × GaveSome from to (λ n. n ≤ most_bytes) × Took old new read_fault_text
-read_fault words from to c d old new before now ends.ReadFault h e = (h.1.0, h.1.1, h.1.2, took_as old new _ _ h.1.3 h.2)
-read_fault words from to c d old new before now _ h e = cc
+read_fault words from to c d net old new before now ends.ReadFault h e = (h.1.0, h.1.1, h.1.2, took_as old new _ _ h.1.3 h.2)
+read_fault words from to c d net old new before now _ h e = cc
 
-pub write_fault : (words : List Text) (from to : Option Stream) (c d : ℕ) (old new : Option (List ℕ)) (before now : ℕ) (end : End)
-    → Writes (RunMay words from to c d) old new before now end → status_of end ≡ 5
-    → Rose before now × ((e : End) × (text : List ℕ) × RunMay words from to c d e text × TookPrefix old new text)
-write_fault words from to c d old new before now ends.WriteFault h e = h
-write_fault words from to c d old new before now _ h e = cc
+pub write_fault : (words : List Text) (from to : Option Stream) (c d : ℕ) (net : Around) (old new : Option (List ℕ)) (before now : ℕ) (end : End)
+    → Writes (RunMay words from to c d net) old new before now end → status_of end ≡ 5
+    → Rose before now × ((e : End) × (text : List ℕ) × RunMay words from to c d net e text × TookPrefix old new text)
+write_fault words from to c d net old new before now ends.WriteFault h e = h
+write_fault words from to c d net old new before now _ h e = cc
 
-pub out_of_memory : (words : List Text) (from to : Option Stream) (c d : ℕ) (old new : Option (List ℕ)) (before now : ℕ) (end : End)
-    → Writes (RunMay words from to c d) old new before now end → status_of end ≡ 7 → Took old new out_of_memory_text
-out_of_memory words from to c d old new before now ends.OutOfMemory h e = took_as old new _ _ h.1 h.2
-out_of_memory words from to c d old new before now _ h e = cc
+wanting : (words : List Text) (from to : Option Stream) (net : Around) (old new : Option (List ℕ)) (text : List ℕ)
+    → (text ≡ out_of_memory_text) ⊎ MayTalk words from to net ends.OutOfMemory text → Took old new text → WantsMemory words from to net old new
+wanting words from to net old new text (inl same) took = inl (took_as old new _ _ same took)
+wanting words from to net old new text (inr talk) took = inr (text, talk, took)
 
-pub too_long : (words : List Text) (from to : Option Stream) (c d : ℕ) (old new : Option (List ℕ)) (before now : ℕ) (end : End)
-    → Writes (RunMay words from to c d) old new before now end → status_of end ≡ 8
+pub out_of_memory : (words : List Text) (from to : Option Stream) (c d : ℕ) (net : Around) (old new : Option (List ℕ)) (before now : ℕ) (end : End)
+    → Writes (RunMay words from to c d net) old new before now end → status_of end ≡ 7 → WantsMemory words from to net old new
+out_of_memory words from to c d net old new before now ends.OutOfMemory h e = wanting words from to net old new h.0 h.1 h.2
+out_of_memory words from to c d net old new before now _ h e = cc
+
+pub too_long : (words : List Text) (from to : Option Stream) (c d : ℕ) (net : Around) (old new : Option (List ℕ)) (before now : ℕ) (end : End)
+    → Writes (RunMay words from to c d net) old new before now end → status_of end ≡ 8
     → AskSome words × GaveSome from to (λ n. n ≡ most_bytes + 1) × Took old new too_long_text
-too_long words from to c d old new before now ends.TooLong h e = (h.1.0, h.1.1, took_as old new _ _ h.1.2 h.2)
-too_long words from to c d old new before now _ h e = cc
+too_long words from to c d net old new before now ends.TooLong h e = (h.1.0, h.1.1, took_as old new _ _ h.1.2 h.2)
+too_long words from to c d net old new before now _ h e = cc
 
 -- what was done wasn't done on more than is read
-not_too_long : (words : List Text) (from to : Option Stream) (text : List ℕ) → MayWork words from to ends.Done text ⊎ MayMill words from to text → GaveMore from to → ⊥
-not_too_long words from to text (inl work) more = not_more from to work.2.0 work.2.1.gave work.2.1.short more
-not_too_long words from to text (inr mill) more = not_moved from to mill.2 more
+not_too_long : (words : List Text) (from to : Option Stream) (net : Around) (text : List ℕ) → MayDo words from to net text → GaveMore from to → ⊥
+not_too_long words from to net text (inl work) more = not_more from to work.2.0 work.2.1.gave work.2.1.short more
+not_too_long words from to net text (inr (inl talk)) more = not_more from to talk.2.0 talk.2.1.gave talk.2.1.short more
+not_too_long words from to net text (inr (inr mill)) more = not_moved from to mill.2 more
 
-pub too_long_only : (words : List Text) (from to : Option Stream) (c d : ℕ) (old new : Option (List ℕ)) (before now : ℕ) (end : End)
-    → Writes (RunMay words from to c d) old new before now end → GaveMore from to → Contains (8 ∷ 5 ∷ 7 ∷ []) (status_of end)
-too_long_only words from to c d old new before now ends.Done h more = absurd (not_too_long words from to h.0 h.1 more)
-too_long_only words from to c d old new before now ends.Usage h more = absurd (not_moved from to h.1.1 more)
-too_long_only words from to c d old new before now (ends.BadLine n) h more = absurd (not_more from to h.1.2.0 h.1.2.1.gave h.1.2.1.short more)
-too_long_only words from to c d old new before now ends.ReadFault h more = absurd (not_more from to h.1.2.0 h.1.2.1 h.1.2.2 more)
-too_long_only words from to c d old new before now ends.WriteFault h more = (1, lit< tt, refl)
-too_long_only words from to c d old new before now ends.OutOfMemory h more = (2, lit< tt, refl)
-too_long_only words from to c d old new before now ends.TooLong h more = (0, lit< tt, refl)
+pub too_long_only : (words : List Text) (from to : Option Stream) (c d : ℕ) (net : Around) (old new : Option (List ℕ)) (before now : ℕ) (end : End)
+    → Writes (RunMay words from to c d net) old new before now end → GaveMore from to → Contains (8 ∷ 5 ∷ 7 ∷ []) (status_of end)
+too_long_only words from to c d net old new before now ends.Done h more = absurd (not_too_long words from to net h.0 h.1 more)
+too_long_only words from to c d net old new before now ends.Usage h more = absurd (not_moved from to h.1.1 more)
+too_long_only words from to c d net old new before now (ends.BadLine n) h more = absurd (not_more from to h.1.2.0 h.1.2.1.gave h.1.2.1.short more)
+too_long_only words from to c d net old new before now ends.BadKey h more = absurd (not_more from to h.1.2.0 h.1.2.1.gave h.1.2.1.short more)
+too_long_only words from to c d net old new before now ends.NetFault h more = absurd (not_more from to h.1.2.0 h.1.2.1.gave h.1.2.1.short more)
+too_long_only words from to c d net old new before now ends.ReadFault h more = absurd (not_more from to h.1.2.0 h.1.2.1 h.1.2.2 more)
+too_long_only words from to c d net old new before now ends.WriteFault h more = (1, lit< tt, refl)
+too_long_only words from to c d net old new before now ends.OutOfMemory h more = (2, lit< tt, refl)
+too_long_only words from to c d net old new before now ends.TooLong h more = (0, lit< tt, refl)

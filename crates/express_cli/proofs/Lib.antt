@@ -4,6 +4,9 @@ pub mod Causes
 pub mod OneReading
 pub mod Asked
 pub mod Exact
+pub mod Talked
+pub mod Following
+pub mod Serving
 pub mod BatchText
 pub mod CloakLemmas
 pub mod MillText

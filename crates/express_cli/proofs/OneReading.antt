@@ -1,5 +1,5 @@
 -- Words ask for at most one thing, and bytes have one value or one first bad line.
-use Rattle.std.proofs.Common.{◌≡◌, ℕ, ◌≤◌, List, get_or, codes, Some, Result, Ok, Err, arith, refl, sym, ap, ◌∙◌}
+use Rattle.std.proofs.Common.{◌≡◌, ℕ, ◌≤◌, List, get_or, codes, Option, Some, Result, Ok, Err, ◌⊎◌, inl, inr, arith, refl, sym, ap, ◌∙◌}
 use Rattle.std.specs.Fmt.{decimal}
 use Rattle.std.proofs.lemmas.Fmt.{decimal_injective}
 use Rattle.clap.specs.Words.{Text}
@@ -11,10 +11,12 @@ use Rattle.express_texts.specs.Spelling as batches
 use Rattle.express_texts.specs.declared.cloak.CloakGame.{CloakGame}
 use Rattle.express_texts.specs.GameLines.{game_of}
 use Rattle.express_texts.specs.GameSpelling.{SpellsGame, IsFirstBadGameLine}
-use Rattle.express_cli.specs.CommandLine.{Asks, AsksMill}
+use Rattle.express_cli.specs.CommandLine.{Asks, AsksMill, AsksNet, AskSome, AskNothing}
 use Rattle.express_cli.specs.Work.{IsOutput, IsBad}
 use Rattle.express_cli.specs.declared.words.Command.{Command}
 use Rattle.express_cli.specs.declared.words.Command.TheVariants.{Replay, Batch, Cloak}
+use Rattle.express_cli.specs.declared.words.NetCommand.{NetCommand}
+use Rattle.express_cli.specs.declared.words.NetCommand.TheVariants.{Serve, Client, Carry}
 
 -- What the readers' laws say: what is spelled, or is the first bad line, is what the text is read as.
 pub record Reads : Type 0 where
@@ -109,3 +111,64 @@ same_decimal m n h k same = decimal_injective m n (omega (arith, h)) (omega (ari
 -- words ask for at most one mill
 pub same_mill : (words : List Text) (m n : ℕ) → AsksMill words m → AsksMill words n → m ≡ n
 same_mill words m n h k = same_decimal m n h.named.2 k.named.2 (some_is _ _ (sym h.named.1 ∙ k.named.1))
+
+-- two names of one value have the same letters
+letters : (v : Option Text) (x y : Text) (place : ℕ) → v ≡ Some x → v ≡ Some y → get_or x place 0 ≡ get_or y place 0
+letters v x y place h k = ap (λ (name : List ℕ). get_or name place 0) (some_is x y (sym h ∙ k))
+
+-- words that ask for work on the input ask for none over a net
+pub no_net : (words : List Text) (command : Command) (net : NetCommand) → Asks words command → AsksNet words net → ⊥
+no_net words Replay Serve h k = let first : 114 ≡ 115 = letters _ (codes "replay") (codes "serve") 0 h.named.0 k.named.0 in omega (arith, first)
+no_net words Replay Client h k = let first : 114 ≡ 99 = letters _ (codes "replay") (codes "client") 0 h.named.0 k.named.0 in omega (arith, first)
+no_net words Replay Carry h k = let first : 114 ≡ 99 = letters _ (codes "replay") (codes "carry") 0 h.named.0 k.named.0 in omega (arith, first)
+no_net words Batch Carry h k = let first : 98 ≡ 99 = letters _ (codes "batch") (codes "carry") 0 h.named.0 k.named.0 in omega (arith, first)
+no_net words Cloak Carry h k = let second : 108 ≡ 97 = letters _ (codes "cloak") (codes "carry") 1 h.named.0 k.named.0 in omega (arith, second)
+no_net words Batch Serve h k = let first : 98 ≡ 115 = letters _ (codes "batch") (codes "serve") 0 h.named.0 k.named.0 in omega (arith, first)
+no_net words Batch Client h k = let first : 98 ≡ 99 = letters _ (codes "batch") (codes "client") 0 h.named.0 k.named.0 in omega (arith, first)
+no_net words Cloak Serve h k = let first : 99 ≡ 115 = letters _ (codes "cloak") (codes "serve") 0 h.named.0 k.named.0 in omega (arith, first)
+no_net words Cloak Client h k = let third : 111 ≡ 105 = letters _ (codes "cloak") (codes "client") 2 h.named.0 k.named.0 in omega (arith, third)
+
+-- nor do those that ask for a mill
+pub no_net_mill : (words : List Text) (net : NetCommand) (n : ℕ) → AsksNet words net → AsksMill words n → ⊥
+no_net_mill words Serve n h k = let first : 115 ≡ 109 = letters _ (codes "serve") (codes "mill") 0 h.named.0 k.named.0 in omega (arith, first)
+no_net_mill words Carry n h k = let first : 99 ≡ 109 = letters _ (codes "carry") (codes "mill") 0 h.named.0 k.named.0 in omega (arith, first)
+no_net_mill words Client n h k = let first : 99 ≡ 109 = letters _ (codes "client") (codes "mill") 0 h.named.0 k.named.0 in omega (arith, first)
+
+serve_is_not_client : (v : Option Text) → v ≡ Some (codes "serve") → v ≡ Some (codes "client") → ⊥
+serve_is_not_client v h k = let first : 115 ≡ 99 = letters v (codes "serve") (codes "client") 0 h k in omega (arith, first)
+
+serve_is_not_carry : (v : Option Text) → v ≡ Some (codes "serve") → v ≡ Some (codes "carry") → ⊥
+serve_is_not_carry v h k = let first : 115 ≡ 99 = letters v (codes "serve") (codes "carry") 0 h k in omega (arith, first)
+
+client_is_not_carry : (v : Option Text) → v ≡ Some (codes "client") → v ≡ Some (codes "carry") → ⊥
+client_is_not_carry v h k = let second : 108 ≡ 97 = letters v (codes "client") (codes "carry") 1 h k in omega (arith, second)
+
+-- words ask for at most one command over a net
+pub same_net : (words : List Text) (command other : NetCommand) → AsksNet words command → AsksNet words other → command ≡ other
+same_net words Serve Serve h k = refl
+same_net words Client Client h k = refl
+same_net words Carry Carry h k = refl
+same_net words Serve Client h k = absurd (serve_is_not_client _ h.named.0 k.named.0)
+same_net words Client Serve h k = absurd (serve_is_not_client _ k.named.0 h.named.0)
+same_net words Serve Carry h k = absurd (serve_is_not_carry _ h.named.0 k.named.0)
+same_net words Carry Serve h k = absurd (serve_is_not_carry _ k.named.0 h.named.0)
+same_net words Client Carry h k = absurd (client_is_not_carry _ h.named.0 k.named.0)
+same_net words Carry Client h k = absurd (client_is_not_carry _ k.named.0 h.named.0)
+
+pub some_no_mill : (words : List Text) (n : ℕ) → AskSome words → AsksMill words n → ⊥
+some_no_mill words n (inl work) k = no_mill words work.0 n work.1 k
+some_no_mill words n (inr net) k = no_net_mill words net.0 n net.1 k
+
+pub nothing_of_some : (words : List Text) → AskNothing words → AskSome words → ⊥
+nothing_of_some words none (inl work) = none.work work.0 work.1
+nothing_of_some words none (inr net) = none.net net.0 net.1
+
+-- settings or a key
+pub same_settings : {A : Type 0} (r : Result A (List ℕ)) (a b : A) → r ≡ Ok a → r ≡ Ok b → a ≡ b
+same_settings r a b one two = cc
+
+pub same_key : {A : Type 0} (r : Result A (List ℕ)) (key other : List ℕ) → r ≡ Err key → r ≡ Err other → key ≡ other
+same_key r key other one two = cc
+
+pub no_key : {A : Type 0} (r : Result A (List ℕ)) (a : A) (key : List ℕ) → r ≡ Ok a → r ≡ Err key → ⊥
+no_key r a key good bad = cc

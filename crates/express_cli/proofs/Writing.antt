@@ -2,13 +2,16 @@
 use Rattle.std.proofs.Common.{◌≡◌, ℕ, List, Option, Some, inl, inr, refl, subst, sym, ap, ◌∙◌}
 use Rattle.clap.specs.Words.{Text}
 use Rattle.express_words.specs.Streams.{Stream}
-use Rattle.express_cli.specs.CommandLine.{Asks, AsksMill, IsAsked}
+use Rattle.express_cli.specs.CommandLine.{Asks, AsksMill, AsksNet, AskSome, IsAsked}
 use Rattle.express_cli.specs.Reading.{GaveAll}
 use Rattle.express_cli.specs.Work.{IsBad}
-use Rattle.express_cli.specs.Ends.{Writes, Said, BadLineMay, WorkMay, MillMay, RunMay, bad_line}
+use Rattle.express_cli.specs.Ends.{Writes, Said, BadLineMay, WorkMay, MillMay, bad_line}
+use Rattle.express_cli.specs.Talking.{Around, TalkMay}
+use Rattle.express_cli.specs.Runs.{RunMay, UnreadMay}
 use Rattle.express_cli.specs.declared.words.Command.{Command}
+use Rattle.express_cli.specs.declared.words.NetCommand.{NetCommand}
 use Rattle.express_cli.specs.declared.words.Task.{Task}
-use Rattle.express_cli.specs.declared.words.Task.TheVariants.{Work, Mill}
+use Rattle.express_cli.specs.declared.words.Task.TheVariants.{Work, Net, Mill}
 use Rattle.express_cli.specs.declared.ends.End.{End}
 use Rattle.express_cli.specs.declared.ends.End.TheVariants as ends
 
@@ -18,8 +21,10 @@ pub more_may : (May Could : End → List ℕ → Type 0) (old new : Option (List
 more_may May Could old new before now ends.Done f h = (h.0, f _ _ h.1, h.2)
 more_may May Could old new before now ends.Usage f h = (h.0, f _ _ h.1, h.2)
 more_may May Could old new before now (ends.BadLine n) f h = (h.0, f _ _ h.1, h.2)
+more_may May Could old new before now ends.BadKey f h = (h.0, f _ _ h.1, h.2)
 more_may May Could old new before now ends.ReadFault f h = (h.0, f _ _ h.1, h.2)
 more_may May Could old new before now ends.WriteFault f h = (h.0, (h.1.0, h.1.1, f _ _ h.1.2, h.1.3))
+more_may May Could old new before now ends.NetFault f h = (h.0, f _ _ h.1, h.2)
 more_may May Could old new before now ends.OutOfMemory f h = (h.0, f _ _ h.1, h.2)
 more_may May Could old new before now ends.TooLong f h = (h.0, f _ _ h.1, h.2)
 
@@ -30,21 +35,60 @@ said May old new before now end result text may h =
     more_may (Said end text) May old new before now result (λ e t same. rw (same.0, same.1) may) h
 
 -- What the work on all that the source gave may come to is what the run may come to.
-all_may : (words : List Text) (from to : Option Stream) (c d : ℕ) (command : Command) (bytes : List ℕ) → Asks words command → GaveAll from to bytes
-    → (end : End) (text : List ℕ) → WorkMay command bytes end text → RunMay words from to c d end text
-all_may words from to c d command bytes asks gave ends.Done text may = inl (command, asks, (bytes, gave, may))
-all_may words from to c d command bytes asks gave ends.Usage text may = absurd may
-all_may words from to c d command bytes asks gave (ends.BadLine n) text may = (command, asks, (bytes, gave, may))
-all_may words from to c d command bytes asks gave ends.ReadFault text may = absurd may
-all_may words from to c d command bytes asks gave ends.WriteFault text may = absurd may
-all_may words from to c d command bytes asks gave ends.OutOfMemory text may = may
-all_may words from to c d command bytes asks gave ends.TooLong text may = absurd may
+all_may : (words : List Text) (from to : Option Stream) (c d : ℕ) (net : Around) (command : Command) (bytes : List ℕ) → Asks words command → GaveAll from to bytes
+    → (end : End) (text : List ℕ) → WorkMay command bytes end text → RunMay words from to c d net end text
+all_may words from to c d net command bytes asks gave ends.Done text may = inl (command, asks, (bytes, gave, may))
+all_may words from to c d net command bytes asks gave ends.Usage text may = absurd may
+all_may words from to c d net command bytes asks gave (ends.BadLine n) text may = (command, asks, (bytes, gave, may))
+all_may words from to c d net command bytes asks gave ends.ReadFault text may = absurd may
+all_may words from to c d net command bytes asks gave ends.WriteFault text may = absurd may
+all_may words from to c d net command bytes asks gave ends.BadKey text may = absurd may
+all_may words from to c d net command bytes asks gave ends.NetFault text may = absurd may
+all_may words from to c d net command bytes asks gave ends.OutOfMemory text may = inl may
+all_may words from to c d net command bytes asks gave ends.TooLong text may = absurd may
 
-pub worked_all : (words : List Text) (from to : Option Stream) (c d : ℕ) (old new : Option (List ℕ)) (before now : ℕ) (end : End) (command : Command) (bytes read : List ℕ)
-    → Asks words command → GaveAll from to bytes → bytes ≡ read → Writes (WorkMay command read) old new before now end → Writes (RunMay words from to c d) old new before now end
-worked_all words from to c d old new before now end command bytes read asks gave same h =
+pub worked_all : (words : List Text) (from to : Option Stream) (c d : ℕ) (net : Around) (old new : Option (List ℕ)) (before now : ℕ) (end : End) (command : Command) (bytes read : List ℕ)
+    → Asks words command → GaveAll from to bytes → bytes ≡ read → Writes (WorkMay command read) old new before now end → Writes (RunMay words from to c d net) old new before now end
+worked_all words from to c d net old new before now end command bytes read asks gave same h =
     let Gave : List ℕ → Type 0 = λ b. GaveAll from to b in
-    more_may (WorkMay command read) (RunMay words from to c d) old new before now end (all_may words from to c d command read asks (subst Gave same gave)) h
+    more_may (WorkMay command read) (RunMay words from to c d net) old new before now end (all_may words from to c d net command read asks (subst Gave same gave)) h
+
+-- So is what the command's work over a net may come to.
+talk_may : (words : List Text) (from to : Option Stream) (c d : ℕ) (net : Around) (command : NetCommand) (bytes : List ℕ) → AsksNet words command → GaveAll from to bytes
+    → (end : End) (text : List ℕ) → TalkMay command bytes net end text → RunMay words from to c d net end text
+talk_may words from to c d net command bytes asks gave ends.Done text may = inr (inl (command, asks, (bytes, gave, may)))
+talk_may words from to c d net command bytes asks gave ends.Usage text may = absurd may
+talk_may words from to c d net command bytes asks gave (ends.BadLine n) text may = absurd may
+talk_may words from to c d net command bytes asks gave ends.BadKey text may = (command, asks, (bytes, gave, may))
+talk_may words from to c d net command bytes asks gave ends.ReadFault text may = absurd may
+talk_may words from to c d net command bytes asks gave ends.WriteFault text may = absurd may
+talk_may words from to c d net command bytes asks gave ends.NetFault text may = (command, asks, (bytes, gave, may))
+talk_may words from to c d net command bytes asks gave ends.OutOfMemory text may = inr (command, asks, (bytes, gave, may))
+talk_may words from to c d net command bytes asks gave ends.TooLong text may = absurd may
+
+pub talked_all : (words : List Text) (from to : Option Stream) (c d : ℕ) (net : Around) (old new : Option (List ℕ)) (before now : ℕ) (end : End) (command : NetCommand) (bytes read : List ℕ)
+    → AsksNet words command → GaveAll from to bytes → bytes ≡ read → Writes (TalkMay command read net) old new before now end → Writes (RunMay words from to c d net) old new before now end
+talked_all words from to c d net old new before now end command bytes read asks gave same h =
+    let Gave : List ℕ → Type 0 = λ b. GaveAll from to b in
+    more_may (TalkMay command read net) (RunMay words from to c d net) old new before now end (talk_may words from to c d net command read asks (subst Gave same gave)) h
+
+-- what may come where the input wasn't read to its end
+unread_may : (words : List Text) (from to : Option Stream) (c d : ℕ) (net : Around) → AskSome words → (end : End) (text : List ℕ) → UnreadMay from to c d end text
+    → RunMay words from to c d net end text
+unread_may words from to c d net asks ends.Done text may = absurd may
+unread_may words from to c d net asks ends.Usage text may = absurd may
+unread_may words from to c d net asks (ends.BadLine n) text may = absurd may
+unread_may words from to c d net asks ends.BadKey text may = absurd may
+unread_may words from to c d net asks ends.ReadFault text may = (asks, may.0, may.1, may.2)
+unread_may words from to c d net asks ends.WriteFault text may = absurd may
+unread_may words from to c d net asks ends.NetFault text may = absurd may
+unread_may words from to c d net asks ends.OutOfMemory text may = inl may
+unread_may words from to c d net asks ends.TooLong text may = (asks, may.0, may.1)
+
+pub unread : (words : List Text) (from to : Option Stream) (c d : ℕ) (net : Around) (old new : Option (List ℕ)) (before now : ℕ) (end : End)
+    → AskSome words → Writes (UnreadMay from to c d) old new before now end → Writes (RunMay words from to c d net) old new before now end
+unread words from to c d net old new before now end asks h =
+    more_may (UnreadMay from to c d) (RunMay words from to c d net) old new before now end (unread_may words from to c d net asks) h
 
 -- where nothing was written before
 pub unmoved : (May : End → List ℕ → Type 0) (old mid new : Option (List ℕ)) (before between now : ℕ) (end : End)
@@ -55,24 +99,29 @@ unmoved May old mid new before between now end same_written same_count h =
     subst Wrote same_written (subst Counted same_count h)
 
 -- What the mill that the words ask for may come to is what the run may come to.
-mill_may : (words : List Text) (from to : Option Stream) (c d n : ℕ) → AsksMill words n → to ≡ from
-    → (end : End) (text : List ℕ) → MillMay n end text → RunMay words from to c d end text
-mill_may words from to c d n asks same ends.Done text may = inr (n, asks, same, may)
-mill_may words from to c d n asks same ends.Usage text may = absurd may
-mill_may words from to c d n asks same (ends.BadLine m) text may = absurd may
-mill_may words from to c d n asks same ends.ReadFault text may = absurd may
-mill_may words from to c d n asks same ends.WriteFault text may = absurd may
-mill_may words from to c d n asks same ends.OutOfMemory text may = may
-mill_may words from to c d n asks same ends.TooLong text may = absurd may
+mill_may : (words : List Text) (from to : Option Stream) (c d : ℕ) (net : Around) (n : ℕ) → AsksMill words n → to ≡ from
+    → (end : End) (text : List ℕ) → MillMay n end text → RunMay words from to c d net end text
+mill_may words from to c d net n asks same ends.Done text may = inr (inr (n, asks, same, may))
+mill_may words from to c d net n asks same ends.Usage text may = absurd may
+mill_may words from to c d net n asks same (ends.BadLine m) text may = absurd may
+mill_may words from to c d net n asks same ends.ReadFault text may = absurd may
+mill_may words from to c d net n asks same ends.WriteFault text may = absurd may
+mill_may words from to c d net n asks same ends.BadKey text may = absurd may
+mill_may words from to c d net n asks same ends.NetFault text may = absurd may
+mill_may words from to c d net n asks same ends.OutOfMemory text may = inl may
+mill_may words from to c d net n asks same ends.TooLong text may = absurd may
 
-pub milled : (words : List Text) (from : Option Stream) (c d : ℕ) (old new : Option (List ℕ)) (before now : ℕ) (end : End) (n : ℕ)
-    → AsksMill words n → Writes (MillMay n) old new before now end → Writes (RunMay words from from c d) old new before now end
-milled words from c d old new before now end n asks h =
-    more_may (MillMay n) (RunMay words from from c d) old new before now end (mill_may words from from c d n asks refl) h
+pub milled : (words : List Text) (from : Option Stream) (c d : ℕ) (net : Around) (old new : Option (List ℕ)) (before now : ℕ) (end : End) (n : ℕ)
+    → AsksMill words n → Writes (MillMay n) old new before now end → Writes (RunMay words from from c d net) old new before now end
+milled words from c d net old new before now end n asks h =
+    more_may (MillMay n) (RunMay words from from c d net) old new before now end (mill_may words from from c d net n asks refl) h
 
 -- the task that was found
 pub asks_it : (words : List Text) (asked : Option Task) (task : Task) (command : Command) → asked ≡ Some task → task ≡ Work command → IsAsked words asked → Asks words command
 asks_it words asked task command same is h = let Asked : Option Task → Type 0 = λ o. IsAsked words o in subst Asked (same ∙ ap Some is) h
+
+pub asks_net : (words : List Text) (asked : Option Task) (task : Task) (command : NetCommand) → asked ≡ Some task → task ≡ Net command → IsAsked words asked → AsksNet words command
+asks_net words asked task command same is h = let Asked : Option Task → Type 0 = λ o. IsAsked words o in subst Asked (same ∙ ap Some is) h
 
 pub asks_mill : (words : List Text) (asked : Option Task) (task : Task) (n : ℕ) → asked ≡ Some task → task ≡ Mill n → IsAsked words asked → AsksMill words n
 asks_mill words asked task n same is h = let Asked : Option Task → Type 0 = λ o. IsAsked words o in subst Asked (same ∙ ap Some is) h
@@ -86,4 +135,6 @@ bad_line_may command bytes n first ends.Done text may = absurd may
 bad_line_may command bytes n first ends.Usage text may = absurd may
 bad_line_may command bytes n first ends.ReadFault text may = absurd may
 bad_line_may command bytes n first ends.WriteFault text may = absurd may
+bad_line_may command bytes n first ends.BadKey text may = absurd may
+bad_line_may command bytes n first ends.NetFault text may = absurd may
 bad_line_may command bytes n first ends.TooLong text may = absurd may

@@ -1,24 +1,25 @@
 -- How a run ends.
-use Rattle.std.specs.Prelude.{◌≡◌, ℕ, ◌+◌, ◌≤◌, ◌⊎◌, List, ◌++◌, codes, Option}
+use Rattle.std.specs.Prelude.{◌≡◌, ℕ, List, ◌++◌, codes, string_bytes, Option}
 use Rattle.std.specs.Fmt.{decimal}
 use Rattle.express_words.specs.Causes.{Rose}
-use Rattle.express_words.specs.Streams.{Stream, Took, TookPrefix}
-use Rattle.clap.specs.Words.{Text}
-use Rattle.express_cli.specs.CommandLine.{Asks, AsksMill, AskSome, AskNothing}
-use Rattle.express_cli.specs.Reading.{GaveAll, GaveSome, most_bytes}
+use Rattle.express_words.specs.Streams.{Took, TookPrefix}
+use Rattle.express_texts.specs.declared.fault.TextFault.{TextFault}
+use Rattle.express_texts.specs.declared.fault.TextFault.TheVariants as fault
 use Rattle.express_cli.specs.Work.{IsOutput, IsBad}
 use Rattle.express_cli.specs.Mills.{mill_text}
 use Rattle.express_cli.specs.declared.words.Command.{Command}
 use Rattle.express_cli.specs.declared.ends.End.{End}
-use Rattle.express_cli.specs.declared.ends.End.TheVariants.{Done, Usage, BadLine, ReadFault, WriteFault, OutOfMemory, TooLong}
+use Rattle.express_cli.specs.declared.ends.End.TheVariants.{Done, Usage, BadLine, BadKey, ReadFault, WriteFault, NetFault, OutOfMemory, TooLong}
 
 -- the status that the program ends with
 abbrev pub status_of : End → ℕ
 status_of Done = 0
 status_of Usage = 2
 status_of (BadLine n) = 3
+status_of BadKey = 3
 status_of ReadFault = 4
 status_of WriteFault = 5
+status_of NetFault = 6
 status_of OutOfMemory = 7
 status_of TooLong = 8
 
@@ -28,8 +29,14 @@ usage_text = codes "usage: express replay, serve, client, cloak, carry, batch or
 abbrev pub bad_line : ℕ → List ℕ
 bad_line n = codes "bad line " ++ (decimal n ++ codes "\n")
 
+abbrev pub bad_settings : List ℕ → List ℕ
+bad_settings key = codes "bad settings " ++ (key ++ codes "\n")
+
 abbrev pub read_fault_text : List ℕ
 read_fault_text = codes "read fault\n"
+
+abbrev pub net_fault_text : List ℕ
+net_fault_text = codes "net fault\n"
 
 abbrev pub out_of_memory_text : List ℕ
 out_of_memory_text = codes "out of memory\n"
@@ -42,8 +49,10 @@ abbrev pub Writes : (End → List ℕ → Type 0) → Option (List ℕ) → Opti
 Writes May old new before now Done = (text : List ℕ) × May Done text × Took old new text
 Writes May old new before now Usage = (text : List ℕ) × May Usage text × Took old new text
 Writes May old new before now (BadLine n) = (text : List ℕ) × May (BadLine n) text × Took old new text
+Writes May old new before now BadKey = (text : List ℕ) × May BadKey text × Took old new text
 Writes May old new before now ReadFault = (text : List ℕ) × May ReadFault text × Took old new text
 Writes May old new before now WriteFault = Rose before now × ((end : End) × (text : List ℕ) × May end text × TookPrefix old new text)
+Writes May old new before now NetFault = (text : List ℕ) × May NetFault text × Took old new text
 Writes May old new before now OutOfMemory = (text : List ℕ) × May OutOfMemory text × Took old new text
 Writes May old new before now TooLong = (text : List ℕ) × May TooLong text × Took old new text
 
@@ -57,9 +66,29 @@ BadLineMay n (BadLine m) text = (m ≡ n) × (text ≡ bad_line n)
 BadLineMay n OutOfMemory text = text ≡ out_of_memory_text
 BadLineMay n Done text = ⊥
 BadLineMay n Usage text = ⊥
+BadLineMay n BadKey text = ⊥
 BadLineMay n ReadFault text = ⊥
 BadLineMay n WriteFault text = ⊥
+BadLineMay n NetFault text = ⊥
 BadLineMay n TooLong text = ⊥
+
+-- a bad key, or want of memory
+abbrev pub BadKeyMay : List ℕ → End → List ℕ → Type 0
+BadKeyMay key BadKey text = text ≡ bad_settings key
+BadKeyMay key OutOfMemory text = text ≡ out_of_memory_text
+BadKeyMay key Done text = ⊥
+BadKeyMay key Usage text = ⊥
+BadKeyMay key (BadLine n) text = ⊥
+BadKeyMay key ReadFault text = ⊥
+BadKeyMay key WriteFault text = ⊥
+BadKeyMay key NetFault text = ⊥
+BadKeyMay key TooLong text = ⊥
+
+-- what is said of a fault of a text
+abbrev pub FaultMay : TextFault → End → List ℕ → Type 0
+FaultMay (fault.Wrong n) end text = BadLineMay n end text
+FaultMay (fault.WrongKey key) end text = BadKeyMay (string_bytes key) end text
+FaultMay fault.NoMemory end text = Said OutOfMemory out_of_memory_text end text
 
 -- To work on bytes comes to what the command writes of them, to their first bad line, or to want of memory.
 abbrev pub WorkMay : Command → List ℕ → End → List ℕ → Type 0
@@ -67,8 +96,10 @@ WorkMay command bytes Done text = IsOutput command bytes text
 WorkMay command bytes (BadLine n) text = IsBad command n bytes × (text ≡ bad_line n)
 WorkMay command bytes OutOfMemory text = text ≡ out_of_memory_text
 WorkMay command bytes Usage text = ⊥
+WorkMay command bytes BadKey text = ⊥
 WorkMay command bytes ReadFault text = ⊥
 WorkMay command bytes WriteFault text = ⊥
+WorkMay command bytes NetFault text = ⊥
 WorkMay command bytes TooLong text = ⊥
 
 -- A mill comes to its text, or to want of memory.
@@ -77,29 +108,8 @@ MillMay n Done text = text ≡ mill_text n
 MillMay n OutOfMemory text = text ≡ out_of_memory_text
 MillMay n Usage text = ⊥
 MillMay n (BadLine m) text = ⊥
+MillMay n BadKey text = ⊥
 MillMay n ReadFault text = ⊥
 MillMay n WriteFault text = ⊥
+MillMay n NetFault text = ⊥
 MillMay n TooLong text = ⊥
-
--- The words ask for a command, the source gave all its bytes, and the command's work on them may come to
--- this.
-abbrev pub MayWork : List Text → Option Stream → Option Stream → End → List ℕ → Type 0
-MayWork words from to end text =
-    (command : Command) × Asks words command
-    × ((bytes : List ℕ) × GaveAll from to bytes × WorkMay command bytes end text)
-
--- The words ask for the mill of a number, the source wasn't read, and this is the mill's text.
-abbrev pub MayMill : List Text → Option Stream → Option Stream → List ℕ → Type 0
-MayMill words from to text = (n : ℕ) × AsksMill words n × (to ≡ from) × (text ≡ mill_text n)
-
--- What a run comes to, by its words, what its source gave, and its count of faults before and after.
-abbrev pub RunMay : List Text → Option Stream → Option Stream → ℕ → ℕ → End → List ℕ → Type 0
-RunMay words from to before now Usage text = AskNothing words × (to ≡ from) × (text ≡ usage_text)
-RunMay words from to before now ReadFault text =
-    AskSome words × Rose before now × GaveSome from to (λ n. n ≤ most_bytes) × (text ≡ read_fault_text)
-RunMay words from to before now TooLong text =
-    AskSome words × GaveSome from to (λ n. n ≡ most_bytes + 1) × (text ≡ too_long_text)
-RunMay words from to before now (BadLine n) text = MayWork words from to (BadLine n) text
-RunMay words from to before now Done text = MayWork words from to Done text ⊎ MayMill words from to text
-RunMay words from to before now OutOfMemory text = text ≡ out_of_memory_text
-RunMay words from to before now WriteFault text = ⊥

@@ -6,4 +6,6 @@ pub mod Cloaks
 pub mod Mills
 pub mod Work
 pub mod Ends
+pub mod Talking
+pub mod Runs
 pub mod Headline

@@ -11,8 +11,12 @@ pub enum End {
     Usage,
     /// This line of the input, counted from 1, is the first bad one.
     BadLine(u32),
+    /// A key of the input, which is settings, is missing or wrong.
+    BadKey,
     ReadFault,
     WriteFault,
+    /// The net failed.
+    NetFault,
     OutOfMemory,
     /// The input has more than 67,108,864 bytes.
     TooLong,
@@ -26,8 +30,10 @@ pub fn status_of(end: End) -> u8
         End::Done => 0,
         End::Usage => 2,
         End::BadLine(_) => 3,
+        End::BadKey => 3,
         End::ReadFault => 4,
         End::WriteFault => 5,
+        End::NetFault => 6,
         End::OutOfMemory => 7,
         End::TooLong => 8,
     }

@@ -2,6 +2,8 @@
 #![tactic(auto)]
 
 mod batch;
+mod carry;
+mod client;
 mod cloak;
 mod drawing;
 mod ends;
@@ -9,6 +11,8 @@ mod mill;
 mod reading;
 mod replay;
 mod seed;
+mod serve;
+mod talk;
 mod texts;
 mod top;
 mod views;
@@ -19,7 +23,4 @@ pub use ends::End;
 pub use reading::{InputFault, LONGEST, read_all};
 pub use seed::{SeedFault, seed_of};
 pub use top::run;
-pub use words::Command;
-
-#[cfg(test)]
-mod tests;
+pub use words::{Command, NetCommand};

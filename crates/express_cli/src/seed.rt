@@ -70,6 +70,3 @@ pub fn seed_of<S: Source>(random: &mut S) -> Result<[u8; 32], SeedFault>
     }
     Ok(seed)
 }
-
-#[cfg(test)]
-mod tests;

@@ -1,8 +1,9 @@
 //! Writes the texts with which a run ends.
 ghost use Rattle.std.specs.Prelude.{◌≡◌, ◌≢◌, ◌≤◌, ◌⊎◌, IfOk, string_bytes};
-ghost use Rattle.express_cli.specs.Ends.{Writes, Said, BadLineMay, bad_line};
+ghost use Rattle.express_cli.specs.Ends.{Writes, Said, BadKeyMay, BadLineMay, FaultMay, bad_line, bad_settings};
 
 use crate::End;
+use express_texts::TextFault;
 use express_words::outside::Sink;
 use std::alloc::{AllocError, Global};
 
@@ -14,6 +15,10 @@ pub const READ_FAULT: &str = "read fault\n";
 pub const OUT_OF_MEMORY: &str = "out of memory\n";
 
 pub const TOO_LONG: &str = "input too long\n";
+
+pub const LISTENING: &str = "listening\n";
+
+pub const NET_FAULT: &str = "net fault\n";
 
 /// Writes a text and comes to this end, or to a fault of the sink.
 pub fn say<K: Sink>(out: &mut K, text: &str, end: End) -> End
@@ -44,5 +49,36 @@ pub fn say_bad_line<K: Sink>(alloc: Global, out: &mut K, line: u32) -> End
     match bad_line(alloc, line) {
         Err(_) => say(out, OUT_OF_MEMORY, End::OutOfMemory),
         Ok(text) => say(out, text.as_str(), End::BadLine(line)),
+    }
+}
+
+fn bad_settings(alloc: Global, key: &str) -> Result<String, AllocError>
+    ensures { IfOk result (λ text. string_bytes text ≡ bad_settings key.now) }
+{
+    format!(in alloc; "bad settings {key}\n")
+}
+
+/// Says that this key is missing or wrong, unless memory is wanting.
+pub fn say_bad_key<K: Sink>(alloc: Global, out: &mut K, key: &str) -> End
+    ensures says { Writes (BadKeyMay key.now) (K.written out.old) (K.written out.new) (K.count out.old) (K.count out.new) result }
+    ensures later { K.count out.old ≤ K.count out.new }
+    ensures told { result ≢ End.WriteFault → K.count out.new ≡ K.count out.old }
+{
+    match bad_settings(alloc, key) {
+        Err(_) => say(out, OUT_OF_MEMORY, End::OutOfMemory),
+        Ok(text) => say(out, text.as_str(), End::BadKey),
+    }
+}
+
+/// Says what is wrong with a text, unless memory is wanting.
+pub fn say_fault<K: Sink>(alloc: Global, out: &mut K, fault: TextFault) -> End
+    ensures says { Writes (FaultMay fault) (K.written out.old) (K.written out.new) (K.count out.old) (K.count out.new) result }
+    ensures later { K.count out.old ≤ K.count out.new }
+    ensures told { result ≢ End.WriteFault → K.count out.new ≡ K.count out.old }
+{
+    match fault {
+        TextFault::Wrong(line) => say_bad_line(alloc, out, line),
+        TextFault::WrongKey(key) => say_bad_key(alloc, out, key.as_str()),
+        TextFault::NoMemory => say(out, OUT_OF_MEMORY, End::OutOfMemory),
     }
 }

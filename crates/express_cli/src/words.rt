@@ -1,7 +1,7 @@
 //! The words of the command line.
 ghost use Rattle.std.specs.Prelude.{◌≡◌, ◌≢◌, [], IfOk, IfErr, Some, option_map, map, string_bytes, codes};
 ghost use Rattle.clap.specs.Words.{app_of, fault_of, kind_of};
-ghost use Rattle.express_cli.specs.CommandLine.{express_app, value_of, IsNamed, IsNumber, IsMill, IsAsked};
+ghost use Rattle.express_cli.specs.CommandLine.{express_app, value_of, IsNamed, IsNetNamed, IsNumber, IsMill, IsAsked};
 
 use clap::error::ErrorKind;
 use clap::{Arg, Error};
@@ -19,11 +19,24 @@ pub enum Command {
     Cloak,
 }
 
+/// What the program does over a net, by the settings that are its input.
+#[derive(Clone, Copy, Debug, PartialEq, Eq)]
+pub enum NetCommand {
+    /// Is one of the two servers.
+    Serve,
+    /// Works a client's requests off.
+    Client,
+    /// Sends a file to several boxes, or fetches one.
+    Carry,
+}
+
 /// What the words ask for.
 #[derive(Clone, Copy, Debug, PartialEq, Eq)]
 pub enum Task {
     /// Work on the input.
     Work(Command),
+    /// Work over a net, by the settings that are the input.
+    Net(NetCommand),
     /// The mill of a number up to 5,000, which reads no input.
     Mill(u16),
 }
@@ -72,6 +85,18 @@ fn named(command: Option<&str>, number: Option<&str>) -> Option<Command>
     }
 }
 
+// The command over a net that these values name.
+fn net_named(command: Option<&str>, number: Option<&str>) -> Option<NetCommand>
+    ensures { IsNetNamed (option_map (λ s. s.now) command.entry) (option_map (λ s. s.now) number.entry) result }
+{
+    match (command, number) {
+        (Some("serve"), None) => Some(NetCommand::Serve),
+        (Some("client"), None) => Some(NetCommand::Client),
+        (Some("carry"), None) => Some(NetCommand::Carry),
+        _ => None,
+    }
+}
+
 // The number up to 5,000 whose decimal digits these are.
 fn number_in(alloc: Global, text: &str) -> Result<Option<u16>, AllocError>
     ensures { IfOk result (IsNumber text.now) }
@@ -107,7 +132,7 @@ fn mill_named(
 }
 
 /// The task that the words ask for.
-#[tactic(auto, using(crate::proofs::Asked::refused, crate::proofs::Asked::works, crate::proofs::Asked::mills, crate::proofs::Asked::nothing))]
+#[tactic(auto, using(crate::proofs::Asked::refused, crate::proofs::Asked::works, crate::proofs::Asked::talks, crate::proofs::Asked::mills, crate::proofs::Asked::nothing))]
 pub fn task_of(alloc: Global, words: &Vec<String>) -> Result<Option<Task>, NoMemory>
     ensures { IfOk result (IsAsked (map string_bytes words.now.items)) }
 {
@@ -122,6 +147,9 @@ pub fn task_of(alloc: Global, words: &Vec<String>) -> Result<Option<Task>, NoMem
     };
     if let Some(command) = named(command, number) {
         return Ok(Some(Task::Work(command)));
+    }
+    if let Some(command) = net_named(command, number) {
+        return Ok(Some(Task::Net(command)));
     }
     match mill_named(alloc, command, number)? {
         Some(number) => Ok(Some(Task::Mill(number))),

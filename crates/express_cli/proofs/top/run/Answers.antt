@@ -1,39 +1,40 @@
 use Rattle.std.proofs.Common.{ap, ◌∙◌}
 use Rattle.express_cli.specs.Ends.{status_of}
-use Rattle.express_cli.proofs.Causes.{statuses, usage_only, worked, too_long_only}
+use Rattle.express_cli.proofs.Causes.{statuses, usage_only, worked, out_of_memory, too_long_only}
 use Rattle.express_cli.proofs.Exact.{headline, batch, cloak, mills, names_bad_line, refuses_too_long}
+use Rattle.express_cli.proofs.Talked.{serve, client, carry, names_bad_key}
 use Rattle.express_cli.proofs.top.run.Goals as goal
 
 pub returns-clause-headline : goal.returns-clause-headline
 returns-clause-headline g c =
-    rw c.status_of.ensures (headline (record { schedule = c.read_exactly.ensures.only; bad_schedule = c.read_exactly.ensures.only_bad; pairs = c.batch_is_read_exactly.ensures.only; bad_pairs = c.batch_is_read_exactly.ensures.only_bad; game = c.game_is_read_exactly.ensures.only; bad_game = c.game_is_read_exactly.ensures.only_bad }) _ _ _ _ _ _ _ _ _ _ c.finish.ensures.ends)
+    rw c.status_of.ensures (headline (record { schedule = c.read_exactly.ensures.only; bad_schedule = c.read_exactly.ensures.only_bad; pairs = c.batch_is_read_exactly.ensures.only; bad_pairs = c.batch_is_read_exactly.ensures.only_bad; game = c.game_is_read_exactly.ensures.only; bad_game = c.game_is_read_exactly.ensures.only_bad }) _ _ _ _ _ _ _ _ _ _ _ c.finish.ensures.ends)
 
 pub returns-clause-batch : goal.returns-clause-batch
 returns-clause-batch g c =
-    rw c.status_of.ensures (batch (record { schedule = c.read_exactly.ensures.only; bad_schedule = c.read_exactly.ensures.only_bad; pairs = c.batch_is_read_exactly.ensures.only; bad_pairs = c.batch_is_read_exactly.ensures.only_bad; game = c.game_is_read_exactly.ensures.only; bad_game = c.game_is_read_exactly.ensures.only_bad }) _ _ _ _ _ _ _ _ _ _ c.finish.ensures.ends)
+    rw c.status_of.ensures (batch (record { schedule = c.read_exactly.ensures.only; bad_schedule = c.read_exactly.ensures.only_bad; pairs = c.batch_is_read_exactly.ensures.only; bad_pairs = c.batch_is_read_exactly.ensures.only_bad; game = c.game_is_read_exactly.ensures.only; bad_game = c.game_is_read_exactly.ensures.only_bad }) _ _ _ _ _ _ _ _ _ _ _ c.finish.ensures.ends)
 
 pub returns-clause-cloak : goal.returns-clause-cloak
 returns-clause-cloak g c =
-    rw c.status_of.ensures (cloak (record { schedule = c.read_exactly.ensures.only; bad_schedule = c.read_exactly.ensures.only_bad; pairs = c.batch_is_read_exactly.ensures.only; bad_pairs = c.batch_is_read_exactly.ensures.only_bad; game = c.game_is_read_exactly.ensures.only; bad_game = c.game_is_read_exactly.ensures.only_bad }) _ _ _ _ _ _ _ _ _ _ c.finish.ensures.ends)
+    rw c.status_of.ensures (cloak (record { schedule = c.read_exactly.ensures.only; bad_schedule = c.read_exactly.ensures.only_bad; pairs = c.batch_is_read_exactly.ensures.only; bad_pairs = c.batch_is_read_exactly.ensures.only_bad; game = c.game_is_read_exactly.ensures.only; bad_game = c.game_is_read_exactly.ensures.only_bad }) _ _ _ _ _ _ _ _ _ _ _ c.finish.ensures.ends)
 
 pub returns-clause-mill : goal.returns-clause-mill
-returns-clause-mill g c n = rw c.status_of.ensures (mills _ _ _ _ _ _ _ _ _ _ n c.finish.ensures.ends)
+returns-clause-mill g c n = rw c.status_of.ensures (mills _ _ _ _ _ _ _ _ _ _ _ n c.finish.ensures.ends)
 
 pub returns-clause-names_bad_line : goal.returns-clause-names_bad_line
 returns-clause-names_bad_line g c command =
-    rw c.status_of.ensures (names_bad_line (record { schedule = c.read_exactly.ensures.only; bad_schedule = c.read_exactly.ensures.only_bad; pairs = c.batch_is_read_exactly.ensures.only; bad_pairs = c.batch_is_read_exactly.ensures.only_bad; game = c.game_is_read_exactly.ensures.only; bad_game = c.game_is_read_exactly.ensures.only_bad }) _ _ _ _ _ _ _ _ _ _ command c.finish.ensures.ends)
+    rw c.status_of.ensures (names_bad_line (record { schedule = c.read_exactly.ensures.only; bad_schedule = c.read_exactly.ensures.only_bad; pairs = c.batch_is_read_exactly.ensures.only; bad_pairs = c.batch_is_read_exactly.ensures.only_bad; game = c.game_is_read_exactly.ensures.only; bad_game = c.game_is_read_exactly.ensures.only_bad }) _ _ _ _ _ _ _ _ _ _ _ command c.finish.ensures.ends)
 
 pub returns-clause-refuses_too_long : goal.returns-clause-refuses_too_long
-returns-clause-refuses_too_long g c = rw c.status_of.ensures (refuses_too_long _ _ _ _ _ _ _ _ _ _ c.finish.ensures.ends)
+returns-clause-refuses_too_long g c = rw c.status_of.ensures (refuses_too_long _ _ _ _ _ _ _ _ _ _ _ c.finish.ensures.ends)
 
 pub returns-clause-statuses : goal.returns-clause-statuses
 returns-clause-statuses g c = rw c.status_of.ensures (statuses c.finish.result)
 
 pub returns-clause-usage_only : goal.returns-clause-usage_only
-returns-clause-usage_only g c = rw c.status_of.ensures (usage_only _ _ _ _ _ _ _ _ _ _ c.finish.ensures.ends)
+returns-clause-usage_only g c = rw c.status_of.ensures (usage_only _ _ _ _ _ _ _ _ _ _ _ c.finish.ensures.ends)
 
 pub returns-clause-too_long_only : goal.returns-clause-too_long_only
-returns-clause-too_long_only g c = rw c.status_of.ensures (too_long_only _ _ _ _ _ _ _ _ _ _ c.finish.ensures.ends)
+returns-clause-too_long_only g c = rw c.status_of.ensures (too_long_only _ _ _ _ _ _ _ _ _ _ _ c.finish.ensures.ends)
 
 pub returns-clause-source_unfailed : goal.returns-clause-source_unfailed
 returns-clause-source_unfailed g c read write =
@@ -124,4 +125,25 @@ pub returns-clause-writes_are_seen : goal.returns-clause-writes_are_seen
 returns-clause-writes_are_seen g c = c.writes_are_choices.ensures.seen
 
 pub returns-clause-worked : goal.returns-clause-worked
-returns-clause-worked g c = rw c.status_of.ensures (worked _ _ _ _ _ _ _ _ _ _ c.finish.ensures.ends)
+returns-clause-worked g c = rw c.status_of.ensures (worked _ _ _ _ _ _ _ _ _ _ _ c.finish.ensures.ends)
+
+pub returns-clause-serve : goal.returns-clause-serve
+returns-clause-serve g c = rw c.status_of.ensures (serve _ _ _ _ _ _ _ _ _ _ _ c.finish.ensures.ends)
+
+pub returns-clause-client : goal.returns-clause-client
+returns-clause-client g c = rw c.status_of.ensures (client _ _ _ _ _ _ _ _ _ _ _ c.finish.ensures.ends)
+
+pub returns-clause-names_bad_key : goal.returns-clause-names_bad_key
+returns-clause-names_bad_key g c command = rw c.status_of.ensures (names_bad_key _ _ _ _ _ _ _ _ _ _ _ command c.finish.ensures.ends)
+
+pub returns-clause-carry : goal.returns-clause-carry
+returns-clause-carry g c = rw c.status_of.ensures (carry _ _ _ _ _ _ _ _ _ _ _ c.finish.ensures.ends)
+
+pub returns-clause-answers_join : goal.returns-clause-answers_join
+returns-clause-answers_join g c = c.answers_join.ensures.join
+
+pub returns-clause-unwritten_is_missing : goal.returns-clause-unwritten_is_missing
+returns-clause-unwritten_is_missing g c = c.unwritten_is_missing.ensures
+
+pub returns-clause-out_of_memory : goal.returns-clause-out_of_memory
+returns-clause-out_of_memory g c = rw c.status_of.ensures (out_of_memory _ _ _ _ _ _ _ _ _ _ _ c.finish.ensures.ends)

@@ -1,8 +1,9 @@
 //! The top call over objects in memory.
 mod batch;
 mod cloak;
+mod seed;
 
-use crate::run;
+use express_cli::run;
 use express_words::outside::{Counted, Failed, MemoryNet, MemorySink, MemorySource, Source};
 use std::alloc::Global;
 use std::test::Fail;
@@ -18,8 +19,11 @@ struct Case {
 
 const USAGE: &[u8] = b"usage: express replay, serve, client, cloak, carry, batch or mill NUMBER\n";
 
+const HELPER: &[u8] =
+    b"role = \"helper\"\nlisten = \"127.0.0.1:7000\"\nwidth = 16\nboxes = 4\nlanes = 1\nwindow = 1\nconnections = 1\n";
+
 // Outputs of replays are those of an independent program written from the protocol's description.
-const CASES: [Case; 30] = [
+const CASES: [Case; 34] = [
     Case {
         name: "smallest",
         words: &["replay"],
@@ -512,11 +516,39 @@ end\n",
         written: USAGE,
     },
     Case {
-        name: "not built yet",
-        words: &["serve"],
+        name: "no command yet",
+        words: &["keep"],
         input: b"",
         status: 2,
         written: USAGE,
+    },
+    Case {
+        name: "a carrier without settings",
+        words: &["carry"],
+        input: b"",
+        status: 3,
+        written: b"bad settings lane\n",
+    },
+    Case {
+        name: "a server without settings",
+        words: &["serve"],
+        input: b"",
+        status: 3,
+        written: b"bad settings role\n",
+    },
+    Case {
+        name: "a client of a text that isn't TOML",
+        words: &["client"],
+        input: b"lane",
+        status: 3,
+        written: b"bad settings toml\n",
+    },
+    Case {
+        name: "a listen that fails",
+        words: &["serve"],
+        input: HELPER,
+        status: 6,
+        written: b"net fault\n",
     },
     Case {
         name: "mill of nothing",

@@ -1,5 +1,5 @@
 //! A seed of a source that has bytes to spare, of one that ends too early, and of one that fails.
-use super::*;
+use express_cli::{SeedFault, seed_of};
 use express_words::outside::MemorySource;
 use std::test::Fail;
 

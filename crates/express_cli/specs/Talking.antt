@@ -1,0 +1,180 @@
+-- What comes of a command over a net, by the settings that are its input.
+use Rattle.std.specs.Prelude.{◌≡◌, ◌⊎◌, ℕ, true, false, List, ◌++◌, codes, Option, Ok, Err}
+use Rattle.express_words.specs.Causes.{Rose}
+use Rattle.express_words.specs.Calls.{Call, Listened, Adds}
+use Rattle.express_words.specs.declared.outside.Failed.{Failed}
+use Rattle.settings_text.specs.Tables.{judged}
+use Rattle.settings_text.specs.Serve.{serve_of}
+use Rattle.settings_text.specs.Client.{client_of}
+use Rattle.settings_text.specs.Carry.{carry_of}
+use Rattle.settings_text.specs.declared.serve.ServeSettings.{ServeSettings}
+use Rattle.settings_text.specs.declared.client.ClientSettings.{ClientSettings}
+use Rattle.settings_text.specs.declared.carry.CarrySettings.{CarrySettings}
+use Rattle.node_serve.specs.declared.node.Node.{Node}
+use Rattle.node_host.specs.Opening.{IsOpened}
+use Rattle.node_host.specs.Visits.{Visit, Standing, standing}
+use Rattle.node_host.specs.Hosting.{Hosts}
+use Rattle.node_host.specs.Tallies.{tally_text}
+use Rattle.node_host.specs.declared.tally.Tally.{Tally}
+use Rattle.client_run.specs.Runs.{ClientRuns, RunFault}
+use Rattle.client_run.specs.Carries.{CarryRuns}
+use Rattle.client_run.specs.declared.ran.RunEnd.{RunEnd}
+use Rattle.client_run.specs.declared.ran.RunEnd.TheVariants as run
+use Rattle.express_cli.specs.Ends.{bad_settings, net_fault_text, out_of_memory_text}
+use Rattle.express_cli.specs.declared.words.NetCommand.{NetCommand}
+use Rattle.express_cli.specs.declared.words.NetCommand.TheVariants.{Serve, Client, Carry}
+use Rattle.express_cli.specs.declared.ends.End.{End}
+use Rattle.express_cli.specs.declared.ends.End.TheVariants as ends
+
+-- a net at one moment: its calls, if it tells them, and its counts of faults, in all and at its door
+pub record Seen : Type 0 where
+  pub calls : Option (List Call)
+  pub faults : ℕ
+  pub doors : ℕ
+
+-- what is around a run: the seed that it is handed, and its net before and now
+pub record Around : Type 0 where
+  pub seed : List ℕ
+  pub before : Seen
+  pub now : Seen
+
+-- ---- settings
+
+abbrev pub SpellsServe : ServeSettings → List ℕ → Type 0
+SpellsServe settings bytes = judged serve_of bytes ≡ Ok settings
+
+abbrev pub SpellsClient : ClientSettings → List ℕ → Type 0
+SpellsClient settings bytes = judged client_of bytes ≡ Ok settings
+
+abbrev pub SpellsCarry : CarrySettings → List ℕ → Type 0
+SpellsCarry settings bytes = judged carry_of bytes ≡ Ok settings
+
+-- this is the first key of the command's settings that is missing or wrong
+abbrev pub IsBadKey : NetCommand → List ℕ → List ℕ → Type 0
+IsBadKey Serve key bytes = judged serve_of bytes ≡ Err key
+IsBadKey Client key bytes = judged client_of bytes ≡ Err key
+IsBadKey Carry key bytes = judged carry_of bytes ≡ Err key
+
+-- ---- a server
+
+abbrev pub listening : List ℕ
+listening = codes "listening\n"
+
+-- What may come of serving so many connections at the open door, by what a net tells before and now.
+abbrev pub HostMay : ℕ → Node → Seen → Seen → End → List ℕ → Type 0
+HostMay connections node before now ends.Done text =
+    (visits : List Visit) × (end : Standing) × (tally : Tally)
+    × Hosts connections (Ok tally) visits (standing node before.faults) end before.calls now.calls
+    × (now.doors ≡ before.doors) × (text ≡ tally_text tally ++ codes "\n")
+HostMay connections node before now ends.NetFault text =
+    (visits : List Visit) × (end : Standing) × (failed : Failed)
+    × Hosts connections (Err failed) visits (standing node before.faults) end before.calls now.calls
+    × Rose before.doors now.doors × (text ≡ net_fault_text)
+HostMay connections node before now ends.OutOfMemory text = text ≡ out_of_memory_text
+HostMay connections node before now other text = ⊥
+
+-- It told that it listens, and then serving came to this.
+abbrev pub ListeningMay : ℕ → Node → Seen → Seen → End → List ℕ → Type 0
+ListeningMay connections node before now end text =
+    (said : List ℕ) × HostMay connections node before now end said × (text ≡ listening ++ said)
+
+-- A server listened where its settings say, told so, and serving came to this.
+pub record Hosted (settings : ServeSettings) (node : Node) (before now : Seen) (end : End) (text : List ℕ) : Type 0 where
+  pub at_door : Seen
+  pub listens : Adds before.calls at_door.calls (Listened settings.listen false)
+  pub faults : at_door.faults ≡ before.faults
+  pub doors : at_door.doors ≡ before.doors
+  pub served : ListeningMay settings.connections node at_door now end text
+
+-- Its listen failed, and no other call was made.
+pub record ListenFailed (settings : ServeSettings) (before now : Seen) (text : List ℕ) : Type 0 where
+  pub call : Adds before.calls now.calls (Listened settings.listen true)
+  pub doors : Rose before.doors now.doors
+  pub text_is : text ≡ net_fault_text
+
+-- what may come of a server at its door
+abbrev pub DoorMay : ServeSettings → Node → Seen → Seen → End → List ℕ → Type 0
+DoorMay settings node before now ends.Done text = Hosted settings node before now ends.Done text
+DoorMay settings node before now ends.NetFault text =
+    ListenFailed settings before now text ⊎ Hosted settings node before now ends.NetFault text
+DoorMay settings node before now ends.OutOfMemory text = Hosted settings node before now ends.OutOfMemory text
+DoorMay settings node before now other text = ⊥
+
+-- so of the server that is opened from its settings and the seed
+abbrev pub AtDoor : ServeSettings → Around → End → List ℕ → Type 0
+AtDoor settings net end text =
+    (node : Node) × IsOpened settings net.seed node × DoorMay settings node net.before net.now end text
+
+-- what may come of a server of these settings
+abbrev pub ServeMay : ServeSettings → Around → End → List ℕ → Type 0
+ServeMay settings net ends.Done text = AtDoor settings net ends.Done text
+ServeMay settings net ends.NetFault text = AtDoor settings net ends.NetFault text
+ServeMay settings net ends.OutOfMemory text =
+    (text ≡ out_of_memory_text) ⊎ AtDoor settings net ends.OutOfMemory text
+ServeMay settings net other text = ⊥
+
+-- ---- a client
+
+-- A client of these settings ran, and its text is told; the net's count rose only where it ended by a fault of the net.
+abbrev pub ClientRan : ClientSettings → Around → RunEnd → List ℕ → Type 0
+ClientRan settings net end text =
+    ClientRuns settings net.seed net.before.calls net.now.calls text end
+    × RunFault end net.before.faults net.now.faults
+
+-- what may come of a client of these settings
+abbrev pub ClientMay : ClientSettings → Around → End → List ℕ → Type 0
+ClientMay settings net ends.Done text = ClientRan settings net run.Done text
+ClientMay settings net ends.NetFault text = ClientRan settings net run.NetFault text
+ClientMay settings net ends.OutOfMemory text = text ≡ out_of_memory_text
+ClientMay settings net other text = ⊥
+
+-- ---- a carrier
+
+-- likewise of a carrier's settings
+abbrev pub CarryRan : CarrySettings → Around → RunEnd → List ℕ → Type 0
+CarryRan settings net end text =
+    CarryRuns settings net.seed net.before.calls net.now.calls text end
+    × RunFault end net.before.faults net.now.faults
+
+-- what may come of a carrier of these settings
+abbrev pub CarryMay : CarrySettings → Around → End → List ℕ → Type 0
+CarryMay settings net ends.Done text = CarryRan settings net run.Done text
+CarryMay settings net ends.NetFault text = CarryRan settings net run.NetFault text
+CarryMay settings net ends.OutOfMemory text = text ≡ out_of_memory_text
+CarryMay settings net other text = ⊥
+
+-- ---- what may come
+
+-- the command was done, with this text
+abbrev pub IsDone : NetCommand → List ℕ → Around → List ℕ → Type 0
+IsDone Serve bytes net text =
+    (settings : ServeSettings) × SpellsServe settings bytes × ServeMay settings net ends.Done text
+IsDone Client bytes net text =
+    (settings : ClientSettings) × SpellsClient settings bytes × ClientRan settings net run.Done text
+IsDone Carry bytes net text =
+    (settings : CarrySettings) × SpellsCarry settings bytes × CarryRan settings net run.Done text
+
+-- a fault of the net broke it off, with this text
+abbrev pub IsBroken : NetCommand → List ℕ → Around → List ℕ → Type 0
+IsBroken Serve bytes net text =
+    (settings : ServeSettings) × SpellsServe settings bytes × ServeMay settings net ends.NetFault text
+IsBroken Client bytes net text =
+    (settings : ClientSettings) × SpellsClient settings bytes × ClientRan settings net run.NetFault text
+IsBroken Carry bytes net text =
+    (settings : CarrySettings) × SpellsCarry settings bytes × CarryRan settings net run.NetFault text
+
+-- memory was wanting; a server may have told before that it listens
+abbrev pub IsWanting : NetCommand → List ℕ → Around → List ℕ → Type 0
+IsWanting Serve bytes net text = (text ≡ out_of_memory_text)
+    ⊎ ((settings : ServeSettings) × SpellsServe settings bytes × AtDoor settings net ends.OutOfMemory text)
+IsWanting Client bytes net text = text ≡ out_of_memory_text
+IsWanting Carry bytes net text = text ≡ out_of_memory_text
+
+-- what the command's work on these bytes may come to
+abbrev pub TalkMay : NetCommand → List ℕ → Around → End → List ℕ → Type 0
+TalkMay command bytes net ends.Done text = IsDone command bytes net text
+TalkMay command bytes net ends.NetFault text = IsBroken command bytes net text
+TalkMay command bytes net ends.BadKey text =
+    (key : List ℕ) × IsBadKey command key bytes × (text ≡ bad_settings key)
+TalkMay command bytes net ends.OutOfMemory text = IsWanting command bytes net text
+TalkMay command bytes net other text = ⊥

@@ -1,0 +1,39 @@
+//! Works a client's requests off over a net.
+ghost use Rattle.std.specs.Prelude.{◌≡◌, ◌≢◌, ◌≤◌};
+ghost use Rattle.express_cli.specs.Ends.{Writes};
+ghost use Rattle.express_cli.specs.Talking.{TalkMay};
+ghost use Rattle.express_cli.specs.declared.words.NetCommand.TheVariants.{Client};
+
+use crate::End;
+use crate::texts::{OUT_OF_MEMORY, say, say_fault};
+use client_run::{RunEnd, run_client};
+use express_words::outside::{Net, Sink};
+use settings_text::read_client;
+use std::alloc::Global;
+
+/// Works off the requests of the settings that the text spells, and tells what became of them.
+pub fn client<K: Sink, N: Net>(
+    alloc: Global,
+    text: &[u8],
+    seed: &[u8; 32],
+    out: &mut K,
+    net: &mut N,
+) -> End
+    ensures ends { Writes (TalkMay Client text.now
+        (record { seed = seed.now; before = record { calls = N.calls net.old; faults = N.count net.old; doors = N.doors net.old }; now = record { calls = N.calls net.new; faults = N.count net.new; doors = N.doors net.new } }))
+        (K.written out.old) (K.written out.new) (K.count out.old) (K.count out.new) result }
+    ensures told { result ≢ End.WriteFault → K.count out.new ≡ K.count out.old }
+    ensures waits { result ≡ End.BadKey → net.new ≡ net.old }
+{
+    let settings = match read_client(alloc, text) {
+        Ok(settings) => settings,
+        Err(fault) => return say_fault(alloc, out, fault),
+    };
+    let Ok(ran) = run_client(alloc, &settings, seed, net) else {
+        return say(out, OUT_OF_MEMORY, End::OutOfMemory);
+    };
+    match ran.end {
+        RunEnd::Done => say(out, ran.text.as_str(), End::Done),
+        RunEnd::NetFault => say(out, ran.text.as_str(), End::NetFault),
+    }
+}

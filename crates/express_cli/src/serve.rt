@@ -1,0 +1,148 @@
+//! Is one of the two servers.
+ghost use Rattle.std.specs.Prelude.{◌≡◌, ◌≢◌, ◌≤◌, ◌++◌, IfOk, codes, string_bytes};
+ghost use Rattle.express_words.specs.Limits.{KeepsLimits};
+ghost use Rattle.node_host.specs.Opening.{IsOpened};
+ghost use Rattle.node_host.specs.Tallies.{tally_text};
+ghost use Rattle.express_cli.specs.Ends.{Writes};
+ghost use Rattle.express_cli.specs.Talking.{DoorMay, HostMay, ListeningMay, ServeMay, TalkMay};
+ghost use Rattle.express_cli.specs.declared.words.NetCommand.TheVariants.{Serve};
+
+use crate::End;
+use crate::texts::{LISTENING, NET_FAULT, OUT_OF_MEMORY, say, say_fault};
+use express_words::NoMemory;
+use express_words::outside::{Net, Sink};
+use node_host::{Tally, host, open_node};
+use node_serve::Node;
+use settings_text::{HELPER, ServeSettings, read_serve};
+use std::alloc::{AllocError, Global};
+use wire_frames::Gather;
+
+// The server of the settings, and what takes its frames.
+fn opened(
+    alloc: Global,
+    settings: &ServeSettings,
+    seed: &[u8; 32],
+) -> Result<(Node, Gather), NoMemory>
+    requires role { settings.now.role ≤ HELPER }
+    requires limits { KeepsLimits settings.now.settings.width settings.now.settings.boxes settings.now.settings.lanes settings.now.settings.window }
+    ensures opened { IfOk result (λ r. IsOpened settings.now seed.now r.0) }
+{
+    Ok((open_node(alloc, settings, seed)?, Gather::open(alloc)?))
+}
+
+fn tally_line(alloc: Global, tally: Tally) -> Result<String, AllocError>
+    ensures { IfOk result (λ text. string_bytes text ≡ tally_text tally ++ codes "\n") }
+{
+    format!(in alloc; "{tally}\n")
+}
+
+// Serves so many connections at the open door, and tells how many had each answer.
+fn serve_all<K: Sink, N: Net>(
+    alloc: Global,
+    node: &mut Node,
+    gather: &mut Gather,
+    connections: u32,
+    out: &mut K,
+    net: &mut N,
+) -> End
+    ensures ends { Writes (HostMay connections node.old
+        (record { calls = N.calls net.old; faults = N.count net.old; doors = N.doors net.old }) (record { calls = N.calls net.new; faults = N.count net.new; doors = N.doors net.new }))
+        (K.written out.old) (K.written out.new) (K.count out.old) (K.count out.new) result }
+    ensures told { result ≢ End.WriteFault → K.count out.new ≡ K.count out.old }
+    ensures settings { result ≢ End.BadKey }
+{
+    let Ok(tally) = host(node, gather, connections, net) else {
+        return say(out, NET_FAULT, End::NetFault);
+    };
+    match tally_line(alloc, tally) {
+        Ok(line) => say(out, line.as_str(), End::Done),
+        Err(_) => say(out, OUT_OF_MEMORY, End::OutOfMemory),
+    }
+}
+
+// Says that the server listens, and serves.
+fn tell_and_serve<K: Sink, N: Net>(
+    alloc: Global,
+    node: &mut Node,
+    gather: &mut Gather,
+    connections: u32,
+    out: &mut K,
+    net: &mut N,
+) -> End
+    ensures ends { Writes (ListeningMay connections node.old
+        (record { calls = N.calls net.old; faults = N.count net.old; doors = N.doors net.old }) (record { calls = N.calls net.new; faults = N.count net.new; doors = N.doors net.new }))
+        (K.written out.old) (K.written out.new) (K.count out.old) (K.count out.new) result }
+    ensures told { result ≢ End.WriteFault → K.count out.new ≡ K.count out.old }
+    ensures settings { result ≢ End.BadKey }
+{
+    match say(out, LISTENING, End::Done) {
+        End::Done => serve_all(alloc, node, gather, connections, out, net),
+        end => end,
+    }
+}
+
+// Opens the door of the settings, says that the server listens, and serves.
+fn listen_and_serve<K: Sink, N: Net>(
+    alloc: Global,
+    settings: &ServeSettings,
+    node: &mut Node,
+    gather: &mut Gather,
+    out: &mut K,
+    net: &mut N,
+) -> End
+    ensures ends { Writes (DoorMay settings.now node.old
+        (record { calls = N.calls net.old; faults = N.count net.old; doors = N.doors net.old }) (record { calls = N.calls net.new; faults = N.count net.new; doors = N.doors net.new }))
+        (K.written out.old) (K.written out.new) (K.count out.old) (K.count out.new) result }
+    ensures told { result ≢ End.WriteFault → K.count out.new ≡ K.count out.old }
+    ensures settings { result ≢ End.BadKey }
+{
+    match net.listen(settings.listen.as_str()) {
+        Ok(()) => tell_and_serve(alloc, node, gather, settings.connections, out, net),
+        Err(_) => say(out, NET_FAULT, End::NetFault),
+    }
+}
+
+// Opens the server of the settings, and serves.
+fn serve_by<K: Sink, N: Net>(
+    alloc: Global,
+    settings: &ServeSettings,
+    seed: &[u8; 32],
+    out: &mut K,
+    net: &mut N,
+) -> End
+    requires role { settings.now.role ≤ HELPER }
+    requires limits { KeepsLimits settings.now.settings.width settings.now.settings.boxes settings.now.settings.lanes settings.now.settings.window }
+    ensures ends { Writes (ServeMay settings.now
+        (record { seed = seed.now; before = record { calls = N.calls net.old; faults = N.count net.old; doors = N.doors net.old }; now = record { calls = N.calls net.new; faults = N.count net.new; doors = N.doors net.new } }))
+        (K.written out.old) (K.written out.new) (K.count out.old) (K.count out.new) result }
+    ensures told { result ≢ End.WriteFault → K.count out.new ≡ K.count out.old }
+    ensures settings { result ≢ End.BadKey }
+{
+    match opened(alloc, settings, seed) {
+        Ok((mut node, mut gather)) => {
+            listen_and_serve(alloc, settings, &mut node, &mut gather, out, net)
+        }
+        Err(_) => say(out, OUT_OF_MEMORY, End::OutOfMemory),
+    }
+}
+
+/// Is the server that the text's settings describe, until it has served as many connections as they say. Tells that it
+/// listens, and at the end how many connections had each answer.
+pub fn serve<K: Sink, N: Net>(
+    alloc: Global,
+    text: &[u8],
+    seed: &[u8; 32],
+    out: &mut K,
+    net: &mut N,
+) -> End
+    ensures ends { Writes (TalkMay Serve text.now
+        (record { seed = seed.now; before = record { calls = N.calls net.old; faults = N.count net.old; doors = N.doors net.old }; now = record { calls = N.calls net.new; faults = N.count net.new; doors = N.doors net.new } }))
+        (K.written out.old) (K.written out.new) (K.count out.old) (K.count out.new) result }
+    ensures told { result ≢ End.WriteFault → K.count out.new ≡ K.count out.old }
+    ensures waits { result ≡ End.BadKey → net.new ≡ net.old }
+{
+    match read_serve(alloc, text) {
+        Ok(settings) => serve_by(alloc, &settings, seed, out, net),
+        Err(fault) => say_fault(alloc, out, fault),
+    }
+}

@@ -1,0 +1,34 @@
+//! The work of a command over a net.
+ghost use Rattle.std.specs.Prelude.{◌≡◌, ◌≢◌, ◌≤◌};
+ghost use Rattle.express_cli.specs.Ends.{Writes};
+ghost use Rattle.express_cli.specs.Talking.{TalkMay};
+
+use crate::End;
+use crate::carry::carry;
+use crate::client::client;
+use crate::serve::serve;
+use crate::words::NetCommand;
+use express_words::outside::{Net, Sink};
+use std::alloc::Global;
+
+/// Does a command's work over the net, by the settings that the text spells.
+pub fn talk<K: Sink, N: Net>(
+    alloc: Global,
+    command: NetCommand,
+    text: &[u8],
+    seed: &[u8; 32],
+    out: &mut K,
+    net: &mut N,
+) -> End
+    ensures ends { Writes (TalkMay command text.now
+        (record { seed = seed.now; before = record { calls = N.calls net.old; faults = N.count net.old; doors = N.doors net.old }; now = record { calls = N.calls net.new; faults = N.count net.new; doors = N.doors net.new } }))
+        (K.written out.old) (K.written out.new) (K.count out.old) (K.count out.new) result }
+    ensures told { result ≢ End.WriteFault → K.count out.new ≡ K.count out.old }
+    ensures waits { result ≡ End.BadKey → net.new ≡ net.old }
+{
+    match command {
+        NetCommand::Serve => serve(alloc, text, seed, out, net),
+        NetCommand::Client => client(alloc, text, seed, out, net),
+        NetCommand::Carry => carry(alloc, text, seed, out, net),
+    }
+}
