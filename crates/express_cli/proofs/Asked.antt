@@ -4,10 +4,9 @@ use Rattle.std.specs.Fmt.{decimal}
 use Rattle.std.specs.Str.Parse.{ParsesUnsigned}
 use Rattle.std.proofs.lemmas.Fmt.{parse-decimal}
 use Rattle.clap.specs.Words.{Text, fault_of}
-use Rattle.express_cli.specs.CommandLine.{express_app, value_of, Names, NamesMill, NamesNet, IsNamed, IsNumber, IsMill, Asks, AsksMill, AsksNet, AskNothing, IsAsked}
+use Rattle.express_cli.specs.CommandLine.{express_app, value_of, Names, NamesMill, NamesNet, IsNumber, IsMill, Asks, AsksMill, AsksNet, AskNothing}
 use Rattle.express_cli.specs.declared.words.Command.{Command}
 use Rattle.express_cli.specs.declared.words.NetCommand.{NetCommand}
-use Rattle.express_cli.specs.declared.words.Task.{Task}
 
 some_is : (x y : Text) → Some x ≡ Some y → x ≡ y
 some_is x y h = cc

@@ -1,5 +1,5 @@
 -- What a run that went well comes to, where its source tells its bytes.
-use Rattle.std.proofs.Common.{◌≡◌, ℕ, ◌<◌, ◌≤◌, Bool, List, length, Option, Some, None, IfSome, ◌⊎◌, inl, inr, arith, refl, ◌∙◌, ap, subst}
+use Rattle.std.proofs.Common.{◌≡◌, ℕ, ◌<◌, ◌≤◌, Bool, List, length, Option, Some, None, IfSome, inl, inr, arith, refl, ◌∙◌, ap, subst}
 use Rattle.clap.specs.Words.{Text}
 use Rattle.express_words.specs.Streams.{Stream, Took}
 use Rattle.schedule_text.specs.Spelling.{SpellsSchedule}

@@ -1,7 +1,7 @@
 -- What may come of a command over a net, by what its parts may come to.
-use Rattle.std.proofs.Common.{◌≡◌, ◌≢◌, ◌⊎◌, inl, inr, ℕ, List, ◌++◌, Option, Some, None, Result, Ok, Err, false, string_bytes, refl, sym, subst}
-use Rattle.express_words.specs.Calls.{Call, Listened, Adds}
-use Rattle.express_words.specs.Streams.{Took, TookPrefix}
+use Rattle.std.proofs.Common.{◌≡◌, ◌≢◌, ◌⊎◌, inl, inr, ℕ, List, ◌++◌, Option, Err, false, string_bytes, refl, sym, subst}
+use Rattle.express_words.specs.Calls.{Listened, Adds}
+use Rattle.express_words.specs.Streams.{TookPrefix}
 use Rattle.express_texts.specs.declared.fault.TextFault.{TextFault}
 use Rattle.express_texts.specs.declared.fault.TextFault.TheVariants as fault
 use Rattle.settings_text.specs.Carry.{carry_of}
@@ -9,13 +9,11 @@ use Rattle.settings_text.specs.Client.{client_of}
 use Rattle.settings_text.specs.Judging.{Gives}
 use Rattle.settings_text.specs.Serve.{serve_of}
 use Rattle.settings_text.specs.Tables.{judged}
-use Rattle.settings_text.specs.declared.carry.CarrySettings.{CarrySettings}
-use Rattle.settings_text.specs.declared.client.ClientSettings.{ClientSettings}
 use Rattle.settings_text.specs.declared.serve.ServeSettings.{ServeSettings}
 use Rattle.node_serve.specs.declared.node.Node.{Node}
 use Rattle.node_host.specs.Opening.{IsOpened}
 use Rattle.express_cli.specs.Ends.{Writes, Said, BadKeyMay, FaultMay, out_of_memory_text}
-use Rattle.express_cli.specs.Talking.{Around, Seen, AtDoor, DoorMay, HostMay, IsBadKey, ListeningMay, ServeMay, SpellsServe, TalkMay, listening}
+use Rattle.express_cli.specs.Talking.{Around, Seen, AtDoor, DoorMay, IsBadKey, ListeningMay, ServeMay, SpellsServe, TalkMay}
 use Rattle.express_cli.specs.declared.words.NetCommand.{NetCommand}
 use Rattle.express_cli.specs.declared.words.NetCommand.TheVariants.{Serve, Client, Carry}
 use Rattle.express_cli.specs.declared.ends.End.{End}

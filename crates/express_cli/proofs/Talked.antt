@@ -1,5 +1,5 @@
 -- What a command over a net that ran well comes to, where its source tells its bytes.
-use Rattle.std.proofs.Common.{◌≡◌, ℕ, ◌<◌, ◌≤◌, List, length, Option, Some, None, IfSome, ◌⊎◌, inl, inr, Ok, Err, arith, refl, sym, ◌∙◌, ap, subst}
+use Rattle.std.proofs.Common.{◌≡◌, ℕ, ◌≤◌, List, length, Option, Some, None, IfSome, ◌⊎◌, inl, inr, arith, refl, ◌∙◌, ap, subst}
 use Rattle.clap.specs.Words.{Text}
 use Rattle.express_words.specs.Streams.{Stream, Took}
 use Rattle.settings_text.specs.Client.{client_of}
@@ -10,7 +10,7 @@ use Rattle.settings_text.specs.declared.client.ClientSettings.{ClientSettings}
 use Rattle.settings_text.specs.declared.carry.CarrySettings.{CarrySettings}
 use Rattle.settings_text.specs.declared.serve.ServeSettings.{ServeSettings}
 use Rattle.express_cli.specs.CommandLine.{AsksNet}
-use Rattle.express_cli.specs.Reading.{GaveAll, most_bytes}
+use Rattle.express_cli.specs.Reading.{most_bytes}
 use Rattle.express_cli.specs.Ends.{Writes, status_of, bad_settings}
 use Rattle.express_cli.specs.Talking.{Around, CarryMay, ClientMay, IsBadKey, ServeMay, SpellsCarry, SpellsClient, SpellsServe, TalkMay}
 use Rattle.express_cli.specs.Runs.{MayDo, MayTalk, RunMay}

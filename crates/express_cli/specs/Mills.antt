@@ -3,7 +3,7 @@ use Rattle.std.specs.Prelude.{ℕ, Bool, true, false, List, [], ◌∷◌, ◌++
 use Rattle.std.specs.Fmt.{decimal}
 use Rattle.step_rules.specs.Client as client
 use Rattle.schedule_text.specs.Mill.{mill_schedule}
-use Rattle.run_rules.specs.Letters.{Value, Audited, JournalLine, Told, Ended, Outcome, FrameWorld}
+use Rattle.run_rules.specs.Letters.{Value, Audited, JournalLine, Told, Ended, Outcome}
 use Rattle.replay_world.specs.Output.{number_text}
 use Rattle.replay_world.specs.Played.{run_of}
 

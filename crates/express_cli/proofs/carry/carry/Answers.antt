@@ -1,5 +1,4 @@
 use Rattle.std.proofs.Common.{refl, subst, sym, List, ℕ}
-use Rattle.client_run.specs.Runs.{RunFault}
 use Rattle.client_run.specs.declared.ran.RunEnd.{RunEnd}
 use Rattle.client_run.specs.declared.ran.RunEnd.TheVariants as run
 use Rattle.express_cli.specs.Ends.{FaultMay}
