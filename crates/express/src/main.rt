@@ -5,6 +5,7 @@ ghost use Rattle.std.specs.Prelude.{◌≡◌, ◌≢◌, [], ◌∷◌, Contain
 ghost use Rattle.std.specs.IoError.{error_kind};
 
 mod adapter;
+mod file_disk;
 mod tcp_net;
 
 use adapter::Adapter;

@@ -16,7 +16,7 @@ use Rattle.express_cli.specs.Cloaks.{old_view, new_view, cloak_text, IsCloakText
 use Rattle.express_cli.specs.Mills.{mill_text}
 use Rattle.express_cli.specs.Work.{IsOutput, IsBad}
 use Rattle.express_cli.specs.Ends.{Writes, status_of, bad_line, too_long_text}
-use Rattle.express_cli.specs.Talking.{Around}
+use Rattle.express_cli.specs.Around.{Around}
 use Rattle.express_cli.specs.Runs.{MayDo, MayWork, RunMay}
 use Rattle.express_cli.specs.Headline.{RanWell}
 use Rattle.express_cli.specs.declared.words.Command.{Command}

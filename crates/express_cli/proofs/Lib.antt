@@ -5,6 +5,7 @@ pub mod OneReading
 pub mod Asked
 pub mod Exact
 pub mod Talked
+pub mod RanLaws
 pub mod Following
 pub mod Serving
 pub mod BatchText

@@ -10,10 +10,16 @@ use Rattle.settings_text.specs.Judging.{Gives}
 use Rattle.settings_text.specs.Serve.{serve_of}
 use Rattle.settings_text.specs.Tables.{judged}
 use Rattle.settings_text.specs.declared.serve.ServeSettings.{ServeSettings}
+use Rattle.settings_text.specs.declared.client.ClientSettings.{ClientSettings}
+use Rattle.settings_text.specs.declared.carry.CarrySettings.{CarrySettings}
+use Rattle.client_run.specs.declared.ran.RunEnd.{RunEnd}
+use Rattle.client_run.specs.declared.ran.RunEnd.TheVariants as run
 use Rattle.node_serve.specs.declared.node.Node.{Node}
 use Rattle.node_host.specs.Opening.{IsOpened}
 use Rattle.express_cli.specs.Ends.{Writes, Said, BadKeyMay, FaultMay, out_of_memory_text}
-use Rattle.express_cli.specs.Talking.{Around, Seen, AtDoor, DoorMay, IsBadKey, ListeningMay, ServeMay, SpellsServe, TalkMay}
+use Rattle.express_cli.specs.Around.{Around, Seen}
+use Rattle.express_cli.specs.Talking.{AtDoor, CarryRan, ClientRan, DoorMay, IsBadKey, ListeningMay, ServeMay, TalkMay, end_by}
+use Rattle.express_cli.specs.Talking.{SpellsCarry, SpellsClient, SpellsServe}
 use Rattle.express_cli.specs.declared.words.NetCommand.{NetCommand}
 use Rattle.express_cli.specs.declared.words.NetCommand.TheVariants.{Serve, Client, Carry}
 use Rattle.express_cli.specs.declared.ends.End.{End}
@@ -93,6 +99,18 @@ serve_may settings bytes net spells ends.WriteFault text may = absurd may
 serve_may settings bytes net spells ends.NetFault text may = (settings, spells, may)
 serve_may settings bytes net spells ends.OutOfMemory text may = wants_may settings bytes net text spells may
 serve_may settings bytes net spells ends.TooLong text may = absurd may
+
+-- ---- a client and a carrier
+
+pub client_may : (settings : ClientSettings) (bytes : List ℕ) (net : Around) (end : RunEnd) (text : List ℕ)
+    → SpellsClient settings bytes → ClientRan settings net end text → TalkMay Client bytes net (end_by end) text
+client_may settings bytes net run.Done text spells ran = (settings, spells, ran)
+client_may settings bytes net run.NetFault text spells ran = (settings, spells, ran)
+
+pub carry_may : (settings : CarrySettings) (bytes : List ℕ) (net : Around) (end : RunEnd) (text : List ℕ)
+    → SpellsCarry settings bytes → CarryRan settings net end text → TalkMay Carry bytes net (end_by end) text
+carry_may settings bytes net run.Done text spells ran = (settings, spells, ran)
+carry_may settings bytes net run.NetFault text spells ran = (settings, spells, ran)
 
 -- ---- a fault of the settings
 

@@ -12,7 +12,8 @@ use Rattle.settings_text.specs.declared.serve.ServeSettings.{ServeSettings}
 use Rattle.express_cli.specs.CommandLine.{AsksNet}
 use Rattle.express_cli.specs.Reading.{most_bytes}
 use Rattle.express_cli.specs.Ends.{Writes, status_of, bad_settings}
-use Rattle.express_cli.specs.Talking.{Around, CarryMay, ClientMay, IsBadKey, ServeMay, SpellsCarry, SpellsClient, SpellsServe, TalkMay}
+use Rattle.express_cli.specs.Around.{Around}
+use Rattle.express_cli.specs.Talking.{CarryMay, ClientMay, IsBadKey, ServeMay, SpellsCarry, SpellsClient, SpellsServe, TalkMay}
 use Rattle.express_cli.specs.Runs.{MayDo, MayTalk, RunMay}
 use Rattle.express_cli.specs.Headline.{RanWell, Told}
 use Rattle.express_cli.specs.declared.words.NetCommand.{NetCommand}

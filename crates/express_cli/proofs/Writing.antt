@@ -6,7 +6,8 @@ use Rattle.express_cli.specs.CommandLine.{Asks, AsksMill, AsksNet, AskSome, IsAs
 use Rattle.express_cli.specs.Reading.{GaveAll}
 use Rattle.express_cli.specs.Work.{IsBad}
 use Rattle.express_cli.specs.Ends.{Writes, Said, BadLineMay, WorkMay, MillMay, bad_line}
-use Rattle.express_cli.specs.Talking.{Around, TalkMay}
+use Rattle.express_cli.specs.Around.{Around}
+use Rattle.express_cli.specs.Talking.{TalkMay}
 use Rattle.express_cli.specs.Runs.{RunMay, UnreadMay}
 use Rattle.express_cli.specs.declared.words.Command.{Command}
 use Rattle.express_cli.specs.declared.words.NetCommand.{NetCommand}

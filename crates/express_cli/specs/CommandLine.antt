@@ -16,7 +16,14 @@ abbrev pub number_rule : Rule
 number_rule = new_rule (codes "NUMBER")
 
 abbrev pub plain_app : App
-plain_app = record { top = record (new_app (codes "express")).top { no_binary_name = true; disable_help_flag = true; disable_version_flag = true }; subs = [] }
+plain_app = record {
+  top = record (new_app (codes "express")).top {
+    no_binary_name = true;
+    disable_help_flag = true;
+    disable_version_flag = true;
+  };
+  subs = [];
+}
 
 abbrev pub express_app : App
 express_app = with_rule (with_rule plain_app command_rule) number_rule

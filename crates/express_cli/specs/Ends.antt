@@ -9,7 +9,8 @@ use Rattle.express_cli.specs.Work.{IsOutput, IsBad}
 use Rattle.express_cli.specs.Mills.{mill_text}
 use Rattle.express_cli.specs.declared.words.Command.{Command}
 use Rattle.express_cli.specs.declared.ends.End.{End}
-use Rattle.express_cli.specs.declared.ends.End.TheVariants.{Done, Usage, BadLine, BadKey, ReadFault, WriteFault, NetFault, OutOfMemory, TooLong}
+use Rattle.express_cli.specs.declared.ends.End.TheVariants.{Done, Usage, BadLine, BadKey, ReadFault}
+use Rattle.express_cli.specs.declared.ends.End.TheVariants.{WriteFault, NetFault, OutOfMemory, TooLong}
 
 -- the status that the program ends with
 abbrev pub status_of : End → ℕ
@@ -44,14 +45,16 @@ out_of_memory_text = codes "out of memory\n"
 abbrev pub too_long_text : List ℕ
 too_long_text = codes "input too long\n"
 
--- Of the ends with their texts that may come, one came and its text was written; or the sink failed after a part of such a text.
+-- Of the ends with their texts that may come, one came and its text was written; or the sink failed after a
+-- part of such a text.
 abbrev pub Writes : (End → List ℕ → Type 0) → Option (List ℕ) → Option (List ℕ) → ℕ → ℕ → End → Type 0
 Writes May old new before now Done = (text : List ℕ) × May Done text × Took old new text
 Writes May old new before now Usage = (text : List ℕ) × May Usage text × Took old new text
 Writes May old new before now (BadLine n) = (text : List ℕ) × May (BadLine n) text × Took old new text
 Writes May old new before now BadKey = (text : List ℕ) × May BadKey text × Took old new text
 Writes May old new before now ReadFault = (text : List ℕ) × May ReadFault text × Took old new text
-Writes May old new before now WriteFault = Rose before now × ((end : End) × (text : List ℕ) × May end text × TookPrefix old new text)
+Writes May old new before now WriteFault =
+    Rose before now × ((end : End) × (text : List ℕ) × May end text × TookPrefix old new text)
 Writes May old new before now NetFault = (text : List ℕ) × May NetFault text × Took old new text
 Writes May old new before now OutOfMemory = (text : List ℕ) × May OutOfMemory text × Took old new text
 Writes May old new before now TooLong = (text : List ℕ) × May TooLong text × Took old new text

@@ -6,6 +6,9 @@ pub mod Cloaks
 pub mod Mills
 pub mod Work
 pub mod Ends
+pub mod Around
 pub mod Talking
 pub mod Runs
 pub mod Headline
+pub mod Ran
+pub mod Laws

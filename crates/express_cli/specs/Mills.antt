@@ -48,7 +48,8 @@ outcomes_text n outcomes =
 -- two lines: how many lines the journal has, and their fold
 unfoldable pub journal_text : List JournalLine → List ℕ
 journal_text journal =
-    codes "journal " ++ (decimal (length journal) ++ (codes "\nfold " ++ (number_text (fold_of journal) ++ codes "\n")))
+    codes "journal " ++ (decimal (length journal)
+    ++ (codes "\nfold " ++ (number_text (fold_of journal) ++ codes "\n")))
 
 -- seven lines
 unfoldable pub mill_lines : ℕ → List Outcome → List JournalLine → List ℕ

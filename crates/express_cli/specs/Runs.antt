@@ -7,17 +7,20 @@ use Rattle.express_cli.specs.CommandLine.{Asks, AsksMill, AsksNet, AskSome, AskN
 use Rattle.express_cli.specs.Reading.{GaveAll, GaveSome, most_bytes}
 use Rattle.express_cli.specs.Mills.{mill_text}
 use Rattle.express_cli.specs.Ends.{WorkMay, usage_text, read_fault_text, out_of_memory_text, too_long_text}
-use Rattle.express_cli.specs.Talking.{Around, TalkMay}
+use Rattle.express_cli.specs.Around.{Around}
+use Rattle.express_cli.specs.Talking.{TalkMay}
 use Rattle.express_cli.specs.declared.words.Command.{Command}
 use Rattle.express_cli.specs.declared.words.NetCommand.{NetCommand}
 use Rattle.express_cli.specs.declared.ends.End.{End}
-use Rattle.express_cli.specs.declared.ends.End.TheVariants.{Done, Usage, BadLine, BadKey, ReadFault, WriteFault, NetFault, OutOfMemory, TooLong}
+use Rattle.express_cli.specs.declared.ends.End.TheVariants.{Done, Usage, BadLine, BadKey, ReadFault}
+use Rattle.express_cli.specs.declared.ends.End.TheVariants.{WriteFault, NetFault, OutOfMemory, TooLong}
 
 -- the input wasn't read to its end, or memory was wanting
 abbrev pub UnreadMay : Option Stream → Option Stream → ℕ → ℕ → End → List ℕ → Type 0
 UnreadMay from to before now ReadFault text =
     Rose before now × GaveSome from to (λ n. n ≤ most_bytes) × (text ≡ read_fault_text)
-UnreadMay from to before now TooLong text = GaveSome from to (λ n. n ≡ most_bytes + 1) × (text ≡ too_long_text)
+UnreadMay from to before now TooLong text =
+    GaveSome from to (λ n. n ≡ most_bytes + 1) × (text ≡ too_long_text)
 UnreadMay from to before now OutOfMemory text = text ≡ out_of_memory_text
 UnreadMay from to before now other text = ⊥
 

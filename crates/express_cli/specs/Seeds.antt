@@ -14,9 +14,13 @@ seed_bytes = 32
 -- Why a source gave no seed: it failed once, and this is its count now; or it ended, without a fault, after
 -- this many bytes, which are too few.
 abbrev pub GaveNoSeed : Option Stream → Option Stream → ℕ → ℕ → SeedFault → Type 0
-GaveNoSeed old new before now (Failed count) = (now ≡ next before) × (count ≡ now) × GaveSome old new (λ n. n < seed_bytes)
-GaveNoSeed old new before now (Early length) = (length < seed_bytes) × (now ≡ before) × IsAtEnd new × GaveSome old new (λ n. n ≡ length)
+GaveNoSeed old new before now (Failed count) =
+    (now ≡ next before) × (count ≡ now) × GaveSome old new (λ n. n < seed_bytes)
+GaveNoSeed old new before now (Early length) =
+    (length < seed_bytes) × (now ≡ before) × IsAtEnd new × GaveSome old new (λ n. n ≡ length)
 
 abbrev pub seed_fault_text : SeedFault → List ℕ
-seed_fault_text (Failed count) = codes "the source of random bytes failed (faults: " ++ (decimal count ++ codes ")")
-seed_fault_text (Early length) = codes "the source of random bytes ended after " ++ (decimal length ++ codes " bytes")
+seed_fault_text (Failed count) =
+    codes "the source of random bytes failed (faults: " ++ (decimal count ++ codes ")")
+seed_fault_text (Early length) =
+    codes "the source of random bytes ended after " ++ (decimal length ++ codes " bytes")

@@ -1,7 +1,7 @@
 -- What comes of a command over a net, by the settings that are its input.
-use Rattle.std.specs.Prelude.{◌≡◌, ◌⊎◌, ℕ, true, false, List, ◌++◌, codes, Option, Ok, Err}
+use Rattle.std.specs.Prelude.{◌≡◌, ◌⊎◌, ℕ, true, false, List, ◌++◌, codes, Ok, Err}
 use Rattle.express_words.specs.Causes.{Rose}
-use Rattle.express_words.specs.Calls.{Call, Listened, Adds}
+use Rattle.express_words.specs.Calls.{Listened, Adds}
 use Rattle.express_words.specs.declared.outside.Failed.{Failed}
 use Rattle.settings_text.specs.Tables.{judged}
 use Rattle.settings_text.specs.Serve.{serve_of}
@@ -20,23 +20,12 @@ use Rattle.client_run.specs.Runs.{ClientRuns, RunFault}
 use Rattle.client_run.specs.Carries.{CarryRuns}
 use Rattle.client_run.specs.declared.ran.RunEnd.{RunEnd}
 use Rattle.client_run.specs.declared.ran.RunEnd.TheVariants as run
+use Rattle.express_cli.specs.Around.{Around, Seen}
 use Rattle.express_cli.specs.Ends.{bad_settings, net_fault_text, out_of_memory_text}
 use Rattle.express_cli.specs.declared.words.NetCommand.{NetCommand}
 use Rattle.express_cli.specs.declared.words.NetCommand.TheVariants.{Serve, Client, Carry}
 use Rattle.express_cli.specs.declared.ends.End.{End}
 use Rattle.express_cli.specs.declared.ends.End.TheVariants as ends
-
--- a net at one moment: its calls, if it tells them, and its counts of faults, in all and at its door
-pub record Seen : Type 0 where
-  pub calls : Option (List Call)
-  pub faults : ℕ
-  pub doors : ℕ
-
--- what is around a run: the seed that it is handed, and its net before and now
-pub record Around : Type 0 where
-  pub seed : List ℕ
-  pub before : Seen
-  pub now : Seen
 
 -- ---- settings
 
@@ -79,7 +68,8 @@ ListeningMay connections node before now end text =
     (said : List ℕ) × HostMay connections node before now end said × (text ≡ listening ++ said)
 
 -- A server listened where its settings say, told so, and serving came to this.
-pub record Hosted (settings : ServeSettings) (node : Node) (before now : Seen) (end : End) (text : List ℕ) : Type 0 where
+pub record Hosted (settings : ServeSettings) (node : Node) (before now : Seen) (end : End)
+    (text : List ℕ) : Type 0 where
   pub at_door : Seen
   pub listens : Adds before.calls at_door.calls (Listened settings.listen false)
   pub faults : at_door.faults ≡ before.faults
@@ -115,7 +105,13 @@ ServeMay settings net other text = ⊥
 
 -- ---- a client
 
--- A client of these settings ran, and its text is told; the net's count rose only where it ended by a fault of the net.
+-- how the program ends after such a run
+abbrev pub end_by : RunEnd → End
+end_by run.Done = ends.Done
+end_by run.NetFault = ends.NetFault
+
+-- A client of these settings ran, and its text is told; the net's count rose only where it ended by a fault
+-- of the net.
 abbrev pub ClientRan : ClientSettings → Around → RunEnd → List ℕ → Type 0
 ClientRan settings net end text =
     ClientRuns settings net.seed net.before.calls net.now.calls text end

@@ -1,12 +1,14 @@
 //! Carries a file over several boxes.
 ghost use Rattle.std.specs.Prelude.{◌≡◌, ◌≢◌, ◌≤◌};
+ghost use Rattle.express_cli.specs.Around.{around, seen};
 ghost use Rattle.express_cli.specs.Ends.{Writes};
 ghost use Rattle.express_cli.specs.Talking.{TalkMay};
 ghost use Rattle.express_cli.specs.declared.words.NetCommand.TheVariants.{Carry};
 
 use crate::End;
+use crate::ran::say_ran;
 use crate::texts::{OUT_OF_MEMORY, say, say_fault};
-use client_run::{RunEnd, run_carry};
+use client_run::run_carry;
 use express_words::outside::{Net, Sink};
 use settings_text::read_carry;
 use std::alloc::Global;
@@ -21,7 +23,7 @@ pub fn carry<K: Sink, N: Net>(
     net: &mut N,
 ) -> End
     ensures ends { Writes (TalkMay Carry text.now
-        (record { seed = seed.now; before = record { calls = N.calls net.old; faults = N.count net.old; doors = N.doors net.old }; now = record { calls = N.calls net.new; faults = N.count net.new; doors = N.doors net.new } }))
+        (around seed.now (seen (N.calls net.old) (N.count net.old) (N.doors net.old)) (seen (N.calls net.new) (N.count net.new) (N.doors net.new))))
         (K.written out.old) (K.written out.new) (K.count out.old) (K.count out.new) result }
     ensures told { result ≢ End.WriteFault → K.count out.new ≡ K.count out.old }
     ensures waits { result ≡ End.BadKey → net.new ≡ net.old }
@@ -33,8 +35,5 @@ pub fn carry<K: Sink, N: Net>(
     let Ok(ran) = run_carry(alloc, &settings, seed, net) else {
         return say(out, OUT_OF_MEMORY, End::OutOfMemory);
     };
-    match ran.end {
-        RunEnd::Done => say(out, ran.text.as_str(), End::Done),
-        RunEnd::NetFault => say(out, ran.text.as_str(), End::NetFault),
-    }
+    say_ran(out, &ran)
 }

@@ -1,12 +1,14 @@
 //! Works a client's requests off over a net.
 ghost use Rattle.std.specs.Prelude.{◌≡◌, ◌≢◌, ◌≤◌};
+ghost use Rattle.express_cli.specs.Around.{around, seen};
 ghost use Rattle.express_cli.specs.Ends.{Writes};
 ghost use Rattle.express_cli.specs.Talking.{TalkMay};
 ghost use Rattle.express_cli.specs.declared.words.NetCommand.TheVariants.{Client};
 
 use crate::End;
+use crate::ran::say_ran;
 use crate::texts::{OUT_OF_MEMORY, say, say_fault};
-use client_run::{RunEnd, run_client};
+use client_run::run_client;
 use express_words::outside::{Net, Sink};
 use settings_text::read_client;
 use std::alloc::Global;
@@ -20,7 +22,7 @@ pub fn client<K: Sink, N: Net>(
     net: &mut N,
 ) -> End
     ensures ends { Writes (TalkMay Client text.now
-        (record { seed = seed.now; before = record { calls = N.calls net.old; faults = N.count net.old; doors = N.doors net.old }; now = record { calls = N.calls net.new; faults = N.count net.new; doors = N.doors net.new } }))
+        (around seed.now (seen (N.calls net.old) (N.count net.old) (N.doors net.old)) (seen (N.calls net.new) (N.count net.new) (N.doors net.new))))
         (K.written out.old) (K.written out.new) (K.count out.old) (K.count out.new) result }
     ensures told { result ≢ End.WriteFault → K.count out.new ≡ K.count out.old }
     ensures waits { result ≡ End.BadKey → net.new ≡ net.old }
@@ -32,8 +34,5 @@ pub fn client<K: Sink, N: Net>(
     let Ok(ran) = run_client(alloc, &settings, seed, net) else {
         return say(out, OUT_OF_MEMORY, End::OutOfMemory);
     };
-    match ran.end {
-        RunEnd::Done => say(out, ran.text.as_str(), End::Done),
-        RunEnd::NetFault => say(out, ran.text.as_str(), End::NetFault),
-    }
+    say_ran(out, &ran)
 }

@@ -3,6 +3,7 @@ ghost use Rattle.std.specs.Prelude.{◌≡◌, ◌≢◌, ◌≤◌, ◌++◌, I
 ghost use Rattle.express_words.specs.Limits.{KeepsLimits};
 ghost use Rattle.node_host.specs.Opening.{IsOpened};
 ghost use Rattle.node_host.specs.Tallies.{tally_text};
+ghost use Rattle.express_cli.specs.Around.{around, seen};
 ghost use Rattle.express_cli.specs.Ends.{Writes};
 ghost use Rattle.express_cli.specs.Talking.{DoorMay, HostMay, ListeningMay, ServeMay, TalkMay};
 ghost use Rattle.express_cli.specs.declared.words.NetCommand.TheVariants.{Serve};
@@ -30,7 +31,8 @@ fn opened(
     Ok((open_node(alloc, settings, seed)?, Gather::open(alloc)?))
 }
 
-fn tally_line(alloc: Global, tally: Tally) -> Result<String, AllocError>
+/// The line that tells how many connections had each answer.
+pub fn tally_line(alloc: Global, tally: Tally) -> Result<String, AllocError>
     ensures { IfOk result (λ text. string_bytes text ≡ tally_text tally ++ codes "\n") }
 {
     format!(in alloc; "{tally}\n")
@@ -46,7 +48,7 @@ fn serve_all<K: Sink, N: Net>(
     net: &mut N,
 ) -> End
     ensures ends { Writes (HostMay connections node.old
-        (record { calls = N.calls net.old; faults = N.count net.old; doors = N.doors net.old }) (record { calls = N.calls net.new; faults = N.count net.new; doors = N.doors net.new }))
+        (seen (N.calls net.old) (N.count net.old) (N.doors net.old)) (seen (N.calls net.new) (N.count net.new) (N.doors net.new)))
         (K.written out.old) (K.written out.new) (K.count out.old) (K.count out.new) result }
     ensures told { result ≢ End.WriteFault → K.count out.new ≡ K.count out.old }
     ensures settings { result ≢ End.BadKey }
@@ -70,7 +72,7 @@ fn tell_and_serve<K: Sink, N: Net>(
     net: &mut N,
 ) -> End
     ensures ends { Writes (ListeningMay connections node.old
-        (record { calls = N.calls net.old; faults = N.count net.old; doors = N.doors net.old }) (record { calls = N.calls net.new; faults = N.count net.new; doors = N.doors net.new }))
+        (seen (N.calls net.old) (N.count net.old) (N.doors net.old)) (seen (N.calls net.new) (N.count net.new) (N.doors net.new)))
         (K.written out.old) (K.written out.new) (K.count out.old) (K.count out.new) result }
     ensures told { result ≢ End.WriteFault → K.count out.new ≡ K.count out.old }
     ensures settings { result ≢ End.BadKey }
@@ -91,7 +93,7 @@ fn listen_and_serve<K: Sink, N: Net>(
     net: &mut N,
 ) -> End
     ensures ends { Writes (DoorMay settings.now node.old
-        (record { calls = N.calls net.old; faults = N.count net.old; doors = N.doors net.old }) (record { calls = N.calls net.new; faults = N.count net.new; doors = N.doors net.new }))
+        (seen (N.calls net.old) (N.count net.old) (N.doors net.old)) (seen (N.calls net.new) (N.count net.new) (N.doors net.new)))
         (K.written out.old) (K.written out.new) (K.count out.old) (K.count out.new) result }
     ensures told { result ≢ End.WriteFault → K.count out.new ≡ K.count out.old }
     ensures settings { result ≢ End.BadKey }
@@ -113,7 +115,7 @@ fn serve_by<K: Sink, N: Net>(
     requires role { settings.now.role ≤ HELPER }
     requires limits { KeepsLimits settings.now.settings.width settings.now.settings.boxes settings.now.settings.lanes settings.now.settings.window }
     ensures ends { Writes (ServeMay settings.now
-        (record { seed = seed.now; before = record { calls = N.calls net.old; faults = N.count net.old; doors = N.doors net.old }; now = record { calls = N.calls net.new; faults = N.count net.new; doors = N.doors net.new } }))
+        (around seed.now (seen (N.calls net.old) (N.count net.old) (N.doors net.old)) (seen (N.calls net.new) (N.count net.new) (N.doors net.new))))
         (K.written out.old) (K.written out.new) (K.count out.old) (K.count out.new) result }
     ensures told { result ≢ End.WriteFault → K.count out.new ≡ K.count out.old }
     ensures settings { result ≢ End.BadKey }
@@ -136,7 +138,7 @@ pub fn serve<K: Sink, N: Net>(
     net: &mut N,
 ) -> End
     ensures ends { Writes (TalkMay Serve text.now
-        (record { seed = seed.now; before = record { calls = N.calls net.old; faults = N.count net.old; doors = N.doors net.old }; now = record { calls = N.calls net.new; faults = N.count net.new; doors = N.doors net.new } }))
+        (around seed.now (seen (N.calls net.old) (N.count net.old) (N.doors net.old)) (seen (N.calls net.new) (N.count net.new) (N.doors net.new))))
         (K.written out.old) (K.written out.new) (K.count out.old) (K.count out.new) result }
     ensures told { result ≢ End.WriteFault → K.count out.new ≡ K.count out.old }
     ensures waits { result ≡ End.BadKey → net.new ≡ net.old }

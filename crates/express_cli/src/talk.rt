@@ -1,5 +1,6 @@
 //! The work of a command over a net.
 ghost use Rattle.std.specs.Prelude.{◌≡◌, ◌≢◌, ◌≤◌};
+ghost use Rattle.express_cli.specs.Around.{around, seen};
 ghost use Rattle.express_cli.specs.Ends.{Writes};
 ghost use Rattle.express_cli.specs.Talking.{TalkMay};
 
@@ -21,7 +22,7 @@ pub fn talk<K: Sink, N: Net>(
     net: &mut N,
 ) -> End
     ensures ends { Writes (TalkMay command text.now
-        (record { seed = seed.now; before = record { calls = N.calls net.old; faults = N.count net.old; doors = N.doors net.old }; now = record { calls = N.calls net.new; faults = N.count net.new; doors = N.doors net.new } }))
+        (around seed.now (seen (N.calls net.old) (N.count net.old) (N.doors net.old)) (seen (N.calls net.new) (N.count net.new) (N.doors net.new))))
         (K.written out.old) (K.written out.new) (K.count out.old) (K.count out.new) result }
     ensures told { result ≢ End.WriteFault → K.count out.new ≡ K.count out.old }
     ensures waits { result ≡ End.BadKey → net.new ≡ net.old }

@@ -5,3 +5,4 @@ pub mod StandLaws
 pub mod LeadLaws
 pub mod HeldLaws
 pub mod DownLaws
+pub mod CompleteLaws

@@ -1,5 +1,6 @@
 -- A leader's exchanges with its helper, each with the oldest outstanding command.
-use Rattle.std.specs.Prelude.{◌≡◌, ◌≢◌, ℕ, List, [], ◌∷◌, ◌++◌, sum_by, Option, Some, None, option_map, Result, Ok, Err}
+use Rattle.std.specs.Prelude.{◌≡◌, ◌≢◌, ℕ, List, [], ◌∷◌, ◌++◌, sum_by}
+use Rattle.std.specs.Prelude.{Option, Some, None, option_map, Result, Ok, Err}
 use Rattle.express_words.specs.Causes.{Rose}
 use Rattle.express_words.specs.Calls.{Call}
 use Rattle.frame_rules.specs.Frames as frame

@@ -1,5 +1,6 @@
 -- One exchange with a peer, and the calls that it makes on a net.
-use Rattle.std.specs.Prelude.{◌≡◌, ℕ, Bool, true, false, List, [], ◌∷◌, ◌++◌, length, take, Option, Some, None, Result, Ok, Err}
+use Rattle.std.specs.Prelude.{◌≡◌, ℕ, Bool, true, false, List, [], ◌∷◌, ◌++◌, length, take}
+use Rattle.std.specs.Prelude.{Option, Some, None, Result, Ok, Err}
 use Rattle.express_words.specs.Causes.{Rose}
 use Rattle.express_words.specs.Streams.{Stream, IsAtEnd}
 use Rattle.express_words.specs.Calls.{Call, Dialled, Closed, AddsClose}

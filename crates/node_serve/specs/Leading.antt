@@ -1,5 +1,6 @@
 -- What a leader does with the bytes that one connection brings, by what its helper answers.
-use Rattle.std.specs.Prelude.{◌≡◌, ◌⊎◌, ℕ, Bool, true, false, List, [], ◌++◌, Option, Some, None, Result, Ok, Err}
+use Rattle.std.specs.Prelude.{◌≡◌, ◌⊎◌, ℕ, Bool, true, false, List, [], ◌++◌}
+use Rattle.std.specs.Prelude.{Option, Some, None, Result, Ok, Err}
 use Rattle.express_words.specs.declared.refusal.Refusal.{Refusal}
 use Rattle.express_words.specs.declared.refusal.Refusal.TheVariants as refusal
 use Rattle.frame_rules.specs.Frames as frame

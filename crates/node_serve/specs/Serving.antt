@@ -54,3 +54,13 @@ Serves (node.Lead a peer) bytes new before now count why reply =
     (b : Leader) × (new ≡ node.Lead b peer)
     × ((made : List Exchange) × ExchangesOn (string_bytes peer) made before now
     × Leads (taken_in (whole bytes)) a bytes b made count why reply)
+
+-- no call failed: the count of faults didn't rise
+abbrev pub NoneFailed : (before now : ℕ) → Type 0
+NoneFailed before now = Rose before now → ⊥
+
+-- what is said of a frame where no call failed: it was answered, or a leader's helper gave what is no reply
+-- that fits
+abbrev pub IsComplete : Node → Served → Type 0
+IsComplete (node.Help h) why = why ≡ served.Answered
+IsComplete (node.Lead a peer) why = (why ≡ served.Answered) ⊎ (why ≡ served.LinkBad)

@@ -9,7 +9,7 @@ ghost use Rattle.node_serve.specs.Draining.{ExchangesOn, FaultIn};
 ghost use Rattle.node_serve.specs.Exchanging.{Exchange};
 ghost use Rattle.node_serve.specs.Helping.{helper_step};
 ghost use Rattle.node_serve.specs.Leading.{taken_in, IsSent, Leads};
-ghost use Rattle.node_serve.specs.Serving.{Brings, IsCut, IsHelper, Serves, Writes};
+ghost use Rattle.node_serve.specs.Serving.{Brings, IsComplete, IsCut, IsHelper, NoneFailed, Serves, Writes};
 ghost use Rattle.node_serve.specs.Taking.{EndsBy};
 
 use crate::helping::step_helper;
@@ -96,12 +96,14 @@ fn serve_leader<C: Conn, N: Net>(
 }
 
 /// The server takes its step at bytes that are a frame, or known to be none.
+#[tactic(auto, using(crate::proofs::CompleteLaws::completed))]
 fn answer<C: Conn, N: Net>(node: &mut Node, frame: &[u8], conn: &mut C, net: &mut N) -> Served
     ensures serves { (reply : List ℕ) × Serves node.old frame.now node.new (N.calls net.old) (N.calls net.new) (N.count net.new) result reply × Writes result (C.written conn.old) (C.written conn.new) (C.count conn.old) (C.count conn.new) reply }
     ensures fault { FaultIn result (N.count net.old) (N.count net.new) }
     ensures door { N.doors net.new ≡ N.doors net.old }
     ensures content { C.content conn.new ≡ C.content conn.old }
     ensures helper_rests { IsHelper node.old → net.new ≡ net.old }
+    ensures completes { NoneFailed (C.count conn.old) (C.count conn.new) → NoneFailed (N.count net.old) (N.count net.new) → IsComplete node.old result }
 {
     match node {
         Node::Lead(leader, peer) => serve_leader(leader, peer.as_str(), frame, conn, net),
@@ -127,6 +129,9 @@ pub fn serve_one<C: Conn, N: Net>(
     // Else the server takes its step, and its reply is written.
     ensures serves { decoded gather.new ≢ Err Short → (reply : List ℕ) × Serves node.old gather.new node.new (N.calls net.old) (N.calls net.new) (N.count net.new) result reply × Writes result (C.written conn.old) (C.written conn.new) (C.count conn.old) (C.count conn.new) reply }
     ensures helper_rests { IsHelper node.old → net.new ≡ net.old }
+    // Where no call of the connection or the net failed, its frame is answered, unless a helper answered its leader
+    // with what is no reply that fits.
+    ensures completes { decoded gather.new ≢ Err Short → NoneFailed (C.count conn.old) (C.count conn.new) → NoneFailed (N.count net.old) (N.count net.new) → IsComplete node.old result }
     // The net's count rose exactly where its fault is told.
     ensures fault { FaultIn result (N.count net.old) (N.count net.new) }
     ensures door { N.doors net.new ≡ N.doors net.old }

@@ -1,36 +1,30 @@
-use Rattle.std.proofs.Common.{refl, subst, sym, List, ℕ}
-use Rattle.client_run.specs.declared.ran.RunEnd.{RunEnd}
-use Rattle.client_run.specs.declared.ran.RunEnd.TheVariants as run
+use Rattle.std.proofs.Common.{refl}
+use Rattle.express_cli.specs.Around.{Around, around, seen}
 use Rattle.express_cli.specs.Ends.{FaultMay}
-use Rattle.express_cli.specs.Talking.{Around, TalkMay, ClientRan}
+use Rattle.express_cli.specs.Talking.{TalkMay, end_by}
 use Rattle.express_cli.specs.declared.words.NetCommand.TheVariants.{Client}
-use Rattle.express_cli.specs.declared.ends.End.TheVariants.{Done, NetFault, OutOfMemory}
+use Rattle.express_cli.specs.declared.ends.End.TheVariants.{OutOfMemory}
 use Rattle.express_cli.proofs.Writing.{more_may, said}
-use Rattle.express_cli.proofs.Serving.{client_fault}
+use Rattle.express_cli.proofs.Serving.{client_fault, client_may}
 use Rattle.express_cli.proofs.client.client.Goals as goal
 
 pub returns-in-Err-clause-ends : goal.returns-in-Err-clause-ends
 returns-in-Err-clause-ends g c =
-    let net : Around = record { seed = c.args.seed.now; before = record { calls = g.N.Net.calls c.args.net.now; faults = g.N.Counted.count c.args.net.now; doors = g.N.Net.doors c.args.net.now }; now = record { calls = g.N.Net.calls c.args.net.now; faults = g.N.Counted.count c.args.net.now; doors = g.N.Net.doors c.args.net.now } } in
+    let at = seen (g.N.Net.calls c.args.net.now) (g.N.Counted.count c.args.net.now) (g.N.Net.doors c.args.net.now) in
+    let net : Around = around c.args.seed.now at at in
     more_may (FaultMay c.in-Err.fault) (TalkMay Client c.args.text.now net) _ _ _ _ _ (client_fault c.args.text.now net c.in-Err.fault c.in-Err.ensures.judges) c.say_fault.ensures.says
 
 pub returns-in_default-clause-ends : goal.returns-in_default-clause-ends
 returns-in_default-clause-ends g c =
-    let net : Around = record { seed = c.args.seed.now; before = record { calls = g.N.Net.calls c.args.net.now; faults = g.N.Counted.count c.args.net.now; doors = g.N.Net.doors c.args.net.now }; now = record { calls = g.N.Net.calls c.run_client.new.net; faults = g.N.Counted.count c.run_client.new.net; doors = g.N.Net.doors c.run_client.new.net } } in
+    let before = seen (g.N.Net.calls c.args.net.now) (g.N.Counted.count c.args.net.now) (g.N.Net.doors c.args.net.now) in
+    let now = seen (g.N.Net.calls c.run_client.new.net) (g.N.Counted.count c.run_client.new.net) (g.N.Net.doors c.run_client.new.net) in
+    let net : Around = around c.args.seed.now before now in
     said (TalkMay Client c.args.text.now net) _ _ _ _ OutOfMemory _ _ refl c.say.ensures.says
-
-pub returns-in-Done-clause-ends : goal.returns-in-Done-clause-ends
-returns-in-Done-clause-ends g c =
-    let net : Around = record { seed = c.args.seed.now; before = record { calls = g.N.Net.calls c.args.net.now; faults = g.N.Counted.count c.args.net.now; doors = g.N.Net.doors c.args.net.now }; now = record { calls = g.N.Net.calls c.run_client.new.net; faults = g.N.Counted.count c.run_client.new.net; doors = g.N.Net.doors c.run_client.new.net } } in
-    let Ran : RunEnd → Type 0 = λ end. ClientRan c.in-Ok.settings net end c.in-Ok-run_client.ran.text in
-    let Told : List ℕ → Type 0 = λ text. ClientRan c.in-Ok.settings net run.Done text in
-    said (TalkMay Client c.args.text.now net) _ _ _ _ Done _ _
-    (c.in-Ok.settings, c.in-Ok.ensures.judges, subst Told (sym c.as_str.ensures) (subst Ran c.in-Done.is (c.in-Ok-run_client.ensures.runs, c.in-Ok-run_client.ensures.fault))) c.say-in-Done.ensures.says
 
 pub returns-clause-ends : goal.returns-clause-ends
 returns-clause-ends g c =
-    let net : Around = record { seed = c.args.seed.now; before = record { calls = g.N.Net.calls c.args.net.now; faults = g.N.Counted.count c.args.net.now; doors = g.N.Net.doors c.args.net.now }; now = record { calls = g.N.Net.calls c.run_client.new.net; faults = g.N.Counted.count c.run_client.new.net; doors = g.N.Net.doors c.run_client.new.net } } in
-    let Ran : RunEnd → Type 0 = λ end. ClientRan c.in-Ok.settings net end c.in-Ok-run_client.ran.text in
-    let Told : List ℕ → Type 0 = λ text. ClientRan c.in-Ok.settings net run.NetFault text in
-    said (TalkMay Client c.args.text.now net) _ _ _ _ NetFault _ _
-    (c.in-Ok.settings, c.in-Ok.ensures.judges, subst Told (sym c.as_str-in-NetFault.ensures) (subst Ran c.in-NetFault.is (c.in-Ok-run_client.ensures.runs, c.in-Ok-run_client.ensures.fault))) c.say-in-NetFault.ensures.says
+    let before = seen (g.N.Net.calls c.args.net.now) (g.N.Counted.count c.args.net.now) (g.N.Net.doors c.args.net.now) in
+    let now = seen (g.N.Net.calls c.run_client.new.net) (g.N.Counted.count c.run_client.new.net) (g.N.Net.doors c.run_client.new.net) in
+    let net : Around = around c.args.seed.now before now in
+    said (TalkMay Client c.args.text.now net) _ _ _ _ (end_by c.in-Ok-run_client.ran.end) _ _
+    (client_may c.in-Ok.settings c.args.text.now net c.in-Ok-run_client.ran.end _ c.in-Ok.ensures.judges (c.in-Ok-run_client.ensures.runs, c.in-Ok-run_client.ensures.fault)) c.say_ran.ensures.says

@@ -1,6 +1,7 @@
 use Rattle.std.proofs.Common.{refl, inl, subst, List, ℕ, true, false}
 use Rattle.express_words.specs.Calls.{Adds, Listened}
-use Rattle.express_cli.specs.Talking.{DoorMay, ListeningMay, Seen}
+use Rattle.express_cli.specs.Around.{Seen}
+use Rattle.express_cli.specs.Talking.{DoorMay, ListeningMay}
 use Rattle.express_cli.specs.declared.ends.End.TheVariants.{NetFault}
 use Rattle.express_cli.proofs.Writing.{more_may, said}
 use Rattle.express_cli.proofs.Serving.{door_may}

@@ -1,5 +1,6 @@
 use Rattle.express_cli.specs.Ends.{FaultMay}
-use Rattle.express_cli.specs.Talking.{Around, ServeMay, TalkMay}
+use Rattle.express_cli.specs.Around.{Around}
+use Rattle.express_cli.specs.Talking.{ServeMay, TalkMay}
 use Rattle.express_cli.specs.declared.words.NetCommand.TheVariants.{Serve}
 use Rattle.express_cli.proofs.Writing.{more_may}
 use Rattle.express_cli.proofs.Serving.{serve_fault, serve_may}

@@ -1,5 +1,6 @@
 use Rattle.std.proofs.Common.{refl, ◌∙◌}
-use Rattle.express_cli.specs.Talking.{HostMay, Seen}
+use Rattle.express_cli.specs.Around.{Seen}
+use Rattle.express_cli.specs.Talking.{HostMay}
 use Rattle.express_cli.specs.declared.ends.End.TheVariants.{Done, NetFault, OutOfMemory}
 use Rattle.express_cli.proofs.Writing.{said}
 use Rattle.express_cli.proofs.serve.serve_all.Goals as goal

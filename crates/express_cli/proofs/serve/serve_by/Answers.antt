@@ -1,5 +1,6 @@
 use Rattle.std.proofs.Common.{refl, inl}
-use Rattle.express_cli.specs.Talking.{Around, DoorMay, ServeMay}
+use Rattle.express_cli.specs.Around.{Around}
+use Rattle.express_cli.specs.Talking.{DoorMay, ServeMay}
 use Rattle.express_cli.specs.declared.ends.End.TheVariants.{OutOfMemory}
 use Rattle.express_cli.proofs.Writing.{more_may, said}
 use Rattle.express_cli.proofs.Serving.{opened_may}

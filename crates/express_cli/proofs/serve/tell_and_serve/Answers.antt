@@ -1,6 +1,7 @@
 use Rattle.std.proofs.Common.{refl, ◌∙◌}
 use Rattle.express_cli.specs.Ends.{out_of_memory_text}
-use Rattle.express_cli.specs.Talking.{HostMay, ListeningMay, Seen, listening}
+use Rattle.express_cli.specs.Around.{Seen}
+use Rattle.express_cli.specs.Talking.{HostMay, ListeningMay, listening}
 use Rattle.express_cli.proofs.Causes.{took_as}
 use Rattle.express_cli.proofs.Following.{follows}
 use Rattle.express_cli.proofs.Serving.{done_is_no_fault, first_failed, told_is_no_key}

@@ -1,0 +1,34 @@
+use Rattle.express_cli.proofs.promises.laws.Goals as goal
+
+pub returns-clause : goal.returns-clause
+returns-clause g c = record {
+  follows_protocol = c.schedules_hold.ensures.follows;
+  outcomes_are_plain = c.schedules_hold.ensures.outcomes;
+  journal_is_plain = c.schedules_hold.ensures.journal;
+  journal_in_order = c.schedules_hold.ensures.order;
+  shares_are_folds = c.schedules_hold.ensures.shares;
+  boxes_are_plain = c.schedules_hold.ensures.boxes;
+  requests_are_told = c.requests_are_told.ensures.told;
+  lanes_stay_apart = c.schedules_fit.ensures.fit;
+  foreign_lanes = c.schedules_fit.ensures.lanes;
+  all_follow_protocol = c.strangers_hold.ensures.follows;
+  all_outcomes_are_plain = c.strangers_hold.ensures.outcomes;
+  all_lines_are_told = c.strangers_hold.ensures.journal;
+  all_clients_in_order = c.strangers_hold.ensures.order;
+  all_shares_are_folds = c.strangers_hold.ensures.shares;
+  all_boxes_are_plain = c.strangers_hold.ensures.boxes;
+  all_requests_are_told = c.requests_are_told.ensures.others;
+  finishes_answer = c.requests_are_told.ensures.finished;
+  accepted_writes_pass = c.accepted_writes_pass.ensures.passes;
+  bad_writes_are_caught = c.accepted_writes_pass.ensures.caught;
+  answers_join = c.answers_join.ensures.join;
+  unwritten_is_missing = c.unwritten_is_missing.ensures;
+  sorts_are_one = c.sorts_are_one.ensures;
+  few_values_pass = c.few_values_pass.ensures;
+  choices_stay = c.views_stay.ensures.choices_stay;
+  views_stay = c.views_stay.ensures.views_stay;
+  moves_return = c.views_stay.ensures.moves_return;
+  distinct_stay = c.views_stay.ensures.distinct_stay;
+  writes_are_choices = c.writes_are_choices.ensures.choice;
+  writes_are_seen = c.writes_are_choices.ensures.seen;
+}

@@ -1,0 +1,59 @@
+-- The laws that stand on the top call whatever its words are: what holds of every schedule, batch, game and
+-- file.
+use Rattle.run_rules.specs.Follows.{Follows}
+use Rattle.run_rules.specs.Plain.{BoxesArePlain, JournalInOrder, JournalIsPlain, JournalIsTold}
+use Rattle.run_rules.specs.Plain.{OutcomesArePlain, SharesAreFolds}
+use Rattle.run_rules.specs.Soundness.{AcceptedPass, BadWritesAreCaught}
+use Rattle.replay_world.specs.Laws.{OfSchedules, RequestsAreTold}
+use Rattle.replay_world.specs.Strangers.{FinishesAnswer, OfEverySchedule, OthersAreTold, SchedulesFit}
+use Rattle.replay_world.specs.Strangers.{StrangersAreForeign}
+use Rattle.file_table.specs.Laws.{AnswersJoin, UnwrittenIsMissing}
+use Rattle.batch_audit.specs.Batch.{FewValuesPass}
+use Rattle.batch_audit.specs.Sorting.{SortsAreOne}
+use Rattle.write_hiding.specs.Laws.{ChoicesStay, ViewsStay, MovesReturn, DistinctStay}
+use Rattle.write_hiding.specs.Laws.{WritesAreChoices, WritesAreSeen}
+
+pub record Laws : Type 0 where
+  -- Whatever frames of a schedule of clients are lost, repeated or reordered: its run is the protocol's
+  -- machine with content; each outcome is what the plain table of mailboxes gives at its request's place in
+  -- the journal, so a message that an owner decodes is the one that stands in the table there.
+  pub follows_protocol : OfSchedules Follows
+  pub outcomes_are_plain : OfSchedules OutcomesArePlain
+  pub journal_is_plain : OfSchedules JournalIsPlain
+  pub journal_in_order : OfSchedules JournalInOrder
+  pub shares_are_folds : OfSchedules SharesAreFolds
+  pub boxes_are_plain : OfSchedules BoxesArePlain
+  -- Each client's requests are told in the order in which it was asked.
+  pub requests_are_told : RequestsAreTold
+  -- With whatever bytes from outside the same holds of the clients, whose lanes no such bytes name: the plain
+  -- table has the accepted writes of foreign lanes as what both servers add to each box, and a foreign
+  -- command's line has the plain table's result, or the helper's refusal of a command that did nothing.
+  pub lanes_stay_apart : SchedulesFit
+  pub foreign_lanes : StrangersAreForeign
+  pub all_follow_protocol : OfEverySchedule Follows
+  pub all_outcomes_are_plain : OfEverySchedule OutcomesArePlain
+  pub all_lines_are_told : OfEverySchedule JournalIsTold
+  pub all_clients_in_order : OfEverySchedule JournalInOrder
+  pub all_shares_are_folds : OfEverySchedule SharesAreFolds
+  pub all_boxes_are_plain : OfEverySchedule BoxesArePlain
+  pub all_requests_are_told : OthersAreTold
+  -- At the end each request that a client was asked before a `finish` of it has its outcome.
+  pub finishes_answer : FinishesAnswer
+  -- Each accepted write's proof passes at its point; a foreign one that changes two boxes has a bad
+  -- challenge, or its proof passes at five points at most.
+  pub accepted_writes_pass : OfEverySchedule AcceptedPass
+  pub bad_writes_are_caught : OfEverySchedule BadWritesAreCaught
+  -- Where the parts of a file are written to boxes that are live and clear, and read with nothing else done
+  -- there, the answers join to the file; of one that wasn't written its part is named.
+  pub answers_join : AnswersJoin
+  pub unwritten_is_missing : UnwrittenIsMissing
+  -- Pairs and seed determine what a sort rejects; a range with a bad pair passes at few random values.
+  pub sorts_are_one : SortsAreOne
+  pub few_values_pass : FewValuesPass
+  -- One server's view of a write to a registered address fits each other such write, choice for choice.
+  pub choices_stay : ChoicesStay
+  pub views_stay : ViewsStay
+  pub moves_return : MovesReturn
+  pub distinct_stay : DistinctStay
+  pub writes_are_choices : WritesAreChoices
+  pub writes_are_seen : WritesAreSeen

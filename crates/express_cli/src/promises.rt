@@ -1,0 +1,26 @@
+//! The laws of the layers below, brought together.
+ghost use Rattle.express_cli.specs.Laws.{Laws};
+
+use batch_audit::{few_values_pass, sorts_are_one};
+use file_table::{answers_join, unwritten_is_missing};
+use replay_world::{
+    accepted_writes_pass, requests_are_told, schedules_fit, schedules_hold, strangers_hold,
+};
+use write_hiding::{views_stay, writes_are_choices};
+
+/// What holds of every schedule, batch, game and file: the laws that stand on the top call. It does nothing.
+pub fn laws()
+    ensures { Laws }
+{
+    schedules_hold();
+    requests_are_told();
+    schedules_fit();
+    strangers_hold();
+    accepted_writes_pass();
+    answers_join();
+    unwritten_is_missing();
+    sorts_are_one();
+    few_values_pass();
+    views_stay();
+    writes_are_choices();
+}

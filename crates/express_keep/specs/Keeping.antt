@@ -1,0 +1,141 @@
+-- What one run of `keep` comes to.
+use Rattle.std.specs.Prelude.{◌≡◌, ◌≢◌, ◌⊎◌, ℕ, List, [], ◌∷◌, Contains}
+use Rattle.express_words.specs.Causes.{Rose}
+use Rattle.settings_text.specs.declared.serve.ServeSettings.{ServeSettings}
+use Rattle.node_restart.specs.declared.fault.KeepFault.{KeepFault}
+use Rattle.node_restart.specs.Kept.{KeptState}
+use Rattle.node_keep.specs.Opening.{IsCreated, IsReopened, IsOfOpening, IsCauseOf, LeavesDisk}
+use Rattle.node_keep.specs.Opening.{opening_of, key_text}
+use Rattle.node_keep.specs.declared.fault.OpenFault.{OpenFault}
+use Rattle.node_keep.specs.declared.fault.OpenFault.TheVariants as open
+use Rattle.node_keep.specs.declared.key.SettingsKey.{SettingsKey}
+use Rattle.express_cli.specs.Around.{Around, Outside}
+use Rattle.express_cli.specs.Reading.{GaveAll}
+use Rattle.express_cli.specs.Ends.{BadKeyMay, bad_settings}
+use Rattle.express_cli.specs.Talking.{SpellsServe, IsBadKey}
+use Rattle.express_cli.specs.Runs.{UnreadMay}
+use Rattle.express_cli.specs.declared.words.NetCommand.TheVariants.{Serve}
+use Rattle.express_cli.specs.declared.ends.End.{End}
+use Rattle.express_cli.specs.declared.ends.End.TheVariants.{BadKey, ReadFault, WriteFault}
+use Rattle.express_keep.specs.declared.ending.Ending.{Ending}
+use Rattle.express_keep.specs.declared.ending.Ending.TheVariants.{Plain}
+use Rattle.express_keep.specs.Endings.{status_of, DiskCounts}
+use Rattle.express_keep.specs.Telling.{FaultMay, Says, Tells, WantsMemory}
+use Rattle.express_keep.specs.Door.{DoorMay}
+
+-- a journal uses so many bytes of its disk at most
+abbrev pub limit : ℕ
+limit = 1073741824
+
+-- A new server on a disk with no byte, or the one of the journal that stands there, was opened, and came to
+-- this at its door; its disk is handed back.
+pub record Opened {D : Type 0} (reads may_leave : D → List ℕ → Type 0) (moment : D → ℕ)
+    (left_since : D → ℕ → List ℕ → Type 0) (settings : ServeSettings) (net : Around) (disk after : D)
+    (end : Ending) (text : List ℕ) : Type 0 where
+  pub old : KeptState D
+  pub new : KeptState D
+  pub opened : IsCreated reads may_leave limit (opening_of settings net.seed) disk old
+      ⊎ IsReopened reads may_leave limit (opening_of settings net.seed) disk old
+  pub served : DoorMay reads may_leave moment left_since settings old new net.before net.now end text
+  pub handed_back : after ≡ new.disk
+
+-- what is said of a server that isn't opened
+abbrev pub OpenFaultMay : OpenFault → Ending → List ℕ → Type 0
+OpenFaultMay (open.Keep fault) end text = FaultMay fault end text
+OpenFaultMay (open.Differs key) end text =
+    Says (Plain BadKey) (bad_settings (key_text key)) end text ⊎ WantsMemory end text
+
+-- The server wasn't opened; no call was made on the net.
+pub record Unopened {D : Type 0} (reads may_leave : D → List ℕ → Type 0) (settings : ServeSettings)
+    (net : Around) (disk after : D) (end : Ending) (text : List ℕ) : Type 0 where
+  pub fault : OpenFault
+  pub kind : IsOfOpening fault
+  pub cause : IsCauseOf fault limit (opening_of settings net.seed) (reads disk)
+  pub leaves : LeavesDisk fault reads may_leave disk after
+  pub quiet : net.now ≡ net.before
+  pub says : OpenFaultMay fault end text
+
+-- Memory was wanting before the disk was asked.
+pub record Wanting {D : Type 0} (net : Around) (disk after : D) (end : Ending) (text : List ℕ) : Type 0 where
+  pub stays : after ≡ disk
+  pub quiet : net.now ≡ net.before
+  pub says : WantsMemory end text
+
+-- what may come of a server of these settings
+abbrev pub SettingsMay : {D : Type 0} → (reads may_leave : D → List ℕ → Type 0) → (moment : D → ℕ)
+    → (left_since : D → ℕ → List ℕ → Type 0) → ServeSettings → Around → (disk after : D) → Ending → List ℕ
+    → Type 0
+SettingsMay reads may_leave moment left_since settings net disk after end text =
+    Opened reads may_leave moment left_since settings net disk after end text
+    ⊎ (Unopened reads may_leave settings net disk after end text ⊎ Wanting net disk after end text)
+
+-- The text spells no settings, of which the first bad key is named, unless memory is wanting. The disk wasn't
+-- asked.
+pub record Misspelt {D : Type 0} (bytes : List ℕ) (net : Around) (disk after : D) (end : Ending)
+    (text : List ℕ) : Type 0 where
+  pub key : List ℕ
+  pub bad : IsBadKey Serve key bytes
+  pub stays : after ≡ disk
+  pub quiet : net.now ≡ net.before
+  pub says : Says (Plain BadKey) (bad_settings key) end text
+
+-- The settings that the text spells are those of the server.
+abbrev pub Spelt : {D : Type 0} → (reads may_leave : D → List ℕ → Type 0) → (moment : D → ℕ)
+    → (left_since : D → ℕ → List ℕ → Type 0) → List ℕ → Around → (disk after : D) → Ending → List ℕ → Type 0
+Spelt reads may_leave moment left_since bytes net disk after end text =
+    (settings : ServeSettings) × SpellsServe settings bytes
+    × SettingsMay reads may_leave moment left_since settings net disk after end text
+
+-- what may come of a text
+abbrev pub TextMay : {D : Type 0} → (reads may_leave : D → List ℕ → Type 0) → (moment : D → ℕ)
+    → (left_since : D → ℕ → List ℕ → Type 0) → List ℕ → Around → (disk after : D) → Ending → List ℕ → Type 0
+TextMay reads may_leave moment left_since bytes net disk after end text =
+    Spelt reads may_leave moment left_since bytes net disk after end text
+    ⊎ (Misspelt bytes net disk after end text ⊎ Wanting net disk after end text)
+
+-- The input wasn't read to its end, or memory was wanting for it. Neither disk nor net was asked.
+pub record Unread {D : Type 0} (old new : Outside) (net : Around) (disk after : D) (end : Ending)
+    (text : List ℕ) : Type 0 where
+  pub plain : End
+  pub ending_is : end ≡ Plain plain
+  pub unread : UnreadMay old.content new.content old.input_faults new.input_faults plain text
+  pub stays : after ≡ disk
+  pub quiet : net.now ≡ net.before
+
+-- The input gave all its bytes, and they came to this.
+abbrev pub Read : {D : Type 0} → (reads may_leave : D → List ℕ → Type 0) → (moment : D → ℕ)
+    → (left_since : D → ℕ → List ℕ → Type 0) → (old new : Outside) → Around → (disk after : D) → Ending
+    → List ℕ → Type 0
+Read reads may_leave moment left_since old new net disk after end text =
+    (bytes : List ℕ) × GaveAll old.content new.content bytes
+    × TextMay reads may_leave moment left_since bytes net disk after end text
+
+-- what may come of a run of `keep`
+abbrev pub KeepMay : {D : Type 0} → (reads may_leave : D → List ℕ → Type 0) → (moment : D → ℕ)
+    → (left_since : D → ℕ → List ℕ → Type 0) → (old new : Outside) → Around → (disk after : D) → Ending
+    → List ℕ → Type 0
+KeepMay reads may_leave moment left_since old new net disk after end text =
+    Read reads may_leave moment left_since old new net disk after end text
+    ⊎ Unread old new net disk after end text
+
+-- the input failed only where that is told, or where the sink failed and hides it
+abbrev pub InputCounts : Ending → Outside → Outside → Type 0
+InputCounts end old new =
+    end ≢ Plain ReadFault → end ≢ Plain WriteFault → new.input_faults ≡ old.input_faults
+
+abbrev pub OutputCounts : Ending → Outside → Outside → Type 0
+OutputCounts end old new = end ≢ Plain WriteFault → new.output_faults ≡ old.output_faults
+
+-- What one run of `keep` promises, by its status; disk_before and disk_now are the disk's counts of faults.
+pub record KeepRan {D : Type 0} (reads may_leave : D → List ℕ → Type 0) (moment : D → ℕ)
+    (left_since : D → ℕ → List ℕ → Type 0) (old new : Outside) (net : Around) (disk after : D)
+    (disk_before disk_now status : ℕ) : Type 0 where
+  pub ending : Ending
+  pub status_is : status ≡ status_of ending
+  -- What came of it was written, or a front of that where the sink failed.
+  pub came : Tells (KeepMay reads may_leave moment left_since old new net disk after) old.written new.written
+      old.output_faults new.output_faults ending
+  -- No fault is passed over.
+  pub disk_counts : DiskCounts ending disk_before disk_now
+  pub input_counts : InputCounts ending old new
+  pub output_counts : OutputCounts ending old new

@@ -1,0 +1,108 @@
+//! A server with a journal at its door.
+ghost use Rattle.std.specs.Prelude.{◌≡◌, ◌≢◌, ◌≤◌, false};
+ghost use Rattle.express_cli.specs.Around.{seen};
+ghost use Rattle.express_keep.specs.Endings.{DiskCounts};
+ghost use Rattle.express_keep.specs.Telling.{Tells};
+ghost use Rattle.express_keep.specs.Door.{DoorMay, ListeningMay, ServedMay, TallyMay};
+
+use crate::ending::Ending;
+use crate::telling::{tell, tell_fault};
+use express_cli::{End, LISTENING, NET_FAULT, OUT_OF_MEMORY, tally_line};
+use express_words::outside::{Net, Sink};
+use node_host::Tally;
+use node_journal::Disk;
+use node_keep::{Halt, host_kept};
+use node_restart::Kept;
+use settings_text::ServeSettings;
+use std::alloc::Global;
+use wire_frames::Gather;
+
+/// A server with a journal, and what takes its frames.
+#[derive(Drop)]
+pub(crate) struct Server<D: Disk> {
+    pub kept: Kept<D>,
+    pub gather: Gather,
+}
+
+// Tells how many connections had each answer.
+fn tell_tally<K: Sink>(alloc: Global, out: &mut K, tally: Tally) -> Ending
+    ensures tells { Tells (TallyMay tally) (K.written out.old) (K.written out.new) (K.count out.old) (K.count out.new) result }
+    ensures told { result ≢ Ending.Plain End.WriteFault → K.count out.new ≡ K.count out.old }
+{
+    match tally_line(alloc, tally) {
+        Ok(line) => tell(out, line.as_str(), Ending::Plain(End::Done)),
+        Err(_) => tell(out, OUT_OF_MEMORY, Ending::Plain(End::OutOfMemory)),
+    }
+}
+
+// Serves the connections of the settings at the open door, and tells what came of it.
+fn serve_all<K: Sink, N: Net, D: Disk>(
+    alloc: Global,
+    settings: &ServeSettings,
+    server: &mut Server<D>,
+    out: &mut K,
+    net: &mut N,
+) -> Ending
+    requires unclosed { server.old.kept.journal.closed ≡ false }
+    ensures tells { Tells (ServedMay D.reads D.may_leave D.moment D.left_since settings.now server.old.kept server.new.kept
+        (seen (N.calls net.old) (N.count net.old) (N.doors net.old)) (seen (N.calls net.new) (N.count net.new) (N.doors net.new)))
+        (K.written out.old) (K.written out.new) (K.count out.old) (K.count out.new) result }
+    ensures told { result ≢ Ending.Plain End.WriteFault → K.count out.new ≡ K.count out.old }
+    ensures disk { DiskCounts result (D.Counted.count server.old.kept.disk) (D.Counted.count server.new.kept.disk) }
+{
+    match host_kept(
+        &mut server.kept,
+        settings.peer.as_str(),
+        &mut server.gather,
+        settings.connections,
+        net,
+    ) {
+        Ok(tally) => tell_tally(alloc, out, tally),
+        Err(stop) => match stop.halt {
+            Halt::Door => tell(out, NET_FAULT, Ending::Plain(End::NetFault)),
+            Halt::Keep(fault) => tell_fault(alloc, out, fault),
+        },
+    }
+}
+
+// Says that the server listens, and serves.
+fn tell_and_serve<K: Sink, N: Net, D: Disk>(
+    alloc: Global,
+    settings: &ServeSettings,
+    server: &mut Server<D>,
+    out: &mut K,
+    net: &mut N,
+) -> Ending
+    requires unclosed { server.old.kept.journal.closed ≡ false }
+    ensures tells { Tells (ListeningMay D.reads D.may_leave D.moment D.left_since settings.now server.old.kept server.new.kept
+        (seen (N.calls net.old) (N.count net.old) (N.doors net.old)) (seen (N.calls net.new) (N.count net.new) (N.doors net.new)))
+        (K.written out.old) (K.written out.new) (K.count out.old) (K.count out.new) result }
+    ensures told { result ≢ Ending.Plain End.WriteFault → K.count out.new ≡ K.count out.old }
+    ensures disk { DiskCounts result (D.Counted.count server.old.kept.disk) (D.Counted.count server.new.kept.disk) }
+{
+    match out.put(LISTENING.as_bytes()) {
+        Ok(()) => serve_all(alloc, settings, server, out, net),
+        Err(_) => Ending::Plain(End::WriteFault),
+    }
+}
+
+/// Opens the door of the settings, says that the server listens, and serves as many connections as they say.
+pub(crate) fn listen_and_serve<K: Sink, N: Net, D: Disk>(
+    alloc: Global,
+    settings: &ServeSettings,
+    server: &mut Server<D>,
+    out: &mut K,
+    net: &mut N,
+) -> Ending
+    requires unclosed { server.old.kept.journal.closed ≡ false }
+    ensures tells { Tells (DoorMay D.reads D.may_leave D.moment D.left_since settings.now server.old.kept server.new.kept
+        (seen (N.calls net.old) (N.count net.old) (N.doors net.old)) (seen (N.calls net.new) (N.count net.new) (N.doors net.new)))
+        (K.written out.old) (K.written out.new) (K.count out.old) (K.count out.new) result }
+    ensures told { result ≢ Ending.Plain End.WriteFault → K.count out.new ≡ K.count out.old }
+    ensures disk { DiskCounts result (D.Counted.count server.old.kept.disk) (D.Counted.count server.new.kept.disk) }
+{
+    match net.listen(settings.listen.as_str()) {
+        Ok(()) => tell_and_serve(alloc, settings, server, out, net),
+        Err(_) => tell(out, NET_FAULT, Ending::Plain(End::NetFault)),
+    }
+}

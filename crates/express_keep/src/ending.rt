@@ -1,0 +1,52 @@
+//! How a server with a journal ends.
+ghost use Rattle.std.specs.Prelude.{◌≡◌};
+ghost use Rattle.express_keep.specs.Endings.{IsToldOf, ending_by, status_of};
+
+use express_cli::End;
+use node_journal::JournalFault;
+use node_restart::KeepFault;
+
+/// How a server with a journal ends.
+#[derive(Clone, Copy, Debug, PartialEq, Eq)]
+pub enum Ending {
+    /// As a server without a journal ends.
+    Plain(End),
+    /// A call on the disk failed.
+    DiskFault,
+    /// The journal has no room for the next frame.
+    JournalFull,
+    /// The journal's record at this offset, in bytes, is damaged.
+    JournalDamaged(u64),
+    /// The journal's record of this number, counted from 0, isn't one that a server writes.
+    JournalForeign(u64),
+}
+
+impl Ending {
+    /// The status that the program ends with.
+    pub fn status(self) -> u8
+        ensures { result ≡ status_of self }
+    {
+        match self {
+            Ending::Plain(end) => express_cli::status_of(end),
+            Ending::DiskFault => 10,
+            Ending::JournalFull => 11,
+            Ending::JournalDamaged(_) => 12,
+            Ending::JournalForeign(_) => 13,
+        }
+    }
+}
+
+/// How the program ends by a fault of a server that is opened, or that stops at its first fault.
+pub(crate) fn ending_by(fault: KeepFault) -> Ending
+    requires { IsToldOf fault }
+    ensures { result ≡ ending_by fault }
+{
+    match fault {
+        KeepFault::NoMemory => Ending::Plain(End::OutOfMemory),
+        KeepFault::Foreign(number) => Ending::JournalForeign(number),
+        KeepFault::Journal(JournalFault::Full(_)) => Ending::JournalFull,
+        KeepFault::Journal(JournalFault::Damaged(at)) => Ending::JournalDamaged(at),
+        // A closed journal, and a disk that isn't empty, end no run.
+        KeepFault::Journal(_) => Ending::DiskFault,
+    }
+}

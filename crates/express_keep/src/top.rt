@@ -1,0 +1,59 @@
+//! The top call with a journal.
+ghost use Rattle.std.specs.Prelude.{◌≡◌, ◌≢◌, ◌≤◌, [], ◌∷◌, Contains, map, string_bytes};
+ghost use Rattle.express_words.specs.Causes.{Rose};
+ghost use Rattle.express_cli.specs.Around.{around, outside, seen};
+ghost use Rattle.express_cli.specs.CommandLine.{AskTalk};
+ghost use Rattle.express_cli.specs.Laws.{Laws};
+ghost use Rattle.express_cli.specs.Ran.{Ran};
+ghost use Rattle.express_keep.specs.Keeping.{KeepRan};
+ghost use Rattle.express_keep.specs.Words.{AsksKeep};
+
+use crate::asking::asks_keep;
+use crate::keeping::keep;
+use express_cli::{laws, run};
+use express_words::outside::{Net, Sink, Source};
+use node_journal::Disk;
+use std::alloc::Global;
+
+/// Does what the words ask for, as `run` does, and answers the status of the program and the disk. For the one word
+/// `keep` it is `serve` with a journal on the disk: each frame is on the disk before its step, no answer goes out
+/// before that, and a server that was stopped at any moment goes on where its journal ends.
+///
+/// With `keep` the status may also be 10 where the disk failed, 11 where the journal, of at most 2^30 bytes, has no
+/// room for a frame, 12 where its record at some offset is damaged and 13 where a record isn't one that a server
+/// writes; each ends the run.
+pub fn run_kept<S: Source, K: Sink, N: Net, D: Disk>(
+    alloc: Global,
+    words: &Vec<String>,
+    seed: &[u8; 32],
+    input: &mut S,
+    out: &mut K,
+    net: &mut N,
+    disk: D,
+) -> (u8, D)
+    // For all other words it is `run`, and no call is made on the disk.
+    ensures ran { (AsksKeep (map string_bytes words.now.items) → ⊥) → Ran (map string_bytes words.now.items)
+        (outside (S.content input.old) (S.count input.old) (K.written out.old) (K.count out.old))
+        (outside (S.content input.new) (S.count input.new) (K.written out.new) (K.count out.new))
+        (around seed.now (seen (N.calls net.old) (N.count net.old) (N.doors net.old)) (seen (N.calls net.new) (N.count net.new) (N.doors net.new))) result.0 }
+    ensures disk_rests { (AsksKeep (map string_bytes words.now.items) → ⊥) → result.1 ≡ disk }
+    ensures net_rests { (AsksKeep (map string_bytes words.now.items) → ⊥) → (AskTalk (map string_bytes words.now.items) → ⊥) → net.new ≡ net.old }
+    ensures net_waits { (AsksKeep (map string_bytes words.now.items) → ⊥) → Contains (2 ∷ 3 ∷ 4 ∷ 8 ∷ []) result.0 → net.new ≡ net.old }
+    ensures laws { Laws }
+    ensures kept { AsksKeep (map string_bytes words.now.items) → KeepRan D.reads D.may_leave D.moment D.left_since
+        (outside (S.content input.old) (S.count input.old) (K.written out.old) (K.count out.old))
+        (outside (S.content input.new) (S.count input.new) (K.written out.new) (K.count out.new))
+        (around seed.now (seen (N.calls net.old) (N.count net.old) (N.doors net.old)) (seen (N.calls net.new) (N.count net.new) (N.doors net.new)))
+        disk result.1 (D.Counted.count disk) (D.Counted.count result.1) result.0 }
+    // The disk failed only where its count rose.
+    ensures disk_fault { result.0 ≡ 10 → Rose (D.Counted.count disk) (D.Counted.count result.1) }
+    ensures statuses { Contains (0 ∷ 2 ∷ 3 ∷ 4 ∷ 5 ∷ 6 ∷ 7 ∷ 8 ∷ 10 ∷ 11 ∷ 12 ∷ 13 ∷ []) result.0 }
+{
+    laws();
+    if asks_keep(words) {
+        let (ending, disk) = keep(alloc, seed, input, out, net, disk);
+        (ending.status(), disk)
+    } else {
+        (run(alloc, words, seed, input, out, net), disk)
+    }
+}
