@@ -17,7 +17,7 @@ pub struct Tally {
 
 impl Tally {
     /// No connection yet.
-    pub(crate) fn new() -> Self
+    pub fn new() -> Self
         ensures { result ≡ record { answered = 0; ended = 0; connection_faults = 0; link_faults = 0; bad_links = 0 } }
     {
         Tally {
@@ -41,7 +41,7 @@ impl Tally {
     }
 
     /// Counts one connection more.
-    pub(crate) fn count(&mut self, answer: Served)
+    pub fn count(&mut self, answer: Served)
         requires room { total self.old < 2 ^ 32 - 1 }
         ensures answered { self.new.answered ≡ self.old.answered + count_by is_answered (answer ∷ []) }
         ensures ended { self.new.ended ≡ self.old.ended + count_by is_ended (answer ∷ []) }

@@ -13,7 +13,7 @@ use std::sync::ledger::{Blank, Ledger};
 use wire_frames::{is_command, whole};
 
 /// Whether these bytes are a frame that the leader sends.
-fn is_from_leader(frame: &[u8]) -> bool
+pub fn is_from_leader(frame: &[u8]) -> bool
     ensures { result ≡ is_from_leader (whole_bytes frame.now) }
 {
     match whole(frame) {

@@ -11,5 +11,8 @@ mod serving;
 mod wanting;
 
 pub use exchanging::{Broken, exchange};
+pub use helping::is_from_leader;
+pub use leading::{say_link_down, taken_in};
 pub use node::{Node, Served};
-pub use serving::serve_one;
+pub use reading::Reading;
+pub use serving::{gather_frame, send, serve_one};

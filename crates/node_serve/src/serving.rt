@@ -24,7 +24,7 @@ use wire_frames::Gather;
 
 /// Reads one frame, of which `gather` holds then what is handed on.
 #[tactic(auto, using(crate::proofs::HeldLaws::ends_fed))]
-fn gather_frame<S: Source>(source: &mut S, gather: &mut Gather) -> Reading
+pub fn gather_frame<S: Source>(source: &mut S, gather: &mut Gather) -> Reading
     ensures brings { Brings (S.content source.old) (S.content source.new) gather.new }
     ensures ends { EndsBy result gather.new }
     ensures end { result ≡ Reading.Ended → IsAtEnd (S.content source.new) }
@@ -40,7 +40,7 @@ fn gather_frame<S: Source>(source: &mut S, gather: &mut Gather) -> Reading
 }
 
 /// Writes a reply, if there is one.
-fn send<C: Conn>(conn: &mut C, reply: &[u8]) -> Served
+pub fn send<C: Conn>(conn: &mut C, reply: &[u8]) -> Served
     ensures writes { Writes result (C.written conn.old) (C.written conn.new) (C.count conn.old) (C.count conn.new) reply.now }
     ensures sent { IsSent result }
     ensures content { C.content conn.new ≡ C.content conn.old }

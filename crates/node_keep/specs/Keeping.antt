@@ -1,0 +1,82 @@
+-- Frames that a server was handed one after another, each on its disk before its step.
+use Rattle.std.specs.Prelude.{◌≡◌, ◌≢◌, ℕ, ◌+◌, ◌≤◌, true, false, List, [], ◌∷◌, ◌++◌, length, filter, is_ok}
+use Rattle.frame_rules.specs.Whole.{whole}
+use Rattle.node_journal.specs.Disk.{Within, LeavesOnly}
+use Rattle.node_journal.specs.Records.{content, IsUndamaged}
+use Rattle.node_journal.specs.Journal.{JournalState, Passes, longer, broken}
+use Rattle.node_journal.specs.declared.fault.JournalFault.TheVariants.{Closed, NotEmpty, Full, Disk, Damaged}
+use Rattle.node_restart.specs.declared.opening.Opening.{Opening}
+use Rattle.node_restart.specs.declared.fault.KeepFault.{KeepFault}
+use Rattle.node_restart.specs.declared.fault.KeepFault.TheVariants.{Journal, NoMemory, Foreign}
+use Rattle.node_restart.specs.Frames.{Handed, IsOneFrame, records_of}
+use Rattle.node_restart.specs.Steps.{fold_from}
+use Rattle.node_restart.specs.Kept.{KeptState, HoldsFrames, LeavesFrames}
+
+-- those that are kept: the bytes that are exactly one frame; no others change anything
+abbrev pub kept_of : List Handed → List Handed
+kept_of frames = filter (λ h. is_ok (whole h.frame)) frames
+
+-- a journal behind the records of these frames
+abbrev pub journal_after : JournalState → List Handed → JournalState
+journal_after j [] = j
+journal_after j (h ∷ frames) = journal_after (longer (length h.frame + 1) j) frames
+
+-- A crash leaves the records of the opening, of the frames before and of the first of these, and nothing that a
+-- journal under the same limit would find damaged.
+pub record LeavesFirst (limit : ℕ) (o : Opening) (before frames : List Handed) (c : List ℕ) : Type 0 where
+  pub first : List Handed
+  pub rest : List Handed
+  pub split : frames ≡ first ++ rest
+  pub content : content c ≡ records_of o (before ++ first)
+  pub undamaged : IsUndamaged limit 0 c
+
+-- From old to new a server was handed these frames, in this order. It took the step of each, and those that are
+-- frames stand on its disk behind those from before. A crash at any moment on the way leaves the first of them.
+pub record Keeps {D : Type 0} (reads may_leave : D → List ℕ → Type 0) (moment : D → ℕ)
+    (left_since : D → ℕ → List ℕ → Type 0) (old new : KeptState D) (frames : List Handed) : Type 0 where
+  pub opening : new.opening ≡ old.opening
+  pub steps : new.core ≡ fold_from old.core frames
+  pub journal : new.journal ≡ journal_after old.journal (kept_of frames)
+  pub quiet : kept_of frames ≡ [] → new ≡ old
+  pub unclosed : kept_of frames ≢ [] → old.journal.closed ≡ false
+  pub held : (before : List Handed) → HoldsFrames old.opening before (reads old.disk)
+      → HoldsFrames old.opening (before ++ kept_of frames) (reads new.disk)
+  pub durable : Within (may_leave old.disk) (reads old.disk) → Within (may_leave new.disk) (reads new.disk)
+  pub any_moment : kept_of frames ≢ [] → (before : List Handed) → HoldsFrames old.opening before (reads old.disk)
+      → LeavesOnly moment left_since old.disk new.disk
+      (LeavesFirst old.journal.limit old.opening before (kept_of frames))
+
+-- What a fault says of the journal before a record of so many bytes, and what it leaves: Closed and Full leave
+-- all, and Disk leaves a closed journal.
+abbrev pub IsCause : {D : Type 0} → KeepFault → ℕ → (old new : KeptState D) → Type 0
+IsCause (Journal Closed) bytes old new = (old.journal.closed ≡ true) × (new ≡ old)
+IsCause (Journal (Full end)) bytes old new =
+    (old.journal.closed ≡ false) × Passes old.journal.end bytes old.journal.limit × (end ≡ old.journal.end)
+    × (new ≡ old)
+IsCause (Journal (Disk faults)) bytes old new =
+    (old.journal.closed ≡ false) × (old.journal.end + 5 + bytes + 1 ≤ old.journal.limit)
+    × (new.journal ≡ broken old.journal)
+IsCause (Journal NotEmpty) bytes old new = ⊥
+IsCause (Journal (Damaged at)) bytes old new = ⊥
+IsCause NoMemory bytes old new = ⊥
+IsCause (Foreign n) bytes old new = ⊥
+
+-- From old to new a server was handed this frame, which wasn't kept for this fault, and took no step. A crash at
+-- any moment on the way leaves the frames from before, with it or without.
+pub record Refuses {D : Type 0} (reads : D → List ℕ → Type 0) (moment : D → ℕ)
+    (left_since : D → ℕ → List ℕ → Type 0) (old new : KeptState D) (h : Handed) (fault : KeepFault) : Type 0 where
+  pub whole : IsOneFrame h.frame
+  pub cause : IsCause fault (length h.frame + 1) old new
+  pub opening : new.opening ≡ old.opening
+  pub no_step : new.core ≡ old.core
+  pub any_moment : old.journal.closed ≡ false → (before : List Handed)
+      → HoldsFrames old.opening before (reads old.disk) → LeavesOnly moment left_since old.disk new.disk
+      (LeavesFrames old.journal.limit old.opening before h)
+
+-- From old to new a server was handed these frames and took their steps, and then this one, which wasn't kept.
+pub record KeepsUpTo {D : Type 0} (reads may_leave : D → List ℕ → Type 0) (moment : D → ℕ)
+    (left_since : D → ℕ → List ℕ → Type 0) (old new : KeptState D) (frames : List Handed) (refused : Handed)
+    (fault : KeepFault) : Type 0 where
+  pub between : KeptState D
+  pub keeps : Keeps reads may_leave moment left_since old between frames
+  pub refuses : Refuses reads moment left_since between new refused fault

@@ -1,0 +1,144 @@
+-- How a server is opened, from its settings or from its journal.
+use Rattle.std.specs.Prelude.{◌≡◌, ◌≢◌, ℕ, ◌≤◌, nat_eq, cond, true, false, List, [], ◌++◌, codes}
+use Rattle.express_words.specs.declared.settings.Settings.{Settings}
+use Rattle.node_journal.specs.Disk.{Within, IsUntouched}
+use Rattle.node_journal.specs.Records.{content, IsUndamaged}
+use Rattle.node_journal.specs.declared.fault.JournalFault.TheVariants.{Closed, NotEmpty, Full, Disk, Damaged}
+use Rattle.node_restart.specs.declared.opening.Opening.{Opening}
+use Rattle.node_restart.specs.declared.opening.Role.{Role}
+use Rattle.node_restart.specs.declared.opening.Role.TheVariants as role
+use Rattle.node_restart.specs.declared.server.Core.{Core}
+use Rattle.node_restart.specs.declared.fault.KeepFault.{KeepFault}
+use Rattle.node_restart.specs.declared.fault.KeepFault.TheVariants.{Journal, NoMemory, Foreign}
+use Rattle.node_restart.specs.Faults.{CountsFault}
+use Rattle.node_restart.specs.Frames.{Handed, IsForeign}
+use Rattle.node_restart.specs.Kept.{KeptState, HoldsFrames, Stands, IsDamagedAt}
+use Rattle.node_restart.specs.Openings.{IsOpening}
+use Rattle.node_restart.specs.Steps.{fold}
+use Rattle.node_restart.specs.Texts as restart
+use Rattle.settings_text.specs.declared.serve.ServeSettings.{ServeSettings}
+use Rattle.settings_text.specs.declared.serve.TheConstants.{LEADER}
+use Rattle.node_keep.specs.declared.key.SettingsKey.{SettingsKey}
+use Rattle.node_keep.specs.declared.key.SettingsKey.TheVariants as key
+use Rattle.node_keep.specs.declared.fault.OpenFault.{OpenFault}
+use Rattle.node_keep.specs.declared.fault.OpenFault.TheVariants as open
+
+-- the opening that settings and a seed spell
+abbrev pub role_by : ℕ → Role
+role_by number = cond (nat_eq number LEADER) role.Leader role.Helper
+
+abbrev pub opening_of : ServeSettings → List ℕ → Opening
+opening_of s seed = record { role = role_by s.role; settings = s.settings; seed = seed }
+
+-- ---- two openings
+
+-- the same but for the seed
+pub record IsSame (a b : Opening) : Type 0 where
+  pub role : a.role ≡ b.role
+  pub settings : a.settings ≡ b.settings
+
+-- in this setting they differ, and in those before it in the order role, width, boxes, lanes, window they don't
+abbrev pub DiffersAt : SettingsKey → Opening → Opening → Type 0
+DiffersAt key.Role a b = a.role ≢ b.role
+DiffersAt key.Width a b = (a.role ≡ b.role) × (a.settings.width ≢ b.settings.width)
+DiffersAt key.Boxes a b =
+    (a.role ≡ b.role) × (a.settings.width ≡ b.settings.width) × (a.settings.boxes ≢ b.settings.boxes)
+DiffersAt key.Lanes a b =
+    (a.role ≡ b.role) × (a.settings.width ≡ b.settings.width) × (a.settings.boxes ≡ b.settings.boxes)
+    × (a.settings.lanes ≢ b.settings.lanes)
+DiffersAt key.Window a b =
+    (a.role ≡ b.role) × (a.settings.width ≡ b.settings.width) × (a.settings.boxes ≡ b.settings.boxes)
+    × (a.settings.lanes ≡ b.settings.lanes) × (a.settings.window ≢ b.settings.window)
+
+-- ---- a server that was opened
+
+-- on a disk with no byte: a server before its first frame
+pub record IsCreated {D : Type 0} (reads may_leave : D → List ℕ → Type 0) (limit : ℕ) (o : Opening) (disk : D)
+    (k : KeptState D) : Type 0 where
+  pub empty : (c : List ℕ) → reads disk c → c ≡ []
+  pub opening : k.opening ≡ o
+  pub core : k.core ≡ fold o []
+  pub journal : k.journal ≡ record { end = 50; limit = limit; ready = true; closed = false }
+  pub held : HoldsFrames o [] (reads k.disk)
+  pub undamaged : (c : List ℕ) → reads k.disk c → IsUndamaged limit 0 c
+  pub durable : Within (may_leave k.disk) (reads k.disk)
+
+-- on a disk with a journal, of a server with the same role and settings: the fold of what stands there
+pub record IsReopened {D : Type 0} (reads may_leave : D → List ℕ → Type 0) (limit : ℕ) (o : Opening) (disk : D)
+    (k : KeptState D) : Type 0 where
+  pub some : (c : List ℕ) → reads disk c → c ≢ []
+  pub is_opening : IsOpening k.opening
+  pub same : IsSame k.opening o
+  pub stands : Stands k.opening k.core (reads disk)
+  pub told : (p : Opening) (frames : List Handed) (c : List ℕ) → reads disk c → IsOpening p
+      → HoldsFrames p frames (reads disk) → (k.opening ≡ p) × (k.core ≡ fold p frames)
+  pub limit : k.journal.limit ≡ limit
+  pub unclosed : k.journal.closed ≡ false
+  pub undamaged : (c : List ℕ) → reads k.disk c → IsUndamaged limit 0 c
+  pub durable : Within (may_leave k.disk) (reads k.disk)
+  pub untouched : IsUntouched (reads disk) (reads k.disk) (may_leave disk) (may_leave k.disk)
+
+-- ---- a server that wasn't
+
+-- a disk with a byte has no journal that is whole and of the form, or no call on it failed
+abbrev pub IsOfOpening : OpenFault → Type 0
+IsOfOpening (open.Keep (Journal (Disk faults))) = Unit {0}
+IsOfOpening (open.Keep (Journal (Damaged at))) = Unit {0}
+IsOfOpening (open.Keep (Foreign n)) = Unit {0}
+IsOfOpening (open.Keep NoMemory) = Unit {0}
+IsOfOpening (open.Keep (Journal Closed)) = ⊥
+IsOfOpening (open.Keep (Journal NotEmpty)) = ⊥
+IsOfOpening (open.Keep (Journal (Full end))) = ⊥
+IsOfOpening (open.Differs key) = Unit {0}
+
+-- a server stands on the disk that was opened otherwise
+pub record StandsOther (key : SettingsKey) (o : Opening) (reads : List ℕ → Type 0) : Type 0 where
+  pub found : Opening
+  pub is_opening : IsOpening found
+  pub core : Core
+  pub stands : Stands found core reads
+  pub differs : DiffersAt key found o
+
+-- what a fault says of the disk, which has a byte then
+abbrev pub IsCauseOf : OpenFault → ℕ → Opening → (List ℕ → Type 0) → Type 0
+IsCauseOf (open.Keep (Journal (Damaged at))) limit o reads =
+    (c : List ℕ) → reads c → (c ≢ []) × IsDamagedAt limit at c
+IsCauseOf (open.Keep (Foreign n)) limit o reads = (c : List ℕ) → reads c → (c ≢ []) × IsForeign n (content c)
+IsCauseOf (open.Keep (Journal Closed)) limit o reads = Unit {0}
+IsCauseOf (open.Keep (Journal NotEmpty)) limit o reads = Unit {0}
+IsCauseOf (open.Keep (Journal (Full end))) limit o reads = Unit {0}
+IsCauseOf (open.Keep (Journal (Disk faults))) limit o reads = Unit {0}
+IsCauseOf (open.Keep NoMemory) limit o reads = Unit {0}
+IsCauseOf (open.Differs key) limit o reads = ((c : List ℕ) → reads c → c ≢ []) × StandsOther key o reads
+
+-- but where a call on the disk failed, it is as it was
+abbrev pub LeavesDisk : {D : Type 0} → OpenFault → (reads may_leave : D → List ℕ → Type 0) → (old new : D) → Type 0
+LeavesDisk (open.Keep (Journal (Disk faults))) reads may_leave old new = Unit {0}
+LeavesDisk (open.Keep (Journal Closed)) reads may_leave old new = Unit {0}
+LeavesDisk (open.Keep (Journal NotEmpty)) reads may_leave old new = Unit {0}
+LeavesDisk (open.Keep (Journal (Full end))) reads may_leave old new = Unit {0}
+LeavesDisk (open.Keep (Journal (Damaged at))) reads may_leave old new =
+    IsUntouched (reads old) (reads new) (may_leave old) (may_leave new)
+LeavesDisk (open.Keep (Foreign n)) reads may_leave old new =
+    IsUntouched (reads old) (reads new) (may_leave old) (may_leave new)
+LeavesDisk (open.Keep NoMemory) reads may_leave old new =
+    IsUntouched (reads old) (reads new) (may_leave old) (may_leave new)
+LeavesDisk (open.Differs key) reads may_leave old new =
+    IsUntouched (reads old) (reads new) (may_leave old) (may_leave new)
+
+abbrev pub CountsOpen : (before now : ℕ) → OpenFault → Type 0
+CountsOpen before now (open.Keep fault) = CountsFault before now fault
+CountsOpen before now (open.Differs key) = now ≡ before
+
+-- ---- texts
+
+abbrev pub key_text : SettingsKey → List ℕ
+key_text key.Role = codes "role"
+key_text key.Width = codes "width"
+key_text key.Boxes = codes "boxes"
+key_text key.Lanes = codes "lanes"
+key_text key.Window = codes "window"
+
+abbrev pub fault_text : OpenFault → List ℕ
+fault_text (open.Keep fault) = restart.fault_text fault
+fault_text (open.Differs key) = codes "the journal has another " ++ key_text key

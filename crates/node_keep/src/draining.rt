@@ -1,0 +1,102 @@
+//! The leader exchanges its outstanding commands with the helper, and each answer is kept before its step.
+ghost use Rattle.std.specs.Prelude.{◌≡◌, ◌<◌, ◌≤◌, List, ℕ, length, take, option_map, Some, IfOk, IfErr};
+ghost use Rattle.frame_rules.specs.Spelling.{spelling};
+ghost use Rattle.node_restart.specs.Frames.{Handed};
+ghost use Rattle.node_restart.specs.Steps.{resent_by};
+ghost use Rattle.node_keep.specs.Handing.{OnLink, OnKeep, NetFault, DiskFault};
+ghost use Rattle.node_keep.specs.Keeping.{Keeps, KeepsUpTo, Refuses};
+ghost use Rattle.node_keep.specs.Leading.{IsLead, rounds_of, Replies, Fails, Drains, DrainBreaks};
+ghost use Rattle.node_keep.specs.Stopping.{Unkept, DrainStops};
+
+use crate::broke::Broke;
+use crate::handing::{hand, is_ignored, told};
+use express_words::outside::Net;
+use node_journal::Disk;
+use node_restart::{Kept, Sender};
+use node_serve::{Broken, Served, exchange};
+
+/// One exchange: the command of `size` bytes at the front of `out` goes to the helper, and its answer to the leader.
+/// Gives the length of the reply for the client, which stands at the front of `out` then; 0 where a settle follows.
+fn exchange_one<N: Net, D: Disk>(
+    kept: &mut Kept<D>,
+    peer: &str,
+    net: &mut N,
+    out: &mut [u8],
+    size: usize,
+    answer: &mut [u8],
+) -> Result<usize, Broke>
+    requires room { 8213 ≤ length out.old }
+    requires answer_room { 8213 ≤ length answer.old }
+    requires within { size ≤ length out.old }
+    requires lead { IsLead kept.old.core }
+    ensures replied { IfOk result (λ n. (frames : List Handed) × Replies peer.now kept.old.core kept.new.core
+        (take size out.old) (take n out.new) frames (N.calls net.old) (N.calls net.new)
+        × Keeps D.reads D.may_leave D.moment D.left_since kept.old kept.new frames) }
+    ensures within { IfOk result (λ n. n ≤ length out.new) }
+    ensures nearer { IfOk result (λ n. rounds_of kept.new.core < rounds_of kept.old.core) }
+    ensures failed { IfErr result (λ why. OnLink why (λ link. (frames : List Handed) × Fails peer.now
+        kept.old.core kept.new.core (take size out.old) frames (N.calls net.old) (N.calls net.new) link
+        × Keeps D.reads D.may_leave D.moment D.left_since kept.old kept.new frames)) }
+    ensures unkept { IfErr result (λ why. OnKeep why (λ fault. (refused : Handed) × Unkept peer.now
+        kept.old.core kept.new.core (take size out.old) refused (N.calls net.old) (N.calls net.new)
+        × Refuses D.reads D.moment D.left_since kept.old kept.new refused fault)) }
+    ensures fault { NetFault result (N.count net.old) (N.count net.new) }
+    ensures counts { DiskFault result (D.Counted.count kept.old.disk) (D.Counted.count kept.new.disk) }
+    ensures door { N.doors net.new ≡ N.doors net.old }
+{
+    let count = match exchange(net, peer, &out[..size], answer) {
+        Ok(count) => count,
+        Err(Broken::Fault(count)) => return Err(Broke::Link(Served::LinkFault(count))),
+        Err(Broken::Early(_)) => return Err(Broke::Link(Served::LinkBad)),
+        Err(Broken::Wrong(_)) => return Err(Broke::Link(Served::LinkBad)),
+    };
+    match hand(kept, Sender::Peer, &answer[..count], out) {
+        Ok(did) => {
+            if is_ignored(did) {
+                Err(Broke::Link(Served::LinkBad))
+            } else {
+                Ok(told(did))
+            }
+        }
+        Err(fault) => Err(Broke::Keep(fault)),
+    }
+}
+
+/// Exchanges the oldest outstanding command until none is outstanding. Gives the length of the last reply for the
+/// client, which stands at the front of `out`: the one of `told` bytes that stands there now where there is no exchange.
+pub(crate) fn drain<N: Net, D: Disk>(
+    kept: &mut Kept<D>,
+    peer: &str,
+    net: &mut N,
+    out: &mut [u8],
+    told: usize,
+    answer: &mut [u8],
+) -> Result<usize, Broke>
+    requires room { 8213 ≤ length out.old }
+    requires answer_room { 8213 ≤ length answer.old }
+    requires within { told ≤ length out.old }
+    requires lead { IsLead kept.old.core }
+    ensures drained { IfOk result (λ n. (frames : List Handed) × Drains peer.now kept.old.core
+        (take told out.old) kept.new.core frames (take n out.new) (N.calls net.old) (N.calls net.new)
+        × Keeps D.reads D.may_leave D.moment D.left_since kept.old kept.new frames) }
+    ensures within { IfOk result (λ n. n ≤ length out.new) }
+    ensures broken { IfErr result (λ why. OnLink why (λ link. (frames : List Handed) × DrainBreaks peer.now
+        kept.old.core (take told out.old) kept.new.core frames (N.calls net.old) (N.calls net.new) link
+        × Keeps D.reads D.may_leave D.moment D.left_since kept.old kept.new frames)) }
+    ensures stopped { IfErr result (λ why. OnKeep why (λ fault. (frames : List Handed) × ((refused : Handed)
+        × DrainStops peer.now kept.old.core (take told out.old) kept.new.core frames refused (N.calls net.old)
+        (N.calls net.new) × KeepsUpTo D.reads D.may_leave D.moment D.left_since kept.old kept.new frames
+        refused fault))) }
+    ensures fault { NetFault result (N.count net.old) (N.count net.new) }
+    ensures counts { DiskFault result (D.Counted.count kept.old.disk) (D.Counted.count kept.new.disk) }
+    ensures door { N.doors net.new ≡ N.doors net.old }
+{
+    let mut reply = told;
+    'draining: while let Some((_, size)) = kept.resend(out) {
+        match exchange_one(kept, peer, net, out, size, answer) {
+            Ok(size) => reply = size,
+            Err(why) => return Err(why),
+        }
+    }
+    Ok(reply)
+}
