@@ -9,13 +9,18 @@ mod file_disk;
 mod tcp_net;
 
 use adapter::Adapter;
-use express_cli::{run, seed_of};
+use express_cli::seed_of;
+use express_keep::run_kept;
+use file_disk::FileDisk;
 use std::fs::File;
 use std::io::ErrorKind;
 use std::process::ExitCode;
 use std::rt::{Env, Files};
 use std::{env, io};
 use tcp_net::TcpNet;
+
+/// The journal of a server under `keep`, in the folder that the program runs in.
+const JOURNAL: &str = "express.journal";
 
 /// The status where memory is wanting before the top call.
 const OUT_OF_MEMORY: u8 = 7;
@@ -60,7 +65,17 @@ fn work(rt: &HostRuntime, words: &Vec<String>, seed: &[u8; 32]) -> u8 {
     let mut input = Adapter::new(rt.reader());
     let mut out = Adapter::new(io::writer(rt));
     let mut net = TcpNet::new(rt);
-    run(rt.alloc(), words, seed, &mut input, &mut out, &mut net)
+    let disk = FileDisk::new(rt, JOURNAL);
+    let (status, _) = run_kept(
+        rt.alloc(),
+        words,
+        seed,
+        &mut input,
+        &mut out,
+        &mut net,
+        disk,
+    );
+    status
 }
 
 // The status of the top call, or that of what is missing before it.
