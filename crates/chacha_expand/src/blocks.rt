@@ -67,16 +67,17 @@ fn halves_of(key: &[u8; 32], stream: u64, block: u64) -> [[u64; 8]; 8]
     ]
 }
 
-// Writes block j by its halves.
+// Block j by its halves, in an array: its length is fixed, so that no place in it needs a test.
 #[inline(always)]
-fn block_row_into(halves: &[[u64; 8]; 8], j: usize, out: &mut [u8])
-    requires row { j < 8 }
-    requires bytes { length out.old ≡ 64 }
-    ensures { (key : List ℕ) (stream p : ℕ) → HasHalves halves.now j key stream p → out.new ≡ stream_bytes key stream (4 * p) 64 }
+fn block_row(halves: &[[u64; 8]; 8], j: usize) -> [u8; 64]
+    requires { j < 8 }
+    ensures { (key : List ℕ) (stream p : ℕ) → HasHalves halves.now j key stream p → result ≡ stream_bytes key stream (4 * p) 64 }
 {
+    let mut bytes = [0u8; 64];
     for k in 0..8 {
-        out[8 * k..8 * k + 8].copy_from_slice(&halves[k][j].to_le_bytes());
+        bytes[8 * k..8 * k + 8].copy_from_slice(&halves[k][j].to_le_bytes());
     }
+    bytes
 }
 
 /// Eight blocks of a stream.
@@ -87,6 +88,6 @@ pub fn eight_blocks_into(key: &[u8; 32], stream: u64, block: u64, out: &mut [u8]
 {
     let halves = halves_of(key, stream, block);
     for j in 0..8 {
-        block_row_into(&halves, j, &mut out[64 * j..64 * j + 64]);
+        out[64 * j..64 * j + 64].copy_from_slice(&block_row(&halves, j));
     }
 }

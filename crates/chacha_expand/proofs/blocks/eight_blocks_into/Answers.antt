@@ -16,10 +16,11 @@ loop-j-preserved c =
     let j = c.loop-j.j in
     let place : 4 * (16 * (block + j)) ≡ 64 * block + 64 * j = omega arith in
     let more : 64 * (j + 1) ≡ 64 * j + 64 = omega arith in
-    let row : c.block_row_into.new.out ≡ stream_bytes key stream (64 * block + 64 * j) 64 =
-    c.block_row_into.ensures key stream (16 * (block + j)) (c.halves_of-halves.ensures j c.loop-j-test.true)
+    let row : c.copy_from_slice.new.self ≡ stream_bytes key stream (64 * block + 64 * j) 64 =
+    c.copy_from_slice.ensures.after
+    ∙ c.block_row.ensures key stream (16 * (block + j)) (c.halves_of-halves.ensures j c.loop-j-test.true)
     ∙ ap (λ (n : ℕ). stream_bytes key stream n 64) place in
-    rw more (stream_more key stream (64 * block) (64 * j) 64 _ c.loop-j.out c.block_row_into.new.out c.loop-j.invariant row (omega arith))
+    rw more (stream_more key stream (64 * block) (64 * j) 64 _ c.loop-j.out c.copy_from_slice.new.self c.loop-j.invariant row (omega arith))
 
 pub returns : goal.returns
 returns c =
