@@ -87,7 +87,7 @@ class Layers:
                 self.rows[level].sort(key=lambda place: own[place] if middle[place] is None else middle[place])
 
     def spread(self):
-        """Gives each place its x: near to the middle of what it is joined to, in the order of its row, none too near."""
+        """Gives each place its x: near the middle of what it is joined to, in its row's order, none too near."""
         for row in self.rows:
             self.x.update((place, (number - len(row) / 2) * WIDE) for number, place in enumerate(row))
         for _ in range(SWEEPS):
