@@ -1,5 +1,5 @@
-# What bin/install and bin/release share: which programs stand here proved, how they are built for a target, and what belongs
-# where. Sourced, with `top` the repository and `room` a temporary folder.
+# What bin/install and bin/release share: which programs stand here proved, how they are built for a target, and what
+# belongs where. Sourced, with `top` the repository and `room` a temporary folder.
 # shellcheck shell=bash
 # shellcheck disable=SC2034,SC2154
 
@@ -47,8 +47,9 @@ tells_proved() {
     grep -q "^logic=proved .*$cpu" "$1"
 }
 
-# Builds a crate's program for a target. `rt run` proves it and runs it once on words that do little; where .ci/run has passed
-# all proofs are at hand, so that this takes minutes. It leaves each target at one place, so what stood there is put back.
+# Builds a crate's program for a target. `rt run` proves it and runs it once on words that do little; where .ci/run
+# has passed all proofs are at hand, so that this takes minutes. It leaves each target at one place, so what stood
+# there is put back.
 build() {
     local crate=$1 target=$2 program place flags=()
     program=$(built "$crate" "$target")
