@@ -1,0 +1,78 @@
+# What bin/install and bin/release share: which programs stand here proved, how they are built for a target, and what
+# belongs where. Sourced, with `top` the repository and `room` a temporary folder.
+# shellcheck shell=bash
+# shellcheck disable=SC2034,SC2154
+
+WIDE=x86-64-v3 # the target of newer processors; the other is the toolchain's default
+
+# What goes under a prefix beside the programs: mode, place, source.
+PIECES='644 share/man/man1/express.1 man/express.1
+644 share/man/man1/express-drill.1 man/express-drill.1
+644 share/man/man5/express.toml.5 man/express.toml.5
+644 share/bash-completion/completions/express completions/express.bash
+644 share/bash-completion/completions/express-drill completions/express.bash
+644 lib/systemd/system/express-helper.service units/express-helper.service
+644 lib/systemd/system/express-leader.service units/express-leader.service
+644 share/doc/express/helper.toml units/helper.toml
+644 share/doc/express/leader.toml units/leader.toml'
+
+# Whether this program stands as it was built, and the sources as they were then.
+is_built() {
+    [[ -x $1 && -f $1.sources ]] && "$top/.ci/sources-hash" "$1" | cmp -s - "$1.sources"
+}
+
+explain_unproved() {
+    echo "no proved program of these sources stands here: .ci/run proves them (from nothing that takes more than an hour on"
+    echo "four processors) and leaves it, with a stamp by .ci/sources-hash"
+}
+
+# The program of a crate for a target, where it stands once it is built.
+built() {
+    local program=$top/crates/$1/out/$1
+    [[ $2 == default ]] || program+=-$2
+    echo "$program"
+}
+
+# Puts back the program that .ci/run left where another was being built.
+put_back() {
+    if [[ -e $room/left ]]; then
+        mv "$room/left" "$(<"$room/place")"
+    fi
+}
+
+# Whether a log of rt tells that it proved what it built, for this target.
+tells_proved() {
+    local cpu=
+    [[ $2 == default ]] || cpu="cpu=$2 "
+    grep -q "^logic=proved .*$cpu" "$1"
+}
+
+# Builds a crate's program for a target. `rt run` proves it and runs it once on words that do little; where .ci/run
+# has passed all proofs are at hand, so that this takes minutes. It leaves each target at one place, so what stood
+# there is put back.
+build() {
+    local crate=$1 target=$2 program place flags=()
+    program=$(built "$crate" "$target")
+    ! is_built "$program" || return 0
+    echo "building $crate for the target $target, which takes some minutes" >&2
+    place=$(built "$crate" default)
+    echo "$place" >"$room/place"
+    [[ ! -e $place ]] || mv "$place" "$room/left"
+    [[ $target == default ]] || flags=("--cpu=$target")
+    (cd "$top/crates/$crate" && rt run "${flags[@]}" -- mill 0) >"$room/log" 2>&1 || true
+    if [[ ! -x $place ]] || ! tells_proved "$room/log" "$target"; then
+        tail -n 20 "$room/log" >&2
+        echo "$crate isn't proved or can't be built" >&2
+        return 1
+    fi
+    mv "$place" "$room/new"
+    put_back
+    mv "$room/new" "$program"
+    "$top/.ci/sources-hash" "$program" >"$program.sources"
+}
+
+# Copies a piece to its place; a unit gets the program's place under this prefix.
+put_piece() {
+    local mode=$1 source=$2 place=$3 prefix=$4
+    sed "s|/usr/local/bin/express|$prefix/bin/express|" "$top/$source" | install -D -m "$mode" /dev/stdin "$place"
+}
