@@ -12,7 +12,7 @@ use Rattle.poly_roots.specs.Polynomials.{value_at, plus_of, times_of}
 use Rattle.poly_roots.specs.Through.{through}
 use Rattle.audit_rules.specs.Sketch as sketch
 use Rattle.audit_rules.specs.Passing.{Passes}
-use Rattle.audit_rules.proofs.InRange.{word_in_range}
+use Rattle.audit_rules.proofs.Words.{word_in_range}
 use Rattle.audit_rules.proofs.Honest.{total-alone, dot-alone, dot3-alone, honest-passes}
 use Rattle.audit_rules.specs.Audit.{product, value, through_three, sums_of, whole_proof, zero_share, one_share, honest_f, honest_g, PassesAt}
 use Rattle.audit_rules.proofs.Transfer.{E, z, add, mul, element, elements, values-elements, length-values, get_or-values, dot-values, total-values, dot3-values, value-values, times-values}

@@ -1,6 +1,6 @@
 -- The sums of numbers of the field, and the words of proofs, are numbers of the field again.
 use Rattle.std.specs.Prelude.{◌≡◌, ℕ, ◌<◌, ◌^◌, List, [], ◌∷◌, length, All, slice_index, bit_xor, refl}
-use Rattle.std.proofs.Common.{suc, ◌∙◌, ap, sym, subst, arith, zero, lit<}
+use Rattle.std.proofs.Common.{suc, ◌∙◌, ap, sym, subst, arith}
 use Rattle.std.proofs.lemmas.Nat.{xor_lt}
 use Rattle.std.proofs.lemmas.List.Elements.{All-nil, All-cons, All-head, All-tail}
 use Rattle.tower_field.specs.Gf.{gf, values}
@@ -12,12 +12,7 @@ use Rattle.express_words.specs.Ranges.{IsProofShare}
 use Rattle.audit_rules.specs.Ranges.{IsSums}
 use Rattle.audit_rules.specs.Audit.{product, sums_of, whole_proof, zero_share, one_share, honest_f, honest_g}
 use Rattle.audit_rules.proofs.Transfer.{E, z, add, mul, element, elements, values-elements, sums-values, times-values}
-
--- each place of a list of numbers of the field gives such a number, past its end zero
-pub word_in_range : (words : List ℕ) → All (λ n. n < 2 ^ 128) words → (k : ℕ) → slice_index words k < 2 ^ 128
-word_in_range [] h k = lit< tt
-word_in_range (x ∷ xs) h zero = All-head (λ n. n < 2 ^ 128) x xs h
-word_in_range (x ∷ xs) h (suc k) = word_in_range xs (All-tail (λ n. n < 2 ^ 128) x xs h) k
+use Rattle.audit_rules.proofs.Words.{word_in_range}
 
 pub sums-in_range : (w r s : List ℕ) → All (λ n. n < 2 ^ 128) w → All (λ n. n < 2 ^ 128) r → All (λ n. n < 2 ^ 128) s → IsSums (sums_of w r s)
 sums-in_range w r s hw hr hs =

@@ -6,6 +6,7 @@ pub mod Soundness
 pub mod ValueLemmas
 pub mod AloneLaws
 pub mod Honest
+pub mod Words
 pub mod InRange
 pub mod Points
 pub mod Shares

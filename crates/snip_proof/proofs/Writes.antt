@@ -9,7 +9,7 @@ use Rattle.std.proofs.lemmas.Nat.{xor_lt}
 use Rattle.express_words.specs.declared.audit.ProofShare.{ProofShare}
 use Rattle.express_words.specs.Ranges.{IsProofShare}
 use Rattle.audit_rules.specs.Ranges.{IsSums}
-use Rattle.audit_rules.proofs.InRange.{word_in_range}
+use Rattle.audit_rules.proofs.Words.{word_in_range}
 use Rattle.audit_rules.specs.Audit.{whole_sums, whole_proof, zero_share, one_share, difference, PassesAt, ServersAccept}
 use Rattle.audit_rules.proofs.Whole.{whole_is, servers_pass}
 use Rattle.audit_rules.proofs.InRange.{sums-in_range, whole-in_range, zero-in_range, one-in_range}

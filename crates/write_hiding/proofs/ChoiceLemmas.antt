@@ -10,7 +10,7 @@ use Rattle.audit_rules.specs.declared.sums.Sums.{Sums}
 use Rattle.audit_rules.specs.Audit.{product, zero_share, one_share, honest_f, honest_g, ServersAccept}
 use Rattle.express_words.specs.Ranges.{IsProofShare}
 use Rattle.audit_rules.specs.Ranges.{IsSums}
-use Rattle.audit_rules.proofs.InRange.{word_in_range}
+use Rattle.audit_rules.proofs.Words.{word_in_range}
 use Rattle.audit_rules.proofs.InRange.{sums-in_range, zero-in_range, one-in_range}
 use Rattle.audit_rules.proofs.Transfer.{E, element}
 use Rattle.tower_field.specs.Gf.{values}
