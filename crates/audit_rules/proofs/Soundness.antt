@@ -4,20 +4,22 @@ use Rattle.std.proofs.Common.{◌∙◌, ap, sym, subst, get_or, set, inl, inr, 
 use Rattle.std.proofs.lemmas.Bool.{cases_eq, cases_lt}
 use Rattle.std.proofs.lemmas.List.{set-set, get_or-set_other}
 use Rattle.tower_field.specs.Levels.{inverse_at}
-use Rattle.tower_field.specs.Elements.{element_one, element_path, level_laws}
-use Rattle.tower_field.specs.Gf.{gf, gf_two, values}
+use Rattle.tower_field.specs.Elements.{element_one}
+use Rattle.tower_field.specs.proved.ElementLaws.{element_path, level_laws}
+use Rattle.tower_field.specs.Gf.{gf, values}
+use Rattle.tower_field.proofs.GfLaws.{gf_two}
 use Rattle.poly_roots.specs.Polynomials.{value_at}
 use Rattle.poly_roots.specs.Through.{through}
 use Rattle.express_words.specs.declared.audit.ProofShare.{ProofShare}
 use Rattle.audit_rules.specs.Sketch as sketch
 use Rattle.audit_rules.specs.Passing.{Passes}
 use Rattle.audit_rules.proofs.Seen.{seen, divisor_zero}
-use Rattle.audit_rules.specs.Points.{six_points}
+use Rattle.audit_rules.proofs.Points.{six_points}
 use Rattle.express_words.specs.Ranges.{IsProofShare}
 use Rattle.audit_rules.specs.Audit.{product, value, through_three, sums_of, bad_s, bad_r_divisor, bad_r, PassesAt}
 use Rattle.audit_rules.specs.BadWrites.{IsFirst, IsLast, HasTwo, first_place, last_place, IsBadChallenge}
 use Rattle.audit_rules.proofs.Places.{first_is, last_is}
-use Rattle.audit_rules.specs.Transfer.{E, z, add, mul, inverse, element, elements, values-elements, length-values, get_or-values, get_or-default, sums-values, bad_s-values, divisor-values, bad_r-values, value-values}
+use Rattle.audit_rules.proofs.Transfer.{E, z, add, mul, inverse, element, elements, values-elements, length-values, get_or-values, get_or-default, sums-values, bad_s-values, divisor-values, bad_r-values, value-values}
 
 -- neither bad value depends on the place of the challenge at which it's bad
 pub bad_r-fixed : (w r s : List ℕ) (a v : ℕ) → bad_r w (set r a v) s a ≡ bad_r w r s a

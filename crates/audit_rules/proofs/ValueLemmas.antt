@@ -5,7 +5,7 @@ use Rattle.std.specs.Int.Bits.{xor_comm}
 use Rattle.std.proofs.lemmas.Bool.Decides.{eqb_tells}
 use Rattle.std.proofs.lemmas.Nat.{xor_lt}
 use Rattle.std.proofs.lemmas.List.{length-map}
-use Rattle.tower_field.specs.Elements.{product_below}
+use Rattle.tower_field.specs.proved.Bounds.{product_below}
 use Rattle.tower_field.specs.Gf.{gf}
 use Rattle.poly_roots.specs.Polynomials.{value_at}
 use Rattle.poly_roots.specs.Through.{through}
@@ -19,11 +19,11 @@ use Rattle.express_words.specs.declared.audit.Closing.{Closing}
 use Rattle.audit_rules.specs.declared.sums.Sums.{Sums}
 use Rattle.audit_rules.specs.Audit.{product, value, through_three, opening_of, opened_of, closing_of, accepts, whole_sums, whole_proof, IsAccepted, PassesAt, ServersAccept}
 use Rattle.audit_rules.specs.Challenges.{challenge_rs, challenge_ss, sums_under}
-use Rattle.audit_rules.specs.Whole.{whole_is, servers_pass}
+use Rattle.audit_rules.proofs.Whole.{whole_is, servers_pass}
 use Rattle.express_words.specs.Ranges.{IsProofShare, IsOpenings, IsClosing}
 use Rattle.audit_rules.specs.Ranges.{IsSums}
-use Rattle.audit_rules.specs.Transfer.{z, add, mul, element, elements, values-elements, value-values}
-use Rattle.audit_rules.specs.InRange.{sums-in_range}
+use Rattle.audit_rules.proofs.Transfer.{z, add, mul, element, elements, values-elements, value-values}
+use Rattle.audit_rules.proofs.InRange.{sums-in_range}
 use Rattle.audit_rules.specs.Values.{Write, sums_at, opens, values}
 use Rattle.audit_rules.proofs.ChallengeLemmas.{rs-in_range, ss-in_range}
 use Rattle.audit_rules.proofs.LeafLemmas.{leaves-in_range, difference-leaves}

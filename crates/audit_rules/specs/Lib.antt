@@ -1,15 +1,9 @@
 pub mod Sketch
 pub mod Passing
-pub mod Points
-pub mod Shares
-pub mod Honest
 pub mod Audit
-pub mod Transfer
 pub mod BadWrites
 pub mod Ranges
-pub mod Whole
-pub mod Accepted
-pub mod InRange
+pub mod Alone
 pub mod Rows
 pub mod Challenges
 pub mod Values

@@ -1,7 +1,5 @@
 -- A server's sums are numbers of the field.
-use Rattle.std.specs.Prelude.{ℕ, ◌<◌, ◌^◌, List, [], ◌∷◌, All, slice_index}
-use Rattle.std.proofs.Common.{zero, suc, lit<}
-use Rattle.std.proofs.lemmas.List.Elements.{All-head, All-tail}
+use Rattle.std.specs.Prelude.{◌<◌, ◌^◌}
 use Rattle.audit_rules.specs.declared.sums.Sums.{Sums}
 
 pub record IsSums (sums : Sums) : Type 0 where
@@ -9,9 +7,3 @@ pub record IsSums (sums : Sums) : Type 0 where
   pub y : sums.y < 2 ^ 128
   pub m : sums.m < 2 ^ 128
   pub z : sums.z < 2 ^ 128
-
--- each place of a list of numbers of the field gives such a number, past its end zero
-pub word_in_range : (words : List ℕ) → All (λ n. n < 2 ^ 128) words → (k : ℕ) → slice_index words k < 2 ^ 128
-word_in_range [] h k = lit< tt
-word_in_range (x ∷ xs) h zero = All-head (λ n. n < 2 ^ 128) x xs h
-word_in_range (x ∷ xs) h (suc k) = word_in_range xs (All-tail (λ n. n < 2 ^ 128) x xs h) k

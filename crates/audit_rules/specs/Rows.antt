@@ -8,7 +8,8 @@ use Rattle.audit_rules.specs.Sketch.{verdict}
 use Rattle.audit_rules.specs.Audit.{product, sums_of, f_of, g_of, bad_s, opening_of, closing_of}
 
 -- a vector with three places that aren't zero is seen
-seen_sums : sums_of (1 ∷ (1 ∷ (1 ∷ []))) (1 ∷ (2 ∷ (0 ∷ []))) (1 ∷ (0 ∷ (0 ∷ []))) ≡ record { x = 3; y = 1; m = 1; z = 1 }
+seen_sums : sums_of (1 ∷ (1 ∷ (1 ∷ []))) (1 ∷ (2 ∷ (0 ∷ []))) (1 ∷ (0 ∷ (0 ∷ [])))
+    ≡ record { x = 3; y = 1; m = 1; z = 1 }
 unfolding sums_of product_at twist_at
 seen_sums = refl
 

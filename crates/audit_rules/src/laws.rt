@@ -4,7 +4,7 @@ ghost use Rattle.std.specs.Prelude.{◌≡◌, ◌≢◌, ℕ, ◌<◌, ◌≤�
 ghost use Rattle.audit_rules.specs.Audit.{sums_of, bad_r_divisor, bad_s, PassesAt, ServersAccept, whole_sums, whole_proof, difference, zero_share, one_share};
 ghost use Rattle.audit_rules.specs.BadWrites.{HasTwo, first_place, last_place, IsFirst, IsLast, IsBadChallenge};
 ghost use Rattle.audit_rules.specs.Laws.{BadRIsFixed, BadSIsFixed, ChangesAreSeen, ValuesInRange, ValuesAccept, AcceptedPasses};
-ghost use Rattle.audit_rules.specs.Accepted.{IsAlone, sums_alone};
+ghost use Rattle.audit_rules.specs.Alone.{IsAlone, sums_alone};
 
 use crate::ranges::{read_share, read_sums, read_words};
 use crate::sums::Sums;

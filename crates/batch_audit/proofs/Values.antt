@@ -4,14 +4,14 @@ use Rattle.std.proofs.Common.{suc, ◌∙◌, ap, sym, subst, get_or, arith, inl
 use Rattle.std.proofs.lemmas.Bool.{cases_lt}
 use Rattle.std.proofs.lemmas.Grind.{common_steps}
 use Rattle.std.proofs.lemmas.List.Elements.{All-nil, All-cons, All-head, All-tail}
-use Rattle.tower_field.specs.Elements.{level_laws, element_path}
+use Rattle.tower_field.specs.proved.ElementLaws.{level_laws, element_path}
 use Rattle.tower_field.specs.Gf.{values}
 use Rattle.poly_roots.specs.Polynomials.{value_at, plus_of}
-use Rattle.poly_roots.specs.Values.{value-plus, value-all_zero}
-use Rattle.poly_roots.specs.Roots.{all_zero}
+use Rattle.poly_roots.proofs.ValueLaws.{value-plus, value-all_zero}
+use Rattle.poly_roots.proofs.Roots.{all_zero}
 use Rattle.express_words.specs.declared.audit.Closing.{Closing}
 use Rattle.audit_rules.specs.Audit.{value, accepts}
-use Rattle.audit_rules.specs.Transfer.{E, z, add, mul, element, elements, values-elements, length-values, get_or-default, value-values, plus-values}
+use Rattle.audit_rules.proofs.Transfer.{E, z, add, mul, element, elements, values-elements, length-values, get_or-default, value-values, plus-values}
 use Rattle.batch_audit.specs.Batch.{os, taus, batch, count_bad, BatchPasses, FewValuesPass}
 
 abbrev pub InField : List ℕ → Type 0

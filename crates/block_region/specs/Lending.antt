@@ -12,8 +12,12 @@ rewritten block bytes = Some (refill (length (unwrap_or block [])) (unwrap_or bl
 
 abbrev pub LendsOnShelf : MutBor Shelf → ℕ → MutBor (List ℕ) → Fml
 LendsOnShelf shelf index r =
-    Lends shelf_row (Array u8 0) shelf r (λ bytes. shelf_of shelf.now.size (slice_set shelf.now.blocks index (rewritten (block_of shelf.now.blocks index) bytes)))
+    Lends shelf_row (Array u8 0) shelf r
+    (λ bytes.
+    shelf_of shelf.now.size
+    (slice_set shelf.now.blocks index (rewritten (block_of shelf.now.blocks index) bytes)))
 
 abbrev pub LendsBlock : MutBor (List Shelf) → Place → MutBor (List ℕ) → Fml
 LendsBlock region place r =
-    Lends region_row (Array u8 0) region r (λ bytes. with_content region.now place (rewritten (bytes_at region.now place) bytes))
+    Lends region_row (Array u8 0) region r
+    (λ bytes. with_content region.now place (rewritten (bytes_at region.now place) bytes))

@@ -1,5 +1,7 @@
 -- A region as a caller sees it: for each class its blocks, each with its bytes while it is out.
-use Rattle.std.specs.Prelude.{◌≡◌, ◌≢◌, ℕ, ◌+◌, ◌<◌, List, [], ◌∷◌, ◌++◌, Option, Some, None, is_none, position, count_by, replicate, slice_index_or, slice_set, length, drop, map, unwrap_or, All}
+use Rattle.std.specs.Prelude.{◌≡◌, ◌≢◌, ℕ, ◌+◌, ◌<◌, List, [], ◌∷◌, ◌++◌, Option, Some, None, is_none}
+use Rattle.std.specs.Prelude.{position, count_by, replicate, slice_index_or, slice_set, length, drop, map}
+use Rattle.std.specs.Prelude.{unwrap_or, All}
 
 -- a block by its class and its number there
 pub record Place : Type 0 where
@@ -35,7 +37,8 @@ bytes_at region place = block_of (class_of region place.class).blocks place.inde
 -- the region with this content at one place, and the same elsewhere
 abbrev pub with_content : List Shelf → Place → Option (List ℕ) → List Shelf
 with_content region place content =
-    slice_set region place.class (shelf_of (class_of region place.class).size (slice_set (class_of region place.class).blocks place.index content))
+    let shelf = class_of region place.class in
+    slice_set region place.class (shelf_of shelf.size (slice_set shelf.blocks place.index content))
 
 -- how many bytes a block of the class has
 abbrev pub size_of_class : List Shelf → ℕ → ℕ
@@ -82,7 +85,9 @@ with_bytes b index bytes = record { size = b.size; blocks = slice_set b.blocks i
 
 -- the blocks of a region's first class, while all of them are out
 abbrev pub blocks_in : List Shelf → Blocks
-blocks_in region = record { size = (class_of region 0).size; blocks = map (λ block. unwrap_or block []) (class_of region 0).blocks }
+blocks_in region =
+    let shelf = class_of region 0 in
+    record { size = shelf.size; blocks = map (λ block. unwrap_or block []) shelf.blocks }
 
 -- a region of one class with these blocks, all of them out
 abbrev pub full : Blocks → List Shelf
@@ -93,4 +98,5 @@ pub record IsArray (region : List Shelf) (places : List Place) : Type 0 where
   pub whole : region ≡ full (blocks_in region)
   pub sized : All (λ bytes. length bytes ≡ (blocks_in region).size) (blocks_in region).blocks
   pub count : length places ≡ length (blocks_in region).blocks
-  pub each : (k : ℕ) (d : Place) → k < length places → slice_index_or places k d ≡ record { class = 0; index = k }
+  pub each : (k : ℕ) (d : Place) → k < length places →
+      slice_index_or places k d ≡ record { class = 0; index = k }

@@ -7,7 +7,8 @@ use Rattle.box_registry.specs.Boxes.{Box, Differ}
 abbrev pub boxes_of_rows : List ℕ → List (List ℕ) → List Box
 boxes_of_rows [] keys = []
 boxes_of_rows (address ∷ addresses) [] = []
-boxes_of_rows (address ∷ addresses) (key ∷ keys) = record { address = address; key = key } ∷ boxes_of_rows addresses keys
+boxes_of_rows (address ∷ addresses) (key ∷ keys) =
+    record { address = address; key = key } ∷ boxes_of_rows addresses keys
 
 -- a key for each address, no address twice, and room for every key to come
 pub record AreRows (limit : ℕ) (frontier : Listing) (keys : List (List ℕ)) (keys_room : ℕ) : Type 0 where

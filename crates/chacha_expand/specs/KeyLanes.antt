@@ -1,4 +1,5 @@
--- Eight keys side by side, of which the last four words are zero, and the words of the block that a state begins.
+-- Eight keys side by side, of which the last four words are zero,
+-- and the words of the block that a state begins.
 use Rattle.std.specs.Prelude.{ℕ, List, [], ◌∷◌, slice_index}
 use Rattle.rand_chacha.specs.Block.{add32, double_rounds}
 use Rattle.rand_chacha.specs.Lanes.{lane_at}

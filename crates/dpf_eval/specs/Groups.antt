@@ -1,5 +1,7 @@
--- Groups of neighbours in a list of rising addresses: those that share a prefix of a length, and so one node of the tree.
-use Rattle.std.specs.Prelude.{◌≡◌, ◌≢◌, ℕ, ◌+◌, ◌%◌, ◌==◌, ◌<◌, ◌≤◌, nat_le, List, length, take, slice_index, count_by, bit_xor, if◌then◌else◌}
+-- Groups of neighbours in a list of rising addresses: those that share a prefix of a length,
+-- and so one node of the tree.
+use Rattle.std.specs.Prelude.{◌≡◌, ◌≢◌, ℕ, ◌+◌, ◌%◌, ◌==◌, ◌<◌, ◌≤◌, nat_le, List, length, take, slice_index}
+use Rattle.std.specs.Prelude.{count_by, bit_xor, if◌then◌else◌}
 use Rattle.dpf_rules.specs.Expansion.{child}
 use Rattle.dpf_rules.specs.Evaluation.{prefix}
 
@@ -18,4 +20,5 @@ groups_of splits level n = count_by (λ s. nat_le s level) (take n splits)
 -- the next state on a side, where a level adds `left` to left children and `right` to right ones
 abbrev pub stepped : ℕ → ℕ → ℕ → ℕ → ℕ
 stepped left right side state =
-    if state % 2 == 1 then bit_xor (child state side) (if side == 0 then left else right) else child state side
+    if state % 2 == 1 then bit_xor (child state side) (if side == 0 then left else right)
+    else child state side

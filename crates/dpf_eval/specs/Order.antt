@@ -15,7 +15,8 @@ pub record IsOrder (addresses order : List ℕ) : Type 0 where
   pub whole : (b : ℕ) → b < length addresses → IsTrue (has_box order b)
 
 -- what a frontier keeps: room for every address to come
-pub record IsSound (limit : ℕ) (addresses order : List ℕ) (addresses_room order_room scratch_room : ℕ) : Type 0 where
+pub record IsSound (limit : ℕ) (addresses order : List ℕ) (addresses_room order_room scratch_room : ℕ)
+    : Type 0 where
   pub ordered : IsOrder addresses order
   pub within : length addresses ≤ limit
   pub small : limit < 2 ^ 32

@@ -3,7 +3,8 @@
 use Rattle.std.specs.Prelude.{◌≡◌, ℕ, zero, suc, ◌^◌, ◌<◌, ◌==◌, List, length, All, if◌then◌else◌}
 use Rattle.dpf_rules.specs.Expansion.{with_bit}
 use Rattle.dpf_rules.specs.Walk.{word_of, right_of, side_at, corrected, step}
-use Rattle.dpf_rules.specs.Keys.{Expansions, pair_at, on_side, level_word, level_right, keys, raw_pair, honest}
+use Rattle.dpf_rules.specs.Keys.{Expansions, pair_at, on_side, level_word, level_right, keys, raw_pair}
+use Rattle.dpf_rules.specs.Keys.{honest}
 
 -- each member of each pair is a number of 128 bits
 abbrev pub HasStates : Expansions → Type 0

@@ -30,4 +30,5 @@ abbrev pub AddsClose : Option (List Call) → Option (List Call) → Option Stre
 AddsClose old None content written count = Unit {0}
 AddsClose old (Some new) None written count = ⊥
 AddsClose old (Some new) (Some stream) None count = ⊥
-AddsClose old (Some new) (Some stream) (Some bytes) count = Adds old (Some new) (Closed stream.given bytes (count == 0))
+AddsClose old (Some new) (Some stream) (Some bytes) count =
+    Adds old (Some new) (Closed stream.given bytes (count == 0))

@@ -14,4 +14,6 @@ abbrev pub IsPart : List ℕ → Type 0
 IsPart part = (levels_len ≤ length part) × IsWidth (length part - levels_len)
 
 abbrev pub KeepsLimits : ℕ → ℕ → ℕ → ℕ → Type 0
-KeepsLimits width boxes lanes window = IsWidth width × ((1 ≤ boxes) × (boxes ≤ 4096)) × ((1 ≤ lanes) × (lanes ≤ 256)) × ((1 ≤ window) × (window ≤ 32))
+KeepsLimits width boxes lanes window =
+    IsWidth width × ((1 ≤ boxes) × (boxes ≤ 4096)) × ((1 ≤ lanes) × (lanes ≤ 256))
+    × ((1 ≤ window) × (window ≤ 32))

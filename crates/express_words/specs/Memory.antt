@@ -1,5 +1,6 @@
 -- What the outside in memory does at each call.
-use Rattle.std.specs.Prelude.{◌≡◌, ℕ, ◌+◌, ◌-◌, ◌<◌, ◌≤◌, ◌⊎◌, ◌==◌, Bool, true, false, List, [], ◌∷◌, ◌++◌, take, drop, length, Contains, Option, Some, None}
+use Rattle.std.specs.Prelude.{◌≡◌, ℕ, ◌+◌, ◌-◌, ◌<◌, ◌≤◌, ◌⊎◌, ◌==◌, Bool, true, false, List, [], ◌∷◌, ◌++◌}
+use Rattle.std.specs.Prelude.{take, drop, length, Contains, Option, Some, None}
 use Rattle.express_words.specs.Streams.{Stream}
 use Rattle.express_words.specs.Calls.{Call, Closed}
 use Rattle.express_words.specs.Causes.{next}
@@ -73,11 +74,27 @@ told l = told_if l.whole l.calls
 
 -- one more call was noted, with this many bytes of text
 abbrev pub noted : Call → ℕ → Ledger → Ledger
-noted call bytes l = record { calls = l.calls ++ call ∷ []; whole = l.whole; room = l.room - 1; text_room = l.text_room - bytes; lent = l.lent; closed = l.closed }
+noted call bytes l =
+    record {
+      calls = l.calls ++ call ∷ [];
+      whole = l.whole;
+      room = l.room - 1;
+      text_room = l.text_room - bytes;
+      lent = l.lent;
+      closed = l.closed;
+    }
 
 -- a call was made that wasn't noted
 abbrev pub unnoted : Ledger → Ledger
-unnoted l = record { calls = l.calls; whole = false; room = l.room; text_room = l.text_room; lent = l.lent; closed = l.closed }
+unnoted l =
+    record {
+      calls = l.calls;
+      whole = false;
+      room = l.room;
+      text_room = l.text_room;
+      lent = l.lent;
+      closed = l.closed;
+    }
 
 -- a call was noted if there was room for it
 pub record NotesIfRoom (call : Call) (bytes : ℕ) (old new : Ledger) : Type 0 where
@@ -86,14 +103,30 @@ pub record NotesIfRoom (call : Call) (bytes : ℕ) (old new : Ledger) : Type 0 w
 
 -- a connection was given, and room kept for its close
 abbrev pub lending : Ledger → Ledger
-lending l = record { calls = l.calls; whole = l.whole; room = l.room - 1; text_room = l.text_room; lent = l.lent + 1; closed = l.closed }
+lending l =
+    record {
+      calls = l.calls;
+      whole = l.whole;
+      room = l.room - 1;
+      text_room = l.text_room;
+      lent = l.lent + 1;
+      closed = l.closed;
+    }
 
 abbrev pub close_of : ConnState → Call
 close_of conn = Closed conn.content.given conn.written (conn.tally.faults == 0)
 
 -- a connection was closed and its close noted, with the room that was kept for it
 abbrev pub closing : ConnState → Ledger → Ledger
-closing conn l = record { calls = l.calls ++ close_of conn ∷ []; whole = l.whole; room = l.room; text_room = l.text_room; lent = l.lent - 1; closed = l.closed ++ conn ∷ [] }
+closing conn l =
+    record {
+      calls = l.calls ++ close_of conn ∷ [];
+      whole = l.whole;
+      room = l.room;
+      text_room = l.text_room;
+      lent = l.lent - 1;
+      closed = l.closed ++ conn ∷ [];
+    }
 
 -- the connections still to be given, the calls so far, and how many of them failed, at the doors too
 pub record NetState : Type 0 where
@@ -104,7 +137,13 @@ pub record NetState : Type 0 where
 
 -- a connection as it is given: at its first byte, with nothing written and no call made
 abbrev pub fresh : ConnState → ConnState
-fresh c = record { content = record { given = []; left = c.content.given ++ c.content.left }; written = []; room = length c.written + c.room; tally = started c.tally.failing }
+fresh c =
+    record {
+      content = record { given = []; left = c.content.given ++ c.content.left };
+      written = [];
+      room = length c.written + c.room;
+      tally = started c.tally.failing;
+    }
 
 -- the first waiting connection was given
 abbrev pub GivesFirst : List ConnState → List ConnState → ConnState → Type 0

@@ -1,4 +1,5 @@
--- The calls that a ledger holds: an entry for each, the texts of all one after another, and the closed connections.
+-- The calls that a ledger holds: an entry for each, the texts of all one after another,
+-- and the closed connections.
 use Rattle.std.specs.Prelude.{ℕ, ◌+◌, Bool, List, [], ◌∷◌, take, drop}
 use Rattle.express_words.specs.Calls.{Call, Listened, Accepted, Dialled}
 use Rattle.express_words.specs.Memory.{ConnState, close_of}
@@ -14,7 +15,8 @@ call_of Dial text fails = Dialled text fails
 
 abbrev pub calls_of : List Entry → List ℕ → List ConnState → List Call
 calls_of [] texts closed = []
-calls_of (Opened door bytes fails ∷ entries) texts closed = call_of door (take bytes texts) fails ∷ calls_of entries (drop bytes texts) closed
+calls_of (Opened door bytes fails ∷ entries) texts closed =
+    call_of door (take bytes texts) fails ∷ calls_of entries (drop bytes texts) closed
 calls_of (Closed ∷ entries) texts [] = calls_of entries texts []
 calls_of (Closed ∷ entries) texts (conn ∷ closed) = close_of conn ∷ calls_of entries texts closed
 

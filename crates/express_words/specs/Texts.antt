@@ -2,7 +2,9 @@
 use Rattle.std.specs.Prelude.{ℕ, ◌-◌, ◌^◌, ◌/◌, ◌%◌, false, List, [], ◌++◌, codes}
 use Rattle.std.specs.Fmt.{decimal, digits, padded_integral, format_spec}
 use Rattle.express_words.specs.declared.refusal.Refusal.{Refusal}
-use Rattle.express_words.specs.declared.refusal.Refusal.TheVariants.{Malformed, Version, Lane, Stale, Phase, Taken, Full, NoBox, BadToken, NoDeposit, NotProved, Rejected, Again, LinkDown}
+use Rattle.express_words.specs.declared.refusal.Refusal.TheVariants.{Malformed, Version, Lane, Stale, Phase}
+use Rattle.express_words.specs.declared.refusal.Refusal.TheVariants.{Taken, Full, NoBox, BadToken, NoDeposit}
+use Rattle.express_words.specs.declared.refusal.Refusal.TheVariants.{NotProved, Rejected, Again, LinkDown}
 
 -- 16 hexadecimal digits, with zeros in front, as `{:016x}` writes a number below 2 ^ 64
 abbrev pub half_text : ℕ → List ℕ
@@ -24,6 +26,8 @@ refusal_text (NoBox box) = codes "nobox " ++ decimal box
 refusal_text (BadToken box) = codes "badtoken " ++ decimal box
 refusal_text NoDeposit = codes "nodeposit"
 refusal_text NotProved = codes "notproved"
-refusal_text (Rejected o0 o1 t0 t1) = codes "rejected " ++ (number_text o0 ++ (codes " " ++ (number_text o1 ++ (codes " " ++ (number_text t0 ++ (codes " " ++ number_text t1))))))
+refusal_text (Rejected o0 o1 t0 t1) =
+    codes "rejected " ++ (number_text o0 ++ (codes " " ++ (number_text o1
+    ++ (codes " " ++ (number_text t0 ++ (codes " " ++ number_text t1))))))
 refusal_text (Again number) = codes "again " ++ decimal number
 refusal_text (LinkDown count) = codes "linkdown " ++ decimal count

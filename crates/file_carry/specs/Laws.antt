@@ -1,5 +1,6 @@
 -- What ties cutting to joining.
-use Rattle.std.specs.Prelude.{◌≡◌, ℕ, ◌-◌, ◌^◌, ◌<◌, ◌≤◌, ◌⊎◌, ◌++◌, All, List, [], length, slice_index_or, take, false, Ok, Err}
+use Rattle.std.specs.Prelude.{◌≡◌, ℕ, ◌-◌, ◌^◌, ◌<◌, ◌≤◌, ◌⊎◌, ◌++◌, All, List, [], length, slice_index_or}
+use Rattle.std.specs.Prelude.{take, false, Ok, Err}
 use Rattle.file_carry.specs.Parts.{IsPartWidth, count_of, cut}
 use Rattle.file_carry.specs.Boxes.{id_in, count_in, is_part, join}
 

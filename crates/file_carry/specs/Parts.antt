@@ -1,5 +1,6 @@
 -- A file cut into parts, one for a message. All numbers are big-endian.
-use Rattle.std.specs.Prelude.{ℕ, zero, suc, ◌+◌, ◌-◌, ◌*◌, ◌≤◌, max, List, [], ◌∷◌, ◌++◌, length, take, drop, replicate}
+use Rattle.std.specs.Prelude.{ℕ, zero, suc, ◌+◌, ◌-◌, ◌*◌, ◌≤◌, max, List, [], ◌∷◌, ◌++◌, length, take, drop}
+use Rattle.std.specs.Prelude.{replicate}
 use Rattle.std.specs.Int.{w16, w64, div_ceil, to_be_bytes}
 use Rattle.express_words.specs.Limits.{IsWidth}
 

@@ -1,6 +1,8 @@
 -- What a journal does at the boxes of a file's parts.
-use Rattle.std.specs.Prelude.{◌≡◌, ◌<◌, ◌≤◌, ◌+◌, ℕ, suc, true, List, [], ◌∷◌, length, map, take, replicate, Option, Some, slice_get}
-use Rattle.mailbox_rules.specs.Requests.{Line, Entry, entry, Operation, BeginWrite, SettleWrite, ReadBox, RetireBox}
+use Rattle.std.specs.Prelude.{◌≡◌, ◌<◌, ◌≤◌, ◌+◌, ℕ, suc, true, List, [], ◌∷◌, length, map, take, replicate}
+use Rattle.std.specs.Prelude.{Option, Some, slice_get}
+use Rattle.mailbox_rules.specs.Requests.{Line, Entry, entry, Operation, BeginWrite, SettleWrite, ReadBox}
+use Rattle.mailbox_rules.specs.Requests.{RetireBox}
 use Rattle.mailbox_rules.specs.Tables.{Table, Writes, Result, Gave, table_after, results_after}
 use Rattle.file_carry.specs.Parts.{part_of}
 

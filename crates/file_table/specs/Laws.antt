@@ -5,7 +5,8 @@ use Rattle.mailbox_rules.specs.Tables.{Gave, Registered, result_of, plain_writes
 use Rattle.file_carry.specs.Parts.{count_of}
 use Rattle.file_carry.specs.Boxes.{join}
 use Rattle.file_carry.specs.Laws.{CanBeCut}
-use Rattle.file_table.specs.Carried.{Journal, IsCarried, IsUnwritten, AreCarried, IsNothing, table_at, result_at, answers}
+use Rattle.file_table.specs.Carried.{Journal, IsCarried, IsUnwritten, AreCarried, IsNothing, table_at}
+use Rattle.file_table.specs.Carried.{result_at, answers}
 
 -- the read gives the part: as an entry of the journal, and at the table before it
 pub record GivesPart (j : Journal) (address : ℕ) (part : List ℕ) (read : ℕ)

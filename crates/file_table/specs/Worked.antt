@@ -1,6 +1,8 @@
 -- A worked journal: two boxes are registered, a file of two parts is written to them, and they are read.
 use Rattle.std.specs.Prelude.{◌≡◌, ◌-◌, ℕ, true, List, [], ◌∷◌, length, replicate}
-use Rattle.mailbox_rules.specs.Requests.{Request, Write, Command, Registers, Begins, Audits, Settles, Reads, Entry, entry, Operation, AddBox, BeginWrite, AuditWrite, SettleWrite, ReadBox}
+use Rattle.mailbox_rules.specs.Requests.{Request, Write, Command, Registers, Begins, Audits, Settles, Reads}
+use Rattle.mailbox_rules.specs.Requests.{Entry, entry, Operation, AddBox, BeginWrite, AuditWrite, SettleWrite}
+use Rattle.mailbox_rules.specs.Requests.{ReadBox}
 use Rattle.mailbox_rules.specs.Tables.{plain_writes}
 use Rattle.file_carry.specs.Parts.{count_of, part_of}
 use Rattle.file_carry.specs.Laws.{CanBeCut}

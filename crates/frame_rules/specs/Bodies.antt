@@ -1,5 +1,6 @@
 -- The forms of each kind's body.
-use Rattle.std.specs.Prelude.{ℕ, zero, suc, ◌-◌, ◌/◌, ◌&&◌, ◌||◌, true, false, List, [], ◌∷◌, length, take, drop, Result, Ok, Err, ◌==◌, nat_le, if◌then◌else◌}
+use Rattle.std.specs.Prelude.{ℕ, zero, suc, ◌-◌, ◌/◌, ◌&&◌, ◌||◌, true, false, List, [], ◌∷◌, length, take}
+use Rattle.std.specs.Prelude.{drop, Result, Ok, Err, ◌==◌, nat_le, if◌then◌else◌}
 use Rattle.std.specs.Int.{w8, w16, w32, w64, w128, from_be_bytes}
 use Rattle.express_words.specs.declared.audit.ProofShare.{ProofShare}
 use Rattle.express_words.specs.declared.audit.Openings.{Openings}
@@ -11,8 +12,13 @@ use Rattle.frame_rules.specs.declared.fault.FrameFault.{FrameFault}
 use Rattle.frame_rules.specs.declared.fault.FrameFault.TheVariants.{Malformed}
 use Rattle.frame_rules.specs.declared.kind.Kind.{Kind}
 use Rattle.frame_rules.specs.declared.kind.Kind.TheVariants as kinds
-use Rattle.frame_rules.specs.Frames.{PlainBody, Deposit, Register, Write, Read, Proof, Held, Challenge, Registered, Accepted, Message, Refused, LinkRegister, LinkBegin, LinkAudit, LinkSettle, LinkRead, LinkReply, Retire, LinkRetire, LinkBegun, ReplyRegistered, ReplyBegun, ReplyAudited, ReplyAccepted, ReplyRejected, ReplyMasked, ReplyRefused}
-use Rattle.frame_rules.specs.Forms.{◌>>=◌, first_of, word_of, Form, Exactly, Wide, filled, tagged, nothing, number, word, key}
+use Rattle.frame_rules.specs.Frames.{PlainBody, Deposit, Register, Write, Read, Proof, Held, Challenge}
+use Rattle.frame_rules.specs.Frames.{Registered, Accepted, Message, Refused, LinkRegister, LinkBegin}
+use Rattle.frame_rules.specs.Frames.{LinkAudit, LinkSettle, LinkRead, LinkReply, Retire, LinkRetire}
+use Rattle.frame_rules.specs.Frames.{LinkBegun, ReplyRegistered, ReplyBegun, ReplyAudited, ReplyAccepted}
+use Rattle.frame_rules.specs.Frames.{ReplyRejected, ReplyMasked, ReplyRefused}
+use Rattle.frame_rules.specs.Forms.{◌>>=◌, first_of, word_of, Form, Exactly, Wide, filled, tagged, nothing}
+use Rattle.frame_rules.specs.Forms.{number, word, key}
 
 -- ---- what a few fields mean
 
@@ -28,28 +34,46 @@ words_of zero bytes = []
 words_of (suc n) bytes = word_of (take 16 bytes) ∷ words_of n (drop 16 bytes)
 
 abbrev pub three_words : {A : Type 0} → (ℕ → ℕ → ℕ → A) → List ℕ → A
-three_words make bytes = make (word_of (take 16 bytes)) (word_of (take 16 (drop 16 bytes))) (word_of (drop 16 (drop 16 bytes)))
+three_words make bytes =
+    make (word_of (take 16 bytes)) (word_of (take 16 (drop 16 bytes))) (word_of (drop 16 (drop 16 bytes)))
 
 -- u and v, the five of h, and the three of the triple
 abbrev pub proof_share_of : List ℕ → ProofShare
 proof_share_of bytes =
     three_words
-    (λ a b c. record { u = word_of (take 16 bytes); v = word_of (take 16 (drop 16 bytes)); h = words_of 5 (take 80 (drop 16 (drop 16 bytes))); a = a; b = b; c = c })
+    (λ a b c.
+    record {
+      u = word_of (take 16 bytes);
+      v = word_of (take 16 (drop 16 bytes));
+      h = words_of 5 (take 80 (drop 16 (drop 16 bytes)));
+      a = a;
+      b = b;
+      c = c;
+    })
     (drop 80 (drop 16 (drop 16 bytes)))
 
 abbrev pub rejected_of : List ℕ → Refusal
-rejected_of bytes = three_words (λ o1 tau0 tau1. refusal.Rejected (word_of (take 16 bytes)) o1 tau0 tau1) (drop 16 bytes)
+rejected_of bytes =
+    three_words (λ o1 tau0 tau1. refusal.Rejected (word_of (take 16 bytes)) o1 tau0 tau1) (drop 16 bytes)
 
 -- ---- bodies without a tag
 
 abbrev pub register : Form PlainBody
-register = record { size = Exactly 48; meaning = λ bytes. Register (from_be_bytes w128 (take 16 bytes)) (drop 16 bytes) }
+register =
+    record {
+      size = Exactly 48;
+      meaning = λ bytes. Register (from_be_bytes w128 (take 16 bytes)) (drop 16 bytes);
+    }
 
 abbrev pub write : Form PlainBody
 write = record { size = Wide 2080 1; meaning = λ bytes. Write (word_of (take 16 bytes)) (drop 16 bytes) }
 
 abbrev pub boxed : (ℕ → ℕ → PlainBody) → Form PlainBody
-boxed make = record { size = Exactly 20; meaning = λ bytes. make (from_be_bytes w32 (take 4 bytes)) (word_of (drop 4 bytes)) }
+boxed make =
+    record {
+      size = Exactly 20;
+      meaning = λ bytes. make (from_be_bytes w32 (take 4 bytes)) (word_of (drop 4 bytes));
+    }
 
 abbrev pub proof : Form PlainBody
 proof = record { size = Exactly 160; meaning = λ bytes. Proof (proof_share_of bytes) }
@@ -61,24 +85,38 @@ abbrev pub link_begin : Form PlainBody
 link_begin = record { size = Wide 2096 1; meaning = λ bytes. LinkBegin (take 32 bytes) (drop 32 bytes) }
 
 abbrev pub link_audit : Form PlainBody
-link_audit = record { size = Exactly 48; meaning = λ bytes. LinkAudit (word_of (take 16 bytes)) (openings_of (drop 16 bytes)) }
+link_audit =
+    record {
+      size = Exactly 48;
+      meaning = λ bytes. LinkAudit (word_of (take 16 bytes)) (openings_of (drop 16 bytes));
+    }
 
 abbrev pub link_settle : Form PlainBody
 link_settle = record { size = Exactly 32; meaning = λ bytes. LinkSettle (closing_of bytes) }
 
 abbrev pub link_begun : Form PlainBody
-link_begun = record { size = Exactly 36; meaning = λ bytes. LinkBegun (from_be_bytes w32 (take 4 bytes)) (drop 4 bytes) }
+link_begun =
+    record {
+      size = Exactly 36;
+      meaning = λ bytes. LinkBegun (from_be_bytes w32 (take 4 bytes)) (drop 4 bytes);
+    }
 
 -- ---- bodies by their tag
 
 abbrev pub deposits : List (ℕ × Form PlainBody)
-deposits = (1, key (λ k. Deposit (deposit.Register k))) ∷ (2, word (λ root. Deposit (deposit.Write root))) ∷ (3, word (λ token. Deposit (deposit.Read token))) ∷ []
+deposits =
+    (1, key (λ k. Deposit (deposit.Register k))) ∷ (2, word (λ root. Deposit (deposit.Write root)))
+    ∷ (3, word (λ token. Deposit (deposit.Read token))) ∷ []
 
 abbrev pub helds : List (ℕ × Form PlainBody)
 helds = (1, nothing (Held false)) ∷ (2, nothing (Held true)) ∷ []
 
 abbrev pub message : Form PlainBody
-message = record { size = Wide 0 2; meaning = λ bytes. Message (take (length bytes / 2) bytes) (drop (length bytes / 2) bytes) }
+message =
+    record {
+      size = Wide 0 2;
+      meaning = λ bytes. Message (take (length bytes / 2) bytes) (drop (length bytes / 2) bytes);
+    }
 
 abbrev pub dones : List (ℕ × Form PlainBody)
 dones = (1, number w32 Registered) ∷ (2, nothing Accepted) ∷ (3, message) ∷ []
@@ -103,7 +141,12 @@ refusals =
     ∷ []
 
 abbrev pub audited : Form PlainBody
-audited = record { size = Exactly 64; meaning = λ bytes. LinkReply (ReplyAudited (openings_of (take 32 bytes)) (closing_of (drop 32 bytes))) }
+audited =
+    record {
+      size = Exactly 64;
+      meaning = λ bytes.
+          LinkReply (ReplyAudited (openings_of (take 32 bytes)) (closing_of (drop 32 bytes)));
+    }
 
 -- replies but for refusals
 abbrev pub replies : List (ℕ × Form PlainBody)
@@ -118,7 +161,8 @@ replies =
 
 -- ---- a body of each kind: the left bytes of the length, from the rest of the bytes
 
--- a refusal of bytes that are no frame, number 1 or 2, has lane 0 and serial 0, and every other a serial from 1
+-- a refusal of bytes that are no frame, number 1 or 2, has lane 0 and serial 0,
+-- and every other a serial from 1
 unfoldable pub addressed : ℕ → ℕ → ℕ → Result (Unit {0}) FrameFault
 addressed number lane serial =
     if nat_le number 2
@@ -129,7 +173,8 @@ addressed number lane serial =
 unfoldable pub refused : ℕ → ℕ → ℕ → List ℕ → Result PlainBody FrameFault
 refused lane serial left rest = do
   number ← first_of rest
-  right ← (if nat_le 1 number.0 && nat_le number.0 14 then addressed number.0 lane serial else Err (Malformed 20))
+  right ← (if nat_le 1 number.0 && nat_le number.0 14 then addressed number.0 lane serial
+      else Err (Malformed 20))
   refusal ← tagged 20 refusals left rest
   Ok (Refused refusal)
 

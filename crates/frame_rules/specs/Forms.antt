@@ -1,5 +1,6 @@
 -- Fields that are judged as they come, and forms of a body.
-use Rattle.std.specs.Prelude.{◌≡◌, ℕ, ◌+◌, ◌-◌, ◌*◌, ◌%◌, Bool, ◌&&◌, List, [], ◌∷◌, length, take, drop, Option, Some, None, Result, Ok, Err, nat_lt, nat_le, ◌==◌, if◌then◌else◌}
+use Rattle.std.specs.Prelude.{◌≡◌, ℕ, ◌+◌, ◌-◌, ◌*◌, ◌%◌, Bool, ◌&&◌, List, [], ◌∷◌, length, take, drop}
+use Rattle.std.specs.Prelude.{Option, Some, None, Result, Ok, Err, nat_lt, nat_le, ◌==◌, if◌then◌else◌}
 use Rattle.std.specs.Int.{Width, w128, byte_len, from_be_bytes, from_le_bytes}
 use Rattle.frame_rules.specs.declared.fault.FrameFault.{FrameFault}
 use Rattle.frame_rules.specs.declared.fault.FrameFault.TheVariants.{Short, Malformed}
@@ -17,7 +18,8 @@ Gives view (Err e) read = read ≡ Err e
 -- a big-endian number at a place, once its bytes have come
 unfoldable pub number_at : Width → ℕ → List ℕ → Result ℕ FrameFault
 number_at w place bytes =
-    if nat_lt (length bytes) (place + byte_len w) then Err Short else Ok (from_be_bytes w (take (byte_len w) (drop place bytes)))
+    if nat_lt (length bytes) (place + byte_len w) then Err Short
+    else Ok (from_be_bytes w (take (byte_len w) (drop place bytes)))
 
 -- the first byte, and those after it
 abbrev pub first_of : List ℕ → Result (ℕ × List ℕ) FrameFault
@@ -35,12 +37,14 @@ pub data Size : Type 0 where
 
 abbrev pub has_size : Size → ℕ → Bool
 has_size (Exactly count) n = n == count
-has_size (Wide base copies) n = nat_le (base + 16 * copies) n && nat_le n (base + 4096 * copies) && (n - base) % (16 * copies) == 0
+has_size (Wide base copies) n =
+    nat_le (base + 16 * copies) n && nat_le n (base + 4096 * copies) && (n - base) % (16 * copies) == 0
 
 -- the left bytes that the length leaves: judged by what they are to hold, and whole
 unfoldable pub sized : Size → ℕ → List ℕ → Result (List ℕ) FrameFault
 sized size left rest =
-    if has_size size left then (if nat_lt (length rest) left then Err Short else Ok (take left rest)) else Err (Malformed 0)
+    if has_size size left then (if nat_lt (length rest) left then Err Short else Ok (take left rest))
+    else Err (Malformed 0)
 
 -- one form of a body: how many bytes it has behind its tag, and what they mean
 pub record Form (A : Type 0) : Type 0 where

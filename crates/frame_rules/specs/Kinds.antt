@@ -1,7 +1,10 @@
 -- The kinds of frames, with their numbers and versions.
 use Rattle.std.specs.Prelude.{ℕ, Bool, true, false, List, [], ◌∷◌, Option, Some, None, ◌==◌, if◌then◌else◌}
 use Rattle.frame_rules.specs.declared.kind.Kind.{Kind}
-use Rattle.frame_rules.specs.declared.kind.Kind.TheVariants.{Deposit, Register, Write, Read, Proof, Held, Challenge, Done, Refused, LinkRegister, LinkBegin, LinkAudit, LinkSettle, LinkRead, LinkReply, Retire, LinkRetire, LinkBegun}
+use Rattle.frame_rules.specs.declared.kind.Kind.TheVariants.{Deposit, Register, Write, Read, Proof, Held}
+use Rattle.frame_rules.specs.declared.kind.Kind.TheVariants.{Challenge, Done, Refused, LinkRegister}
+use Rattle.frame_rules.specs.declared.kind.Kind.TheVariants.{LinkBegin, LinkAudit, LinkSettle, LinkRead}
+use Rattle.frame_rules.specs.declared.kind.Kind.TheVariants.{LinkReply, Retire, LinkRetire, LinkBegun}
 
 abbrev pub number_of : Kind → ℕ
 number_of Deposit = 1
@@ -72,12 +75,14 @@ is_refused _ = false
 
 abbrev pub kinds : List Kind
 kinds =
-    Deposit ∷ Register ∷ Write ∷ Read ∷ Proof ∷ Held ∷ Challenge ∷ Done ∷ Refused ∷ LinkRegister ∷ LinkBegin ∷ LinkAudit ∷ LinkSettle ∷ LinkRead ∷ LinkReply ∷ Retire ∷ LinkRetire ∷ LinkBegun ∷ []
+    Deposit ∷ Register ∷ Write ∷ Read ∷ Proof ∷ Held ∷ Challenge ∷ Done ∷ Refused ∷ LinkRegister ∷ LinkBegin
+    ∷ LinkAudit ∷ LinkSettle ∷ LinkRead ∷ LinkReply ∷ Retire ∷ LinkRetire ∷ LinkBegun ∷ []
 
 -- the first of these kinds that has the number
 abbrev pub first_numbered : ℕ → List Kind → Option Kind
 first_numbered number [] = None
-first_numbered number (kind ∷ others) = if number == number_of kind then Some kind else first_numbered number others
+first_numbered number (kind ∷ others) =
+    if number == number_of kind then Some kind else first_numbered number others
 
 unfoldable pub kind_numbered : ℕ → Option Kind
 kind_numbered number = first_numbered number kinds

@@ -1,5 +1,6 @@
 -- Reading a frame from the front of bytes, field by field in the order of judging, up to the first wrong one.
-use Rattle.std.specs.Prelude.{ℕ, ◌+◌, ◌-◌, ◌&&◌, ◌||◌, List, length, drop, Option, Some, None, Result, Ok, Err, nat_le, ◌==◌, not, if◌then◌else◌}
+use Rattle.std.specs.Prelude.{ℕ, ◌+◌, ◌-◌, ◌&&◌, ◌||◌, List, length, drop, Option, Some, None, Result, Ok}
+use Rattle.std.specs.Prelude.{Err, nat_le, ◌==◌, not, if◌then◌else◌}
 use Rattle.std.specs.Int.{w8, w16, w32, w64}
 use Rattle.frame_rules.specs.declared.fault.FrameFault.{FrameFault}
 use Rattle.frame_rules.specs.declared.fault.FrameFault.TheVariants.{Malformed, Version}
@@ -62,7 +63,8 @@ header_in bytes = do
   link ← link_in kind bytes
   Ok (record { kind = kind; lane = lane; serial = serial; link = link; left = length - 16 })
 
--- the frame that begins the bytes, with its length, or the first wrong field, or that the bytes end before the frame does
+-- the frame that begins the bytes, with its length, or the first wrong field,
+-- or that the bytes end before the frame does
 unfoldable pub decoded : List ℕ → Result (PlainFrame × ℕ) FrameFault
 decoded bytes = do
   h ← header_in bytes

@@ -1,5 +1,6 @@
 -- What a frame is, and the bytes that spell it.
-use Rattle.std.specs.Prelude.{◌≡◌, ℕ, ◌+◌, ◌-◌, ◌^◌, ◌<◌, ◌≤◌, true, false, List, [], ◌∷◌, ◌++◌, length, MatchBool}
+use Rattle.std.specs.Prelude.{◌≡◌, ℕ, ◌+◌, ◌-◌, ◌^◌, ◌<◌, ◌≤◌, true, false, List, [], ◌∷◌, ◌++◌, length}
+use Rattle.std.specs.Prelude.{MatchBool}
 use Rattle.std.specs.List.{flat_map}
 use Rattle.std.specs.Int.{w16, w32, w64, w128, to_be_bytes, to_le_bytes}
 use Rattle.express_words.specs.Limits.{IsWidth, IsPart}
@@ -13,7 +14,11 @@ use Rattle.frame_rules.specs.declared.frame.DepositBody.{DepositBody}
 use Rattle.frame_rules.specs.declared.frame.DepositBody.TheVariants as deposits
 use Rattle.frame_rules.specs.declared.kind.Kind.{Kind}
 use Rattle.frame_rules.specs.declared.kind.Kind.TheVariants as kinds
-use Rattle.frame_rules.specs.Frames.{PlainFrame, PlainBody, PlainReply, Deposit, Register, Write, Read, Proof, Held, Challenge, Registered, Accepted, Message, Refused, LinkRegister, LinkBegin, LinkAudit, LinkSettle, LinkRead, LinkReply, Retire, LinkRetire, LinkBegun, ReplyRegistered, ReplyBegun, ReplyAudited, ReplyAccepted, ReplyRejected, ReplyMasked, ReplyRefused}
+use Rattle.frame_rules.specs.Frames.{PlainFrame, PlainBody, PlainReply, Deposit, Register, Write, Read, Proof}
+use Rattle.frame_rules.specs.Frames.{Held, Challenge, Registered, Accepted, Message, Refused, LinkRegister}
+use Rattle.frame_rules.specs.Frames.{LinkBegin, LinkAudit, LinkSettle, LinkRead, LinkReply, Retire}
+use Rattle.frame_rules.specs.Frames.{LinkRetire, LinkBegun, ReplyRegistered, ReplyBegun, ReplyAudited}
+use Rattle.frame_rules.specs.Frames.{ReplyAccepted, ReplyRejected, ReplyMasked, ReplyRefused}
 use Rattle.frame_rules.specs.Kinds.{number_of, version_of, is_linked}
 
 abbrev pub kind_of : PlainBody → Kind
@@ -112,10 +117,12 @@ body (Retire n token) = to_be_bytes w32 n ++ word token
 body (LinkRetire n) = to_be_bytes w32 n
 body (LinkBegun count draw) = to_be_bytes w32 count ++ draw
 
--- the header's 20 bytes before so many of the body: length of what follows the length, version, kind, lane, serial, link number
+-- the header's 20 bytes before so many of the body: length of what follows the length, version, kind,
+-- lane, serial, link number
 abbrev pub header : Kind → ℕ → ℕ → ℕ → ℕ → List ℕ
 header kind lane serial link count =
-    to_be_bytes w32 (16 + count) ++ ((version_of kind ∷ number_of kind ∷ []) ++ (to_be_bytes w16 lane ++ (to_be_bytes w32 serial ++ to_be_bytes w64 link)))
+    to_be_bytes w32 (16 + count) ++ ((version_of kind ∷ number_of kind ∷ [])
+    ++ (to_be_bytes w16 lane ++ (to_be_bytes w32 serial ++ to_be_bytes w64 link)))
 
 unfoldable pub spelling : PlainFrame → List ℕ
 spelling f = header (kind_of f.body) f.lane f.serial f.link (length (body f.body)) ++ body f.body

@@ -7,7 +7,8 @@ use Rattle.link_order.specs.declared.incoming.Arrival.TheVariants.{Next, Kept, P
 -- Next exactly for the next number, Kept exactly for the last ones with their replies, and else Passed
 abbrev pub IsArrival : Carried → ℕ → Arrival → Type 0
 IsArrival link number Next = number ≡ link.carried + 1
-IsArrival link number (Kept reply) = (place : ℕ) × IsKeptAt link number place × (slice_get link.replies place ≡ Some reply.now)
+IsArrival link number (Kept reply) =
+    (place : ℕ) × IsKeptAt link number place × (slice_get link.replies place ≡ Some reply.now)
 IsArrival link number Passed = (link.carried + 1 < number) ⊎ (number + length link.replies ≤ link.carried)
 
 -- the reply that is kept, if one is

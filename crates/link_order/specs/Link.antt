@@ -1,16 +1,16 @@
 -- A numbered link as its two ends see it.
 use Rattle.std.specs.Prelude.{◌≡◌, ℕ, ◌+◌, ◌-◌, ◌<◌, ◌≤◌, min, List, length, drop, All}
 
--- The commands that were issued and not acknowledged, oldest first; the next number, the most commands that may be
--- outstanding, and the most bytes of one.
+-- The commands that were issued and not acknowledged, oldest first; the next number, the most commands that
+-- may be outstanding, and the most bytes of one.
 pub record Outstanding : Type 0 where
   pub next : ℕ
   pub window : ℕ
   pub size : ℕ
   pub frames : List (List ℕ)
 
--- How many numbers were carried, and the replies to the last ones, oldest first; how many of them are kept, and the
--- most bytes of one.
+-- How many numbers were carried, and the replies to the last ones, oldest first;
+-- how many of them are kept, and the most bytes of one.
 pub record Carried : Type 0 where
   pub carried : ℕ
   pub window : ℕ
@@ -38,7 +38,8 @@ IsOldest link number = (0 < length link.frames) × (number + length link.frames 
 
 -- a number among those whose replies are kept, with its place there
 abbrev pub IsKeptAt : Carried → ℕ → ℕ → Type 0
-IsKeptAt link number place = (place < length link.replies) × (number + length link.replies ≡ link.carried + 1 + place)
+IsKeptAt link number place =
+    (place < length link.replies) × (number + length link.replies ≡ link.carried + 1 + place)
 
 -- the last n of a list
 abbrev pub last : ℕ → List (List ℕ) → List (List ℕ)

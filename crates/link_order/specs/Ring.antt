@@ -9,10 +9,12 @@ pub record Held : Type 0 where
   pub size : ℕ
   pub frames : List (List ℕ)
 
--- the frames of these lengths, the first of which has this number; a frame stands in the block of its number modulo the window
+-- the frames of these lengths, the first of which has this number;
+-- a frame stands in the block of its number modulo the window
 abbrev pub frames_from : List (List ℕ) → ℕ → ℕ → List ℕ → List (List ℕ)
 frames_from blocks window number [] = []
-frames_from blocks window number (n ∷ lengths) = take n (slice_index_or blocks (number % window) []) ∷ frames_from blocks window (number + 1) lengths
+frames_from blocks window number (n ∷ lengths) =
+    take n (slice_index_or blocks (number % window) []) ∷ frames_from blocks window (number + 1) lengths
 
 -- frames that wait, as commands
 abbrev pub outstanding_in : Held → Outstanding

@@ -1,8 +1,12 @@
 -- What holds of the tables after every journal.
-use Rattle.std.specs.Prelude.{◌≡◌, ℕ, suc, ◌≤◌, false, List, [], ◌∷◌, ◌++◌, length, map, take, Option, Some, None, slice_get}
+use Rattle.std.specs.Prelude.{◌≡◌, ℕ, suc, ◌≤◌, false, List, [], ◌∷◌, ◌++◌, length, map, take, Option, Some}
+use Rattle.std.specs.Prelude.{None, slice_get}
 use Rattle.express_words.specs.Bytes.{xor_bytes}
-use Rattle.mailbox_rules.specs.Requests.{Command, Line, Entry, entry, Operation, AddBox, SettleWrite, ReadBox, RetireBox}
-use Rattle.mailbox_rules.specs.Tables.{Mailbox, Table, Writes, NoBox, addresses, after_line, result_of, table_after, results_after, sum_of, result_sum, outline, result_outline, own_from}
+use Rattle.mailbox_rules.specs.Requests.{Command, Line, Entry, entry, Operation, AddBox, SettleWrite, ReadBox}
+use Rattle.mailbox_rules.specs.Requests.{RetireBox}
+use Rattle.mailbox_rules.specs.Tables.{Mailbox, Table, Writes, NoBox, addresses, after_line, result_of}
+use Rattle.mailbox_rules.specs.Tables.{table_after, results_after, sum_of, result_sum, outline}
+use Rattle.mailbox_rules.specs.Tables.{result_outline, own_from}
 
 -- a box's address and life are those of its two shares, and its bytes are their sum
 pub record IsShared (x y z : Mailbox) : Type 0 where

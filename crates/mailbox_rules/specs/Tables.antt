@@ -1,8 +1,10 @@
 -- The table of boxes, changed by the entries of a journal in order, and the result of each entry.
 -- One fold serves the plain table and both servers' shares: they differ in what a write adds to a box.
-use Rattle.std.specs.Prelude.{ℕ, zero, suc, nat_le, nat_eq, ◌==◌, if◌then◌else◌, Bool, true, false, List, [], ◌∷◌, ◌++◌, length, map, position, replicate, Option, Some, None, slice_get}
+use Rattle.std.specs.Prelude.{ℕ, zero, suc, nat_le, nat_eq, ◌==◌, if◌then◌else◌, Bool, true, false, List, []}
+use Rattle.std.specs.Prelude.{◌∷◌, ◌++◌, length, map, position, replicate, Option, Some, None, slice_get}
 use Rattle.express_words.specs.Bytes.{xor_bytes}
-use Rattle.mailbox_rules.specs.Requests.{Request, Write, request_at, Line, Entry, Operation, AddBox, BeginWrite, AuditWrite, SettleWrite, ReadBox, RetireBox, Refuse}
+use Rattle.mailbox_rules.specs.Requests.{Request, Write, request_at, Line, Entry, Operation, AddBox}
+use Rattle.mailbox_rules.specs.Requests.{BeginWrite, AuditWrite, SettleWrite, ReadBox, RetireBox, Refuse}
 
 -- A box is live until it is retired. Lane and serial are those of the request that registered it.
 pub record Mailbox : Type 0 where

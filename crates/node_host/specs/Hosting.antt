@@ -1,5 +1,6 @@
 -- A server at its door.
-use Rattle.std.specs.Prelude.{◌≡◌, ℕ, ◌<◌, true, List, [], ◌∷◌, ◌++◌, length, flat_map, Option, Result, Ok, Err}
+use Rattle.std.specs.Prelude.{◌≡◌, ℕ, ◌<◌, true, List, [], ◌∷◌, ◌++◌, length, flat_map, Option, Result, Ok}
+use Rattle.std.specs.Prelude.{Err}
 use Rattle.express_words.specs.Causes.{next}
 use Rattle.express_words.specs.Calls.{Call, Accepted}
 use Rattle.express_words.specs.declared.outside.Failed.{Failed}

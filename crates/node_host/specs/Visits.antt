@@ -12,8 +12,8 @@ use Rattle.node_serve.specs.Serving.{IsCut, IsHelper, Serves, Writes}
 use Rattle.node_serve.specs.declared.node.Node.{Node}
 use Rattle.node_serve.specs.declared.node.Served.{Served}
 
--- A connection at the door: the bytes that it gave, those that it had left at its close, the bytes that it took,
--- its count of faults, the calls that the server made on the net meanwhile, and what became of it.
+-- A connection at the door: the bytes that it gave, those that it had left at its close, the bytes that it
+-- took, its count of faults, the calls that the server made on the net meanwhile, and what became of it.
 pub record Visit : Type 0 where
   pub given : List ℕ
   pub left : List ℕ
@@ -22,8 +22,8 @@ pub record Visit : Type 0 where
   pub calls : List Call
   pub answer : Served
 
--- what the server was handed: what was given, up to the end of a frame or to the byte at which it is known to be
--- none
+-- what the server was handed: what was given,
+-- up to the end of a frame or to the byte at which it is known to be none
 abbrev pub handed : Visit → List ℕ
 handed v = gathered [] v.given
 
@@ -46,8 +46,8 @@ pub record IsCutOff (v : Visit) (old new : Node) : Type 0 where
   pub calls : v.calls ≡ []
   pub untold : v.taken ≡ []
 
--- the server took its step with what it was handed, and its reply was written; count is the net's count of faults
--- then
+-- the server took its step with what it was handed, and its reply was written;
+-- count is the net's count of faults then
 pub record IsStepped (v : Visit) (old new : Node) (count : ℕ) : Type 0 where
   pub reply : List ℕ
   pub serves : Serves old (handed v) new (Some []) (Some v.calls) count v.answer reply
@@ -74,9 +74,10 @@ pub data Visits (start : Standing) : List Visit → Standing → Type 0 where
   then : (before : List Visit) (s : Standing) (v : Visit) (now : Standing) →
       Visits start before s → IsVisit v s now → Visits start (before ++ v ∷ []) now
 
--- It was a connection of this content at its close, which took these bytes and had this count of faults. Where the
--- net doesn't tell its calls now nothing is said.
+-- It was a connection of this content at its close, which took these bytes and had this count of faults.
+-- Where the net doesn't tell its calls now nothing is said.
 abbrev pub IsOf : Option (List Call) → Visit → Option Stream → Option (List ℕ) → ℕ → Type 0
 IsOf None v content written faults = Unit {0}
 IsOf (Some calls) v content written faults =
-    (content ≡ Some (record { given = v.given; left = v.left })) × (written ≡ Some v.taken) × (faults ≡ v.faults)
+    (content ≡ Some (record { given = v.given; left = v.left })) × (written ≡ Some v.taken)
+    × (faults ≡ v.faults)

@@ -1,5 +1,6 @@
 -- What a journal knows of its disk.
-use Rattle.std.specs.Prelude.{◌≡◌, ℕ, ◌+◌, ◌-◌, ◌^◌, ◌<◌, ◌≤◌, min, nat_lt, ◌||◌, Bool, true, List, Result, Ok, Err}
+use Rattle.std.specs.Prelude.{◌≡◌, ℕ, ◌+◌, ◌-◌, ◌^◌, ◌<◌, ◌≤◌, min, nat_lt, ◌||◌, Bool, true, List, Result}
+use Rattle.std.specs.Prelude.{Ok, Err}
 use Rattle.node_journal.specs.Disk.{Within}
 use Rattle.node_journal.specs.Records.{IsBehind, EndsAt}
 use Rattle.node_journal.specs.declared.fault.JournalFault.{JournalFault}

@@ -2,10 +2,13 @@
 use Rattle.std.specs.Prelude.{◌≡◌, ℕ, ◌^◌, ◌<◌, List, [], ◌∷◌, bit_xor}
 use Rattle.std.proofs.Common.{ap, ◌∙◌}
 use Rattle.tower_field.specs.Levels.{product_at}
-use Rattle.tower_field.specs.Elements.{Element, element_add, element_mul, level_laws}
-use Rattle.tower_field.specs.Gf.{gf, gf_value, gf_two, values}
+use Rattle.tower_field.specs.Elements.{Element, element_add, element_mul}
+use Rattle.tower_field.specs.proved.ElementLaws.{level_laws}
+use Rattle.tower_field.specs.Gf.{gf, values}
+use Rattle.tower_field.proofs.GfLaws.{gf_value, gf_two}
 use Rattle.poly_roots.specs.Polynomials.{value_at}
-use Rattle.poly_roots.specs.Through.{through, through_zero, through_one, through_two}
+use Rattle.poly_roots.specs.Through.{through}
+use Rattle.poly_roots.proofs.ThroughLaws.{through_zero, through_one, through_two}
 
 abbrev pub through_of : ℕ → ℕ → ℕ → List (Element 7)
 through_of u x m = through (element_add 7) (element_mul 7) (gf 2) (gf u) (gf x) (gf m)

@@ -1,1 +1,5 @@
 mod Coefficients
+pub mod Roots
+pub mod Steps
+pub mod ThroughLaws
+pub mod ValueLaws

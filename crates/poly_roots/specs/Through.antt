@@ -1,9 +1,5 @@
 -- The polynomial of degree at most 2 through three values, at 0, at 1 and at a point t with t·t = t + 1.
-use Rattle.std.specs.Prelude.{◌≡◌, Bool, List, [], ◌∷◌, refl}
-use Rattle.std.proofs.Common.{◌∙◌, ap}
-use Rattle.tower_field.specs.Laws.{FieldLaws}
-use Rattle.tower_field.specs.Rings.{var, nil, unit, ◌⊕◌, ◌⊗◌, solve}
-use Rattle.poly_roots.specs.Polynomials.{value_at}
+use Rattle.std.specs.Prelude.{List, [], ◌∷◌}
 
 abbrev pub square_coefficient : {F : Type 0} → (F → F → F) → (F → F → F) → F → F → F → F → F
 square_coefficient add mul t u x m = add (add u m) (mul t (add u x))
@@ -12,26 +8,3 @@ abbrev pub through : {F : Type 0} → (F → F → F) → (F → F → F) → F 
 through add mul t u x m =
     let c = square_coefficient add mul t u x m in
     u ∷ (add c (add u x) ∷ (c ∷ []))
-
-module _ {F : Type 0} {z o : F} {add mul : F → F → F} {inverse : F → F} {eq : F → F → Bool} (laws : FieldLaws z o add mul inverse eq) (t : F) (square : mul t t ≡ add t o) where
-  pub through_zero : (u x m : F) → value_at z add mul (through add mul t u x m) z ≡ u
-  through_zero u x m =
-      let vu = var 0 in let vx = var 1 in let vm = var 2 in let vt = var 3 in
-      let c = vu ⊕ vm ⊕ vt ⊗ (vu ⊕ vx) in
-      solve laws (u ∷ (x ∷ (m ∷ (t ∷ [])))) (vu ⊕ nil ⊗ (c ⊕ (vu ⊕ vx) ⊕ nil ⊗ (c ⊕ nil ⊗ nil))) vu refl
-
-  pub through_one : (u x m : F) → value_at z add mul (through add mul t u x m) o ≡ x
-  through_one u x m =
-      let vu = var 0 in let vx = var 1 in let vm = var 2 in let vt = var 3 in
-      let c = vu ⊕ vm ⊕ vt ⊗ (vu ⊕ vx) in
-      solve laws (u ∷ (x ∷ (m ∷ (t ∷ [])))) (vu ⊕ unit ⊗ (c ⊕ (vu ⊕ vx) ⊕ unit ⊗ (c ⊕ unit ⊗ nil))) vx refl
-
-  pub through_two : (u x m : F) → value_at z add mul (through add mul t u x m) t ≡ m
-  through_two u x m =
-      let vu = var 0 in let vx = var 1 in let vm = var 2 in let vt = var 3 in
-      let env : List F = u ∷ (x ∷ (m ∷ (t ∷ []))) in
-      let c = vu ⊕ vm ⊕ vt ⊗ (vu ⊕ vx) in
-      let cx = square_coefficient add mul t u x m in
-      solve laws env (vu ⊕ vt ⊗ (c ⊕ (vu ⊕ vx) ⊕ vt ⊗ (c ⊕ vt ⊗ nil))) (vu ⊕ vt ⊗ (c ⊕ (vu ⊕ vx)) ⊕ (vt ⊗ vt) ⊗ c) refl
-      ∙ ap (λ s. add (add u (mul t (add cx (add u x)))) (mul s cx)) square
-      ∙ solve laws env (vu ⊕ vt ⊗ (c ⊕ (vu ⊕ vx)) ⊕ (vt ⊕ unit) ⊗ c) vm refl

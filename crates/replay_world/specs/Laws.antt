@@ -6,7 +6,8 @@ use Rattle.run_rules.specs.Letters.{FrameWorld}
 use Rattle.run_rules.specs.Book.{Book}
 use Rattle.run_rules.specs.History.{history, no_lane, token_events, token_run}
 use Rattle.schedule_text.specs.declared.schedule.Event.{Event}
-use Rattle.schedule_text.specs.declared.schedule.Event.TheVariants.{Ask, Send, Tick, Deliver, Show, Finish, Inject}
+use Rattle.schedule_text.specs.declared.schedule.Event.TheVariants.{Ask, Send, Tick, Deliver, Show, Finish}
+use Rattle.schedule_text.specs.declared.schedule.Event.TheVariants.{Inject}
 use Rattle.schedule_text.specs.declared.schedule.Schedule.{Schedule}
 use Rattle.schedule_text.specs.Rules.{KeepsRules}
 use Rattle.replay_world.specs.Parts.{events_in}

@@ -13,7 +13,8 @@ use Rattle.step_rules.specs.Boxes.{Box}
 use Rattle.step_rules.specs.Client as client
 use Rattle.step_rules.specs.Leader.{Leader}
 use Rattle.leader_core.specs.State.{share_in}
-use Rattle.run_rules.specs.Letters.{Value, Registered, Began, Audited, Settled, WasRead, Retired, Refused, JournalLine, Told, Ended, NoOwnBox, Outcome, Shown, FrameWorld}
+use Rattle.run_rules.specs.Letters.{Value, Registered, Began, Audited, Settled, WasRead, Retired, Refused}
+use Rattle.run_rules.specs.Letters.{JournalLine, Told, Ended, NoOwnBox, Outcome, Shown, FrameWorld}
 
 -- 32 hexadecimal digits, the most significant first
 abbrev pub number_text : ℕ → List ℕ
@@ -73,8 +74,8 @@ share_line box address zero one =
     codes "share " ++ (decimal box ++ (codes " " ++ (number_text address
     ++ (codes " " ++ (encode_lower zero ++ (codes " " ++ (encode_lower one ++ codes "\n")))))))
 
--- The boxes of the helper in order, from this number on, each beside the leader's share of it: zeros where the
--- leader has no such box yet.
+-- The boxes of the helper in order, from this number on, each beside the leader's share of it:
+-- zeros where the leader has no such box yet.
 unfoldable pub share_lines : Leader → ℕ → List Box → List ℕ
 share_lines leader number [] = []
 share_lines leader number (box ∷ boxes) =

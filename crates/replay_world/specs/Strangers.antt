@@ -44,11 +44,13 @@ OfEverySchedule P = (schedule : Schedule) → KeepsRules schedule
     (token_run (oracle_of (runs_of schedule).acts) schedule.header.settings (strangers_in schedule)
     (events_in schedule.events))
 
--- The requests that the client of a lane which isn't foreign was asked are those that have their outcomes, numbered in
--- order, then the current one, and then those that wait; each that was sent has the next serial.
+-- The requests that the client of a lane which isn't foreign was asked are those that have their outcomes,
+-- numbered in order, then the current one, and then those that wait; each that was sent has the next serial.
 abbrev pub OthersAreTold : Type 0
-OthersAreTold = (schedule : Schedule) (client : ℕ) → KeepsRules schedule → strangers_in schedule client ≡ false
-    → let w = token_run (oracle_of (runs_of schedule).acts) schedule.header.settings (strangers_in schedule) (events_in schedule.events) in
+OthersAreTold =
+    (schedule : Schedule) (client : ℕ) → KeepsRules schedule → strangers_in schedule client ≡ false
+    → let w = token_run (oracle_of (runs_of schedule).acts) schedule.header.settings (strangers_in schedule)
+        (events_in schedule.events) in
     AreNumbered w client × Accounts (asked_by client (token_events (events_in schedule.events))) w client
 
 -- Each request that a client was asked before a `finish` of it has its outcome, whatever comes after.

@@ -5,7 +5,8 @@ use Rattle.step_rules.specs.Client.{Client, opened_client}
 use Rattle.token_rules.specs.Tokens.{put}
 use Rattle.run_rules.specs.Letters.{FrameWorld, client_seed, capacity}
 use Rattle.schedule_text.specs.declared.schedule.Event.{Event}
-use Rattle.schedule_text.specs.declared.schedule.Event.TheVariants.{Ask, Send, Tick, Deliver, Show, Finish, Inject}
+use Rattle.schedule_text.specs.declared.schedule.Event.TheVariants.{Ask, Send, Tick, Deliver, Show, Finish}
+use Rattle.schedule_text.specs.declared.schedule.Event.TheVariants.{Inject}
 use Rattle.schedule_text.specs.declared.schedule.Header.{Header}
 use Rattle.replay_world.specs.declared.asker.Asker.{Asker}
 use Rattle.replay_world.specs.declared.lines.OutcomeLine.{OutcomeLine}
@@ -22,7 +23,8 @@ at_lane read without askers c = at_or read (without c) (slice_get askers c)
 
 -- a client that was asked nothing
 abbrev pub fresh : Header → ℕ → Client
-fresh header c = opened_client c (client_seed header.seed c) header.settings.width (capacity header.settings) 1
+fresh header c =
+    opened_client c (client_seed header.seed c) header.settings.width (capacity header.settings) 1
 
 abbrev pub requests_of : Asker → List Request
 requests_of a = requests_in a.waiting.items
@@ -42,7 +44,9 @@ run_in header s = record {
 
 -- so are all these clients, each of its lane
 abbrev pub AreFresh : Header → List Asker → Type 0
-AreFresh header askers = (c : ℕ) (a : Asker) → slice_get askers c ≡ Some a → (a.client ≡ fresh header c) × (requests_of a ≡ []) × (a.told ≡ 0)
+AreFresh header askers =
+    (c : ℕ) (a : Asker) → slice_get askers c ≡ Some a
+    → (a.client ≡ fresh header c) × (requests_of a ≡ []) × (a.told ≡ 0)
 
 -- the state with this client of a lane, and these outcomes
 abbrev pub with_asker : FrameWorld → ℕ → Asker → List OutcomeLine → FrameWorld

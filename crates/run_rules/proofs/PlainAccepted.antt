@@ -20,7 +20,7 @@ use Rattle.run_rules.specs.Book.{Book, table_at}
 use Rattle.run_rules.specs.Plain.{IsHistory}
 use Rattle.run_rules.proofs.PlainWrites.{addresses_small}
 use Rattle.audit_rules.specs.Audit.{ServersAccept, zero_share, one_share}
-use Rattle.audit_rules.specs.Ranges.{word_in_range}
+use Rattle.audit_rules.proofs.Words.{word_in_range}
 use Rattle.audit_rules.specs.Challenges.{sums_under}
 use Rattle.snip_proof.proofs.Writes.{honest_accepted}
 

@@ -10,9 +10,9 @@ use Rattle.dpf_rules.proofs.RangeLemmas.{state_lt}
 use Rattle.audit_rules.specs.Audit.{PassesAt, ServersAccept, bad_r, bad_s, whole_proof}
 use Rattle.audit_rules.specs.BadWrites.{HasTwo, IsBadChallenge, first_place, last_place}
 use Rattle.audit_rules.specs.Challenges.{challenge_rs, challenge_ss, sums_under}
-use Rattle.audit_rules.specs.InRange.{sums-in_range, whole-in_range}
+use Rattle.audit_rules.proofs.InRange.{sums-in_range, whole-in_range}
 use Rattle.audit_rules.specs.Values.{opens, sums_at}
-use Rattle.audit_rules.specs.Whole.{servers_pass, whole_is}
+use Rattle.audit_rules.proofs.Whole.{servers_pass, whole_is}
 use Rattle.audit_rules.proofs.ChallengeLemmas.{all_map, length-challenge_rs, length-challenge_ss, rs-in_range, ss-in_range}
 use Rattle.audit_rules.proofs.LeafLemmas.{difference-leaves, leaves-in_range}
 use Rattle.audit_rules.proofs.Soundness.{caught_two}

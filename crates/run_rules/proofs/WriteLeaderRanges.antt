@@ -18,7 +18,7 @@ use Rattle.std.proofs.lemmas.Nat.{xor_lt}
 use Rattle.audit_rules.specs.Audit.{zero_share, one_share}
 use Rattle.audit_rules.specs.Challenges.{challenge_rs, challenge_ss}
 use Rattle.audit_rules.specs.Ranges.{IsSums}
-use Rattle.audit_rules.specs.InRange.{zero-in_range, one-in_range, sums-in_range}
+use Rattle.audit_rules.proofs.InRange.{zero-in_range, one-in_range, sums-in_range}
 use Rattle.audit_rules.specs.Values.{Write, opens, sums_at}
 use Rattle.audit_rules.proofs.ValueLemmas.{opening-in_range, opened-in_range, closing-in_range}
 use Rattle.audit_rules.proofs.ChallengeLemmas.{all_map, rs-in_range, ss-in_range}

@@ -1,7 +1,9 @@
--- Runs with foreign lanes. What servers do at foreign frames, and what these brought, is read off the run over bytes; the
--- token run is told of it by its oracle, and the history keeps what was brought.
+-- Runs with foreign lanes. What servers do at foreign frames, and what these brought, is read off the run
+-- over bytes; the token run is told of it by its oracle, and the history keeps what was brought.
 use Rattle.std.specs.List.{list_all}
-use Rattle.std.specs.Prelude.{◌≡◌, ◌<◌, ◌≤◌, ◌^◌, ◌+◌, ℕ, ◌==◌, ◌&&◌, ◌||◌, nat_le, nat_lt, Bool, true, false, All, List, [], ◌∷◌, ◌++◌, drop, length, Option, Some, None, Result, Ok, Err, slice_get, if◌then◌else◌}
+use Rattle.std.specs.Prelude.{◌≡◌, ◌<◌, ◌≤◌, ◌^◌, ◌+◌, ℕ, ◌==◌, ◌&&◌, ◌||◌, nat_le, nat_lt, Bool, true, false}
+use Rattle.std.specs.Prelude.{All, List, [], ◌∷◌, ◌++◌, drop, length, Option, Some, None, Result, Ok, Err}
+use Rattle.std.specs.Prelude.{slice_get, if◌then◌else◌}
 use Rattle.express_words.specs.declared.settings.Settings.{Settings}
 use Rattle.express_words.specs.declared.refusal.Refusal.{Refusal}
 use Rattle.express_words.specs.declared.audit.ProofShare.{ProofShare}
@@ -10,7 +12,8 @@ use Rattle.frame_rules.specs.declared.frame.DepositBody.TheVariants as deposit
 use Rattle.frame_rules.specs.Frames as frame
 use Rattle.frame_rules.specs.Frames.{PlainFrame, PlainBody}
 use Rattle.frame_rules.specs.Whole.{whole, linked, is_command}
-use Rattle.mailbox_rules.specs.Requests.{Command, Request, AddBox, AuditWrite, BeginWrite, Operation, ReadBox, Refuse, RetireBox, SettleWrite}
+use Rattle.mailbox_rules.specs.Requests.{Command, Request, AddBox, AuditWrite, BeginWrite, Operation, ReadBox}
+use Rattle.mailbox_rules.specs.Requests.{Refuse, RetireBox, SettleWrite}
 use Rattle.token_rules.specs.Tokens as token
 use Rattle.token_rules.specs.Tokens.{Act, Oracle, Token, World, no_act, oracle_of, start}
 use Rattle.token_rules.specs.Run as tokens
@@ -121,7 +124,8 @@ abbrev pub is_begun : helper.Stage → Bool
 is_begun (helper.Begun write) = true
 is_begun stage = false
 
--- the helper takes a new request's deposit, and the first proof of a write that has begun, of the lanes it has
+-- the helper takes a new request's deposit, and the first proof of a write that has begun,
+-- of the lanes it has
 abbrev pub helper_takes : helper.Row → PlainFrame → PlainBody → List Taken
 helper_takes r f (frame.Deposit held) = if nat_lt r.serial f.serial then taken 1 f else []
 helper_takes r f (frame.Proof share) = if (f.serial == r.serial) && is_begun r.stage then taken 1 f else []
@@ -134,7 +138,8 @@ leader_takes f answer = []
 
 abbrev pub taken_in : Bool → FrameWorld → List ℕ → Result PlainFrame Refusal → List Taken
 taken_in false f bytes (Ok g) =
-    if nat_le f.helper.server.settings.lanes g.lane then [] else helper_takes (helper.row_at f.helper.server g.lane) g g.body
+    if nat_le f.helper.server.settings.lanes g.lane then []
+    else helper_takes (helper.row_at f.helper.server g.lane) g g.body
 taken_in true f bytes (Ok g) = leader_takes g (on_client f.leader bytes).answer
 taken_in to_leader f bytes (Err r) = []
 
@@ -154,7 +159,8 @@ first_in of default (t ∷ ts) = or_else (of t) (first_in of default ts)
 
 abbrev pub if_here : {X : Type 0} → (PlainBody → Option X) → ℕ → ℕ → ℕ → Taken → Option X
 if_here of server c serial t =
-    if (t.server == server) && ((t.frame.lane == c) && (t.frame.serial == serial)) then of t.frame.body else None
+    if (t.server == server) && ((t.frame.lane == c) && (t.frame.serial == serial)) then of t.frame.body
+    else None
 
 -- Only what a frame can spell is brought.
 abbrev pub if_fits : {X : Type 0} → Bool → X → Option X
@@ -356,7 +362,8 @@ IsTaken b server c s (frame.Deposit (deposit.Register key)) = key ≡ b.brought.
 IsTaken b server c s (frame.Deposit (deposit.Write root)) = root ≡ b.brought.root server c s
 IsTaken b server c s (frame.Register address key) =
     (address ≡ b.brought.address c s) × (key ≡ b.brought.key server c s)
-IsTaken b server c s (frame.Write root part) = (root ≡ b.brought.root server c s) × (part ≡ b.brought.part c s)
+IsTaken b server c s (frame.Write root part) =
+    (root ≡ b.brought.root server c s) × (part ≡ b.brought.part c s)
 IsTaken b server c s (frame.Read number held) = number ≡ b.brought.number c s
 IsTaken b server c s (frame.Retire number held) = number ≡ b.brought.number c s
 IsTaken b server c s (frame.Proof share) = share ≡ b.brought.share server c s
@@ -390,8 +397,9 @@ AreFitting settings foreign (event ∷ events) =
 abbrev pub ended_of : Settings → List ℕ → (ℕ → Bool) → List Event → Both
 ended_of settings seed foreign events = run_both (both_opened settings seed foreign) events
 
--- At the end of every schedule whose clients' lanes aren't foreign and whose bytes from outside name foreign lanes, the
--- run over bytes is the token run with content; the token run's oracle and the history are read off both runs.
+-- At the end of every schedule whose clients' lanes aren't foreign and whose bytes from outside name foreign
+-- lanes, the run over bytes is the token run with content;
+-- the token run's oracle and the history are read off both runs.
 abbrev pub StrangersFollow : Type 0
 StrangersFollow = (settings : Settings) (seed : List ℕ) (foreign : ℕ → Bool) (events : List Event)
     → KeepsLimits settings.width settings.boxes settings.lanes settings.window

@@ -1,10 +1,13 @@
 -- The history of a whole run without content, and what it draws: from these and the seeds all content
 -- follows.
-use Rattle.std.specs.Prelude.{ℕ, nat_eq, if◌then◌else◌, Bool, true, false, List, [], length, map, take, filter, position, Option, Some, None, slice_get, slice_index_or}
+use Rattle.std.specs.Prelude.{ℕ, nat_eq, if◌then◌else◌, Bool, true, false, List, [], length, map, take}
+use Rattle.std.specs.Prelude.{filter, position, Option, Some, None, slice_get, slice_index_or}
 use Rattle.express_words.specs.declared.settings.Settings.{Settings}
 use Rattle.express_words.specs.declared.audit.ProofShare.{ProofShare}
 use Rattle.dpf_rules.specs.Expansion.{draw32, owner_key}
-use Rattle.mailbox_rules.specs.Requests.{Request, Register, Write, Read, Retire, request_at, Command, Registers, Begins, Audits, Settles, Reads, Retires, Line, Entry, Operation, BeginWrite}
+use Rattle.mailbox_rules.specs.Requests.{Request, Register, Write, Read, Retire, request_at, Command}
+use Rattle.mailbox_rules.specs.Requests.{Registers, Begins, Audits, Settles, Reads, Retires, Line, Entry}
+use Rattle.mailbox_rules.specs.Requests.{Operation, BeginWrite}
 use Rattle.mailbox_rules.specs.Tables.{Mailbox, Table, table_after, no_writes}
 use Rattle.mailbox_rules.specs.Owned.{own_below}
 use Rattle.token_rules.specs.Run.{line_of}

@@ -34,7 +34,8 @@ FinishAlwaysEnds = (settings : Settings) (seed : List ℕ) (foreign : ℕ → Bo
 
 -- each request that a client was asked before a `finish` of it has its outcome, whatever comes after
 abbrev pub FinishAnswers : Type 0
-FinishAnswers = (settings : Settings) (seed : List ℕ) (foreign : ℕ → Bool) (before after : List Event) (c number : ℕ)
+FinishAnswers =
+    (settings : Settings) (seed : List ℕ) (foreign : ℕ → Bool) (before after : List Event) (c number : ℕ)
     → KeepsLimits settings.width settings.boxes settings.lanes settings.window
     → AreFitting settings foreign (before ++ Finish c ∷ after) → foreign c ≡ false
     → length (before ++ Finish c ∷ after) ≤ 20000 → number < asks_of c (token_events before)

@@ -1,6 +1,7 @@
 -- How a run over bytes follows the token run: each frame is that of its token, and each actor holds what the
 -- history gives. The history is that of the whole run, so what was said of a frame stays true of it.
-use Rattle.std.specs.Prelude.{◌≡◌, ◌<◌, ◌≤◌, ◌+◌, ◌-◌, ◌^◌, ◌⊎◌, ℕ, zero, suc, Bool, true, false, List, [], ◌∷◌, length, take, drop, Option, Some, None, slice_get, slice_index_or}
+use Rattle.std.specs.Prelude.{◌≡◌, ◌<◌, ◌≤◌, ◌+◌, ◌-◌, ◌^◌, ◌⊎◌, ℕ, zero, suc, Bool, true, false, List, []}
+use Rattle.std.specs.Prelude.{◌∷◌, length, take, drop, Option, Some, None, slice_get, slice_index_or}
 use Rattle.express_words.specs.Limits.{KeepsLimits}
 use Rattle.express_words.specs.Ranges.{IsWord, IsProofShare}
 use Rattle.dpf_rules.specs.Bytes.{AreBytes}
@@ -11,7 +12,10 @@ use Rattle.frame_rules.specs.Frames.{PlainFrame, PlainBody}
 use Rattle.express_words.specs.Limits.{levels_len}
 use Rattle.frame_rules.specs.Spelling.{spelling, IsFrame, IsKey}
 use Rattle.frame_rules.specs.Whole.{is_from_client}
-use Rattle.mailbox_rules.specs.Requests.{Request, Register, Write, Command, Registers, Begins, Audits, Settles, Reads, Retires, opening_of, Line, Entry, entry, lines_of, Operation, AddBox, BeginWrite, AuditWrite, SettleWrite, ReadBox, RetireBox, Refuse}
+use Rattle.mailbox_rules.specs.Requests.{Request, Register, Write, Command, Registers, Begins, Audits}
+use Rattle.mailbox_rules.specs.Requests.{Settles, Reads, Retires, opening_of, Line, Entry, entry, lines_of}
+use Rattle.mailbox_rules.specs.Requests.{Operation, AddBox, BeginWrite, AuditWrite, SettleWrite, ReadBox}
+use Rattle.mailbox_rules.specs.Requests.{RetireBox, Refuse}
 use Rattle.mailbox_rules.specs.Tables.{Result, Gave, result_sum, result_of}
 use Rattle.token_rules.specs.Tokens as token
 use Rattle.token_rules.specs.Tokens.{Token, Lane, World, Requests}
@@ -28,11 +32,16 @@ use Rattle.step_rules.specs.ClientReplies.{of_no_frame}
 use Rattle.step_tokens.specs.HelperRows as helper_rows
 use Rattle.step_tokens.specs.LeaderRows as leader_rows
 use Rattle.step_tokens.specs.ClientSteps.{IsLater}
-use Rattle.run_rules.specs.Letters.{Addressee, ToClient, ToLeader, ToHelper, ToLeaderLink, ToHelperLink, Letter, letter, JournalLine, Told, Ended, NoOwnBox, Outcome, FrameWorld, leader_seed, client_seed, helper_seed, capacity}
+use Rattle.run_rules.specs.Letters.{Addressee, ToClient, ToLeader, ToHelper, ToLeaderLink, ToHelperLink}
+use Rattle.run_rules.specs.Letters.{Letter, letter, JournalLine, Told, Ended, NoOwnBox, Outcome, FrameWorld}
+use Rattle.run_rules.specs.Letters.{leader_seed, client_seed, helper_seed, capacity}
 use Rattle.run_rules.specs.Run.{value_of}
-use Rattle.run_rules.specs.Book.{Book, Brought, place, table_at, request_of, wants, own_boxes, leaders_draw, drawn_in, begun_in}
-use Rattle.run_rules.specs.Values.{key_at, counted_at, part_at, root_at, ckey_at, write_at, share_at, sigma_at, opened_at, closing_at, writes_at, shares_at, boxes_at}
-use Rattle.run_rules.specs.Frames.{frame_with, deposit_at, submission_at, reply_with, result_at, last_line, answer_at, frame_of, line_value}
+use Rattle.run_rules.specs.Book.{Book, Brought, place, table_at, request_of, wants, own_boxes, leaders_draw}
+use Rattle.run_rules.specs.Book.{drawn_in, begun_in}
+use Rattle.run_rules.specs.Values.{key_at, counted_at, part_at, root_at, ckey_at, write_at, share_at}
+use Rattle.run_rules.specs.Values.{sigma_at, opened_at, closing_at, writes_at, shares_at, boxes_at}
+use Rattle.run_rules.specs.Frames.{frame_with, deposit_at, submission_at, reply_with, result_at, last_line}
+use Rattle.run_rules.specs.Frames.{answer_at, frame_of, line_value}
 
 -- ---- the pool
 
@@ -304,7 +313,8 @@ pub record ForeignCommands (b : Book) (rows : List leader.Row) (commands : List 
   pub there : (k : ℕ) (x : Line) → slice_get commands k ≡ Some x → b.foreign x.lane ≡ true
       → (x.lane < b.settings.lanes) × (x.serial ≤ (slice_index_or rows x.lane leader.idle).serial)
   pub still : (c : ℕ) → c < b.settings.lanes → b.foreign c ≡ true
-      → StillToIssue commands c (slice_index_or rows c leader.idle).serial (slice_index_or rows c leader.idle).stage
+      → StillToIssue commands c (slice_index_or rows c leader.idle).serial
+        (slice_index_or rows c leader.idle).stage
 
 -- an outstanding command of a foreign lane finds its row waiting for it
 abbrev pub Awaits : Command → leader.Stage → Type 0
@@ -333,7 +343,8 @@ HasBegun b carried c s stage = Unit {0}
 abbrev pub HaveBegun : Book → List helper.Row → ℕ → Type 0
 HaveBegun b rows carried =
     (c : ℕ) → c < b.settings.lanes → b.foreign c ≡ true
-    → HasBegun b carried c (slice_index_or rows c helper.idle).serial (slice_index_or rows c helper.idle).stage
+    → HasBegun b carried c (slice_index_or rows c helper.idle).serial
+      (slice_index_or rows c helper.idle).stage
 
 -- and at the leader
 abbrev pub WasBegun : Book → ℕ → ℕ → ℕ → leader.Stage → Type 0

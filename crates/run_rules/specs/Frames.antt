@@ -6,16 +6,20 @@ use Rattle.frame_rules.specs.Frames as frame
 use Rattle.frame_rules.specs.Frames.{PlainFrame, PlainBody, PlainReply}
 use Rattle.express_words.specs.Bytes.{xor_bytes}
 use Rattle.dpf_rules.specs.Expansion.{mask}
-use Rattle.mailbox_rules.specs.Requests.{Request, Register, Command, Registers, Begins, Audits, Settles, Reads, Retires, Line, Operation, opening_of, operation_of}
-use Rattle.mailbox_rules.specs.Tables.{Mailbox, Result, Registered, Taken, Full, Began, WasAudited, Settled, Gave, NoBox, Refused, result_of}
+use Rattle.mailbox_rules.specs.Requests.{Request, Register, Command, Registers, Begins, Audits, Settles}
+use Rattle.mailbox_rules.specs.Requests.{Reads, Retires, Line, Operation, opening_of, operation_of}
+use Rattle.mailbox_rules.specs.Tables.{Mailbox, Result, Registered, Taken, Full, Began, WasAudited, Settled}
+use Rattle.mailbox_rules.specs.Tables.{Gave, NoBox, Refused, result_of}
 use Rattle.token_rules.specs.Tokens as token
 use Rattle.token_rules.specs.Tokens.{Token}
 use Rattle.token_rules.specs.Laws.{last_of}
 use Rattle.step_rules.specs.ClientAsks.{deposit_of, submission_of, proof_of}
 use Rattle.run_rules.specs.Letters.{JournalLine}
 use Rattle.run_rules.specs.Run.{value_of}
-use Rattle.run_rules.specs.Book.{Book, table_at, request_of, client_at, box_of, place, leaders_draw, helpers_draw}
-use Rattle.run_rules.specs.Values.{key_at, part_at, ckey_at, sigma_at, opened_at, closing_at, writes_at, shares_at}
+use Rattle.run_rules.specs.Book.{Book, table_at, request_of, client_at, box_of, place, leaders_draw}
+use Rattle.run_rules.specs.Book.{helpers_draw}
+use Rattle.run_rules.specs.Values.{key_at, part_at, ckey_at, sigma_at, opened_at, closing_at, writes_at}
+use Rattle.run_rules.specs.Values.{shares_at}
 
 abbrev pub frame_with : ℕ → ℕ → ℕ → PlainBody → PlainFrame
 frame_with c serial link body = record { lane = c; serial = serial; link = link; body = body }

@@ -1,5 +1,7 @@
 -- The two runs of a schedule, over tokens and over bytes, and the history that both have.
-use Rattle.std.specs.Prelude.{◌≡◌, ◌<◌, ◌≤◌, ◌^◌, ℕ, false, Bool, List, [], ◌∷◌, ◌++◌, ◌+◌, filter, length, nat_eq, replicate, slice_get, suc, Option, Some, None, Result, Ok, Err, if◌then◌else◌}
+use Rattle.std.specs.Prelude.{◌≡◌, ◌<◌, ◌≤◌, ◌^◌, ℕ, false, Bool, List, [], ◌∷◌, ◌++◌, ◌+◌, filter, length}
+use Rattle.std.specs.Prelude.{nat_eq, replicate, slice_get, suc, Option, Some, None, Result, Ok, Err}
+use Rattle.std.specs.Prelude.{if◌then◌else◌}
 use Rattle.express_words.specs.declared.settings.Settings.{Settings}
 use Rattle.express_words.specs.declared.refusal.Refusal.{Refusal}
 use Rattle.express_words.specs.Limits.{KeepsLimits, levels_len}
@@ -91,12 +93,13 @@ abbrev pub AtEnd : (Book → FrameWorld → World → Type 0) → Type 0
 AtEnd P = (o : Oracle) (settings : Settings) (seed : List ℕ) (events : List Event)
     → KeepsLimits settings.width settings.boxes settings.lanes settings.window → AreOfClients settings events
     → length events ≤ 20000
-    → let v = token_run o settings no_lane events in P (history settings seed v) (frame_run settings seed events) v
+    → let v = token_run o settings no_lane events in
+      P (history settings seed v) (frame_run settings seed events) v
 
 -- ---- after a finish
 
--- A client with no current request and none that waits, each of whose requests has its outcome: it was asked so
--- many.
+-- A client with no current request and none that waits, each of whose requests has its outcome:
+-- it was asked so many.
 pub record HasEnded (c asked : ℕ) (f : FrameWorld) : Type 0 where
   pub current : (f.clients c).current ≡ None
   pub waiting : f.waiting c ≡ []

@@ -1,13 +1,17 @@
 -- The plain table of a history, and what both servers' shares are beside it.
-use Rattle.std.specs.Prelude.{◌≡◌, ◌≤◌, ◌⊎◌, ℕ, false, true, if◌then◌else◌, List, length, take, Option, Some, None, slice_get, Contains}
+use Rattle.std.specs.Prelude.{◌≡◌, ◌≤◌, ◌⊎◌, ℕ, false, true, if◌then◌else◌, List, length, take, Option, Some}
+use Rattle.std.specs.Prelude.{None, slice_get, Contains}
 use Rattle.express_words.specs.Bytes.{xor_bytes}
 use Rattle.dpf_rules.specs.Walk.{write_bytes}
 use Rattle.frame_rules.specs.Frames as frame
 use Rattle.frame_rules.specs.Frames.{PlainBody}
 use Rattle.express_words.specs.declared.refusal.Refusal.{Refusal}
 use Rattle.express_words.specs.declared.refusal.Refusal.TheVariants as refusal
-use Rattle.mailbox_rules.specs.Requests.{Request, Register, Write, Read, Retire, Line, Entry, RetireBox, lines_of, opening_of, Command, Refuse, Retires}
-use Rattle.mailbox_rules.specs.Tables.{Table, Result, Registered, Taken, Full, Began, WasAudited, Settled, Gave, NoBox, Refused, Writes, table_after, result_of, result_sum, plain_writes}
+use Rattle.mailbox_rules.specs.Requests.{Request, Register, Write, Read, Retire, Line, Entry, RetireBox}
+use Rattle.mailbox_rules.specs.Requests.{lines_of, opening_of, Command, Refuse, Retires}
+use Rattle.mailbox_rules.specs.Tables.{Table, Result, Registered, Taken, Full, Began, WasAudited, Settled}
+use Rattle.mailbox_rules.specs.Tables.{Gave, NoBox, Refused, Writes, table_after, result_of, result_sum}
+use Rattle.mailbox_rules.specs.Tables.{plain_writes}
 use Rattle.mailbox_rules.specs.Laws.{AreShares, Did}
 use Rattle.token_rules.specs.Tokens as token
 use Rattle.token_rules.specs.Tokens.{World}
@@ -16,7 +20,8 @@ use Rattle.token_rules.specs.Laws.{HasLines, InOrder, Once, last_of}
 use Rattle.step_rules.specs.Client as client
 use Rattle.step_rules.specs.Client.{Outcome}
 use Rattle.run_rules.specs.Book.{Book, request_of}
-use Rattle.run_rules.specs.Values.{accepted_at, boxes_at, closing_at, counted_at, opened_at, part_at, root_at, shares_at, writes_at}
+use Rattle.run_rules.specs.Values.{accepted_at, boxes_at, closing_at, counted_at, opened_at, part_at, root_at}
+use Rattle.run_rules.specs.Values.{shares_at, writes_at}
 use Rattle.run_rules.specs.Frames.{does_at}
 use Rattle.run_rules.specs.Follows.{ForeignOrder, HelperAnswers, Sound, SettlesBegun, brought_does}
 use Rattle.run_rules.specs.Letters as run
@@ -113,20 +118,21 @@ outcome_of b x (Gave n bytes) = Some (client.Message bytes)
 outcome_of b x (NoBox n) = Some (client.Refused (refusal.NoBox n))
 outcome_of b x result = None
 
--- The refusals that a client's request can come to, at the place of its last line: a register finds the address taken
--- or the boxes full, a write's target wasn't among the boxes when it began, and a read or retire finds a box that an
--- earlier line retired.
+-- The refusals that a client's request can come to, at the place of its last line: a register finds the
+-- address taken or the boxes full, a write's target wasn't among the boxes when it began, and a read or
+-- retire finds a box that an earlier line retired.
 abbrev pub IsDue : Book → ℕ → Line → Request → Refusal → Type 0
 IsDue b i x (Register address) (refusal.Taken n) = Unit {0}
 IsDue b i x (Register address) (refusal.Full limit) = Unit {0}
-IsDue b i x (Write target message) (refusal.Rejected o0 o1 t0 t1) = Contains (counted_at b x.lane x.serial) target → ⊥
+IsDue b i x (Write target message) (refusal.Rejected o0 o1 t0 t1) =
+    Contains (counted_at b x.lane x.serial) target → ⊥
 IsDue b i x (Read own) (refusal.NoBox n) = Did (take i b.entries) (RetireBox n)
 IsDue b i x (Retire own) (refusal.NoBox n) = Did (take i b.entries) (RetireBox n)
 IsDue b i x request refused = ⊥
 
--- The outcome of the request that a client sent under a serial: each of its lines stands in the journal, and what is
--- told is the plain table's result at the place of the last one. So the message of a read is what the plain table
--- gives at that place.
+-- The outcome of the request that a client sent under a serial: each of its lines stands in the journal, and
+-- what is told is the plain table's result at the place of the last one. So the message of a read is what the
+-- plain table gives at that place.
 pub record IsAnswered (b : Book) (c serial : ℕ) (outcome : Outcome) : Type 0 where
   pub request : Request
   pub asked : request_of b c serial ≡ Some request
@@ -167,7 +173,8 @@ printed_of b x (Taken n) = run.Refused x.command (refusal.Taken n)
 printed_of b x (Full limit) = run.Refused x.command (refusal.Full limit)
 printed_of b x (Began count) = run.Began count
 printed_of b x WasAudited =
-    run.Audited (opened_at b 0 x.lane x.serial) (opened_at b 1 x.lane x.serial) (closing_at b 1 x.lane x.serial)
+    run.Audited (opened_at b 0 x.lane x.serial) (opened_at b 1 x.lane x.serial)
+    (closing_at b 1 x.lane x.serial)
 printed_of b x (Settled accepted) = run.Settled accepted (closing_at b 0 x.lane x.serial)
 printed_of b x (Gave n bytes) = read_value x.command n
 printed_of b x (NoBox n) = run.Refused x.command (refusal.NoBox n)
@@ -213,8 +220,8 @@ pub record JournalIsTold (b : Book) (f : FrameWorld) (w : World) : Type 0 where
       → (line : JournalLine) × (slice_get f.journal i ≡ Some line)
       × (IsPlainLine b i e line ⊎ IsRefusedLine b i e line)
 
--- The helper's boxes hold its shares after the whole journal, the leader's those after the entries that it has
--- acknowledged.
+-- The helper's boxes hold its shares after the whole journal,
+-- the leader's those after the entries that it has acknowledged.
 pub record SharesAreFolds (b : Book) (f : FrameWorld) (w : World) : Type 0 where
   pub helper : f.helper.server.boxes ≡ boxes_at b 1 (length b.entries)
   pub leader : f.leader.boxes ≡ boxes_at b 0 w.acknowledged
@@ -222,11 +229,12 @@ pub record SharesAreFolds (b : Book) (f : FrameWorld) (w : World) : Type 0 where
 
 -- ---- the history and its journal
 
--- Both servers' shares add up to the plain table after every entry, and a write whose target stood among the boxes
--- when it began is accepted.
+-- Both servers' shares add up to the plain table after every entry, and a write whose target stood among the
+-- boxes when it began is accepted.
 pub record BoxesArePlain (b : Book) (f : FrameWorld) (w : World) : Type 0 where
   pub shares : (i : ℕ) → AreShares (plain_at b i).boxes (shares_at b 0 i).boxes (shares_at b 1 i).boxes
-  pub accepted : (c serial target : ℕ) (message : List ℕ) → request_of b c serial ≡ Some (Write target message)
+  pub accepted : (c serial target : ℕ) (message : List ℕ)
+      → request_of b c serial ≡ Some (Write target message)
       → Contains (counted_at b c serial) target → accepted_at b c serial ≡ true
 
 -- No line stands twice; a client's serials never fall, and a write's lines are begin, audit and settle.

@@ -1,5 +1,6 @@
 -- What a schedule does to bytes: each actor moves by its step, and what it writes goes into the pool.
-use Rattle.std.specs.Prelude.{ℕ, ◌+◌, nat_lt, nat_eq, if◌then◌else◌, Bool, true, false, List, [], ◌∷◌, ◌++◌, length, drop, Option, Some, None, slice_get, Result, Ok, Err, is_none}
+use Rattle.std.specs.Prelude.{ℕ, ◌+◌, nat_lt, nat_eq, if◌then◌else◌, Bool, true, false, List, [], ◌∷◌, ◌++◌}
+use Rattle.std.specs.Prelude.{length, drop, Option, Some, None, slice_get, Result, Ok, Err, is_none}
 use Rattle.frame_rules.specs.Frames as frame
 use Rattle.frame_rules.specs.Frames.{PlainFrame, PlainBody}
 use Rattle.frame_rules.specs.Spelling.{spelling}
@@ -19,7 +20,9 @@ use Rattle.step_rules.specs.Client as client
 use Rattle.step_rules.specs.Client.{Client, Fault, Progress, Finished, Turn}
 use Rattle.step_rules.specs.ClientAsks.{asked, sends, Sent}
 use Rattle.step_rules.specs.ClientReplies.{on_reply}
-use Rattle.run_rules.specs.Letters.{Addressee, ToClient, ToLeader, ToHelper, ToLeaderLink, ToHelperLink, Letter, letter, Value, Registered, Began, Audited, Settled, WasRead, Retired, Refused, JournalLine, Told, Ended, NoOwnBox, FrameWorld}
+use Rattle.run_rules.specs.Letters.{Addressee, ToClient, ToLeader, ToHelper, ToLeaderLink, ToHelperLink}
+use Rattle.run_rules.specs.Letters.{Letter, letter, Value, Registered, Began, Audited, Settled, WasRead}
+use Rattle.run_rules.specs.Letters.{Retired, Refused, JournalLine, Told, Ended, NoOwnBox, FrameWorld}
 
 abbrev pub posts : FrameWorld → List Letter → FrameWorld
 posts w letters = record w { pool = w.pool ++ letters }

@@ -1,5 +1,6 @@
 -- What each accepted write passed, and what a foreign lane's write needs that changes two boxes or more.
-use Rattle.std.specs.Prelude.{◌≡◌, ◌≢◌, ◌<◌, ◌≤◌, ◌^◌, ◌⊎◌, ℕ, suc, true, All, AllPairs, List, length, Some, slice_get}
+use Rattle.std.specs.Prelude.{◌≡◌, ◌≢◌, ◌<◌, ◌≤◌, ◌^◌, ◌⊎◌, ℕ, suc, true, All, AllPairs, List, length, Some}
+use Rattle.std.specs.Prelude.{slice_get}
 use Rattle.express_words.specs.declared.audit.Closing.{Closing}
 use Rattle.dpf_rules.specs.Evaluation.{difference_vector}
 use Rattle.audit_rules.specs.Audit.{PassesAt, whole_proof}
@@ -16,7 +17,8 @@ use Rattle.run_rules.specs.Plain.{plain_at}
 -- a write's difference vector, at the addresses that were counted when it began
 abbrev pub vector_at : Book → ℕ → ℕ → List ℕ
 vector_at b c serial =
-    difference_vector (part_at b c serial) (root_at b 0 c serial) (root_at b 1 c serial) (counted_at b c serial)
+    difference_vector (part_at b c serial) (root_at b 0 c serial) (root_at b 1 c serial)
+    (counted_at b c serial)
 
 -- the sum of both servers' proof words passes for this vector at a point
 abbrev pub PassesThere : Book → ℕ → ℕ → ℕ → Type 0
@@ -27,7 +29,8 @@ PassesThere b c serial sigma =
 -- each line that is printed as accepted is of a write whose proof passes at its point
 abbrev pub AcceptedPass : Book → FrameWorld → World → Type 0
 AcceptedPass b f w = (i : ℕ) (line : JournalLine) (closing : Closing) → slice_get f.journal i ≡ Some line
-    → line.value ≡ Settled true closing → PassesThere b line.lane line.serial (sigma_at b line.lane line.serial)
+    → line.value ≡ Settled true closing
+    → PassesThere b line.lane line.serial (sigma_at b line.lane line.serial)
 
 -- two boxes or more differ
 pub record DifferTwice (xs ys : List Mailbox) : Type 0 where

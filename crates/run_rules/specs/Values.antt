@@ -12,7 +12,8 @@ use Rattle.step_rules.specs.Boxes.{Box}
 use Rattle.audit_rules.specs.Values.{Write, opens, accepts, ckey_of, sigma_of}
 use Rattle.step_rules.specs.ClientAsks.{public_part, share_for}
 use Rattle.run_rules.specs.Letters.{client_seed}
-use Rattle.run_rules.specs.Book.{Book, table_at, request_of, target_of, message_of, client_at, place, leaders_draw, helpers_draw}
+use Rattle.run_rules.specs.Book.{Book, table_at, request_of, target_of, message_of, client_at, place}
+use Rattle.run_rules.specs.Book.{leaders_draw, helpers_draw}
 
 -- a server's key of the box that a lane registers with a serial
 abbrev pub key_at : Book → ℕ → ℕ → ℕ → List ℕ

@@ -8,13 +8,14 @@ use Rattle.std.proofs.lemmas.List.Elements.{All-nil, All-cons, All-head, All-tai
 use Rattle.std.proofs.lemmas.Nat.{xor_lt}
 use Rattle.express_words.specs.declared.audit.ProofShare.{ProofShare}
 use Rattle.express_words.specs.Ranges.{IsProofShare}
-use Rattle.audit_rules.specs.Ranges.{IsSums, word_in_range}
+use Rattle.audit_rules.specs.Ranges.{IsSums}
+use Rattle.audit_rules.proofs.Words.{word_in_range}
 use Rattle.audit_rules.specs.Audit.{whole_sums, whole_proof, zero_share, one_share, difference, PassesAt, ServersAccept}
-use Rattle.audit_rules.specs.Whole.{whole_is, servers_pass}
-use Rattle.audit_rules.specs.InRange.{sums-in_range, whole-in_range, zero-in_range, one-in_range}
+use Rattle.audit_rules.proofs.Whole.{whole_is, servers_pass}
+use Rattle.audit_rules.proofs.InRange.{sums-in_range, whole-in_range, zero-in_range, one-in_range}
 use Rattle.audit_rules.specs.BadWrites.{HasTwo, IsBadChallenge}
 use Rattle.audit_rules.proofs.Soundness.{caught_two}
-use Rattle.audit_rules.specs.Accepted.{alone_passes}
+use Rattle.audit_rules.proofs.AloneLaws.{alone_passes}
 use Rattle.dpf_rules.specs.Expansion.{challenge_r, challenge_s}
 use Rattle.audit_rules.specs.Challenges.{challenge_rs, challenge_ss, sums_under}
 use Rattle.audit_rules.proofs.ChallengeLemmas.{rs-in_range, ss-in_range, length-challenge_rs, length-challenge_ss, r_at, s_at}

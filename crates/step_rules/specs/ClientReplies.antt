@@ -1,5 +1,6 @@
 -- The client's steps at replies. In each function the first line that applies is taken.
-use Rattle.std.specs.Prelude.{ℕ, ◌+◌, ◌==◌, ◌&&◌, if◌then◌else◌, Bool, true, false, List, [], ◌∷◌, ◌++◌, length, Option, Some, None, slice_get, Result, Ok, Err}
+use Rattle.std.specs.Prelude.{ℕ, ◌+◌, ◌==◌, ◌&&◌, if◌then◌else◌, Bool, true, false, List, [], ◌∷◌, ◌++◌}
+use Rattle.std.specs.Prelude.{length, Option, Some, None, slice_get, Result, Ok, Err}
 use Rattle.express_words.specs.Bytes.{xor_bytes}
 use Rattle.express_words.specs.declared.refusal.Refusal.{Refusal}
 use Rattle.express_words.specs.declared.refusal.Refusal.TheVariants as refusal
@@ -8,7 +9,9 @@ use Rattle.frame_rules.specs.Frames.{PlainFrame, PlainBody}
 use Rattle.dpf_rules.specs.Expansion.{mask}
 use Rattle.frame_rules.specs.Whole.{whole}
 use Rattle.mailbox_rules.specs.Requests.{Request, Register, Write, Read, Retire}
-use Rattle.step_rules.specs.Client.{Client, Owned, Current, Step, Deposits, Submits, ProvesToHelper, ProvesToLeader, Outcome, Registered, Accepted, Message, Refused, Progress, Ignored, Later, Next, Finished, Turn}
+use Rattle.step_rules.specs.Client.{Client, Owned, Current, Step, Deposits, Submits, ProvesToHelper}
+use Rattle.step_rules.specs.Client.{ProvesToLeader, Outcome, Registered, Accepted, Message, Refused, Progress}
+use Rattle.step_rules.specs.Client.{Ignored, Later, Next, Finished, Turn}
 use Rattle.step_rules.specs.ClientAsks.{owned_by}
 
 abbrev pub turn : Client → Progress → Turn

@@ -10,7 +10,9 @@ use Rattle.lane_table.specs.Gates.{opening_gate, closing_gate}
 use Rattle.lane_table.specs.declared.gate.Gate.{Gate}
 use Rattle.lane_table.specs.declared.gate.Gate.TheVariants.{New, Same, Stale, Phase}
 use Rattle.frame_rules.specs.Whole.{whole}
-use Rattle.step_rules.specs.Helper.{Server, Helper, Row, Stage, Idle, Deposited, Begun, Proved, Audited, Done, row, row_at, with_row, door, want_in, Turn, ClientTurn, says, refuses, refuses_bytes}
+use Rattle.step_rules.specs.Helper.{Server, Helper, Row, Stage, Idle, Deposited, Begun, Proved, Audited, Done}
+use Rattle.step_rules.specs.Helper.{row, row_at, with_row, door, want_in, Turn, ClientTurn, says, refuses}
+use Rattle.step_rules.specs.Helper.{refuses_bytes}
 
 abbrev pub held_deposit : PlainBody
 held_deposit = frame.Held false

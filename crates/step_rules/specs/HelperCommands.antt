@@ -1,5 +1,6 @@
 -- The helper's steps at commands of the leader. In each function the first line that applies is taken.
-use Rattle.std.specs.Prelude.{ℕ, ◌+◌, ◌-◌, nat_le, ◌==◌, if◌then◌else◌, Bool, true, false, List, [], ◌∷◌, ◌++◌, length, take, drop, Option, Some, None, slice_get, slice_index_or}
+use Rattle.std.specs.Prelude.{ℕ, ◌+◌, ◌-◌, nat_le, ◌==◌, if◌then◌else◌, Bool, true, false, List, [], ◌∷◌}
+use Rattle.std.specs.Prelude.{◌++◌, length, take, drop, Option, Some, None, slice_get, slice_index_or}
 use Rattle.express_words.specs.Bytes.{xor_bytes}
 use Rattle.express_words.specs.declared.audit.ProofShare.{ProofShare}
 use Rattle.express_words.specs.declared.audit.Openings.{Openings}
@@ -18,7 +19,8 @@ use Rattle.step_rules.specs.Boxes.{Box, addresses_of, place_of, with_new, with_w
 use Rattle.audit_rules.specs.Audit.{accepts}
 use Rattle.audit_rules.specs.Values.{Write, Values, values, ckey_of}
 use Rattle.frame_rules.specs.Whole.{is_command, linked, on_link}
-use Rattle.step_rules.specs.Helper.{Server, Helper, Row, Stage, Idle, Deposited, Begun, Proved, Audited, Done, row, row_at, with_row, Carried, Repeated, Ignored, LinkTurn}
+use Rattle.step_rules.specs.Helper.{Server, Helper, Row, Stage, Idle, Deposited, Begun, Proved, Audited, Done}
+use Rattle.step_rules.specs.Helper.{row, row_at, with_row, Carried, Repeated, Ignored, LinkTurn}
 
 -- what carrying a command out leaves, before its reply is kept
 pub record Effect : Type 0 where

@@ -1,5 +1,6 @@
 -- The leader's steps at frames of clients. In each function the first line that applies is taken.
-use Rattle.std.specs.Prelude.{ℕ, ◌+◌, ◌-◌, ◌^◌, nat_lt, nat_le, ◌==◌, if◌then◌else◌, List, [], ◌∷◌, ◌++◌, length, take, Option, Some, None, Result, Ok, Err, slice_get}
+use Rattle.std.specs.Prelude.{ℕ, ◌+◌, ◌-◌, ◌^◌, nat_lt, nat_le, ◌==◌, if◌then◌else◌, List, [], ◌∷◌, ◌++◌}
+use Rattle.std.specs.Prelude.{length, take, Option, Some, None, Result, Ok, Err, slice_get}
 use Rattle.express_words.specs.declared.audit.ProofShare.{ProofShare}
 use Rattle.express_words.specs.declared.refusal.Refusal.{Refusal}
 use Rattle.express_words.specs.declared.refusal.Refusal.TheVariants as refusal
@@ -12,7 +13,10 @@ use Rattle.lane_table.specs.declared.gate.Gate.TheVariants.{New, Same, Stale, Ph
 use Rattle.step_rules.specs.Boxes.{Box, addresses_of}
 use Rattle.audit_rules.specs.Values.{Write, opens, sigma_of}
 use Rattle.frame_rules.specs.Whole.{whole, has_width, on_link}
-use Rattle.step_rules.specs.Leader.{Leader, Asked, Registering, Writing, Reading, Retiring, Stage, Idle, Waiting, Challenged, Auditing, Settling, Done, row, row_at, with_row, door, want_in, StillWaiting, Link, Turn, turn, says, refuses, refuses_bytes}
+use Rattle.step_rules.specs.Leader.{Leader, Asked, Registering, Writing, Reading, Retiring, Stage, Idle}
+use Rattle.step_rules.specs.Leader.{Waiting, Challenged, Auditing, Settling, Done, row, row_at, with_row}
+use Rattle.step_rules.specs.Leader.{door, want_in, StillWaiting, Link, Turn, turn, says, refuses}
+use Rattle.step_rules.specs.Leader.{refuses_bytes}
 
 -- the leader's next draw
 abbrev pub draw : Leader → List ℕ

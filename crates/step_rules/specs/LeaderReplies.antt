@@ -1,5 +1,6 @@
 -- The leader's steps at replies of the helper.
-use Rattle.std.specs.Prelude.{ℕ, ◌+◌, nat_le, ◌==◌, ◌&&◌, not, if◌then◌else◌, Bool, true, false, List, [], ◌∷◌, ◌++◌, length, drop, Option, Some, None, slice_get, is_none}
+use Rattle.std.specs.Prelude.{ℕ, ◌+◌, nat_le, ◌==◌, ◌&&◌, not, if◌then◌else◌, Bool, true, false, List, []}
+use Rattle.std.specs.Prelude.{◌∷◌, ◌++◌, length, drop, Option, Some, None, slice_get, is_none}
 use Rattle.express_words.specs.Bytes.{xor_bytes}
 use Rattle.express_words.specs.declared.audit.ProofShare.{ProofShare}
 use Rattle.express_words.specs.declared.audit.Openings.{Openings}
@@ -15,7 +16,8 @@ use Rattle.lane_table.specs.declared.row.Want.TheVariants.{Register, Write as Wr
 use Rattle.step_rules.specs.Boxes.{Box, place_of, with_new, with_write, with_read}
 use Rattle.audit_rules.specs.Values.{Write, ckey_of}
 use Rattle.frame_rules.specs.Whole.{is_reply, linked, answer, on_link}
-use Rattle.step_rules.specs.Leader.{Leader, Registering, Writing, Stage, Waiting, Challenged, Auditing, Settling, Done, row, row_at, with_row, ToLane, Settles, Ignored, AckTurn}
+use Rattle.step_rules.specs.Leader.{Leader, Registering, Writing, Stage, Waiting, Challenged, Auditing}
+use Rattle.step_rules.specs.Leader.{Settling, Done, row, row_at, with_row, ToLane, Settles, Ignored, AckTurn}
 
 -- An applied reply: c is its command, which is acknowledged.
 

@@ -1,4 +1,5 @@
--- What a step that refuses leaves of the server that takes it: boxes, shares and the other lanes are as before.
+-- What a step that refuses leaves of the server that takes it: boxes,
+-- shares and the other lanes are as before.
 use Rattle.std.specs.Prelude.{◌≡◌, ◌≢◌, ℕ, List}
 use Rattle.frame_rules.specs.Frames as frame
 use Rattle.frame_rules.specs.Frames.{PlainBody}
@@ -27,8 +28,8 @@ pub record HelperButLane (lane : ℕ) (before after : helper.Server) : Type 0 wh
   pub lanes : (other : ℕ) → other ≢ lane → helper.row_at after other ≡ helper.row_at before other
   pub draws : after.draws ≡ before.draws
 
--- by what is answered to the leader: a command that is carried out and refused leaves all but its lane's row, the
--- link aside; what isn't carried out now, as a command that comes again, changes nothing
+-- by what is answered to the leader: a command that is carried out and refused leaves all but its lane's row,
+-- the link aside; what isn't carried out now, as a command that comes again, changes nothing
 abbrev pub AnswerLeaves : helper.Answer → Helper → Helper → Type 0
 AnswerLeaves (helper.Carried reply) before after =
     IsRefusal reply.body → HelperButLane reply.lane before.server after.server
@@ -42,7 +43,8 @@ HelperRefusesClients =
 
 abbrev pub HelperRefusesCommands : Type 0
 HelperRefusesCommands =
-    (h : Helper) (bytes : List ℕ) → AnswerLeaves (on_link_bytes h bytes).answer h (on_link_bytes h bytes).helper
+    (h : Helper) (bytes : List ℕ)
+    → AnswerLeaves (on_link_bytes h bytes).answer h (on_link_bytes h bytes).helper
 
 -- ---- the leader
 
@@ -54,14 +56,14 @@ pub record LeaderButLane (lane : ℕ) (before after : Leader) : Type 0 where
   pub draws : after.draws ≡ before.draws
   pub next : after.next ≡ before.next
 
--- by what is answered to a client: a reply at once, a refusal or a kept answer, changes nothing; no more does a
--- frame whose command is outstanding
+-- by what is answered to a client: a reply at once, a refusal or a kept answer, changes nothing; no more does
+-- a frame whose command is outstanding
 abbrev pub TurnLeaves : leader.Answer → Leader → Leader → Type 0
 TurnLeaves (leader.Link number command) before after = Unit {0}
 TurnLeaves answer before after = after ≡ before
 
--- by what a reply of the helper comes to: where the lane's request is refused, all but its row is left, the link
--- aside; what doesn't fit changes nothing
+-- by what a reply of the helper comes to: where the lane's request is refused, all but its row is left, the
+-- link aside; what doesn't fit changes nothing
 abbrev pub AckLeaves : leader.Ack → Leader → Leader → Type 0
 AckLeaves (leader.ToLane lane reply) before after = IsRefusal reply.body → LeaderButLane lane before after
 AckLeaves (leader.Settles number command) before after = Unit {0}

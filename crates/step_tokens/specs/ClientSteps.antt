@@ -4,9 +4,11 @@ use Rattle.express_words.specs.declared.refusal.Refusal.{Refusal}
 use Rattle.express_words.specs.declared.refusal.Refusal.TheVariants as refusal
 use Rattle.frame_rules.specs.Frames as frame
 use Rattle.frame_rules.specs.Frames.{PlainFrame, PlainBody}
-use Rattle.token_rules.specs.Rows.{ClientHears, HeardHeldDeposit, HeardChallenge, HeardHeldProof, HeardAnswer, ClientDoes, Stays, GoesOn, Finishes, client_does}
+use Rattle.token_rules.specs.Rows.{ClientHears, HeardHeldDeposit, HeardChallenge, HeardHeldProof, HeardAnswer}
+use Rattle.token_rules.specs.Rows.{ClientDoes, Stays, GoesOn, Finishes, client_does}
 use Rattle.mailbox_rules.specs.Requests.{Request, Register, Write, Read, Retire}
-use Rattle.step_rules.specs.Client.{Client, Owned, Current, Step, Deposits, Submits, ProvesToHelper, ProvesToLeader, Progress, Ignored, Later, Next, Finished}
+use Rattle.step_rules.specs.Client.{Client, Owned, Current, Step, Deposits, Submits, ProvesToHelper}
+use Rattle.step_rules.specs.Client.{ProvesToLeader, Progress, Ignored, Later, Next, Finished}
 use Rattle.step_rules.specs.ClientReplies.{by_step, on_refusal}
 
 abbrev pub bare_step : Step → ℕ

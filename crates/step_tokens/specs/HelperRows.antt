@@ -10,11 +10,13 @@ use Rattle.frame_rules.specs.Frames.{PlainFrame, PlainBody}
 use Rattle.mailbox_rules.specs.Requests.{Command, Registers, Begins, Audits, Settles, Reads, Retires, Line}
 use Rattle.token_rules.specs.Tokens as token
 use Rattle.token_rules.specs.Tokens.{Phase}
-use Rattle.token_rules.specs.Rows.{HelperSays, HelperNothing, HelperLater, HelperHeldDeposit, HelperHeldProof, HelperStep, helper_step, deposit_step, helper_proof_step, carried_phase}
+use Rattle.token_rules.specs.Rows.{HelperSays, HelperNothing, HelperLater, HelperHeldDeposit, HelperHeldProof}
+use Rattle.token_rules.specs.Rows.{HelperStep, helper_step, deposit_step, helper_proof_step, carried_phase}
 use Rattle.lane_table.specs.Gates.{same_want}
 use Rattle.lane_table.specs.declared.row.Want.{Want}
 use Rattle.lane_table.specs.declared.row.Want.TheVariants.{Write}
-use Rattle.step_rules.specs.Helper.{Server, Row, Stage, Idle, Deposited, Begun, Proved, Audited, Done, row_at, want_in, want_of}
+use Rattle.step_rules.specs.Helper.{Server, Row, Stage, Idle, Deposited, Begun, Proved, Audited, Done, row_at}
+use Rattle.step_rules.specs.Helper.{want_in, want_of}
 use Rattle.step_rules.specs.HelperClients.{RowTurn, deposit_row, proof_row}
 use Rattle.step_rules.specs.HelperCommands.{Effect, command}
 

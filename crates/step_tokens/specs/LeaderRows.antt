@@ -1,5 +1,6 @@
 -- A leader's row and its answers without what they hold.
-use Rattle.std.specs.Prelude.{◌≡◌, ◌<◌, ◌≤◌, ◌-◌, ◌^◌, ℕ, Bool, true, false, nat_le, List, length, Option, Some, None, slice_get}
+use Rattle.std.specs.Prelude.{◌≡◌, ◌<◌, ◌≤◌, ◌-◌, ◌^◌, ℕ, Bool, true, false, nat_le, List, length, Option}
+use Rattle.std.specs.Prelude.{Some, None, slice_get}
 use Rattle.express_words.specs.declared.audit.ProofShare.{ProofShare}
 use Rattle.express_words.specs.declared.refusal.Refusal.{Refusal}
 use Rattle.express_words.specs.declared.refusal.Refusal.TheVariants as refusal
@@ -9,12 +10,16 @@ use Rattle.dpf_rules.specs.Expansion as expansion
 use Rattle.mailbox_rules.specs.Requests.{Command, Registers, Begins, Audits, Settles, Reads, Retires}
 use Rattle.token_rules.specs.Tokens as token
 use Rattle.token_rules.specs.Tokens.{Phase}
-use Rattle.token_rules.specs.Rows.{LeaderSays, LeaderNothing, LeaderLater, LeaderKept, LeaderIssues, LeaderStep, leader_step, submission_step, leader_proof_step, reply_step}
+use Rattle.token_rules.specs.Rows.{LeaderSays, LeaderNothing, LeaderLater, LeaderKept, LeaderIssues}
+use Rattle.token_rules.specs.Rows.{LeaderStep, leader_step, submission_step, leader_proof_step, reply_step}
 use Rattle.lane_table.specs.Gates.{same_want}
 use Rattle.lane_table.specs.declared.row.Want.{Want}
 use Rattle.lane_table.specs.declared.row.Want.TheVariants.{Write}
 use Rattle.step_rules.specs.Boxes.{Box}
-use Rattle.step_rules.specs.Leader.{Leader, Row, Asked, Registering, Writing, Reading, Retiring, Stage, Idle, Waiting, Challenged, Auditing, Settling, Done, row_at, want_in, want_of, Answer, Reply, Link, StillWaiting, Turn, Ack, ToLane, Settles as SettleIssued, Ignored, AckTurn}
+use Rattle.step_rules.specs.Leader.{Leader, Row, Asked, Registering, Writing, Reading, Retiring, Stage, Idle}
+use Rattle.step_rules.specs.Leader.{Waiting, Challenged, Auditing, Settling, Done, row_at, want_in, want_of}
+use Rattle.step_rules.specs.Leader.{Answer, Reply, Link, StillWaiting, Turn, Ack, ToLane}
+use Rattle.step_rules.specs.Leader.{Settles as SettleIssued, Ignored, AckTurn}
 use Rattle.step_rules.specs.LeaderClients.{Named, on_submission, on_proof}
 use Rattle.step_rules.specs.LeaderReplies.{by_command, fits}
 

@@ -1,6 +1,8 @@
 -- What a client has at every moment: its current request, its own boxes, and what waits.
-use Rattle.std.specs.Prelude.{◌≡◌, ◌<◌, ◌≤◌, ◌⊎◌, ℕ, zero, suc, Bool, false, List, [], ◌∷◌, ◌++◌, length, take, Some, slice_get}
-use Rattle.mailbox_rules.specs.Requests.{Request, Register, Read, Retire, Registers, Entry, Line, lines_of, opening_of, request_at}
+use Rattle.std.specs.Prelude.{◌≡◌, ◌<◌, ◌≤◌, ◌⊎◌, ℕ, zero, suc, Bool, false, List, [], ◌∷◌, ◌++◌, length}
+use Rattle.std.specs.Prelude.{take, Some, slice_get}
+use Rattle.mailbox_rules.specs.Requests.{Request, Register, Read, Retire, Registers, Entry, Line, lines_of}
+use Rattle.mailbox_rules.specs.Requests.{opening_of, request_at}
 use Rattle.mailbox_rules.specs.Tables.{Mailbox, Registered, Result, Writes, result_of}
 use Rattle.mailbox_rules.specs.Laws.{OwnBox}
 use Rattle.mailbox_rules.specs.Owned.{own_below}

@@ -2,9 +2,13 @@
 -- frames do (proofs/Events).
 use Rattle.std.specs.Prelude.{◌≡◌, ℕ, ◌+◌, ◌*◌, ◌<◌, ◌≤◌, Bool, false, List, length, take, Some, slice_get}
 use Rattle.mailbox_rules.specs.Requests.{Audits, Begins, Command, Line, Settles, lines_of, opens_with}
-use Rattle.token_rules.specs.Tokens.{Answer, Answered, Challenge, Deposit, Foreign, HeldDeposit, HeldProof, Injected, Lane, Later, NoOwnBox, Ordered, ProofToHelper, ProofToLeader, Replied, Submission, Token, Told, World}
+use Rattle.token_rules.specs.Tokens.{Answer, Answered, Challenge, Deposit, Foreign, HeldDeposit, HeldProof}
+use Rattle.token_rules.specs.Tokens.{Injected, Lane, Later, NoOwnBox, Ordered, ProofToHelper, ProofToLeader}
+use Rattle.token_rules.specs.Tokens.{Replied, Submission, Token, Told, World}
 use Rattle.token_rules.specs.Run.{line_of}
-use Rattle.token_rules.specs.Stages.{Checked, Checking, Fits, Invited, IsOpening, Opened, Opening, Proving, Served, Settled, Settling, Shown, Stage, Trusted, done, far, issued, past, rank}
+use Rattle.token_rules.specs.Stages.{Checked, Checking, Fits, Invited, IsOpening, Opened, Opening, Proving}
+use Rattle.token_rules.specs.Stages.{Served, Settled, Settling, Shown, Stage, Trusted, done, far, issued}
+use Rattle.token_rules.specs.Stages.{past, rank}
 
 -- what holds of each element
 abbrev pub Each : {X : Type 0} → (X → Type 0) → List X → Type 0

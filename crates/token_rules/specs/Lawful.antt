@@ -2,11 +2,19 @@
 -- that keep it.
 use Rattle.std.specs.Prelude.{◌≡◌, ◌<◌, ℕ, Bool, false, Option, Some, slice_get}
 use Rattle.mailbox_rules.specs.Requests.{Request}
-use Rattle.token_rules.specs.Tokens.{Answer, Challenge, HeldDeposit, HeldProof, Injected, Oracle, Token, World, start}
-use Rattle.token_rules.specs.Rows.{ClientHears, HeardAnswer, HeardChallenge, HeardHeldDeposit, HeardHeldProof, client_does}
-use Rattle.token_rules.specs.Run.{Event, asks, client_moves, client_sends, comes, delivers_at, drain_round, drained, finish_round, handed_last, happens, sends, sent_and_drained, ticks}
-use Rattle.token_rules.specs.Laws.{AreSent, BoxesAreAsked, FramesAreHeeded, InNumbers, InOrder, IsReady, KeepsReplies, LeaderKnows, LinkIsOne, Once, OperationsAreAsked, OutcomesAreLast, OutcomesStand, ReadsFind, RowsTell, TableIsJournals, TablesFollow}
-use Rattle.token_rules.specs.Clients.{ClientsOwn, CommandsInOrder, CommandsOnce, GotIsFew, GotStands, NoneWaits, OpeningsAreSent, OwnBoxesAreFirst, RegistersTell, RequestsReach, StepsAreNumbered, UnregisteredOwn}
+use Rattle.token_rules.specs.Tokens.{Answer, Challenge, HeldDeposit, HeldProof, Injected, Oracle, Token}
+use Rattle.token_rules.specs.Tokens.{World, start}
+use Rattle.token_rules.specs.Rows.{ClientHears, HeardAnswer, HeardChallenge, HeardHeldDeposit, HeardHeldProof}
+use Rattle.token_rules.specs.Rows.{client_does}
+use Rattle.token_rules.specs.Run.{Event, asks, client_moves, client_sends, comes, delivers_at, drain_round}
+use Rattle.token_rules.specs.Run.{drained, finish_round, handed_last, happens, sends, sent_and_drained, ticks}
+use Rattle.token_rules.specs.Laws.{AreSent, BoxesAreAsked, FramesAreHeeded, InNumbers, InOrder, IsReady}
+use Rattle.token_rules.specs.Laws.{KeepsReplies, LeaderKnows, LinkIsOne, Once, OperationsAreAsked}
+use Rattle.token_rules.specs.Laws.{OutcomesAreLast, OutcomesStand, ReadsFind, RowsTell, TableIsJournals}
+use Rattle.token_rules.specs.Laws.{TablesFollow}
+use Rattle.token_rules.specs.Clients.{ClientsOwn, CommandsInOrder, CommandsOnce, GotIsFew, GotStands}
+use Rattle.token_rules.specs.Clients.{NoneWaits, OpeningsAreSent, OwnBoxesAreFirst, RegistersTell}
+use Rattle.token_rules.specs.Clients.{RequestsReach, StepsAreNumbered, UnregisteredOwn}
 use Rattle.token_rules.specs.Stages.{Stage}
 use Rattle.token_rules.specs.Invariant.{Coherent}
 

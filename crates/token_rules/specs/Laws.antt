@@ -1,9 +1,16 @@
 -- What holds at the end of every schedule, for the lanes that aren't foreign.
-use Rattle.std.specs.Prelude.{◌≡◌, ℕ, zero, suc, Bool, false, nat_eq, if◌then◌else◌, ◌∷◌, ◌++◌, ◌+◌, ◌-◌, ◌<◌, ◌≤◌, ◌⊎◌, ◌↔◌, List, [], length, Some, slice_get, take, map, filter}
-use Rattle.mailbox_rules.specs.Requests.{Request, Register, Read, Retire, Command, Begins, Audits, Settles, Line, Entry, entry, lines_of, Operation, ReadBox, RetireBox, Refuse, opening_of, opens_with, operation_of, request_at}
-use Rattle.mailbox_rules.specs.Tables.{Mailbox, Table, Writes, NoBox, after_line, result_of, table_after, no_writes}
+use Rattle.std.specs.Prelude.{◌≡◌, ℕ, zero, suc, Bool, false, nat_eq, if◌then◌else◌, ◌∷◌, ◌++◌, ◌+◌, ◌-◌, ◌<◌}
+use Rattle.std.specs.Prelude.{◌≤◌, ◌⊎◌, ◌↔◌, List, [], length, Some, slice_get, take, map, filter}
+use Rattle.mailbox_rules.specs.Requests.{Request, Register, Read, Retire, Command, Begins, Audits, Settles}
+use Rattle.mailbox_rules.specs.Requests.{Line, Entry, entry, lines_of, Operation, ReadBox, RetireBox, Refuse}
+use Rattle.mailbox_rules.specs.Requests.{opening_of, opens_with, operation_of, request_at}
+use Rattle.mailbox_rules.specs.Tables.{Mailbox, Table, Writes, NoBox, after_line, result_of, table_after}
+use Rattle.mailbox_rules.specs.Tables.{no_writes}
 use Rattle.mailbox_rules.specs.Laws.{Did}
-use Rattle.token_rules.specs.Tokens.{World, Act, HasActs, Oracle, oracle_of, Token, Deposit, Submission, ProofToHelper, ProofToLeader, Ordered, Replied, Row, Phase, Begun, Deposited, Proved, Audited, Done, Waiting, Challenged, Auditing, Lane, Told, Answered, NoOwnBox, Outcome, start}
+use Rattle.token_rules.specs.Tokens.{World, Act, HasActs, Oracle, oracle_of, Token, Deposit, Submission}
+use Rattle.token_rules.specs.Tokens.{ProofToHelper, ProofToLeader, Ordered, Replied, Row, Phase, Begun}
+use Rattle.token_rules.specs.Tokens.{Deposited, Proved, Audited, Done, Waiting, Challenged, Auditing, Lane}
+use Rattle.token_rules.specs.Tokens.{Told, Answered, NoOwnBox, Outcome, start}
 use Rattle.token_rules.specs.Rows.{Kept, arrival_of}
 use Rattle.token_rules.specs.Run.{sent_of, line_of, Event, Ask, Finish, run, happens, finished}
 use Rattle.token_rules.specs.Driven.{finished_by, token_moves}

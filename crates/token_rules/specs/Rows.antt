@@ -2,7 +2,8 @@
 -- no run of clients has no change.
 use Rattle.std.specs.Prelude.{ℕ, ◌+◌, nat_lt, nat_le, nat_eq, ◌&&◌, ◌||◌, if◌then◌else◌, Bool}
 use Rattle.mailbox_rules.specs.Requests.{Command, Begins, Audits, Settles, Line}
-use Rattle.token_rules.specs.Tokens.{Row, row, Phase, Deposited, Begun, Proved, Audited, Done, Waiting, Challenged, Auditing}
+use Rattle.token_rules.specs.Tokens.{Row, row, Phase, Deposited, Begun, Proved, Audited, Done, Waiting}
+use Rattle.token_rules.specs.Tokens.{Challenged, Auditing}
 
 -- The helper
 

@@ -1,9 +1,19 @@
 -- What a schedule does to bare tokens: how each token comes to its addressee, and the events.
-use Rattle.std.specs.Prelude.{ℕ, zero, suc, ◌+◌, ◌-◌, ◌*◌, nat_lt, nat_le, nat_eq, ◌&&◌, if◌then◌else◌, Bool, true, false, List, [], ◌∷◌, ◌++◌, length, drop, Option, Some, None, slice_get}
-use Rattle.mailbox_rules.specs.Requests.{Request, Read, Retire, Command, Audits, Settles, opening_of, Line, entry, Operation, operation_of, request_at}
+use Rattle.std.specs.Prelude.{ℕ, zero, suc, ◌+◌, ◌-◌, ◌*◌, nat_lt, nat_le, nat_eq, ◌&&◌, if◌then◌else◌, Bool}
+use Rattle.std.specs.Prelude.{true, false, List, [], ◌∷◌, ◌++◌, length, drop, Option, Some, None, slice_get}
+use Rattle.mailbox_rules.specs.Requests.{Request, Read, Retire, Command, Audits, Settles, opening_of, Line}
+use Rattle.mailbox_rules.specs.Requests.{entry, Operation, operation_of, request_at}
 use Rattle.mailbox_rules.specs.Tables.{after_line, no_writes}
-use Rattle.token_rules.specs.Tokens.{Token, Deposit, Submission, ProofToHelper, ProofToLeader, Ordered, Replied, HeldDeposit, HeldProof, Challenge, Answer, Later, Injected, Foreign, Phase, Challenged, Done, Row, Lane, Told, Answered, NoOwnBox, World, Act, Oracle, put}
-use Rattle.token_rules.specs.Rows.{HelperSays, HelperNothing, HelperLater, HelperHeldDeposit, HelperHeldProof, HelperStep, deposit_step, helper_proof_step, carried_row, Arrival, Next, Kept, Passed, arrival_of, LeaderSays, LeaderNothing, LeaderLater, LeaderKept, LeaderIssues, LeaderStep, submission_step, leader_proof_step, reply_step, ClientHears, HeardHeldDeposit, HeardChallenge, HeardHeldProof, HeardAnswer, ClientDoes, Stays, GoesOn, Finishes, client_does}
+use Rattle.token_rules.specs.Tokens.{Token, Deposit, Submission, ProofToHelper, ProofToLeader, Ordered}
+use Rattle.token_rules.specs.Tokens.{Replied, HeldDeposit, HeldProof, Challenge, Answer, Later, Injected}
+use Rattle.token_rules.specs.Tokens.{Foreign, Phase, Challenged, Done, Row, Lane, Told, Answered, NoOwnBox}
+use Rattle.token_rules.specs.Tokens.{World, Act, Oracle, put}
+use Rattle.token_rules.specs.Rows.{HelperSays, HelperNothing, HelperLater, HelperHeldDeposit, HelperHeldProof}
+use Rattle.token_rules.specs.Rows.{HelperStep, deposit_step, helper_proof_step, carried_row, Arrival, Next}
+use Rattle.token_rules.specs.Rows.{Kept, Passed, arrival_of, LeaderSays, LeaderNothing, LeaderLater}
+use Rattle.token_rules.specs.Rows.{LeaderKept, LeaderIssues, LeaderStep, submission_step, leader_proof_step}
+use Rattle.token_rules.specs.Rows.{reply_step, ClientHears, HeardHeldDeposit, HeardChallenge, HeardHeldProof}
+use Rattle.token_rules.specs.Rows.{HeardAnswer, ClientDoes, Stays, GoesOn, Finishes, client_does}
 
 abbrev pub with_lane : World → ℕ → Lane → World
 with_lane w c lane = record w { lanes = put w.lanes c lane }

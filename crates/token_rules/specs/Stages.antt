@@ -1,7 +1,8 @@
 -- Where a client's lane stands: the step of its client and its rows at both servers come from one stage.
 use Rattle.std.specs.Prelude.{◌≡◌, ℕ, zero, suc, ◌+◌, ◌-◌, ◌*◌, ◌<◌, Bool, true, false}
 use Rattle.mailbox_rules.specs.Requests.{Audits, Begins, Command, Settles}
-use Rattle.token_rules.specs.Tokens.{Audited, Auditing, Begun, Challenged, Deposited, Done, Idle, Lane, Phase, Proved, Waiting}
+use Rattle.token_rules.specs.Tokens.{Audited, Auditing, Begun, Challenged, Deposited, Done, Idle, Lane, Phase}
+use Rattle.token_rules.specs.Tokens.{Proved, Waiting}
 use Rattle.token_rules.specs.Rows.{carried_phase}
 
 -- The stages of a request, in order. What stands between Opened and Served comes in a write alone.

@@ -1,7 +1,9 @@
 -- Worked schedules of two clients, with room for four boxes of 16 bytes. What they come to was worked out by
 -- hand from the protocol's description, and the run is computed to give it.
 use Rattle.std.specs.Prelude.{◌≡◌, ℕ, false, List, [], ◌∷◌, length}
-use Rattle.mailbox_rules.specs.Requests.{Register, Write, Read, Command, Registers, Begins, Audits, Settles, Reads, Entry, entry, AddBox, BeginWrite, AuditWrite, SettleWrite, ReadBox}
+use Rattle.mailbox_rules.specs.Requests.{Register, Write, Read, Command, Registers, Begins, Audits, Settles}
+use Rattle.mailbox_rules.specs.Requests.{Reads, Entry, entry, AddBox, BeginWrite, AuditWrite, SettleWrite}
+use Rattle.mailbox_rules.specs.Requests.{ReadBox}
 use Rattle.token_rules.specs.Tokens.{Oracle, World, start, Answered, NoOwnBox, Outcome}
 use Rattle.token_rules.specs.Run.{Event, Ask, Send, Tick, Deliver, Finish, line_of, run}
 

@@ -1,10 +1,8 @@
 pub mod Laws
-pub mod Rings
 pub mod Bits
 pub mod Quads
-pub mod Pulled
 pub mod Levels
 pub mod Elements
-pub mod Products
 pub mod Gf
 pub mod Rows
+pub mod proved

@@ -1,5 +1,6 @@
 //! Level 0: the field of two elements.
-ghost use Rattle.tower_field.specs.Bits.{bit_zero, bit_one, bit_add, bit_mul, bit_inverse, bit_trace, bit_laws, bit_tower_laws};
+ghost use Rattle.tower_field.specs.Bits.{bit_zero, bit_one, bit_add, bit_mul, bit_inverse, bit_trace};
+ghost use Rattle.tower_field.specs.proved.BitLaws.{bit_laws, bit_tower_laws};
 
 use crate::field::{Field, Tower};
 

@@ -1,6 +1,7 @@
 //! Level 7 of the tower, the field of 2^128 elements, as numbers.
 ghost use Rattle.std.specs.Prelude.{◌≡◌, ◌<◌, ◌^◌};
-ghost use Rattle.tower_field.specs.Elements.{Element, element_zero, element_one, element_add, element_mul, element_inverse, level_laws};
+ghost use Rattle.tower_field.specs.Elements.{Element, element_zero, element_one, element_add, element_mul, element_inverse};
+ghost use Rattle.tower_field.specs.proved.ElementLaws.{level_laws};
 ghost use Rattle.tower_field.specs.Gf.{gf};
 ghost use Rattle.std.proofs.Math.Nat.{mod-eq_of_lt};
 

@@ -1,5 +1,6 @@
 //! The next level over a level: its quadratic extension.
-ghost use Rattle.tower_field.specs.Quads.{quad, quad_add, quad_mul, quad_inverse, quad_trace, quad_laws, quad_tower_laws};
+ghost use Rattle.tower_field.specs.Quads.{quad, quad_add, quad_mul, quad_inverse, quad_trace};
+ghost use Rattle.tower_field.specs.proved.QuadLaws.{quad_laws, quad_tower_laws};
 
 use crate::field::{Field, Tower};
 

@@ -9,9 +9,10 @@ use Rattle.express_words.specs.declared.audit.ProofShare.{ProofShare}
 use Rattle.audit_rules.specs.declared.sums.Sums.{Sums}
 use Rattle.audit_rules.specs.Audit.{product, zero_share, one_share, honest_f, honest_g, ServersAccept}
 use Rattle.express_words.specs.Ranges.{IsProofShare}
-use Rattle.audit_rules.specs.Ranges.{IsSums, word_in_range}
-use Rattle.audit_rules.specs.InRange.{sums-in_range, zero-in_range, one-in_range}
-use Rattle.audit_rules.specs.Transfer.{E, element}
+use Rattle.audit_rules.specs.Ranges.{IsSums}
+use Rattle.audit_rules.proofs.Words.{word_in_range}
+use Rattle.audit_rules.proofs.InRange.{sums-in_range, zero-in_range, one-in_range}
+use Rattle.audit_rules.proofs.Transfer.{E, element}
 use Rattle.tower_field.specs.Gf.{values}
 use Rattle.poly_roots.specs.Polynomials.{times_of}
 use Rattle.dpf_rules.proofs.RangeLemmas.{stream_word_lt}
@@ -28,7 +29,7 @@ use Rattle.dpf_rules.proofs.RangeLemmas.{part-bytes, given_lt}
 use Rattle.write_hiding.proofs.FormLemmas.{moved-form}
 use Rattle.write_hiding.proofs.AuditLemmas.{own_first, other_first}
 use Rattle.express_words.specs.Ranges.{IsOpenings}
-use Rattle.audit_rules.specs.InRange.{values-in_range, plus-in_range, length-plus, honest_h-in_range}
+use Rattle.audit_rules.proofs.InRange.{values-in_range, plus-in_range, length-plus, honest_h-in_range}
 use Rattle.audit_rules.proofs.ValueLemmas.{product_lt, value_lt, opening-in_range}
 
 module _ (width viewer : ℕ) (hv : viewer < 2) (choice : PlainChoice) (aim : PlainAim) (game : PlainGame) (good : IsChoice width choice) (aimed : IsAim width game aim) (fair : IsGame game) where

@@ -13,7 +13,7 @@ use Rattle.write_hiding.specs.Choices.{PlainChoice, PlainAim, PlainGame, IsChoic
 use Rattle.write_hiding.specs.Views.{public_part, own_sums, other_sums, drawn, value_of, share_of, other_opening, other_closing, view}
 use Rattle.write_hiding.specs.Moved.{walked, moved_words, moved}
 use Rattle.write_hiding.proofs.PartLemmas.{public_part_stays}
-use Rattle.audit_rules.specs.Accepted.{plus_back, number_back}
+use Rattle.audit_rules.proofs.AloneLaws.{plus_back, number_back}
 use Rattle.write_hiding.proofs.AuditLemmas.{one_closes, zero_closes}
 use Rattle.write_hiding.proofs.ChoiceLemmas.{accept_own, accept_other, zero_good, one_good}
 

@@ -1,4 +1,4 @@
-use Rattle.audit_rules.specs.Accepted.{alone_passes}
+use Rattle.audit_rules.proofs.AloneLaws.{alone_passes}
 use Rattle.audit_rules.proofs.laws.honest_proofs_pass.Goals as goal
 
 pub returns : goal.returns

@@ -1,4 +1,4 @@
-use Rattle.audit_rules.specs.Whole.{servers_pass}
+use Rattle.audit_rules.proofs.Whole.{servers_pass}
 use Rattle.audit_rules.proofs.laws.servers_accept_what_passes.Goals as goal
 
 pub returns : goal.returns

@@ -1,4 +1,4 @@
-use Rattle.audit_rules.specs.Whole.{whole_is}
+use Rattle.audit_rules.proofs.Whole.{whole_is}
 use Rattle.audit_rules.proofs.laws.sums_add_up.Goals as goal
 
 pub returns : goal.returns

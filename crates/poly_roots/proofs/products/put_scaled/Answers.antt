@@ -1,5 +1,5 @@
 use Rattle.std.proofs.Common.{◌∙◌, add-one, length-set}
-use Rattle.poly_roots.specs.Steps.{scaled_set}
+use Rattle.poly_roots.proofs.Steps.{scaled_set}
 use Rattle.poly_roots.proofs.products.put_scaled.Goals as goal
 
 pub loop-j-preserved : goal.loop-j-preserved

@@ -6,7 +6,7 @@ use Rattle.dpf_rules.specs.Expansion.{challenge_r, challenge_s}
 use Rattle.dpf_rules.specs.Walk.{leaf_of}
 use Rattle.dpf_rules.specs.Evaluation.{difference_at, leaves}
 use Rattle.audit_rules.specs.Audit.{ServersAccept, zero_share, one_share}
-use Rattle.audit_rules.specs.Ranges.{word_in_range}
+use Rattle.audit_rules.proofs.Words.{word_in_range}
 use Rattle.audit_rules.specs.Challenges.{sums_under}
 use Rattle.audit_rules.proofs.LeafLemmas.{leaves-in_range}
 use Rattle.snip_proof.proofs.Writes.{honest_accepted}

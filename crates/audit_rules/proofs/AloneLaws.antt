@@ -4,25 +4,19 @@ use Rattle.std.specs.Prelude.{◌≡◌, ◌≢◌, ℕ, ◌<◌, ◌^◌, List,
 use Rattle.std.proofs.Common.{◌∙◌, ap, sym, subst, get_or, arith}
 use Rattle.std.specs.Int.Bits.{xor_assoc, xor_self, xor_zero_l}
 use Rattle.std.proofs.lemmas.Nat.{xor_comm}
-use Rattle.tower_field.specs.Elements.{element_one, level_laws, element_path}
-use Rattle.tower_field.specs.Gf.{gf, gf_two, values}
+use Rattle.tower_field.specs.Elements.{element_one}
+use Rattle.tower_field.specs.proved.ElementLaws.{level_laws, element_path}
+use Rattle.tower_field.specs.Gf.{gf, values}
+use Rattle.tower_field.proofs.GfLaws.{gf_two}
 use Rattle.poly_roots.specs.Polynomials.{value_at, plus_of, times_of}
 use Rattle.poly_roots.specs.Through.{through}
-use Rattle.audit_rules.specs.declared.sums.Sums.{Sums}
 use Rattle.audit_rules.specs.Sketch as sketch
 use Rattle.audit_rules.specs.Passing.{Passes}
-use Rattle.audit_rules.specs.Ranges.{word_in_range}
-use Rattle.audit_rules.specs.Honest.{total-alone, dot-alone, dot3-alone, honest-passes}
+use Rattle.audit_rules.proofs.Words.{word_in_range}
+use Rattle.audit_rules.proofs.Honest.{total-alone, dot-alone, dot3-alone, honest-passes}
 use Rattle.audit_rules.specs.Audit.{product, value, through_three, sums_of, whole_proof, zero_share, one_share, honest_f, honest_g, PassesAt}
-use Rattle.audit_rules.specs.Transfer.{E, z, add, mul, element, elements, values-elements, length-values, get_or-values, dot-values, total-values, dot3-values, value-values, times-values}
-
--- the sums of a vector whose one value m stands where the challenge is r and s
-abbrev pub sums_alone : ℕ → ℕ → ℕ → Sums
-sums_alone m r s = record { x = product m r; y = product m s; m = m; z = product (product m r) s }
-
--- w is zero at every place but p
-abbrev pub IsAlone : List ℕ → ℕ → Type 0
-IsAlone w p = (i : ℕ) → i ≢ p → slice_index w i ≡ 0
+use Rattle.audit_rules.proofs.Transfer.{E, z, add, mul, element, elements, values-elements, length-values, get_or-values, dot-values, total-values, dot3-values, value-values, times-values}
+use Rattle.audit_rules.specs.Alone.{sums_alone, IsAlone}
 
 alone_values : (w r s : List E) (p : ℕ) → p < length w → length r ≡ length w → length s ≡ length w → IsAlone (values w) p →
     sums_of (values w) (values r) (values s) ≡ sums_alone (slice_index (values w) p) (slice_index (values r) p) (slice_index (values s) p)

@@ -9,9 +9,10 @@ use Rattle.poly_roots.specs.Through.{through}
 use Rattle.express_words.specs.declared.audit.ProofShare.{ProofShare}
 use Rattle.audit_rules.specs.Sketch as sketch
 use Rattle.express_words.specs.Ranges.{IsProofShare}
-use Rattle.audit_rules.specs.Ranges.{IsSums, word_in_range}
+use Rattle.audit_rules.specs.Ranges.{IsSums}
 use Rattle.audit_rules.specs.Audit.{product, sums_of, whole_proof, zero_share, one_share, honest_f, honest_g}
-use Rattle.audit_rules.specs.Transfer.{E, z, add, mul, element, elements, values-elements, sums-values, times-values}
+use Rattle.audit_rules.proofs.Transfer.{E, z, add, mul, element, elements, values-elements, sums-values, times-values}
+use Rattle.audit_rules.proofs.Words.{word_in_range}
 
 pub sums-in_range : (w r s : List ℕ) → All (λ n. n < 2 ^ 128) w → All (λ n. n < 2 ^ 128) r → All (λ n. n < 2 ^ 128) s → IsSums (sums_of w r s)
 sums-in_range w r s hw hr hs =

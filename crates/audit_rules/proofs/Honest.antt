@@ -2,10 +2,11 @@
 use Rattle.std.specs.Prelude.{◌≡◌, ◌≢◌, ℕ, ◌<◌, Bool, List, [], ◌∷◌, length, refl}
 use Rattle.std.proofs.Common.{zero, suc, ◌∙◌, ap, get_or, arith}
 use Rattle.tower_field.specs.Laws.{FieldLaws}
-use Rattle.tower_field.specs.Rings.{var, nil, ◌⊕◌, ◌⊗◌, solve, zero_add}
+use Rattle.tower_field.specs.proved.Rings.{var, nil, ◌⊕◌, ◌⊗◌, solve, zero_add}
 use Rattle.poly_roots.specs.Polynomials.{value_at, times_of}
-use Rattle.poly_roots.specs.Through.{through, through_one, through_two}
-use Rattle.poly_roots.specs.Values.{value-times}
+use Rattle.poly_roots.specs.Through.{through}
+use Rattle.poly_roots.proofs.ThroughLaws.{through_one, through_two}
+use Rattle.poly_roots.proofs.ValueLaws.{value-times}
 use Rattle.audit_rules.specs.Sketch.{total, dot, dot3}
 use Rattle.audit_rules.specs.Passing.{Passes}
 

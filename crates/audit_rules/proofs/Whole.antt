@@ -3,19 +3,20 @@ use Rattle.std.specs.Prelude.{◌≡◌, ℕ, ◌<◌, ◌^◌, List, length, Al
 use Rattle.std.proofs.Common.{◌∙◌, ap, sym, subst}
 use Rattle.std.specs.Int.Bits.{xor_assoc}
 use Rattle.std.proofs.lemmas.Nat.{xor_comm}
-use Rattle.tower_field.specs.Elements.{element_one, level_laws}
+use Rattle.tower_field.specs.Elements.{element_one}
+use Rattle.tower_field.specs.proved.ElementLaws.{level_laws}
 use Rattle.tower_field.specs.Gf.{gf, values}
 use Rattle.poly_roots.specs.Polynomials.{value_at, plus_of}
 use Rattle.poly_roots.specs.Through.{through}
-use Rattle.poly_roots.specs.Values.{value-plus}
+use Rattle.poly_roots.proofs.ValueLaws.{value-plus}
 use Rattle.express_words.specs.declared.audit.ProofShare.{ProofShare}
 use Rattle.audit_rules.specs.declared.sums.Sums.{Sums}
 use Rattle.audit_rules.specs.Sketch as sketch
 use Rattle.express_words.specs.Ranges.{IsProofShare}
 use Rattle.audit_rules.specs.Ranges.{IsSums}
-use Rattle.audit_rules.specs.Shares.{total-both, dot-both, dot3-both, through-both, closings-both}
+use Rattle.audit_rules.proofs.Shares.{total-both, dot-both, dot3-both, through-both, closings-both}
 use Rattle.audit_rules.specs.Audit.{product, value, f_of, g_of, sums_of, whole_sums, whole_proof, difference, closing_of, opening_of, IsAccepted, ServersAccept, PassesAt}
-use Rattle.audit_rules.specs.Transfer.{E, z, add, mul, element, elements, values-elements, length-values, dot-values, total-values, dot3-values, both-values, value-values, plus-values}
+use Rattle.audit_rules.proofs.Transfer.{E, z, add, mul, element, elements, values-elements, length-values, dot-values, total-values, dot3-values, both-values, value-values, plus-values}
 
 -- ---- the sums
 

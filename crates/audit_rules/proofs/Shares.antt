@@ -2,7 +2,7 @@
 use Rattle.std.specs.Prelude.{◌≡◌, Bool, List, [], ◌∷◌, length, refl}
 use Rattle.std.proofs.Common.{◌∙◌, ap, sym, arith}
 use Rattle.tower_field.specs.Laws.{FieldLaws}
-use Rattle.tower_field.specs.Rings.{var, nil, ◌⊕◌, ◌⊗◌, solve}
+use Rattle.tower_field.specs.proved.Rings.{var, nil, ◌⊕◌, ◌⊗◌, solve}
 use Rattle.poly_roots.specs.Polynomials.{value_at}
 use Rattle.poly_roots.specs.Through.{through}
 use Rattle.audit_rules.specs.Sketch.{total, dot, dot3, both}

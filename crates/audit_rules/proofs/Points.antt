@@ -2,11 +2,12 @@
 use Rattle.std.specs.Prelude.{◌≡◌, ◌≢◌, ℕ, ◌≤◌, Bool, List, [], ◌∷◌, length, All, AllPairs}
 use Rattle.std.proofs.Common.{zero, suc, sym, ◌∙◌, ap, arith, get_or}
 use Rattle.tower_field.specs.Laws.{FieldLaws}
-use Rattle.tower_field.specs.Rings.{mul_zero, zero_add}
+use Rattle.tower_field.specs.proved.Rings.{mul_zero, zero_add}
 use Rattle.poly_roots.specs.Polynomials.{value_at, plus_of, times_of}
-use Rattle.poly_roots.specs.Roots.{all_zero, sum_zero, product_zero}
-use Rattle.poly_roots.specs.Values.{value-plus, value-times, value-all_zero}
-use Rattle.poly_roots.specs.Through.{through, through_one, through_two}
+use Rattle.poly_roots.proofs.Roots.{all_zero, sum_zero, product_zero}
+use Rattle.poly_roots.proofs.ValueLaws.{value-plus, value-times, value-all_zero}
+use Rattle.poly_roots.specs.Through.{through}
+use Rattle.poly_roots.proofs.ThroughLaws.{through_one, through_two}
 use Rattle.audit_rules.specs.Passing.{Passes}
 
 length_plus : {F : Type 0} (add : F → F → F) (n : ℕ) (p q : List F) → length p ≤ n → length q ≤ n → length (plus_of add p q) ≤ n
