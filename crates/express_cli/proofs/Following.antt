@@ -6,14 +6,14 @@ use Rattle.express_cli.specs.Ends.{Writes}
 use Rattle.express_cli.specs.declared.ends.End.{End}
 use Rattle.express_cli.specs.declared.ends.End.TheVariants as ends
 
-took_both : (old mid new : Option (List ℕ)) (front text : List ℕ) → Took old mid front → Took mid new text → Took old new (front ++ text)
+pub took_both : (old mid new : Option (List ℕ)) (front text : List ℕ) → Took old mid front → Took mid new text → Took old new (front ++ text)
 took_both None mid new front text one two = tt
 took_both (Some old) None new front text one two = absurd one
 took_both (Some old) (Some mid) None front text one two = absurd two
 took_both (Some old) (Some mid) (Some new) front text one two =
     two ∙ ap (λ bytes. bytes ++ text) one ∙ append_assoc old front text
 
-took_prefix_both : (old mid new : Option (List ℕ)) (front text : List ℕ) → Took old mid front → TookPrefix mid new text → TookPrefix old new (front ++ text)
+pub took_prefix_both : (old mid new : Option (List ℕ)) (front text : List ℕ) → Took old mid front → TookPrefix mid new text → TookPrefix old new (front ++ text)
 took_prefix_both old mid new front text one two =
     (front ++ two.0, two.1, ap (λ bytes. front ++ bytes) two.2 ∙ sym (append_assoc front two.0 two.1), took_both old mid new front two.0 one two.3)
 

@@ -14,14 +14,14 @@ use Rattle.express_cli.specs.Around.{Seen}
 use Rattle.express_cli.specs.Ends.{net_fault_text}
 use Rattle.express_cli.specs.Talking.{listening}
 use Rattle.express_cli.specs.Talking as serving
-use Rattle.express_cli.specs.declared.ends.End.TheVariants.{Done, NetFault}
+use Rattle.express_cli.specs.declared.ends.End.TheVariants.{Done, NetFault, WriteFault}
 use Rattle.express_keep.specs.declared.ending.Ending.{Ending}
 use Rattle.express_keep.specs.declared.ending.Ending.TheVariants.{Plain}
-use Rattle.express_keep.specs.Telling.{FaultMay, Says, WantsMemory}
+use Rattle.express_keep.specs.Telling.{FaultMay, Says, SaysOrWants}
 
 -- how many connections had each answer, unless memory is wanting for its line
 abbrev pub TallyMay : Tally → Ending → List ℕ → Type 0
-TallyMay tally end text = Says (Plain Done) (tally_text tally ++ codes "\n") end text ⊎ WantsMemory end text
+TallyMay tally end text = SaysOrWants (Plain Done) (tally_text tally ++ codes "\n") end text
 
 -- All connections of the settings were served.
 pub record Served {D : Type 0} (reads may_leave : D → List ℕ → Type 0) (moment : D → ℕ)
@@ -67,15 +67,29 @@ ServedMay reads may_leave moment left_since settings old new before now end text
     ⊎ (DoorFailed reads may_leave moment left_since settings old new before now end text
     ⊎ NotKept reads may_leave moment left_since settings old new before now end text)
 
+-- The sink failed where it was to be told that it listens: nothing was served.
+pub record Unheard {D : Type 0} (old new : KeptState D) (before now : Seen) (end : Ending) (text : List ℕ)
+    : Type 0 where
+  pub stays : new ≡ old
+  pub quiet : now ≡ before
+  pub says : Says (Plain WriteFault) listening end text
+
 -- It told that it listens, and then serving came to this.
+abbrev pub Heard : {D : Type 0} → (reads may_leave : D → List ℕ → Type 0) → (moment : D → ℕ)
+    → (left_since : D → ℕ → List ℕ → Type 0) → ServeSettings → (old new : KeptState D) → (before now : Seen)
+    → Ending → List ℕ → Type 0
+Heard reads may_leave moment left_since settings old new before now end text =
+    (said : List ℕ) × ServedMay reads may_leave moment left_since settings old new before now end said
+    × (text ≡ listening ++ said)
+
 abbrev pub ListeningMay : {D : Type 0} → (reads may_leave : D → List ℕ → Type 0) → (moment : D → ℕ)
     → (left_since : D → ℕ → List ℕ → Type 0) → ServeSettings → (old new : KeptState D) → (before now : Seen)
     → Ending → List ℕ → Type 0
 ListeningMay reads may_leave moment left_since settings old new before now end text =
-    (said : List ℕ) × ServedMay reads may_leave moment left_since settings old new before now end said
-    × (text ≡ listening ++ said)
+    Heard reads may_leave moment left_since settings old new before now end text
+    ⊎ Unheard old new before now end text
 
--- It listened where its settings say, told so, and serving came to this.
+-- It listened where its settings say, was to tell so, and serving came to this.
 pub record Hosted {D : Type 0} (reads may_leave : D → List ℕ → Type 0) (moment : D → ℕ)
     (left_since : D → ℕ → List ℕ → Type 0) (settings : ServeSettings) (old new : KeptState D)
     (before now : Seen) (end : Ending) (text : List ℕ) : Type 0 where

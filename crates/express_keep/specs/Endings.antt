@@ -1,5 +1,5 @@
 -- How a server with a journal ends.
-use Rattle.std.specs.Prelude.{◌≡◌, ◌≤◌, ℕ}
+use Rattle.std.specs.Prelude.{◌≡◌, ◌⊎◌, ℕ}
 use Rattle.express_words.specs.Causes.{Rose}
 use Rattle.node_journal.specs.declared.fault.JournalFault.TheVariants.{Closed, NotEmpty, Full, Disk, Damaged}
 use Rattle.node_restart.specs.declared.fault.KeepFault.{KeepFault}
@@ -36,9 +36,9 @@ ending_by (Journal why) = ending.DiskFault
 ending_by NoMemory = ending.Plain OutOfMemory
 ending_by (Foreign number) = ending.JournalForeign number
 
--- the disk's count of faults rose where its fault is told, and else it stayed, unless the sink failed and
--- hides it
+-- the disk's count of faults rose where its fault is told, and else it stayed; where the sink failed, that
+-- hides which
 abbrev pub DiskCounts : Ending → (before now : ℕ) → Type 0
 DiskCounts ending.DiskFault before now = Rose before now
-DiskCounts (ending.Plain WriteFault) before now = before ≤ now
+DiskCounts (ending.Plain WriteFault) before now = (now ≡ before) ⊎ Rose before now
 DiskCounts other before now = now ≡ before

@@ -20,7 +20,7 @@ use Rattle.express_cli.specs.declared.ends.End.TheVariants.{BadKey, ReadFault, W
 use Rattle.express_keep.specs.declared.ending.Ending.{Ending}
 use Rattle.express_keep.specs.declared.ending.Ending.TheVariants.{Plain}
 use Rattle.express_keep.specs.Endings.{status_of, DiskCounts}
-use Rattle.express_keep.specs.Telling.{FaultMay, Says, Tells, WantsMemory}
+use Rattle.express_keep.specs.Telling.{FaultMay, Says, SaysOrWants, Tells, WantsMemory}
 use Rattle.express_keep.specs.Door.{DoorMay}
 
 -- a journal uses so many bytes of its disk at most
@@ -43,7 +43,7 @@ pub record Opened {D : Type 0} (reads may_leave : D → List ℕ → Type 0) (mo
 abbrev pub OpenFaultMay : OpenFault → Ending → List ℕ → Type 0
 OpenFaultMay (open.Keep fault) end text = FaultMay fault end text
 OpenFaultMay (open.Differs key) end text =
-    Says (Plain BadKey) (bad_settings (key_text key)) end text ⊎ WantsMemory end text
+    SaysOrWants (Plain BadKey) (bad_settings (key_text key)) end text
 
 -- The server wasn't opened; no call was made on the net.
 pub record Unopened {D : Type 0} (reads may_leave : D → List ℕ → Type 0) (settings : ServeSettings)

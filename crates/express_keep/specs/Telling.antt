@@ -37,9 +37,13 @@ Says end text e t = (e ≡ end) × (t ≡ text)
 abbrev pub WantsMemory : Ending → List ℕ → Type 0
 WantsMemory end text = Says (ending.Plain OutOfMemory) out_of_memory_text end text
 
+-- this ending with this text, unless memory is wanting for it
+abbrev pub SaysOrWants : Ending → List ℕ → Ending → List ℕ → Type 0
+SaysOrWants end text e t = Says end text e t ⊎ WantsMemory e t
+
 abbrev pub fault_line : KeepFault → List ℕ
 fault_line fault = fault_text fault ++ codes "\n"
 
 -- what is said of a fault, unless memory is wanting for its text
 abbrev pub FaultMay : KeepFault → Ending → List ℕ → Type 0
-FaultMay fault end text = Says (ending_by fault) (fault_line fault) end text ⊎ WantsMemory end text
+FaultMay fault end text = SaysOrWants (ending_by fault) (fault_line fault) end text

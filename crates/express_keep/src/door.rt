@@ -1,5 +1,5 @@
 //! A server with a journal at its door.
-ghost use Rattle.std.specs.Prelude.{◌≡◌, ◌≢◌, ◌≤◌, false};
+ghost use Rattle.std.specs.Prelude.{◌≡◌, ◌≢◌, ◌≤◌, ℕ, false};
 ghost use Rattle.express_cli.specs.Around.{seen};
 ghost use Rattle.express_keep.specs.Endings.{DiskCounts};
 ghost use Rattle.express_keep.specs.Telling.{Tells};
@@ -28,6 +28,7 @@ pub(crate) struct Server<D: Disk> {
 fn tell_tally<K: Sink>(alloc: Global, out: &mut K, tally: Tally) -> Ending
     ensures tells { Tells (TallyMay tally) (K.written out.old) (K.written out.new) (K.count out.old) (K.count out.new) result }
     ensures told { result ≢ Ending.Plain End.WriteFault → K.count out.new ≡ K.count out.old }
+    ensures counts { (before now : ℕ) → now ≡ before → DiskCounts result before now }
 {
     match tally_line(alloc, tally) {
         Ok(line) => tell(out, line.as_str(), Ending::Plain(End::Done)),

@@ -1,10 +1,8 @@
 //! How a server with a journal ends.
 ghost use Rattle.std.specs.Prelude.{◌≡◌};
-ghost use Rattle.express_keep.specs.Endings.{IsToldOf, ending_by, status_of};
+ghost use Rattle.express_keep.specs.Endings.{status_of};
 
 use express_cli::End;
-use node_journal::JournalFault;
-use node_restart::KeepFault;
 
 /// How a server with a journal ends.
 #[derive(Clone, Copy, Debug, PartialEq, Eq)]
@@ -33,20 +31,5 @@ impl Ending {
             Ending::JournalDamaged(_) => 12,
             Ending::JournalForeign(_) => 13,
         }
-    }
-}
-
-/// How the program ends by a fault of a server that is opened, or that stops at its first fault.
-pub(crate) fn ending_by(fault: KeepFault) -> Ending
-    requires { IsToldOf fault }
-    ensures { result ≡ ending_by fault }
-{
-    match fault {
-        KeepFault::NoMemory => Ending::Plain(End::OutOfMemory),
-        KeepFault::Foreign(number) => Ending::JournalForeign(number),
-        KeepFault::Journal(JournalFault::Full(_)) => Ending::JournalFull,
-        KeepFault::Journal(JournalFault::Damaged(at)) => Ending::JournalDamaged(at),
-        // A closed journal, and a disk that isn't empty, end no run.
-        KeepFault::Journal(_) => Ending::DiskFault,
     }
 }

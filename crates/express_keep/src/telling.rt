@@ -1,23 +1,29 @@
 //! Writes the texts with which a server with a journal ends.
-ghost use Rattle.std.specs.Prelude.{◌≡◌, ◌≢◌, ◌≤◌, IfOk, string_bytes};
-ghost use Rattle.node_keep.specs.Opening.{IsOfOpening, key_text};
-ghost use Rattle.express_keep.specs.Endings.{IsToldOf};
+ghost use Rattle.std.specs.Prelude.{◌≡◌, ◌≢◌, ◌⊎◌, ◌≤◌, ℕ, IfOk, string_bytes};
+ghost use Rattle.node_restart.specs.Faults.{CountsFault};
+ghost use Rattle.node_keep.specs.Opening.{CountsOpen, IsOfOpening, key_text};
+ghost use Rattle.express_keep.specs.Endings.{DiskCounts, IsToldOf};
 ghost use Rattle.express_keep.specs.Keeping.{OpenFaultMay};
-ghost use Rattle.express_keep.specs.Telling.{FaultMay, Says, Tells, fault_line};
+ghost use Rattle.express_keep.specs.Telling.{FaultMay, Says, SaysOrWants, Tells, fault_line};
 
-use crate::ending::{Ending, ending_by};
+use crate::ending::Ending;
 use express_cli::{End, OUT_OF_MEMORY, say, say_bad_key};
 use express_words::outside::Sink;
+use node_journal::JournalFault;
 use node_keep::{OpenFault, SettingsKey};
 use node_restart::KeepFault;
 use std::alloc::{AllocError, Global};
+
+const DISK_FAULT: &str = "disk fault\n";
+
+const JOURNAL_FULL: &str = "journal full\n";
 
 /// Writes a text and comes to this ending, or to a fault of the sink.
 pub(crate) fn tell<K: Sink>(out: &mut K, text: &str, ending: Ending) -> Ending
     requires { ending ≢ Ending.Plain End.WriteFault }
     ensures tells { Tells (Says ending text.now) (K.written out.old) (K.written out.new) (K.count out.old) (K.count out.new) result }
     ensures told { result ≢ Ending.Plain End.WriteFault → K.count out.new ≡ K.count out.old }
-    ensures only { result ≢ Ending.Plain End.WriteFault → result ≡ ending }
+    ensures only { (result ≡ ending) ⊎ (result ≡ Ending.Plain End.WriteFault) }
 {
     match out.put(text.as_bytes()) {
         Ok(()) => ending,
@@ -31,15 +37,37 @@ fn fault_line(alloc: Global, fault: KeepFault) -> Result<String, AllocError>
     format!(in alloc; "{fault}\n")
 }
 
-/// Says which fault ended a server, unless memory is wanting.
-pub(crate) fn tell_fault<K: Sink>(alloc: Global, out: &mut K, fault: KeepFault) -> Ending
-    requires { IsToldOf fault }
-    ensures tells { Tells (FaultMay fault) (K.written out.old) (K.written out.new) (K.count out.old) (K.count out.new) result }
+// Says at which offset, or which record, a journal is bad, unless memory is wanting.
+fn tell_place<K: Sink>(alloc: Global, out: &mut K, fault: KeepFault, ending: Ending) -> Ending
+    requires plain { ending ≢ Ending.Plain End.WriteFault }
+    ensures tells { Tells (SaysOrWants ending (fault_line fault)) (K.written out.old) (K.written out.new) (K.count out.old) (K.count out.new) result }
     ensures told { result ≢ Ending.Plain End.WriteFault → K.count out.new ≡ K.count out.old }
+    ensures counts { (before now : ℕ) → now ≡ before → DiskCounts ending before now → DiskCounts result before now }
 {
     match fault_line(alloc, fault) {
-        Ok(line) => tell(out, line.as_str(), ending_by(fault)),
+        Ok(line) => tell(out, line.as_str(), ending),
         Err(_) => tell(out, OUT_OF_MEMORY, Ending::Plain(End::OutOfMemory)),
+    }
+}
+
+/// Says which fault ended a server, or kept it from being opened, unless memory is wanting.
+pub(crate) fn tell_fault<K: Sink>(alloc: Global, out: &mut K, fault: KeepFault) -> Ending
+    requires told_of { IsToldOf fault }
+    ensures tells { Tells (FaultMay fault) (K.written out.old) (K.written out.new) (K.count out.old) (K.count out.new) result }
+    ensures told { result ≢ Ending.Plain End.WriteFault → K.count out.new ≡ K.count out.old }
+    ensures counts { (before now : ℕ) → CountsFault before now fault → DiskCounts result before now }
+{
+    match fault {
+        KeepFault::NoMemory => tell(out, OUT_OF_MEMORY, Ending::Plain(End::OutOfMemory)),
+        KeepFault::Foreign(number) => {
+            tell_place(alloc, out, fault, Ending::JournalForeign(number))
+        }
+        KeepFault::Journal(JournalFault::Full(_)) => tell(out, JOURNAL_FULL, Ending::JournalFull),
+        KeepFault::Journal(JournalFault::Damaged(at)) => {
+            tell_place(alloc, out, fault, Ending::JournalDamaged(at))
+        }
+        // A journal that is closed, and a disk that isn't empty, end no run.
+        KeepFault::Journal(_) => tell(out, DISK_FAULT, Ending::DiskFault),
     }
 }
 
@@ -60,6 +88,7 @@ pub(crate) fn tell_unopened<K: Sink>(alloc: Global, out: &mut K, fault: OpenFaul
     requires { IsOfOpening fault }
     ensures tells { Tells (OpenFaultMay fault) (K.written out.old) (K.written out.new) (K.count out.old) (K.count out.new) result }
     ensures told { result ≢ Ending.Plain End.WriteFault → K.count out.new ≡ K.count out.old }
+    ensures counts { (before now : ℕ) → CountsOpen before now fault → DiskCounts result before now }
 {
     match fault {
         OpenFault::Keep(fault) => tell_fault(alloc, out, fault),

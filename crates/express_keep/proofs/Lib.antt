@@ -1,0 +1,5 @@
+pub mod TellLaws
+pub mod CountLaws
+pub mod FirstFaults
+pub mod KeepLaws
+pub mod StatusLaws
