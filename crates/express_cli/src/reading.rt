@@ -4,6 +4,7 @@ ghost use Rattle.express_cli.specs.Reading.{GaveAll, Stopped};
 
 use express_words::outside::Source;
 use std::alloc::Global;
+use std::fmt;
 
 /// An input has at most so many bytes.
 pub const LONGEST: usize = 67_108_864;
@@ -15,6 +16,16 @@ pub enum InputFault {
     /// It gave byte 67,108,865.
     TooLong,
     NoMemory,
+}
+
+impl fmt::Display for InputFault {
+    fn fmt<W: fmt::Write>(&self, f: &mut fmt::Formatter<W>) -> fmt::Result {
+        f.write_str(match self {
+            InputFault::Failed => "read fault",
+            InputFault::TooLong => "input too long",
+            InputFault::NoMemory => "out of memory",
+        })
+    }
 }
 
 /// The bytes of the input up to its end. Reading stops at the first fault, and at byte 67,108,865.

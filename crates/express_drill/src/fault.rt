@@ -3,8 +3,8 @@ ghost use Rattle.std.specs.Prelude.{◌≡◌};
 ghost use Rattle.express_drill.specs.Texts.{fault_status};
 
 use std::alloc::{AllocError, AllocFailed};
-use std::io;
 use std::io::ErrorKind;
+use std::{fmt, io};
 
 /// Why a drill isn't carried out to its verdict.
 #[derive(Clone, Copy, Debug, PartialEq, Eq)]
@@ -23,6 +23,15 @@ impl Fault {
             Fault::NoMemory => 7,
             Fault::NoProgram => 9,
         }
+    }
+}
+
+impl fmt::Display for Fault {
+    fn fmt<W: fmt::Write>(&self, f: &mut fmt::Formatter<W>) -> fmt::Result {
+        f.write_str(match self {
+            Fault::NoMemory => "out of memory",
+            Fault::NoProgram => "the program can't be started, read or waited for",
+        })
     }
 }
 

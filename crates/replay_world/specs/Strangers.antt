@@ -50,7 +50,7 @@ abbrev pub OthersAreTold : Type 0
 OthersAreTold =
     (schedule : Schedule) (client : ℕ) → KeepsRules schedule → strangers_in schedule client ≡ false
     → let w = token_run (oracle_of (runs_of schedule).acts) schedule.header.settings (strangers_in schedule)
-        (events_in schedule.events) in
+    (events_in schedule.events) in
     AreNumbered w client × Accounts (asked_by client (token_events (events_in schedule.events))) w client
 
 -- Each request that a client was asked before a `finish` of it has its outcome, whatever comes after.

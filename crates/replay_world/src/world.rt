@@ -6,12 +6,22 @@ use express_words::NoMemory;
 use express_words::outside::Sink;
 use schedule_text::{Event, Header};
 use std::alloc::Global;
+use std::fmt;
 
 /// Why a text wasn't written.
 #[derive(Clone, Copy, Debug, PartialEq, Eq)]
 pub enum PutFault {
     Failed,
     NoMemory,
+}
+
+impl fmt::Display for PutFault {
+    fn fmt<W: fmt::Write>(&self, f: &mut fmt::Formatter<W>) -> fmt::Result {
+        f.write_str(match self {
+            PutFault::Failed => "the sink failed",
+            PutFault::NoMemory => "out of memory",
+        })
+    }
 }
 
 /// The run of a schedule so far. After an event that found no memory it isn't whole, and nothing is said of it.

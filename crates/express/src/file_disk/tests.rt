@@ -9,7 +9,10 @@ const NAME: &str = "a-test.journal";
 fn bytes_stand_in_the_file_and_each_fault_is_counted(rt: HostRuntime) -> Result<(), Fail> {
     let _ = fs::remove_file(&rt, NAME);
     let mut disk = FileDisk::new(&rt, NAME);
-    assert!(rt; File::open(&rt, NAME).is_err(), "nothing is made before the first call");
+    assert!(rt;
+        File::open(&rt, NAME).is_err(),
+        "nothing is made before the first call"
+    );
     let mut out = [7u8; 4];
     assert_eq!(rt; disk.read(0, &mut out), Ok(0));
     assert_eq!(rt; disk.write(0, b"abcdef"), Ok(()));
