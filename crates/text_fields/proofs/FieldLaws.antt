@@ -4,7 +4,7 @@ use Rattle.std.specs.Int.{w128, from_be_bytes}
 use Rattle.std.specs.Result.{result_ok}
 use Rattle.std.proofs.lemmas.Bool.{eqb-true}
 use Rattle.hex.specs.Hex.{decode_sized}
-use Rattle.text_fields.specs.Fields.{◌>>=◌, after, wanted, word_of, seed_of, word_at}
+use Rattle.text_fields.specs.Fields.{◌>>=◌, after, wanted, word_of, seed_of, word_at, message_of}
 use Rattle.text_fields.specs.Spelling.{SpellsWord}
 use Rattle.std.proofs.lemmas.List.{take_at, drop_at, take-append-drop}
 use Rattle.hex.proofs.HexLemmas.{decode_sized-ok}
@@ -80,3 +80,18 @@ unfolding word_at
 word_at_only digits rest a h =
     let long : length digits ≡ 32 = decode_sized-ok digits 16 h.0 h.1 in
     rw (take_at digits rest 32 long, drop_at digits rest 32 long, word_only digits a h) refl
+
+pub message_found : (width : ℕ) (digits message : List ℕ) → message_of width digits ≡ Some message
+    → decode_sized digits width ≡ Ok message
+unfolding message_of
+message_found width digits message h = at_read (decode_sized digits width) refl h
+  where
+    at_read : (r : Result (List ℕ) _) → decode_sized digits width ≡ r → result_ok r ≡ Some message
+        → decode_sized digits width ≡ Ok message
+    at_read (Ok bytes) e k = cc
+    at_read (Err f) e k = cc
+
+pub message_only : (width : ℕ) (digits message : List ℕ) → decode_sized digits width ≡ Ok message
+    → message_of width digits ≡ Some message
+unfolding message_of
+message_only width digits message h = rw h refl
