@@ -3,12 +3,12 @@ use Rattle.std.proofs.Common.{◌≡◌, ℕ, ◌⊎◌, inl, inr, Bool, true, f
 use Rattle.express_texts.specs.declared.cloak.AimText.{AimText}
 use Rattle.express_texts.specs.declared.cloak.CloakGame.{CloakGame}
 use Rattle.express_texts.specs.declared.cloak.GameHeader.{GameHeader}
-use Rattle.express_texts.specs.Lines.{lines_of}
+use Rattle.text_fields.specs.Lines.{lines_of}
+use Rattle.text_fields.proofs.LineLaws.{lines_found, lines_only}
 use Rattle.express_texts.specs.Fields.{value_line, key_line}
 use Rattle.express_texts.specs.Games.{game_header_of, aim_of, is_among}
 use Rattle.express_texts.specs.GameLines.{◌>>=◌, found_or, line_at, addresses_on, form_of, registered, game_of}
 use Rattle.express_texts.specs.GameSpelling.{SpellsGameHeader, SpellsValueLine, SpellsKeyLine, SpellsAim, SpellsAddresses, SpellsForm, SpellsGame, FaultFrom, FaultOfAddresses, FaultOfForm, IsUnregistered, IsFirstBadGameLine}
-use Rattle.express_texts.proofs.LineLaws.{lines_found, lines_only}
 use Rattle.express_texts.proofs.GameLineLaws.{value_found, value_only, key_found, key_only, game_header_found, game_header_only, aim_found, aim_only, among_found, among_only, not_among, among_false}
 use Rattle.express_texts.proofs.AddressLaws.{Distinct, on_found, on_only, on_bad, on_bad_only}
 

@@ -1,21 +1,20 @@
 -- A line of a game is read exactly where it spells what it should.
-use Rattle.std.proofs.Common.{◌≡◌, ℕ, ◌<◌, ◌≤◌, ◌==◌, ◌%◌, inl, inr, nat_eq, nat_lt, not, Bool, true, false, List, [], ◌++◌, length, take, Contains, Option, Some, None, Result, Ok, Err, codes, arith, refl, sym, ◌∙◌, ap, subst, append-nil}
+use Rattle.std.proofs.Common.{◌≡◌, ℕ, ◌<◌, ◌≤◌, ◌==◌, ◌%◌, inl, inr, nat_eq, nat_lt, not, Bool, true, false, List, [], ◌++◌, length, take, Contains, Option, Some, None, codes, arith, refl, sym, ◌∙◌, ap, subst, append-nil}
 use Rattle.std.specs.Fmt.{decimal}
-use Rattle.std.specs.Result.{result_ok}
 use Rattle.std.proofs.lemmas.Bool.{eqb-true}
 use Rattle.std.proofs.lemmas.List.Folds.{Any-from_list_any, list_any_at}
-use Rattle.hex.specs.Hex.{decode_sized}
 use Rattle.express_texts.specs.declared.cloak.AimText.{AimText}
 use Rattle.express_texts.specs.declared.cloak.GameHeader.{GameHeader}
 use Rattle.express_texts.specs.declared.cloak.TheConstants.{MOST_ADDRESSES}
-use Rattle.express_texts.specs.Fields.{after, end, word_at, seed_of, message_of, value_line, key_line}
-use Rattle.express_texts.specs.Numbers.{number_at, wanted}
+use Rattle.text_fields.specs.Fields.{after, end, word_at, seed_of, message_of, wanted}
+use Rattle.text_fields.specs.Numbers.{number_at}
+use Rattle.text_fields.specs.Spelling.{SpellsWord}
+use Rattle.text_fields.proofs.FieldLaws.{bind_some, after_found, after_only, seed_found, seed_only, word_at_found, word_at_only, wanted_found, message_found, message_only}
+use Rattle.text_fields.proofs.NumberLaws.{number_found, number_only}
+use Rattle.express_texts.specs.Fields.{value_line, key_line}
 use Rattle.express_texts.specs.Games.{game_header_of, target_at, aim_of, is_among, address_behind}
-use Rattle.express_texts.specs.Spelling.{SpellsWord}
 use Rattle.express_texts.specs.GameSpelling.{SpellsGameHeader, SpellsValueLine, SpellsKeyLine, SpellsAim, IsBadAddress}
-use Rattle.express_texts.proofs.FieldLaws.{bind_some, after_found, after_only, seed_found, seed_only, word_at_found, word_at_only}
 use Rattle.express_texts.proofs.PairLaws.{end_is}
-use Rattle.express_texts.proofs.NumberLaws.{number_found, number_only, wanted_found}
 
 some_is : {A : Type 0} (x y : A) → Some x ≡ Some y → x ≡ y
 some_is x y h = cc
@@ -100,18 +99,6 @@ game_header_only line header h =
     ) refl
 
 -- ---- an aim
-
-message_found : (width : ℕ) (digits message : List ℕ) → message_of width digits ≡ Some message → decode_sized digits width ≡ Ok message
-unfolding message_of
-message_found width digits message h = at_read (decode_sized digits width) refl h
-  where
-    at_read : (r : Result (List ℕ) _) → decode_sized digits width ≡ r → result_ok r ≡ Some message → decode_sized digits width ≡ Ok message
-    at_read (Ok bytes) e k = cc
-    at_read (Err f) e k = cc
-
-message_only : (width : ℕ) (digits message : List ℕ) → decode_sized digits width ≡ Ok message → message_of width digits ≡ Some message
-unfolding message_of
-message_only width digits message h = rw h refl
 
 target_found : (word line : List ℕ) (found : ℕ × List ℕ) → target_at word line ≡ Some found
     → (digits : List ℕ) × SpellsWord found.0 digits × (line ≡ word ++ (digits ++ (codes " " ++ found.1)))

@@ -1,11 +1,6 @@
-pub mod LineLemmas
-pub mod LineLaws
-pub mod FieldLaws
 pub mod PairLaws
 pub mod BatchLaws
 pub mod LoopLemmas
-pub mod Numerals
-pub mod NumberLaws
 pub mod GameLineLaws
 pub mod AddressLaws
 pub mod GameLaws

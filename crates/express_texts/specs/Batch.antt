@@ -1,10 +1,11 @@
 -- The text of a batch of closings, as a function from its bytes: the batch, or the number of its first bad
 -- line.
-use Rattle.std.specs.Prelude.{ℕ, ◌+◌, ◌-◌, ◌==◌, if◌then◌else◌, List, [], ◌∷◌, codes, Option, Some, None, Result, Ok, Err}
+use Rattle.std.specs.Prelude.{ℕ, ◌+◌, ◌-◌, ◌==◌, if◌then◌else◌, List, [], ◌∷◌, codes, Option, Some, None}
+use Rattle.std.specs.Prelude.{Result, Ok, Err}
 use Rattle.express_words.specs.declared.audit.Closing.{Closing}
 use Rattle.express_texts.specs.declared.batch.TheConstants.{MOST_PAIRS}
-use Rattle.express_texts.specs.Fields.{◌>>=◌, after, end, seed_of, word_at}
-use Rattle.express_texts.specs.Lines.{lines_of}
+use Rattle.text_fields.specs.Fields.{◌>>=◌, after, end, seed_of, word_at}
+use Rattle.text_fields.specs.Lines.{lines_of}
 
 -- the closings of both servers, write by write
 pub record Pairs : Type 0 where

@@ -4,8 +4,9 @@ use Rattle.std.specs.List.{list_any}
 use Rattle.express_texts.specs.declared.cloak.AimText.{AimText}
 use Rattle.express_texts.specs.declared.cloak.GameHeader.{GameHeader}
 use Rattle.express_texts.specs.declared.cloak.TheConstants.{MOST_ADDRESSES}
-use Rattle.express_texts.specs.Fields.{◌>>=◌, after, word_at, seed_of, message_of, value_line}
-use Rattle.express_texts.specs.Numbers.{number_at, wanted}
+use Rattle.text_fields.specs.Fields.{◌>>=◌, after, word_at, seed_of, message_of, wanted}
+use Rattle.text_fields.specs.Numbers.{number_at}
+use Rattle.express_texts.specs.Fields.{value_line}
 
 -- cloak 1 VIEWER WIDTH SEED
 unfoldable pub game_header_of : List ℕ → Option GameHeader

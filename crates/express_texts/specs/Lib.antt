@@ -5,6 +5,4 @@ pub mod GameLines
 pub mod GameSpelling
 pub mod Games
 pub mod Judging
-pub mod Lines
-pub mod Numbers
 pub mod Spelling

@@ -1,16 +1,11 @@
 -- The grammar of a batch of closings, as relations between what is meant and the bytes that spell it.
 use Rattle.std.specs.Prelude.{◌≡◌, ◌⊎◌, ℕ, ◌+◌, ◌≤◌, length, List, [], ◌∷◌, ◌++◌, codes, Ok}
-use Rattle.std.specs.Int.{w128, from_be_bytes}
 use Rattle.hex.specs.Hex.{decode_sized}
 use Rattle.express_words.specs.declared.audit.Closing.{Closing}
 use Rattle.express_texts.specs.declared.batch.TheConstants.{MOST_PAIRS}
 use Rattle.express_texts.specs.Batch.{Pairs, Batch}
-use Rattle.express_texts.specs.Lines.{AreLines}
-
--- 32 hexadecimal digits in either case, the most significant first
-abbrev pub SpellsWord : ℕ → List ℕ → Type 0
-SpellsWord word digits =
-    (bytes : List ℕ) × (decode_sized digits 16 ≡ Ok bytes) × (word ≡ from_be_bytes w128 bytes)
+use Rattle.text_fields.specs.Lines.{AreLines}
+use Rattle.text_fields.specs.Spelling.{SpellsWord}
 
 -- O T
 pub record SpellsClosing (closing : Closing) (text : List ℕ) : Type 0 where

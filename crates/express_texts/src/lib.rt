@@ -7,7 +7,6 @@ mod cloak;
 mod fault;
 mod fields;
 mod lines;
-mod numbers;
 
 pub use batch::{BatchPairs, MOST_PAIRS, batch_is_read_exactly, read_batch};
 pub use cloak::{AimText, CloakGame, MOST_ADDRESSES, game_is_read_exactly, read_cloak};

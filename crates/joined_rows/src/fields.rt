@@ -4,8 +4,8 @@ ghost use Rattle.express_words.specs.Limits.{KeepsLimits};
 
 use crate::fault::Fault;
 use express_words::Settings;
-use hex::FromHexError;
 use std::alloc::Global;
+use text_fields::{any_bytes_of, word_of};
 
 /// The first field, and those behind it.
 pub fn first_of(text: &str) -> Result<(&str, &str), Fault> {
@@ -24,29 +24,17 @@ pub fn small_number_of(digits: &str) -> Result<u16, Fault> {
 
 /// Any bytes.
 pub fn bytes_of(alloc: Global, digits: &str) -> Result<Vec<u8>, Fault> {
-    match hex::decode(alloc, digits) {
-        Ok(bytes) => Ok(bytes),
-        Err(FromHexError::OutOfMemory) => Err(Fault::NoMemory),
-        Err(_) => Err(Fault::Unknown),
-    }
+    any_bytes_of(alloc, digits.as_bytes())?.ok_or(Fault::Unknown)
 }
 
 /// 32 bytes.
 pub fn seed_of(digits: &str) -> Result<[u8; 32], Fault> {
-    let mut seed = [0u8; 32];
-    match hex::decode_to_slice(digits, &mut seed) {
-        Ok(()) => Ok(seed),
-        Err(_) => Err(Fault::Unknown),
-    }
+    text_fields::seed_of(digits.as_bytes()).ok_or(Fault::Unknown)
 }
 
 /// An address, the most significant digit first.
 pub fn address_of(digits: &str) -> Result<u128, Fault> {
-    let mut address = [0u8; 16];
-    match hex::decode_to_slice(digits, &mut address) {
-        Ok(()) => Ok(u128::from_be_bytes(address)),
-        Err(_) => Err(Fault::Unknown),
-    }
+    word_of(digits.as_bytes()).ok_or(Fault::Unknown)
 }
 
 /// Width, boxes, lanes and window.

@@ -1,18 +1,22 @@
 -- A text asks exactly what it spells.
-use Rattle.std.proofs.Common.{◌≡◌, ℕ, zero, suc, ◌<◌, ◌≤◌, ◌^◌, inl, inr, List, [], ◌∷◌, ◌++◌, Option, Some, option_map, Result, Ok, Err, codes, length, take, drop, arith, refl, sym, ◌∙◌, ap, subst}
+use Rattle.std.proofs.Common.{◌≡◌, ℕ, zero, suc, ◌<◌, ◌≤◌, ◌^◌, inl, inr, List, [], ◌∷◌, ◌++◌, Option, Some, option_map, Ok, codes, length, take, drop, arith, refl, sym, ◌∙◌, ap, subst}
 use Rattle.std.specs.Fmt.{decimal}
 use Rattle.std.proofs.lemmas.List.{take-append-drop}
-use Rattle.std.specs.Result.{result_ok}
 use Rattle.hex.specs.Hex.{decode_sized}
 use Rattle.hex.proofs.HexLemmas.{decode_sized-ok}
 use Rattle.express_words.specs.declared.settings.Settings.{Settings}
 use Rattle.schedule_text.specs.declared.schedule.Asked.{Asked}
 use Rattle.schedule_text.specs.declared.schedule.Asked.TheVariants.{Register, Write, Read, Retire}
 use Rattle.schedule_text.specs.declared.schedule.TheConstants.{MOST_OWN}
-use Rattle.schedule_text.specs.Fields.{◌>>=◌, or_else, after, last_number, address_of, address_at, message_of}
+use Rattle.text_fields.specs.Fields.{◌>>=◌, after, word_of, word_at, message_of}
+use Rattle.text_fields.specs.Numbers.{last_number}
+use Rattle.text_fields.specs.Spelling.{SpellsWord}
+use Rattle.text_fields.proofs.FieldLaws.{bind_some, map_some, after_found, after_only, word_found, word_only, message_found, message_only}
+use Rattle.text_fields.proofs.NumberLaws.{last_found, last_only}
+use Rattle.schedule_text.specs.Fields.{or_else}
 use Rattle.schedule_text.specs.Grammar.{register_of, read_of, retire_of, target_of, write_of, asked_of}
-use Rattle.schedule_text.specs.Spelling.{SpellsAddress, SpellsAsked}
-use Rattle.schedule_text.proofs.FieldLaws.{bind_some, map_some, or_else_some, after_found, after_only, last_found, last_only, address_found, address_only}
+use Rattle.schedule_text.specs.Spelling.{SpellsAsked}
+use Rattle.schedule_text.proofs.FieldLaws.{or_else_some}
 
 -- bytes in front and what follows them
 halves : (n : ℕ) (bytes : List ℕ) → bytes ≡ take n bytes ++ drop n bytes
@@ -26,30 +30,15 @@ front_of (x ∷ front) rest zero h = absurd (omega (arith, h))
 front_of (x ∷ front) rest (suc n) h =
     let r = front_of front rest n (omega (arith, h)) in (ap (λ ys. x ∷ ys) r.0, r.1)
 
-message_found : (width : ℕ) (digits message : List ℕ) → message_of width digits ≡ Some message
-    → decode_sized digits width ≡ Ok message
-unfolding message_of
-message_found width digits message h = at_read (decode_sized digits width) refl h
-  where
-    at_read : (r : Result (List ℕ) _) → decode_sized digits width ≡ r → result_ok r ≡ Some message
-        → decode_sized digits width ≡ Ok message
-    at_read (Ok bytes) e k = cc
-    at_read (Err f) e k = cc
-
-message_only : (width : ℕ) (digits message : List ℕ) → decode_sized digits width ≡ Ok message
-    → message_of width digits ≡ Some message
-unfolding message_of
-message_only width digits message h = rw h refl
-
 register_found : (settings : Settings) (text : List ℕ) (asked : Asked) → register_of text ≡ Some asked
     → SpellsAsked settings asked text
 unfolding register_of
 register_found settings text asked k =
-    let a = bind_some (after (codes "register ") text) (λ digits. option_map Register (address_of digits))
+    let a = bind_some (after (codes "register ") text) (λ digits. option_map Register (word_of digits))
     asked k in
-    let m = map_some Register (address_of a.0) asked a.2 in
+    let m = map_some Register (word_of a.0) asked a.2 in
     subst (λ (x : Asked). SpellsAsked settings x text) m.2
-    (a.0, address_found a.0 m.0 m.1, after_found (codes "register ") text a.0 a.1)
+    (a.0, word_found a.0 m.0 m.1, after_found (codes "register ") text a.0 a.1)
 
 -- a word, and a number and nothing more
 pub word_number_found : {A : Type 0} (word : List ℕ) (most : ℕ) (make : ℕ → A) (text : List ℕ) (x : A)
@@ -78,20 +67,20 @@ retire_found settings text asked k =
 
 -- what target_of finds
 target_found : (text : List ℕ) (found : ℕ × List ℕ) → target_of text ≡ Some found
-    → (digits : List ℕ) × SpellsAddress found.0 digits
+    → (digits : List ℕ) × SpellsWord found.0 digits
     × (text ≡ codes "write " ++ (digits ++ (codes " " ++ found.1)))
-unfolding target_of address_at
+unfolding target_of word_at
 target_found text found k =
     let a = bind_some (after (codes "write ") text) _ found k in
-    let b = bind_some (address_at a.0) _ found a.2 in
+    let b = bind_some (word_at a.0) _ found a.2 in
     let d = bind_some (after (codes " ") b.0.1) _ found b.2 in
-    let m = map_some (λ address. (address, drop 32 a.0)) (address_of (take 32 a.0)) b.0 b.1 in
+    let m = map_some (λ address. (address, drop 32 a.0)) (word_of (take 32 a.0)) b.0 b.1 in
     let target : m.0 ≡ b.0.0 = ap (λ (r : ℕ × List ℕ). r.0) m.2 in
     let rest : drop 32 a.0 ≡ b.0.1 = ap (λ (r : ℕ × List ℕ). r.1) m.2 in
     let is : (b.0.0, d.0) ≡ found = some_is _ _ d.2 in
-    let spelled : SpellsAddress found.0 (take 32 a.0) =
-    subst (λ (x : ℕ). SpellsAddress x (take 32 a.0)) (target ∙ ap (λ (r : ℕ × List ℕ). r.0) is)
-    (address_found (take 32 a.0) m.0 m.1) in (
+    let spelled : SpellsWord found.0 (take 32 a.0) =
+    subst (λ (x : ℕ). SpellsWord x (take 32 a.0)) (target ∙ ap (λ (r : ℕ × List ℕ). r.0) is)
+    (word_found (take 32 a.0) m.0 m.1) in (
       take 32 a.0,
       spelled,
       after_found (codes "write ") text a.0 a.1
@@ -103,16 +92,16 @@ target_found text found k =
     some_is : (x y : ℕ × List ℕ) → Some x ≡ Some y → x ≡ y
     some_is x y h = cc
 
-target_only : (target : ℕ) (digits more : List ℕ) → SpellsAddress target digits
+target_only : (target : ℕ) (digits more : List ℕ) → SpellsWord target digits
     → target_of (codes "write " ++ (digits ++ (codes " " ++ more))) ≡ Some (target, more)
-unfolding target_of address_at
+unfolding target_of word_at
 target_only target digits more h =
     let front = front_of digits (codes " " ++ more) 32 (decode_sized-ok digits 16 h.0 h.1) in
     rw (
       after_only (codes "write ") (digits ++ (codes " " ++ more)),
       front.0,
       front.1,
-      address_only digits
+      word_only digits
           target h,
       after_only (codes " ") more,
     ) refl
@@ -142,12 +131,12 @@ asked_found settings text asked h =
     (λ y. either_of P _ _ y (read_found settings text) (retire_found settings text)))
     h
 
-register_only : (settings : Settings) (digits : List ℕ) (a : ℕ) → SpellsAddress a digits
+register_only : (settings : Settings) (digits : List ℕ) (a : ℕ) → SpellsWord a digits
     → asked_of settings (codes "register " ++ digits) ≡ Some (Register a)
 unfolding register_of
-register_only settings digits a h = rw (after_only (codes "register ") digits, address_only digits a h) refl
+register_only settings digits a h = rw (after_only (codes "register ") digits, word_only digits a h) refl
 
-write_only : (settings : Settings) (target : ℕ) (message digits more : List ℕ) → SpellsAddress target digits
+write_only : (settings : Settings) (target : ℕ) (message digits more : List ℕ) → SpellsWord target digits
     → decode_sized more settings.width ≡ Ok message
     → asked_of settings (codes "write " ++ (digits ++ (codes " " ++ more))) ≡ Some (Write target message)
 unfolding register_of write_of after

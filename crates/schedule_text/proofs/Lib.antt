@@ -1,7 +1,5 @@
-pub mod Numerals
 pub mod FieldLaws
 pub mod LaneLemmas
-pub mod LineLaws
 pub mod AskedLaws
 pub mod EventLaws
 pub mod HeaderLaws

@@ -23,8 +23,10 @@ use Rattle.schedule_text.specs.declared.schedule.Schedule.{Schedule}
 use Rattle.schedule_text.specs.Grammar.{schedule_of}
 use Rattle.schedule_text.specs.Printing.{address_text, asked_text, event_text, event_line, header_text, printed}
 use Rattle.schedule_text.specs.Rules.{IsAskable, EventKeepsRules, EventsKeepRules, KeepsRules}
-use Rattle.schedule_text.specs.Spelling.{SpellsAddress, SpellsAsked, SpellsEvent, SpellsEvents, SpellsHeader, SpellsSchedule, HasNoLf, AreLines, server_letter}
-use Rattle.schedule_text.proofs.FieldLaws.{numerals}
+use Rattle.text_fields.specs.Spelling.{SpellsWord}
+use Rattle.text_fields.specs.Lines.{HasNoLf, AreLines}
+use Rattle.text_fields.proofs.NumberLaws.{numerals}
+use Rattle.schedule_text.specs.Spelling.{SpellsAsked, SpellsEvent, SpellsEvents, SpellsHeader, SpellsSchedule, server_letter}
 use Rattle.schedule_text.proofs.ScheduleLaws.{schedule_only}
 
 -- ---- fields
@@ -35,7 +37,7 @@ high_bytes (suc zero) n zero = omega arith
 high_bytes (suc (suc k)) n zero = omega arith
 high_bytes (suc k) n (suc i) = high_bytes k n i
 
-address_spelled : (address : ℕ) → address < 2 ^ 128 → SpellsAddress address (address_text address)
+address_spelled : (address : ℕ) → address < 2 ^ 128 → SpellsWord address (address_text address)
 address_spelled address small = (
   to_be_bytes w128 address,
   decode_sized-encode_lower (to_be_bytes w128 address) 16 refl

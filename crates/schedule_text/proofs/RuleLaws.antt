@@ -14,7 +14,8 @@ use Rattle.schedule_text.specs.declared.schedule.Event.TheVariants.{Ask, Send, T
 use Rattle.schedule_text.specs.declared.schedule.Schedule.{Schedule}
 use Rattle.schedule_text.specs.Grammar.{is_apart, may_follow}
 use Rattle.schedule_text.specs.Lanes.{client_of, foreign_by, is_lane, is_used, is_foreign, IsApart, MayFollow}
-use Rattle.schedule_text.specs.Spelling.{SpellsAddress, SpellsAsked, SpellsEvent, SpellsEvents, SpellsSchedule}
+use Rattle.text_fields.specs.Spelling.{SpellsWord}
+use Rattle.schedule_text.specs.Spelling.{SpellsAsked, SpellsEvent, SpellsEvents, SpellsSchedule}
 use Rattle.schedule_text.specs.Rules.{IsAskable, EventKeepsRules, KeepsRulesAfter, EventsKeepRules, KeepsRules}
 use Rattle.schedule_text.proofs.LaneLemmas.{is_used_last, is_foreign_last}
 
@@ -71,7 +72,7 @@ number_small : (bytes : List ℕ) → IsBytes bytes → from_be_bytes w128 bytes
 number_small bytes h =
     omega (arith, h 0, h 1, h 2, h 3, h 4, h 5, h 6, h 7, h 8, h 9, h 10, h 11, h 12, h 13, h 14, h 15)
 
-address_small : (address : ℕ) (digits : List ℕ) → SpellsAddress address digits → address < 2 ^ 128
+address_small : (address : ℕ) (digits : List ℕ) → SpellsWord address digits → address < 2 ^ 128
 address_small address digits (bytes, decoded, is) =
     let twice = decode_sized-ok digits 16 bytes decoded in
     rw is (number_small bytes

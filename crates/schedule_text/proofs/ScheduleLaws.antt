@@ -6,12 +6,13 @@ use Rattle.schedule_text.specs.declared.schedule.Event.{Event}
 use Rattle.schedule_text.specs.declared.schedule.Event.TheVariants.{Ask, Send, Tick, Deliver, Show, Finish, Inject}
 use Rattle.schedule_text.specs.declared.schedule.Header.{Header}
 use Rattle.schedule_text.specs.declared.schedule.Schedule.{Schedule}
-use Rattle.schedule_text.specs.Grammar.{event_of, lines_of, header_of, header_then, under, schedule_of_lines, schedule_of}
+use Rattle.schedule_text.specs.Grammar.{event_of, header_of, header_then, under, schedule_of_lines, schedule_of}
+use Rattle.text_fields.specs.Lines.{lines_of, AreLines}
+use Rattle.text_fields.proofs.LineLaws.{lines_found, lines_only}
 use Rattle.schedule_text.specs.Lanes.{client_of}
 use Rattle.schedule_text.specs.Tables.{IsBelow}
-use Rattle.schedule_text.specs.Spelling.{SpellsEvent, SpellsEvents, SpellsHeader, AreLines, SpellsSchedule, IsFirstBadOf, IsFirstBadLine}
+use Rattle.schedule_text.specs.Spelling.{SpellsEvent, SpellsEvents, SpellsHeader, SpellsSchedule, IsFirstBadOf, IsFirstBadLine}
 use Rattle.schedule_text.proofs.EventLaws.{event_found}
-use Rattle.schedule_text.proofs.LineLaws.{lines_found, lines_only}
 use Rattle.schedule_text.proofs.HeaderLaws.{header_found, header_only}
 use Rattle.schedule_text.proofs.LinesLaws.{HasLanes, events_found, events_only, events_bad, bad_only}
 

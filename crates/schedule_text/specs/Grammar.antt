@@ -1,27 +1,32 @@
 -- The text of a schedule, as a function from its bytes: the schedule, or the number of its first bad line.
-use Rattle.std.specs.Prelude.{ℕ, ◌+◌, ◌-◌, ◌%◌, ◌==◌, ◌&&◌, not, Bool, true, if◌then◌else◌, length, List, [], ◌∷◌, ◌++◌, codes, Option, Some, None, Result, Ok, Err, option_map}
+use Rattle.std.specs.Prelude.{ℕ, ◌+◌, ◌-◌, ◌%◌, ◌==◌, ◌&&◌, not, Bool, true, if◌then◌else◌, length, List, []}
+use Rattle.std.specs.Prelude.{◌∷◌, ◌++◌, codes, Option, Some, None, Result, Ok, Err, option_map}
 use Rattle.express_words.specs.declared.settings.Settings.{Settings}
 use Rattle.schedule_text.specs.declared.schedule.Header.{Header}
 use Rattle.schedule_text.specs.declared.schedule.Asked.{Asked}
 use Rattle.schedule_text.specs.declared.schedule.Asked.TheVariants.{Register, Write, Read, Retire}
 use Rattle.schedule_text.specs.declared.schedule.Event.{Event}
-use Rattle.schedule_text.specs.declared.schedule.Event.TheVariants.{Ask, Send, Tick, Deliver, Show, Finish, Inject}
+use Rattle.schedule_text.specs.declared.schedule.Event.TheVariants.{Ask, Send, Tick, Deliver, Show, Finish}
+use Rattle.schedule_text.specs.declared.schedule.Event.TheVariants.{Inject}
 use Rattle.schedule_text.specs.declared.schedule.Schedule.{Schedule}
 use Rattle.schedule_text.specs.declared.schedule.TheConstants.{MOST_EVENTS, MOST_OWN}
-use Rattle.schedule_text.specs.Fields.{◌>>=◌, or_else, after, end, wanted, number_at, last_number, address_of, address_at, message_of, seed_of, server_at, bytes_of}
+use Rattle.text_fields.specs.Fields.{◌>>=◌, after, end, wanted, word_of, word_at, message_of, seed_of}
+use Rattle.text_fields.specs.Numbers.{number_at, last_number}
+use Rattle.text_fields.specs.Lines.{lines_of}
+use Rattle.schedule_text.specs.Fields.{or_else, server_at, bytes_of}
 use Rattle.schedule_text.specs.Lanes.{client_of, foreign_by, is_used, is_foreign}
 
 -- ---- what a client is asked
 
 -- register ADDRESS
 unfoldable pub register_of : List ℕ → Option Asked
-register_of text = after (codes "register ") text >>= λ digits. option_map Register (address_of digits)
+register_of text = after (codes "register ") text >>= λ digits. option_map Register (word_of digits)
 
 -- write ADDRESS MESSAGE, up to the message
 unfoldable pub target_of : List ℕ → Option (ℕ × List ℕ)
 target_of text = do
   rest ← after (codes "write ") text
-  target ← address_at rest
+  target ← word_at rest
   digits ← after (codes " ") target.1
   Some (target.0, digits)
 
@@ -131,15 +136,6 @@ header_of line = do
   })
 
 -- ---- the whole text
-
--- the lines of a text, each without its LF, which the last may lack
-abbrev pub onto_line : ℕ → List (List ℕ) → List (List ℕ)
-onto_line b [] = (b ∷ []) ∷ []
-onto_line b (line ∷ lines) = (b ∷ line) ∷ lines
-
-unfoldable pub lines_of : List ℕ → List (List ℕ)
-lines_of [] = []
-lines_of (b ∷ bytes) = if b == 10 then [] ∷ lines_of bytes else onto_line b (lines_of bytes)
 
 -- goes on with the event, or names the line
 abbrev pub event_or : {A : Type 0} → ℕ → Option Event → (Event → Result A ℕ) → Result A ℕ

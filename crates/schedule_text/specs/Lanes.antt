@@ -1,11 +1,13 @@
 -- Which lanes belong to clients after the events so far, and which are foreign.
-use Rattle.std.specs.Prelude.{◌≡◌, ℕ, ◌==◌, ◌||◌, Bool, true, false, List, [], ◌∷◌, Option, Some, None, Result, Ok, Err, if◌then◌else◌}
+use Rattle.std.specs.Prelude.{◌≡◌, ℕ, ◌==◌, ◌||◌, Bool, true, false, List, [], ◌∷◌, Option, Some, None}
+use Rattle.std.specs.Prelude.{Result, Ok, Err, if◌then◌else◌}
 use Rattle.express_words.specs.declared.refusal.Refusal.{Refusal}
 use Rattle.frame_rules.specs.Frames.{PlainFrame}
 use Rattle.frame_rules.specs.Spelling.{Spells}
 use Rattle.frame_rules.specs.Whole.{whole, is_from_client}
 use Rattle.schedule_text.specs.declared.schedule.Event.{Event}
-use Rattle.schedule_text.specs.declared.schedule.Event.TheVariants.{Ask, Send, Tick, Deliver, Show, Finish, Inject}
+use Rattle.schedule_text.specs.declared.schedule.Event.TheVariants.{Ask, Send, Tick, Deliver, Show, Finish}
+use Rattle.schedule_text.specs.declared.schedule.Event.TheVariants.{Inject}
 
 -- the lane of a frame that a client sends to a server: kinds 1 to 5 and 16
 abbrev pub lane_from_client : Result PlainFrame Refusal → Option ℕ

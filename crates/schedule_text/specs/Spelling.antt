@@ -1,7 +1,7 @@
 -- The grammar of a schedule, as relations between what is meant and the bytes that spell it.
-use Rattle.std.specs.Prelude.{◌≡◌, ◌≢◌, ◌⊎◌, ℕ, ◌+◌, ◌≤◌, ◌<◌, ◌^◌, ◌==◌, if◌then◌else◌, length, List, [], ◌∷◌, ◌++◌, codes, Ok}
+use Rattle.std.specs.Prelude.{◌≡◌, ◌⊎◌, ℕ, ◌+◌, ◌≤◌, ◌<◌, ◌^◌, ◌==◌, if◌then◌else◌, length, List, []}
+use Rattle.std.specs.Prelude.{◌∷◌, ◌++◌, codes, Ok}
 use Rattle.std.specs.Fmt.{decimal}
-use Rattle.std.specs.Int.{w128, from_be_bytes}
 use Rattle.hex.specs.Hex.{decode_of, decode_sized}
 use Rattle.express_words.specs.Limits.{KeepsLimits}
 use Rattle.express_words.specs.declared.settings.Settings.{Settings}
@@ -9,16 +9,14 @@ use Rattle.frame_rules.specs.declared.frame.TheConstants.{FRAME_MAX}
 use Rattle.schedule_text.specs.declared.schedule.Asked.{Asked}
 use Rattle.schedule_text.specs.declared.schedule.Asked.TheVariants.{Register, Write, Read, Retire}
 use Rattle.schedule_text.specs.declared.schedule.Event.{Event}
-use Rattle.schedule_text.specs.declared.schedule.Event.TheVariants.{Ask, Send, Tick, Deliver, Show, Finish, Inject}
+use Rattle.schedule_text.specs.declared.schedule.Event.TheVariants.{Ask, Send, Tick, Deliver, Show, Finish}
+use Rattle.schedule_text.specs.declared.schedule.Event.TheVariants.{Inject}
 use Rattle.schedule_text.specs.declared.schedule.Header.{Header}
 use Rattle.schedule_text.specs.declared.schedule.Schedule.{Schedule}
 use Rattle.schedule_text.specs.declared.schedule.TheConstants.{MOST_EVENTS, MOST_OWN}
 use Rattle.schedule_text.specs.Lanes.{MayFollow}
-
--- 32 hexadecimal digits in either case, the most significant first
-abbrev pub SpellsAddress : ℕ → List ℕ → Type 0
-SpellsAddress address digits =
-    (bytes : List ℕ) × (decode_sized digits 16 ≡ Ok bytes) × (address ≡ from_be_bytes w128 bytes)
+use Rattle.text_fields.specs.Spelling.{SpellsWord}
+use Rattle.text_fields.specs.Lines.{AreLines}
 
 -- a word, and a number up to this one
 abbrev pub SpellsNumber : List ℕ → ℕ → ℕ → List ℕ → Type 0
@@ -26,9 +24,9 @@ SpellsNumber word most number text = (number ≤ most) × (text ≡ word ++ deci
 
 abbrev pub SpellsAsked : Settings → Asked → List ℕ → Type 0
 SpellsAsked settings (Register address) text =
-    (digits : List ℕ) × SpellsAddress address digits × (text ≡ codes "register " ++ digits)
+    (digits : List ℕ) × SpellsWord address digits × (text ≡ codes "register " ++ digits)
 SpellsAsked settings (Write target message) text =
-    (digits : List ℕ) × (more : List ℕ) × SpellsAddress target digits
+    (digits : List ℕ) × (more : List ℕ) × SpellsWord target digits
     × (decode_sized more settings.width ≡ Ok message)
     × (text ≡ codes "write " ++ (digits ++ (codes " " ++ more)))
 SpellsAsked settings (Read own) text = SpellsNumber (codes "read ") MOST_OWN own text
@@ -86,17 +84,6 @@ SpellsEvents settings before (event ∷ events) (line ∷ lines) =
     × SpellsEvents settings (before ++ event ∷ []) events lines
 SpellsEvents settings before [] (line ∷ lines) = ⊥
 SpellsEvents settings before (event ∷ events) [] = ⊥
-
-abbrev pub HasNoLf : List ℕ → Type 0
-HasNoLf [] = Unit {0}
-HasNoLf (b ∷ bytes) = (b ≢ 10) × HasNoLf bytes
-
--- The lines of a text. Each ends with LF, which the last may lack where it isn't empty.
-abbrev pub AreLines : List (List ℕ) → List ℕ → Type 0
-AreLines [] text = text ≡ []
-AreLines (line ∷ []) text = HasNoLf line × ((text ≡ line ++ 10 ∷ []) ⊎ ((text ≡ line) × (line ≢ [])))
-AreLines (line ∷ next ∷ lines) text =
-    HasNoLf line × ((rest : List ℕ) × (text ≡ line ++ 10 ∷ rest) × AreLines (next ∷ lines) rest)
 
 -- the text spells the schedule
 abbrev pub SpellsSchedule : Schedule → List ℕ → Type 0

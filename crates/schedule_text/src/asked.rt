@@ -3,17 +3,17 @@ ghost use Rattle.std.specs.Prelude.{◌≡◌, IfOk, option_map};
 ghost use Rattle.schedule_text.specs.Fields.{or_else};
 ghost use Rattle.schedule_text.specs.Grammar.{register_of, target_of, write_of, read_of, retire_of, asked_of};
 
-use crate::fields::{address_at, address_of, after, last_number, message_of};
 use crate::schedule::{Asked, MOST_OWN};
 use express_words::{List, NoMemory, Settings};
 use std::alloc::Global;
+use text_fields::{after, last_number, message_of, word_at, word_of};
 
 #[tactic(auto, unfolding(crate::specs::Grammar::register_of))]
 fn register_of(text: &[u8]) -> Option<Asked>
     ensures { result ≡ register_of text.now }
 {
     let digits = after(b"register ", text)?;
-    let address = address_of(digits)?;
+    let address = word_of(digits)?;
     Some(Asked::Register(address))
 }
 
@@ -22,7 +22,7 @@ fn target_of(text: &[u8]) -> Option<(u128, &[u8])>
     ensures { option_map (λ r. (r.0, r.1.now)) result ≡ target_of text.now }
 {
     let rest = after(b"write ", text)?;
-    let (target, rest) = address_at(rest)?;
+    let (target, rest) = word_at(rest)?;
     let digits = after(b" ", rest)?;
     Some((target, digits))
 }

@@ -4,10 +4,11 @@ ghost use Rattle.schedule_text.specs.Grammar.{asker_of, ask_of, send_of, tick_of
 ghost use Rattle.schedule_text.specs.Grammar.{finish_of, plain_event_of, injected_in, inject_of, event_of};
 
 use crate::asked::asked_of;
-use crate::fields::{after, bytes_of, last_number, number_at, server_at};
+use crate::fields::{bytes_of, server_at};
 use crate::schedule::Event;
 use express_words::{List, NoMemory, Settings};
 use std::alloc::Global;
+use text_fields::{after, last_number, number_at};
 
 // The client that is asked, and what it is asked.
 #[tactic(auto, unfolding(crate::specs::Grammar::asker_of))]

@@ -2,9 +2,9 @@
 ghost use Rattle.std.specs.Prelude.{◌≡◌};
 ghost use Rattle.schedule_text.specs.Grammar.{header_of};
 
-use crate::fields::{after, number_at, seed_of};
 use crate::schedule::Header;
 use express_words::Settings;
+use text_fields::{after, number_at, seed_of};
 
 /// The header that a line spells.
 #[tactic(auto, unfolding(crate::specs::Grammar::header_of))]

@@ -8,7 +8,6 @@ mod fields;
 mod header;
 mod lanes;
 mod laws;
-mod lines;
 mod milling;
 mod printing;
 mod reader;

@@ -1,6 +1,7 @@
 //! Reads the text of a schedule.
 ghost use Rattle.std.specs.Prelude.{◌≡◌, ℕ, ◌≤◌, ◌<◌, ◌++◌, ◌∷◌, [], List as Listed, length, IfOk, IfSome};
-ghost use Rattle.schedule_text.specs.Grammar.{event_after, lines_of, events_from, schedule_of};
+ghost use Rattle.schedule_text.specs.Grammar.{event_after, events_from, schedule_of};
+ghost use Rattle.text_fields.specs.Lines.{lines_of};
 ghost use Rattle.schedule_text.specs.Reading.{Gives};
 ghost use Rattle.schedule_text.specs.Judging.{Judges};
 ghost use Rattle.schedule_text.specs.Rules.{KeepsRules};
@@ -11,10 +12,10 @@ use crate::events::event_of;
 use crate::fault::ReadFault;
 use crate::header::header_of;
 use crate::lanes::Lanes;
-use crate::lines::first_line;
 use crate::schedule::{Event, MOST_EVENTS, Schedule};
 use express_words::{List, NoMemory, Settings};
 use std::alloc::Global;
+use text_fields::first_line;
 
 // The event of a line that stands behind those that were noted; it is noted too.
 #[tactic(auto, unfolding(crate::specs::Grammar::event_after))]

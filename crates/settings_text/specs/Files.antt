@@ -3,8 +3,8 @@ use Rattle.std.specs.Prelude.{ℕ, ◌-◌, nat_le, ◌==◌, not, Bool, if◌th
 use Rattle.std.specs.Prelude.{Option, Some, None}
 use Rattle.std.specs.List.{list_any}
 use Rattle.std.specs.Result.{result_ok}
-use Rattle.express_texts.specs.Fields.{◌>>=◌}
-use Rattle.express_texts.specs.Numbers.{wanted}
+use Rattle.text_fields.specs.Fields.{◌>>=◌}
+use Rattle.text_fields.specs.Fields.{wanted}
 use Rattle.file_carry.specs.Parts.{count_of}
 use Rattle.hex.specs.Hex.{decode_of}
 use Rattle.toml.specs.Data.{Data, as_str}

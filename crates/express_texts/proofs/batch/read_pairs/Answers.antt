@@ -1,10 +1,10 @@
 use Rattle.std.proofs.Common.{◌≡◌, ◌+◌, ◌<◌, ℕ, List, [], length, arith, ap, sym, ◌∙◌, None, Err}
 use Rattle.std.proofs.lemmas.List.{length_push}
 use Rattle.std.proofs.lemmas.Grind.{common_steps}
-use Rattle.express_texts.specs.Lines.{lines_of}
+use Rattle.text_fields.specs.Lines.{lines_of}
+use Rattle.text_fields.proofs.LineLemmas.{empty_from}
 use Rattle.express_texts.specs.Batch.{pair_of, under}
 use Rattle.express_texts.specs.declared.batch.TheConstants.{MOST_PAIRS}
-use Rattle.express_texts.proofs.LineLemmas.{empty_from}
 use Rattle.express_texts.proofs.LoopLemmas.{left_of, left-bad, left-full, left-none, left-step}
 use Rattle.express_texts.proofs.batch.read_pairs.Goals as goal
 

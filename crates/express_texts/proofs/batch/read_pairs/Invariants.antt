@@ -1,5 +1,5 @@
 use Rattle.std.proofs.Common.{◌≡◌, ◌≤◌, length}
-use Rattle.express_texts.specs.Lines.{lines_of}
+use Rattle.text_fields.specs.Lines.{lines_of}
 use Rattle.express_texts.specs.Batch.{pairs_of}
 use Rattle.express_texts.specs.declared.batch.TheConstants.{MOST_PAIRS}
 use Rattle.express_texts.proofs.LoopLemmas.{left_of}

@@ -1,8 +1,10 @@
 use Rattle.std.proofs.Common.{arith, ap, sym, ◌∙◌, ◌≡◌, [], length, List, ℕ}
 use Rattle.std.proofs.lemmas.List.{length_push}
 use Rattle.std.proofs.lemmas.Grind.{common_steps}
-use Rattle.schedule_text.specs.Grammar.{events_from, lines_of}
-use Rattle.schedule_text.proofs.TextLemmas.{events_from_next, events_from_bad, events_from_full, empty_from}
+use Rattle.schedule_text.specs.Grammar.{events_from}
+use Rattle.text_fields.specs.Lines.{lines_of}
+use Rattle.text_fields.proofs.LineLemmas.{empty_from}
+use Rattle.schedule_text.proofs.TextLemmas.{events_from_next, events_from_bad, events_from_full}
 use Rattle.schedule_text.proofs.reader.read_events.Goals as goal
 
 pub returns-then-len-eq-MOST_EVENTS : goal.returns-then-len-eq-MOST_EVENTS

@@ -1,0 +1,5 @@
+pub mod FieldLaws
+pub mod Numerals
+pub mod NumberLaws
+pub mod LineLemmas
+pub mod LineLaws

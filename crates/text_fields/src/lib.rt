@@ -1,0 +1,13 @@
+//! The lines of a text and the fields of a line: fixed words, numbers in decimal digits within bounds, and
+//! values, seeds and messages in hexadecimal digits.
+#![tactic(auto)]
+
+mod digits;
+mod lines;
+mod numbers;
+mod words;
+
+pub use digits::{any_bytes_of, message_of, seed_of, word_at, word_of};
+pub use lines::first_line;
+pub use numbers::{last_number, number_at};
+pub use words::after;
