@@ -72,7 +72,7 @@ pub record IsReopened {D : Type 0} (reads may_leave : D → List ℕ → Type 0)
   pub stands : Stands k.opening k.core (reads disk)
   pub told : (p : Opening) (frames : List Handed) (c : List ℕ) → reads disk c → IsOpening p
       → HoldsFrames p frames (reads disk) → (k.opening ≡ p) × (k.core ≡ fold p frames)
-  pub limit : k.journal.limit ≡ limit
+  pub same_limit : k.journal.limit ≡ limit
   pub unclosed : k.journal.closed ≡ false
   pub undamaged : (c : List ℕ) → reads k.disk c → IsUndamaged limit 0 c
   pub durable : Within (may_leave k.disk) (reads k.disk)
