@@ -30,7 +30,7 @@ makes_both (Some a) (Some b) (Some c) x y g h = h ∙ ap (λ (t : List Call). t 
 -- ---- a server's own calls
 
 -- the same exchanges behind other calls
-told : (peer : List ℕ) (es : List Exchange) (a b : Option (List Call)) (before : List Call) → ExchangesOn peer es a b
+pub told : (peer : List ℕ) (es : List Exchange) (a b : Option (List Call)) (before : List Call) → ExchangesOn peer es a b
     → (calls : List Call) × Makes a b calls × ExchangesOn peer es (Some before) (Some (before ++ calls))
 told peer [] a b before same = ([], subst (λ (x : Option (List Call)). Makes a x []) (sym same) (makes_none a), ap Some (append-nil before))
 told peer (e ∷ es) a b before (next, (calls, makes, is), others) =

@@ -18,7 +18,7 @@ use Rattle.node_host.specs.Visits.{Visit, visit_calls, Standing, standing, IsVis
 use Rattle.node_host.proofs.CallLaws.{makes_none, makes_both}
 
 -- it was a connection of this kind
-abbrev Of : {C : Type 0} → (C → Option Stream) → (C → Option (List ℕ)) → (C → ℕ) → Option (List Call) → Visit → Type 0
+abbrev pub Of : {C : Type 0} → (C → Option Stream) → (C → Option (List ℕ)) → (C → ℕ) → Option (List Call) → Visit → Type 0
 Of {C} content written faults a v = (conn : C) × IsOf a v (content conn) (written conn) (faults conn)
 
 -- where a server stands after so many visits
@@ -31,7 +31,7 @@ pub record Hosting {C : Type 0} (content : C → Option Stream) (written : C →
   pub calls : Makes a b (flat_map visit_calls visits)
   pub conns : All (Of content written faults b) visits
 
-still_of : (a b : Option (List Call)) (calls : List Call) (v : Visit) (content : Option Stream) (written : Option (List ℕ)) (faults : ℕ)
+pub still_of : (a b : Option (List Call)) (calls : List Call) (v : Visit) (content : Option Stream) (written : Option (List ℕ)) (faults : ℕ)
     → Makes a b calls → IsOf a v content written faults → IsOf b v content written faults
 still_of a None calls v content written faults makes h = tt
 still_of None (Some b) calls v content written faults makes h = absurd makes
@@ -57,7 +57,7 @@ tally a e c l b = record { answered = a; ended = e; connection_faults = c; link_
 same_tally : (a a' e e' c c' l l' b b' : ℕ) → a ≡ a' → e ≡ e' → c ≡ c' → l ≡ l' → b ≡ b' → tally a e c l b ≡ tally a' e' c' l' b'
 same_tally a a' e e' c c' l l' b b' first second third fourth fifth = cc
 
-tally_more : (old new : Tally) (visits : List Visit) (v : Visit) (answer : Served) → v.answer ≡ answer
+pub tally_more : (old new : Tally) (visits : List Visit) (v : Visit) (answer : Served) → v.answer ≡ answer
     → old ≡ tally_of visits → CountsMore old new answer → new ≡ tally_of (visits ++ v ∷ [])
 tally_more old new visits v answer same before more =
     let first : new.answered ≡ count_of is_answered (visits ++ v ∷ []) = counts_more is_answered visits v answer old.answered new.answered same (ap (λ (t : Tally). t.answered) before) more.answered in

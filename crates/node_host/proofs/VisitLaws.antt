@@ -17,13 +17,13 @@ use Rattle.node_serve.specs.declared.node.Served.TheVariants as served
 use Rattle.node_host.specs.Visits.{Visit, visit_calls, standing, IsCutOff, IsStepped, ClosesWith, IsVisit, IsOf}
 use Rattle.node_host.proofs.CallLaws.{makes_none, serves_told, left_in, visit_made}
 
-is_short_or_not : (r : Result (PlainFrame × ℕ) FrameFault) → (r ≡ Err Short) ⊎ (r ≢ Err Short)
+pub is_short_or_not : (r : Result (PlainFrame × ℕ) FrameFault) → (r ≡ Err Short) ⊎ (r ≢ Err Short)
 is_short_or_not (Ok x) = inr (λ e. absurd (cc e))
 is_short_or_not (Err Short) = inl refl
 is_short_or_not (Err (Malformed place)) = inr (λ e. absurd (cc e))
 is_short_or_not (Err (Version version)) = inr (λ e. absurd (cc e))
 
-cut_told : (answer : Served) (given : List ℕ) (t : Option Stream) (before now : ℕ) → IsCut answer t before now
+pub cut_told : (answer : Served) (given : List ℕ) (t : Option Stream) (before now : ℕ) → IsCut answer t before now
     → IsCut answer (Some (record { given = given; left = left_in t })) before now
 cut_told served.Ended given None before now h = (refl, h.1)
 cut_told served.Ended given (Some t) before now h = h
@@ -40,10 +40,10 @@ took_all (Some w) None bytes blank took some = absurd took
 took_all (Some w) (Some x) bytes blank took some = ap Some (took ∙ ap (λ (y : List ℕ). y ++ bytes) blank)
 
 -- these bytes were taken
-abbrev Wrote : Served → (w x : Option (List ℕ)) → ℕ → List ℕ → Type 0
+abbrev pub Wrote : Served → (w x : Option (List ℕ)) → ℕ → List ℕ → Type 0
 Wrote why w x n reply = (taken : List ℕ) × Writes why (Some []) (Some taken) 0 n reply × (w ≢ None → x ≡ Some taken)
 
-wrote : (why : Served) (w x : Option (List ℕ)) (n : ℕ) (reply : List ℕ) → IsBlank w → Writes why w x 0 n reply → Wrote why w x n reply
+pub wrote : (why : Served) (w x : Option (List ℕ)) (n : ℕ) (reply : List ℕ) → IsBlank w → Writes why w x 0 n reply → Wrote why w x n reply
 wrote served.Answered w x n reply blank (took, whole) = (reply, (refl, whole), took_all w x reply blank took)
 wrote (served.ConnFault count) w x n reply blank ((front, rest, is, took), rose, told) =
     (front, ((front, rest, is, refl), rose, told), took_all w x front blank took)
@@ -73,7 +73,7 @@ abbrev Visited : (old new : Node) → Served → (a d : Option (List Call)) → 
 Visited old new answer a d before after t x n =
     (v : Visit) × (v.answer ≡ answer) × IsVisit v (standing old before) (standing new after) × Makes a d (visit_calls v) × IsOf d v t x n
 
-untouched : (w x : Option (List ℕ)) → IsBlank w → x ≡ w → w ≢ None → x ≡ Some []
+pub untouched : (w x : Option (List ℕ)) → IsBlank w → x ≡ w → w ≢ None → x ≡ Some []
 untouched None x blank is some = absurd (some refl)
 untouched (Some w) x blank is some = is ∙ ap Some blank
 

@@ -1,5 +1,6 @@
 -- A leader's exchanges and steps, with the frames that it was handed on the way.
-use Rattle.std.specs.Prelude.{◌≡◌, ◌⊎◌, inl, inr, ℕ, List, [], ◌∷◌, ◌++◌, Result, Ok}
+use Rattle.std.specs.Prelude.{◌≡◌, ◌⊎◌, ℕ, List, [], ◌∷◌, ◌++◌, Option, Result, Ok}
+use Rattle.std.proofs.Common.{inl, inr}
 use Rattle.express_words.specs.Calls.{Call}
 use Rattle.step_rules.specs.Leader.{Leader, Ignored}
 use Rattle.step_rules.specs.LeaderClients.{on_client}

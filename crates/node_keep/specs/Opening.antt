@@ -21,7 +21,7 @@ use Rattle.settings_text.specs.declared.serve.TheConstants.{LEADER}
 use Rattle.node_keep.specs.declared.key.SettingsKey.{SettingsKey}
 use Rattle.node_keep.specs.declared.key.SettingsKey.TheVariants as key
 use Rattle.node_keep.specs.declared.fault.OpenFault.{OpenFault}
-use Rattle.node_keep.specs.declared.fault.OpenFault.TheVariants as open
+use Rattle.node_keep.specs.declared.fault.OpenFault.TheVariants as opens
 
 -- the opening that settings and a seed spell
 abbrev pub role_by : ℕ → Role
@@ -72,7 +72,7 @@ pub record IsReopened {D : Type 0} (reads may_leave : D → List ℕ → Type 0)
   pub stands : Stands k.opening k.core (reads disk)
   pub told : (p : Opening) (frames : List Handed) (c : List ℕ) → reads disk c → IsOpening p
       → HoldsFrames p frames (reads disk) → (k.opening ≡ p) × (k.core ≡ fold p frames)
-  pub limit : k.journal.limit ≡ limit
+  pub same_limit : k.journal.limit ≡ limit
   pub unclosed : k.journal.closed ≡ false
   pub undamaged : (c : List ℕ) → reads k.disk c → IsUndamaged limit 0 c
   pub durable : Within (may_leave k.disk) (reads k.disk)
@@ -82,14 +82,14 @@ pub record IsReopened {D : Type 0} (reads may_leave : D → List ℕ → Type 0)
 
 -- a disk with a byte has no journal that is whole and of the form, or no call on it failed
 abbrev pub IsOfOpening : OpenFault → Type 0
-IsOfOpening (open.Keep (Journal (Disk faults))) = Unit {0}
-IsOfOpening (open.Keep (Journal (Damaged at))) = Unit {0}
-IsOfOpening (open.Keep (Foreign n)) = Unit {0}
-IsOfOpening (open.Keep NoMemory) = Unit {0}
-IsOfOpening (open.Keep (Journal Closed)) = ⊥
-IsOfOpening (open.Keep (Journal NotEmpty)) = ⊥
-IsOfOpening (open.Keep (Journal (Full end))) = ⊥
-IsOfOpening (open.Differs key) = Unit {0}
+IsOfOpening (opens.Keep (Journal (Disk faults))) = Unit {0}
+IsOfOpening (opens.Keep (Journal (Damaged at))) = Unit {0}
+IsOfOpening (opens.Keep (Foreign n)) = Unit {0}
+IsOfOpening (opens.Keep NoMemory) = Unit {0}
+IsOfOpening (opens.Keep (Journal Closed)) = ⊥
+IsOfOpening (opens.Keep (Journal NotEmpty)) = ⊥
+IsOfOpening (opens.Keep (Journal (Full end))) = ⊥
+IsOfOpening (opens.Differs key) = Unit {0}
 
 -- a server stands on the disk that was opened otherwise
 pub record StandsOther (key : SettingsKey) (o : Opening) (reads : List ℕ → Type 0) : Type 0 where
@@ -101,34 +101,34 @@ pub record StandsOther (key : SettingsKey) (o : Opening) (reads : List ℕ → T
 
 -- what a fault says of the disk, which has a byte then
 abbrev pub IsCauseOf : OpenFault → ℕ → Opening → (List ℕ → Type 0) → Type 0
-IsCauseOf (open.Keep (Journal (Damaged at))) limit o reads =
+IsCauseOf (opens.Keep (Journal (Damaged at))) limit o reads =
     (c : List ℕ) → reads c → (c ≢ []) × IsDamagedAt limit at c
-IsCauseOf (open.Keep (Foreign n)) limit o reads = (c : List ℕ) → reads c → (c ≢ []) × IsForeign n (content c)
-IsCauseOf (open.Keep (Journal Closed)) limit o reads = Unit {0}
-IsCauseOf (open.Keep (Journal NotEmpty)) limit o reads = Unit {0}
-IsCauseOf (open.Keep (Journal (Full end))) limit o reads = Unit {0}
-IsCauseOf (open.Keep (Journal (Disk faults))) limit o reads = Unit {0}
-IsCauseOf (open.Keep NoMemory) limit o reads = Unit {0}
-IsCauseOf (open.Differs key) limit o reads = ((c : List ℕ) → reads c → c ≢ []) × StandsOther key o reads
+IsCauseOf (opens.Keep (Foreign n)) limit o reads = (c : List ℕ) → reads c → (c ≢ []) × IsForeign n (content c)
+IsCauseOf (opens.Keep (Journal Closed)) limit o reads = Unit {0}
+IsCauseOf (opens.Keep (Journal NotEmpty)) limit o reads = Unit {0}
+IsCauseOf (opens.Keep (Journal (Full end))) limit o reads = Unit {0}
+IsCauseOf (opens.Keep (Journal (Disk faults))) limit o reads = Unit {0}
+IsCauseOf (opens.Keep NoMemory) limit o reads = Unit {0}
+IsCauseOf (opens.Differs key) limit o reads = ((c : List ℕ) → reads c → c ≢ []) × StandsOther key o reads
 
 -- but where a call on the disk failed, it is as it was
 abbrev pub LeavesDisk : {D : Type 0} → OpenFault → (reads may_leave : D → List ℕ → Type 0) → (old new : D) → Type 0
-LeavesDisk (open.Keep (Journal (Disk faults))) reads may_leave old new = Unit {0}
-LeavesDisk (open.Keep (Journal Closed)) reads may_leave old new = Unit {0}
-LeavesDisk (open.Keep (Journal NotEmpty)) reads may_leave old new = Unit {0}
-LeavesDisk (open.Keep (Journal (Full end))) reads may_leave old new = Unit {0}
-LeavesDisk (open.Keep (Journal (Damaged at))) reads may_leave old new =
+LeavesDisk (opens.Keep (Journal (Disk faults))) reads may_leave old new = Unit {0}
+LeavesDisk (opens.Keep (Journal Closed)) reads may_leave old new = Unit {0}
+LeavesDisk (opens.Keep (Journal NotEmpty)) reads may_leave old new = Unit {0}
+LeavesDisk (opens.Keep (Journal (Full end))) reads may_leave old new = Unit {0}
+LeavesDisk (opens.Keep (Journal (Damaged at))) reads may_leave old new =
     IsUntouched (reads old) (reads new) (may_leave old) (may_leave new)
-LeavesDisk (open.Keep (Foreign n)) reads may_leave old new =
+LeavesDisk (opens.Keep (Foreign n)) reads may_leave old new =
     IsUntouched (reads old) (reads new) (may_leave old) (may_leave new)
-LeavesDisk (open.Keep NoMemory) reads may_leave old new =
+LeavesDisk (opens.Keep NoMemory) reads may_leave old new =
     IsUntouched (reads old) (reads new) (may_leave old) (may_leave new)
-LeavesDisk (open.Differs key) reads may_leave old new =
+LeavesDisk (opens.Differs key) reads may_leave old new =
     IsUntouched (reads old) (reads new) (may_leave old) (may_leave new)
 
 abbrev pub CountsOpen : (before now : ℕ) → OpenFault → Type 0
-CountsOpen before now (open.Keep fault) = CountsFault before now fault
-CountsOpen before now (open.Differs key) = now ≡ before
+CountsOpen before now (opens.Keep fault) = CountsFault before now fault
+CountsOpen before now (opens.Differs key) = now ≡ before
 
 -- ---- texts
 
@@ -140,5 +140,5 @@ key_text key.Lanes = codes "lanes"
 key_text key.Window = codes "window"
 
 abbrev pub fault_text : OpenFault → List ℕ
-fault_text (open.Keep fault) = restart.fault_text fault
-fault_text (open.Differs key) = codes "the journal has another " ++ key_text key
+fault_text (opens.Keep fault) = restart.fault_text fault
+fault_text (opens.Differs key) = codes "the journal has another " ++ key_text key

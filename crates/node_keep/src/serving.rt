@@ -1,5 +1,8 @@
 //! One connection is served.
-ghost use Rattle.std.specs.Prelude.{◌≡◌, ◌≢◌, ◌≤◌, ℕ, List, length, take, Err, Ok, IsOk, IfOk, IfErr, OnErr};
+ghost use Rattle.std.specs.Prelude.{◌≡◌, ◌≢◌, ℕ, List, Option, None, Err, IsOk, IfOk, IfErr, OnErr};
+ghost use Rattle.express_words.specs.Calls.{Call};
+ghost use Rattle.frame_rules.specs.Whole.{whole};
+ghost use Rattle.node_serve.specs.Leading.{taken_in};
 ghost use Rattle.frame_rules.specs.Reading.{decoded};
 ghost use Rattle.frame_rules.specs.declared.fault.FrameFault.TheVariants.{Short};
 ghost use Rattle.node_serve.specs.Draining.{FaultIn};
@@ -52,7 +55,7 @@ fn refuse<C: Conn, D: Disk>(
     conn: &mut C,
 ) -> Result<Served, KeepFault>
     requires lead { IsLead kept.old.core }
-    requires none { taken_in (whole frame.now) ≡ None }
+    requires none { None ≡ taken_in (whole frame.now) }
     ensures serves { (peer : List ℕ) (calls : Option (List Call)) (count : ℕ) → IfOk result (λ why. (reply : List ℕ) × ((frames : List Handed)
         × Serves peer kept.old.core frame.now kept.new.core frames calls calls count why reply
         × Writes why (C.written conn.old) (C.written conn.new) (C.count conn.old) (C.count conn.new) reply
