@@ -69,7 +69,7 @@ fn read_events(alloc: Global, settings: &Settings, text: &[u8]) -> Result<Vec<Ev
     Ok(events)
 }
 
-#[tactic(auto, unfolding(crate::specs::Grammar::schedule_of_lines, crate::specs::Grammar::lines_of))]
+#[tactic(auto, unfolding(crate::specs::Grammar::schedule_of_lines, text_fields::specs::Lines::lines_of))]
 fn read_text(alloc: Global, text: &[u8]) -> Result<Schedule, ReadFault>
     ensures { Gives (λ schedule. schedule) result (schedule_of text.now) }
 {
