@@ -6,6 +6,7 @@ use Rattle.frame_rules.specs.Spelling.{spelling}
 use Rattle.frame_rules.specs.Whole.{whole}
 use Rattle.step_rules.specs.Leader.{Leader}
 use Rattle.node_serve.specs.Exchanging.{Exchange}
+use Rattle.node_serve.specs.Draining.{FaultIn}
 use Rattle.node_serve.specs.Leading.{taken_in, link_down, IsSent, Handles, BreaksDown, Leads}
 use Rattle.node_serve.specs.declared.node.Served.{Served}
 use Rattle.node_serve.specs.declared.node.Served.TheVariants as served
@@ -85,3 +86,12 @@ pub stops_helped : (peer : List ℕ) (core : Core) (bytes : List ℕ) (new : Cor
     → IsHelp core → new ≡ core → Stops peer core bytes new [] (handed (sender_at_helper bytes) bytes) x x
 stops_helped peer (Lead a) bytes new x help same = absurd help
 stops_helped peer (Help h) bytes new x help same = record { stays = same; none = refl; is = refl }
+
+-- ---- the net rests
+
+pub sent_fault : (why : Served) (n : ℕ) → IsSent why → FaultIn why n n
+sent_fault served.Answered n sent = refl
+sent_fault (served.ConnFault count) n sent = refl
+sent_fault served.Ended n sent = absurd sent
+sent_fault (served.LinkFault count) n sent = absurd sent
+sent_fault served.LinkBad n sent = absurd sent
