@@ -1,12 +1,15 @@
 -- What is said of a disk that was handed back is said of the disk before.
 use Rattle.std.proofs.Common.{◌≡◌, ◌≢◌, ℕ, List, [], refl, sym, ap, ◌∙◌, subst}
 use Rattle.node_journal.specs.Disk.{Within, IsUntouched}
+use Rattle.node_journal.specs.Records.{content}
 use Rattle.node_journal.specs.declared.fault.JournalFault.TheVariants.{Closed, NotEmpty, Full, Disk, Damaged}
 use Rattle.node_restart.specs.declared.opening.Opening.{Opening}
 use Rattle.node_restart.specs.declared.server.Core.{Core}
 use Rattle.node_restart.specs.declared.fault.KeepFault.{KeepFault}
 use Rattle.node_restart.specs.declared.fault.KeepFault.TheVariants.{Journal, NoMemory, Foreign}
-use Rattle.node_restart.specs.Kept.{KeptState, Stands}
+use Rattle.node_restart.specs.Faults.{OnForeign, OnDamaged}
+use Rattle.node_restart.specs.Frames.{IsForeign}
+use Rattle.node_restart.specs.Kept.{KeptState, Stands, IsDamagedAt}
 use Rattle.node_keep.specs.declared.key.SettingsKey.{SettingsKey}
 use Rattle.node_keep.specs.declared.fault.OpenFault.{OpenFault}
 use Rattle.node_keep.specs.declared.fault.OpenFault.TheVariants as opens
@@ -67,3 +70,14 @@ leaves_all (opens.Differs key) reads may_leave old new same = same
 
 pub counts_before : (fault : OpenFault) (first before now : ℕ) → before ≡ first → CountsOpen before now fault → CountsOpen first now fault
 counts_before fault first before now same counts = subst (λ n. CountsOpen n now fault) same counts
+
+pub cause_reopened : (fault : KeepFault) (limit : ℕ) (o : Opening) (reads : List ℕ → Type 0) → ((c : List ℕ) → reads c → c ≢ [])
+    → OnForeign fault (λ n. (c : List ℕ) → reads c → IsForeign n (content c)) → OnDamaged fault (λ n. (c : List ℕ) → reads c → IsDamagedAt limit n c)
+    → IsCauseOf (opens.Keep fault) limit o reads
+cause_reopened (Journal (Damaged at)) limit o reads some foreign damaged = λ c read. (some c read, damaged c read)
+cause_reopened (Foreign n) limit o reads some foreign damaged = λ c read. (some c read, foreign c read)
+cause_reopened (Journal Closed) limit o reads some foreign damaged = tt
+cause_reopened (Journal NotEmpty) limit o reads some foreign damaged = tt
+cause_reopened (Journal (Full end)) limit o reads some foreign damaged = tt
+cause_reopened (Journal (Disk faults)) limit o reads some foreign damaged = tt
+cause_reopened NoMemory limit o reads some foreign damaged = tt

@@ -5,6 +5,7 @@ use Rattle.frame_rules.specs.Frames.{PlainFrame}
 use Rattle.frame_rules.specs.Spelling.{spelling}
 use Rattle.frame_rules.specs.Whole.{whole}
 use Rattle.step_rules.specs.Leader.{Leader}
+use Rattle.step_rules.specs.LeaderClients.{on_client}
 use Rattle.node_serve.specs.Exchanging.{Exchange}
 use Rattle.node_serve.specs.Draining.{FaultIn}
 use Rattle.node_serve.specs.Leading.{taken_in, link_down, IsSent, Handles, BreaksDown, Leads}
@@ -62,7 +63,8 @@ pub serves_refused : (peer : List ℕ) (core : Core) (bytes : List ℕ) (new : C
     → None ≡ taken_in (whole bytes) → IsSent why → Steps core bytes new reply → Serves peer core bytes new (handed Client bytes ∷ []) x x count why reply
 serves_refused peer (Help h) bytes new reply x count why none sent s = absurd s
 serves_refused peer (Lead a) bytes new reply x count why none sent s =
-    (_, s.0, ([], refl, subst (λ (o : Option PlainFrame). Led o a bytes _ [] count why reply (handed Client bytes ∷ [])) none ((sent, record { leader = refl; reply_is = s.1; none = refl }), refl)))
+    let b : Leader = (on_client a bytes).leader in
+    (b, s.0, ([], refl, subst (λ (o : Option PlainFrame). Led o a bytes b [] count why reply (handed Client bytes ∷ [])) none ((sent, record { leader = refl; reply_is = s.1; none = refl }), refl)))
 
 pub serves_helped : (peer : List ℕ) (core : Core) (bytes : List ℕ) (new : Core) (reply : List ℕ) (x : Option (List Call)) (count : ℕ) (why : Served)
     → IsSent why → Helps core bytes new reply → Serves peer core bytes new (handed (sender_at_helper bytes) bytes ∷ []) x x count why reply

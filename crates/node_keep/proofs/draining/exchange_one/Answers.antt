@@ -13,19 +13,19 @@ use Rattle.node_keep.proofs.draining.exchange_one.Goals as goal
 pub returns-in-Err-Fault-clause-failed : goal.returns-in-Err-Fault-clause-failed
 returns-in-Err-Fault-clause-failed g c =
     let D = g.D.Disk in
-    ([], fails_unheard c.args.peer.now c.args.kept.now.core (take c.args.size c.args.out.now) (broken.Fault c.in-Err-Fault.count) _ _ (served.LinkFault c.in-Err-Fault.count) c.requires.lead (λ (a : Leader). refl) c.in-Err-Fault.ensures.calls,
+    ([], fails_unheard c.args.peer.now c.args.kept.now.core (take c.args.size c.args.out.now) c.in-Err-Fault.field-0 (broken.Fault c.in-Err-Fault.count) _ _ (served.LinkFault c.in-Err-Fault.count) c.requires.lead c.in-Err-Fault.field-0-is (λ (a : Leader). refl) c.in-Err-Fault.ensures.calls,
     keeps_none D.reads D.may_leave D.moment D.left_since c.args.kept.now)
 
 pub returns-in-Err-Early-clause-failed : goal.returns-in-Err-Early-clause-failed
 returns-in-Err-Early-clause-failed g c =
     let D = g.D.Disk in
-    ([], fails_unheard c.args.peer.now c.args.kept.now.core (take c.args.size c.args.out.now) (broken.Early c.in-Err-Early.field-0-0) _ _ served.LinkBad c.requires.lead (λ (a : Leader). refl) c.in-Err-Early.ensures.calls,
+    ([], fails_unheard c.args.peer.now c.args.kept.now.core (take c.args.size c.args.out.now) c.in-Err-Early.field-0 (broken.Early c.in-Err-Early.field-0-0) _ _ served.LinkBad c.requires.lead c.in-Err-Early.field-0-is (λ (a : Leader). refl) c.in-Err-Early.ensures.calls,
     keeps_none D.reads D.may_leave D.moment D.left_since c.args.kept.now)
 
 pub returns-in-Err-Wrong-clause-failed : goal.returns-in-Err-Wrong-clause-failed
 returns-in-Err-Wrong-clause-failed g c =
     let D = g.D.Disk in
-    ([], fails_unheard c.args.peer.now c.args.kept.now.core (take c.args.size c.args.out.now) (broken.Wrong c.in-Err-Wrong.field-0-0) _ _ served.LinkBad c.requires.lead (λ (a : Leader). refl) c.in-Err-Wrong.ensures.calls,
+    ([], fails_unheard c.args.peer.now c.args.kept.now.core (take c.args.size c.args.out.now) c.in-Err-Wrong.field-0 (broken.Wrong c.in-Err-Wrong.field-0-0) _ _ served.LinkBad c.requires.lead c.in-Err-Wrong.field-0-is (λ (a : Leader). refl) c.in-Err-Wrong.ensures.calls,
     keeps_none D.reads D.may_leave D.moment D.left_since c.args.kept.now)
 
 pub returns-then-is_ignored-clause-failed : goal.returns-then-is_ignored-clause-failed

@@ -4,6 +4,7 @@ use Rattle.frame_rules.specs.Spelling.{spelling}
 use Rattle.node_serve.specs.Leading.{link_down}
 use Rattle.node_serve.proofs.DownLaws.{writes_down}
 use Rattle.node_serve.proofs.LeadLaws.{if_ok}
+use Rattle.node_keep.proofs.LeadLaws.{linked}
 use Rattle.node_keep.proofs.ServeLaws.{serves_all, serves_down, breaks_link, sent_fault}
 use Rattle.node_keep.proofs.serving.serve_leader.Goals as goal
 
@@ -20,7 +21,7 @@ returns-in-Ok-clause-serves g c =
 
 pub returns-in-Err-Link-clause-serves : goal.returns-in-Err-Link-clause-serves
 returns-in-Err-Link-clause-serves g c =
-    let h = c.in-Err-Link.ensures.broken in
+    let h = linked c.in-Err-Link.field-0 c.in-Err-Link.why _ c.in-Err-Link.field-0-is c.in-Err-Link.ensures.broken in
     let reply : List ℕ = take c.say_link_down-told.result c.say_link_down-told.new.out in
     let said = c.say_link_down-told.ensures.written ∙ ap (λ n. spelling (link_down (plain c.in-Some.client) n)) c.faults.ensures in
     (reply, (h.0,
