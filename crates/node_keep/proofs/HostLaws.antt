@@ -61,8 +61,9 @@ hosting reads may_leave moment left_since peer content written faults start tall
 
 still_all : {C : Type 0} (content : C → Option Stream) (written : C → Option (List ℕ)) (faults : C → ℕ) (a b : Option (List Call)) (calls : List Call) (visits : List Visit)
     → Makes a b calls → All (Of content written faults a) visits → All (Of content written faults b) visits
-still_all content written faults a b calls visits makes conns = All-weaker (Of content written faults a) (Of content written faults b)
-(λ (u : Visit) known. (known.0, still_of a b calls u (content known.0) (written known.0) (faults known.0) makes known.1)) visits conns
+still_all content written faults a b calls visits makes conns =
+    All-weaker (Of content written faults a) (Of content written faults b)
+    (λ (u : Visit) known. (known.0, still_of a b calls u (content known.0) (written known.0) (faults known.0) makes known.1)) visits conns
 
 pub hosting_more : {D C : Type 0} (reads may_leave : D → List ℕ → Type 0) (moment : D → ℕ) (left_since : D → ℕ → List ℕ → Type 0) (peer : List ℕ)
     (content : C → Option Stream) (written : C → Option (List ℕ)) (faults : C → ℕ) (start old new : Standing D) (number : ℕ) (tally more : Tally) (answer : Served) (a b c : Option (List Call))

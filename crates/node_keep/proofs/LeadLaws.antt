@@ -23,6 +23,9 @@ pub on_link : (why : Broke) (P Q : Served → Type 0) → ((link : Served) → P
 on_link (broke.Link link) P Q follows p = follows link p
 on_link (broke.Keep fault) P Q follows p = tt
 
+pub linked : (b : Broke) (why : Served) (P : Served → Type 0) → b ≡ broke.Link why → OnLink b P → P why
+linked b why P is h = subst (λ (x : Broke). OnLink x P) is h
+
 pub on_keep : (why : Broke) (P Q : KeepFault → Type 0) → ((fault : KeepFault) → P fault → Q fault) → OnKeep why P → OnKeep why Q
 on_keep (broke.Link link) P Q follows p = tt
 on_keep (broke.Keep fault) P Q follows p = follows fault p

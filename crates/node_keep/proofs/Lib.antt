@@ -6,3 +6,4 @@ pub mod LeadLaws
 pub mod ServeLaws
 pub mod VisitLaws
 pub mod HostLaws
+pub mod OpenLaws

@@ -5,7 +5,9 @@ use Rattle.frame_rules.specs.Frames.{PlainFrame}
 use Rattle.frame_rules.specs.Spelling.{spelling}
 use Rattle.frame_rules.specs.Whole.{whole}
 use Rattle.step_rules.specs.Leader.{Leader}
+use Rattle.step_rules.specs.LeaderClients.{on_client}
 use Rattle.node_serve.specs.Exchanging.{Exchange}
+use Rattle.node_serve.specs.Draining.{FaultIn}
 use Rattle.node_serve.specs.Leading.{taken_in, link_down, IsSent, Handles, BreaksDown, Leads}
 use Rattle.node_serve.specs.declared.node.Served.{Served}
 use Rattle.node_serve.specs.declared.node.Served.TheVariants as served
@@ -61,7 +63,8 @@ pub serves_refused : (peer : List ℕ) (core : Core) (bytes : List ℕ) (new : C
     → None ≡ taken_in (whole bytes) → IsSent why → Steps core bytes new reply → Serves peer core bytes new (handed Client bytes ∷ []) x x count why reply
 serves_refused peer (Help h) bytes new reply x count why none sent s = absurd s
 serves_refused peer (Lead a) bytes new reply x count why none sent s =
-    (_, s.0, ([], refl, subst (λ (o : Option PlainFrame). Led o a bytes _ [] count why reply (handed Client bytes ∷ [])) none ((sent, record { leader = refl; reply_is = s.1; none = refl }), refl)))
+    let b : Leader = (on_client a bytes).leader in
+    (b, s.0, ([], refl, subst (λ (o : Option PlainFrame). Led o a bytes b [] count why reply (handed Client bytes ∷ [])) none ((sent, record { leader = refl; reply_is = s.1; none = refl }), refl)))
 
 pub serves_helped : (peer : List ℕ) (core : Core) (bytes : List ℕ) (new : Core) (reply : List ℕ) (x : Option (List Call)) (count : ℕ) (why : Served)
     → IsSent why → Helps core bytes new reply → Serves peer core bytes new (handed (sender_at_helper bytes) bytes ∷ []) x x count why reply
@@ -85,3 +88,12 @@ pub stops_helped : (peer : List ℕ) (core : Core) (bytes : List ℕ) (new : Cor
     → IsHelp core → new ≡ core → Stops peer core bytes new [] (handed (sender_at_helper bytes) bytes) x x
 stops_helped peer (Lead a) bytes new x help same = absurd help
 stops_helped peer (Help h) bytes new x help same = record { stays = same; none = refl; is = refl }
+
+-- ---- the net rests
+
+pub sent_fault : (why : Served) (n : ℕ) → IsSent why → FaultIn why n n
+sent_fault served.Answered n sent = refl
+sent_fault (served.ConnFault count) n sent = refl
+sent_fault served.Ended n sent = absurd sent
+sent_fault (served.LinkFault count) n sent = absurd sent
+sent_fault served.LinkBad n sent = absurd sent

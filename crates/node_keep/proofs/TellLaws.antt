@@ -110,10 +110,11 @@ ignored_stays : (a : Leader) (ack : leader.Ack) (after : Leader) → AckLeaves a
 ignored_stays a ack after leaves is = subst (λ (x : leader.Ack). AckLeaves x a after) is leaves
 
 -- the exchange gave no frame
-pub fails_unheard : (peer : List ℕ) (core : Core) (sent : List ℕ) (why : Broken) (x y : Option (List Call)) (what : Served) → IsLead core
-    → ((a : Leader) → Breaks a (Err why) what) → ExchangeOn peer (record { sent = sent; answer = Err why }) x y → Fails peer core core sent [] x y what
-fails_unheard peer (Lead a) sent why x y what lead breaks calls = record { stays = refl; answer = Err why; broken = breaks a; frames_are = refl; calls = calls }
-fails_unheard peer (Help h) sent why x y what lead breaks calls = absurd lead
+pub fails_unheard : (peer : List ℕ) (core : Core) (sent : List ℕ) (got why : Broken) (x y : Option (List Call)) (what : Served) → IsLead core → got ≡ why
+    → ((a : Leader) → Breaks a (Err why) what) → ExchangeOn peer (record { sent = sent; answer = Err got }) x y → Fails peer core core sent [] x y what
+fails_unheard peer (Lead a) sent got why x y what lead is breaks calls =
+    record { stays = refl; answer = Err got; broken = subst (λ (b : Broken). Breaks a (Err b) what) (sym is) (breaks a); frames_are = refl; calls = calls }
+fails_unheard peer (Help h) sent got why x y what lead is breaks calls = absurd lead
 
 -- or one that was ignored
 pub fails_ignored : (peer : List ℕ) (core : Core) (sent bytes : List ℕ) (new : Core) (d : Did) (old out : List ℕ) (x y : Option (List Call)) → IsLead core

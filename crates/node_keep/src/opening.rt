@@ -1,5 +1,5 @@
 //! A server is opened, from its settings or from its journal.
-ghost use Rattle.std.specs.Prelude.{◌≡◌, ◌≤◌, ◌⊎◌, ℕ, List, IfOk, IfErr};
+ghost use Rattle.std.specs.Prelude.{◌≡◌, ◌≢◌, ◌≤◌, ◌⊎◌, ℕ, List, [], IfOk, IfErr};
 ghost use Rattle.express_words.specs.Limits.{KeepsLimits};
 ghost use Rattle.node_journal.specs.Disk.{IsUntouched};
 ghost use Rattle.node_keep.specs.Opening.{opening_of, IsCreated, IsReopened, IsOfOpening, IsCauseOf, LeavesDisk, CountsOpen};
@@ -37,6 +37,7 @@ fn open_again<D: Disk>(
     opening: &Opening,
     disk: D,
 ) -> Result<Kept<D>, (OpenFault, D)>
+    requires some { (c : List ℕ) → D.reads disk c → c ≢ [] }
     ensures reopened { IfOk result (IsReopened D.reads D.may_leave JOURNAL_LIMIT opening.now disk) }
     ensures cause { IfErr result (λ x. IsOfOpening x.0) }
     ensures why { IfErr result (λ x. IsCauseOf x.0 JOURNAL_LIMIT opening.now (D.reads disk)) }

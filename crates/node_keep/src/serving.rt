@@ -2,7 +2,7 @@
 ghost use Rattle.std.specs.Prelude.{◌≡◌, ◌≢◌, ℕ, List, Option, None, Err, IsOk, IfOk, IfErr, OnErr};
 ghost use Rattle.express_words.specs.Calls.{Call};
 ghost use Rattle.frame_rules.specs.Whole.{whole};
-ghost use Rattle.node_serve.specs.Leading.{taken_in};
+ghost use Rattle.node_serve.specs.Leading.{taken_in, IsSent};
 ghost use Rattle.frame_rules.specs.Reading.{decoded};
 ghost use Rattle.frame_rules.specs.declared.fault.FrameFault.TheVariants.{Short};
 ghost use Rattle.node_serve.specs.Draining.{FaultIn};
@@ -37,6 +37,7 @@ fn serve_helper<C: Conn, D: Disk>(
     ensures stops { (peer : List ℕ) (calls : Option (List Call)) → IfErr result (λ fault. (frames : List Handed) × ((refused : Handed)
         × Stops peer kept.old.core frame.now kept.new.core frames refused calls calls
         × KeepsUpTo D.reads D.may_leave D.moment D.left_since kept.old kept.new frames refused fault)) }
+    ensures sent { IfOk result IsSent }
     ensures untouched { OnErr result (conn.new ≡ conn.old) }
     ensures content { C.content conn.new ≡ C.content conn.old }
     ensures counts { Counts (D.Counted.count kept.old.disk) (D.Counted.count kept.new.disk) result }
@@ -63,6 +64,7 @@ fn refuse<C: Conn, D: Disk>(
     ensures stops { (peer : List ℕ) (calls : Option (List Call)) → IfErr result (λ fault. (frames : List Handed) × ((refused : Handed)
         × Stops peer kept.old.core frame.now kept.new.core frames refused calls calls
         × KeepsUpTo D.reads D.may_leave D.moment D.left_since kept.old kept.new frames refused fault)) }
+    ensures sent { IfOk result IsSent }
     ensures untouched { OnErr result (conn.new ≡ conn.old) }
     ensures content { C.content conn.new ≡ C.content conn.old }
     ensures counts { Counts (D.Counted.count kept.old.disk) (D.Counted.count kept.new.disk) result }
