@@ -8,7 +8,7 @@ use Rattle.node_restart.specs.declared.fault.KeepFault.{KeepFault}
 use Rattle.node_restart.specs.declared.fault.KeepFault.TheVariants.{Journal, NoMemory, Foreign}
 use Rattle.node_keep.specs.Keeping.{IsCause, KeepsUpTo, journal_after, kept_of}
 use Rattle.node_keep.specs.Opening.{IsOfOpening}
-use Rattle.node_keep.specs.declared.fault.OpenFault.TheVariants as open
+use Rattle.node_keep.specs.declared.fault.OpenFault.TheVariants as opening
 use Rattle.express_keep.specs.Endings.{IsToldOf}
 
 -- frames that were kept close no journal
@@ -18,24 +18,24 @@ after_closed j (h ∷ frames) = after_closed (longer (length h.frame + 1) j) fra
 
 first_of : {D : Type 0} (fault : KeepFault) (bytes : ℕ) (old new : KeptState D) → old.journal.closed ≡ false
     → IsCause fault bytes old new → IsToldOf fault
-first_of (Journal Closed) bytes old new open cause = cc
-first_of (Journal NotEmpty) bytes old new open cause = absurd cause
-first_of (Journal (Full end)) bytes old new open cause = tt
-first_of (Journal (Disk faults)) bytes old new open cause = tt
-first_of (Journal (Damaged at)) bytes old new open cause = absurd cause
-first_of NoMemory bytes old new open cause = absurd cause
-first_of (Foreign n) bytes old new open cause = absurd cause
+first_of (Journal Closed) bytes old new unclosed cause = cc
+first_of (Journal NotEmpty) bytes old new unclosed cause = absurd cause
+first_of (Journal (Full end)) bytes old new unclosed cause = tt
+first_of (Journal (Disk faults)) bytes old new unclosed cause = tt
+first_of (Journal (Damaged at)) bytes old new unclosed cause = absurd cause
+first_of NoMemory bytes old new unclosed cause = absurd cause
+first_of (Foreign n) bytes old new unclosed cause = absurd cause
 
 pub first_fault : {D : Type 0} (reads may_leave : D → List ℕ → Type 0) (moment : D → ℕ)
     (left_since : D → ℕ → List ℕ → Type 0) (old new : KeptState D) (frames : List Handed) (refused : Handed)
     (fault : KeepFault) → old.journal.closed ≡ false
     → KeepsUpTo reads may_leave moment left_since old new frames refused fault → IsToldOf fault
-first_fault reads may_leave moment left_since old new frames refused fault open upto =
+first_fault reads may_leave moment left_since old new frames refused fault unclosed upto =
     first_of fault _ upto.between new
-    (ap (λ (j : JournalState). j.closed) upto.keeps.journal ∙ after_closed old.journal (kept_of frames) ∙ open)
+    (ap (λ (j : JournalState). j.closed) upto.keeps.journal ∙ after_closed old.journal (kept_of frames) ∙ unclosed)
     upto.refuses.cause
 
-pub opening_fault : (fault : KeepFault) → IsOfOpening (open.Keep fault) → IsToldOf fault
+pub opening_fault : (fault : KeepFault) → IsOfOpening (opening.Keep fault) → IsToldOf fault
 opening_fault (Journal Closed) kind = absurd kind
 opening_fault (Journal NotEmpty) kind = absurd kind
 opening_fault (Journal (Full end)) kind = absurd kind

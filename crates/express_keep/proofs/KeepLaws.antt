@@ -13,7 +13,7 @@ use Rattle.express_cli.specs.declared.ends.End.{End}
 use Rattle.express_cli.specs.declared.ends.End.TheVariants as ends
 use Rattle.node_keep.specs.Opening.{key_text}
 use Rattle.node_keep.specs.declared.key.SettingsKey.{SettingsKey}
-use Rattle.node_keep.specs.declared.fault.OpenFault.TheVariants as open
+use Rattle.node_keep.specs.declared.fault.OpenFault.TheVariants as opening
 use Rattle.express_keep.specs.declared.ending.Ending.TheVariants.{Plain}
 use Rattle.express_keep.specs.Keeping.{OpenFaultMay, TextMay}
 
@@ -53,7 +53,7 @@ bad_text {D} reads may_leave moment left_since bytes net disk quiet fault.NoMemo
 
 -- a setting that differs is told as a bad key
 pub differs_may : (key : SettingsKey) (end : End) (text : List ℕ) → BadKeyMay (key_text key) end text
-    → OpenFaultMay (open.Differs key) (Plain end) text
+    → OpenFaultMay (opening.Differs key) (Plain end) text
 differs_may key ends.Done text may = absurd may
 differs_may key ends.Usage text may = absurd may
 differs_may key (ends.BadLine n) text may = absurd may

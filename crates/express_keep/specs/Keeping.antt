@@ -7,7 +7,7 @@ use Rattle.node_restart.specs.Kept.{KeptState}
 use Rattle.node_keep.specs.Opening.{IsCreated, IsReopened, IsOfOpening, IsCauseOf, LeavesDisk}
 use Rattle.node_keep.specs.Opening.{opening_of, key_text}
 use Rattle.node_keep.specs.declared.fault.OpenFault.{OpenFault}
-use Rattle.node_keep.specs.declared.fault.OpenFault.TheVariants as open
+use Rattle.node_keep.specs.declared.fault.OpenFault.TheVariants as opening
 use Rattle.node_keep.specs.declared.key.SettingsKey.{SettingsKey}
 use Rattle.express_cli.specs.Around.{Around, Outside}
 use Rattle.express_cli.specs.Reading.{GaveAll}
@@ -41,8 +41,8 @@ pub record Opened {D : Type 0} (reads may_leave : D → List ℕ → Type 0) (mo
 
 -- what is said of a server that isn't opened
 abbrev pub OpenFaultMay : OpenFault → Ending → List ℕ → Type 0
-OpenFaultMay (open.Keep fault) end text = FaultMay fault end text
-OpenFaultMay (open.Differs key) end text =
+OpenFaultMay (opening.Keep fault) end text = FaultMay fault end text
+OpenFaultMay (opening.Differs key) end text =
     SaysOrWants (Plain BadKey) (bad_settings (key_text key)) end text
 
 -- The server wasn't opened; no call was made on the net.
