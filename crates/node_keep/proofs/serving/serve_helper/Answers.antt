@@ -8,7 +8,11 @@ use Rattle.node_keep.proofs.serving.serve_helper.Goals as goal
 pub returns-in-Err-clause-stops : goal.returns-in-Err-clause-stops
 returns-in-Err-clause-stops g c = λ peer calls.
     let D = g.D.Disk in
-    let refuses = c.in-Err.ensures.refuses in
-    ([], (handed (sender_at_helper c.args.frame.now) c.args.frame.now,
+    let refuses = c.in-Err.ensures.refuses in (
+      [],
+      (
+        handed (sender_at_helper c.args.frame.now) c.args.frame.now,
         stops_helped peer c.args.kept.now.core c.args.frame.now c.step_helper.new.kept.core calls c.requires.help refuses.no_step,
-        record { between = c.args.kept.now; keeps = keeps_none D.reads D.may_leave D.moment D.left_since c.args.kept.now; refuses = refuses }))
+        record { between = c.args.kept.now; keeps = keeps_none D.reads D.may_leave D.moment D.left_since c.args.kept.now; refuses = refuses },
+      ),
+    )
