@@ -63,7 +63,7 @@ kept_apart h apart = ap (λ (b : Bool). cond b (h ∷ []) []) (not_true (is_ok (
 
 -- ---- where it went well
 
-first_frames : (limit : ℕ) (o : Opening) (before : List Handed) (h : Handed) (c : List ℕ) → LeavesFrames limit o before h c → LeavesFirst limit o before (h ∷ []) c
+pub first_frames : (limit : ℕ) (o : Opening) (before : List Handed) (h : Handed) (c : List ℕ) → LeavesFrames limit o before h c → LeavesFirst limit o before (h ∷ []) c
 first_frames limit o before h c (inl same, undamaged) = record {
   first = [];
   rest = h ∷ [];

@@ -75,11 +75,26 @@ pub record Refuses {D : Type 0} (reads : D → List ℕ → Type 0) (moment : D 
       → HoldsFrames old.opening before (reads old.disk) → LeavesOnly moment left_since old.disk new.disk
       (LeavesFrames old.journal.limit old.opening before h)
 
--- From old to new a server was handed these frames and took their steps, and then this one, which wasn't
--- kept.
+-- what a crash may leave of a frame that wasn't kept: the frame itself, where a call on the disk failed
+abbrev pub begun : KeepFault → Handed → List Handed
+begun (Journal (Disk faults)) h = h ∷ []
+begun (Journal Closed) h = []
+begun (Journal NotEmpty) h = []
+begun (Journal (Full end)) h = []
+begun (Journal (Damaged at)) h = []
+begun NoMemory h = []
+begun (Foreign n) h = []
+
+-- From old to new a server was handed these frames and took their steps, and then this one, which wasn't kept. A
+-- crash at any moment on the way leaves the first of all these, the last among them where a call on the disk
+-- failed.
 pub record KeepsUpTo {D : Type 0} (reads may_leave : D → List ℕ → Type 0) (moment : D → ℕ)
     (left_since : D → ℕ → List ℕ → Type 0) (old new : KeptState D) (frames : List Handed) (refused : Handed)
     (fault : KeepFault) : Type 0 where
   pub between : KeptState D
   pub keeps : Keeps reads may_leave moment left_since old between frames
   pub refuses : Refuses reads moment left_since between new refused fault
+  pub quiet : kept_of frames ++ begun fault refused ≡ [] → new ≡ old
+  pub any_moment : kept_of frames ++ begun fault refused ≢ [] → (before : List Handed)
+      → HoldsFrames old.opening before (reads old.disk) → LeavesOnly moment left_since old.disk new.disk
+      (LeavesFirst old.journal.limit old.opening before (kept_of frames ++ begun fault refused))

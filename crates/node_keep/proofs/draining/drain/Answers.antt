@@ -1,5 +1,6 @@
 use Rattle.std.proofs.Common.{[], ◌++◌, take, refl, ◌∙◌, arith}
 use Rattle.node_keep.proofs.KeepLaws.{keeps_none, keeps_both}
+use Rattle.node_keep.proofs.UpToLaws.{keeps_up_to}
 use Rattle.node_keep.proofs.LeadLaws.{on_link, on_keep}
 use Rattle.node_keep.proofs.StandLaws.{stands_first, stands_more, stands_broken, stands_stopped}
 use Rattle.node_keep.proofs.draining.drain.Goals as goal
@@ -52,12 +53,13 @@ returns-in-Err-clause-broken g c =
 
 pub returns-in-Err-clause-stopped : goal.returns-in-Err-clause-stopped
 returns-in-Err-clause-stopped g c =
+    let D = g.D.Disk in
     let s = c.draining.invariant.stands in
     on_keep c.in-Err.why _ _ (λ fault h. (
       s.0,
       (
         h.0,
         stands_stopped _ _ _ _ _ _ _ s.0 h.0 _ _ _ s.1 c.in-Some.ensures.written h.1,
-        record { between = c.draining.kept; keeps = s.2; refuses = h.2 },
+        keeps_up_to D.reads D.may_leave D.moment D.left_since _ _ _ s.0 h.0 fault s.2 h.2,
       ),
     )) c.in-Err.ensures.unkept

@@ -2,7 +2,8 @@ use Rattle.std.proofs.Common.{[], ◌∷◌, ◌++◌}
 use Rattle.node_serve.proofs.LeadLaws.{if_ok, if_err}
 use Rattle.node_restart.specs.declared.frames.Sender.TheVariants.{Client}
 use Rattle.node_restart.specs.Frames.{handed}
-use Rattle.node_keep.proofs.KeepLaws.{keeps_both, keeps_then}
+use Rattle.node_keep.proofs.KeepLaws.{keeps_both}
+use Rattle.node_keep.proofs.UpToLaws.{keeps_up_to, keeps_then}
 use Rattle.node_keep.proofs.LeadLaws.{on_link, on_keep, handles, breaks_early, breaks_late, stops_early, stops_between, stops_late}
 use Rattle.node_keep.proofs.leading.handle.Goals as goal
 
@@ -58,12 +59,13 @@ returns-in-Ok-step_leader-clause-stopped g c =
 
 pub returns-in-Err-step_leader-clause-stopped : goal.returns-in-Err-step_leader-clause-stopped
 returns-in-Err-step_leader-clause-stopped g c =
+    let D = g.D.Disk in
     let one = c.in-Ok.ensures.drained in
     let refuses = c.in-Err-step_leader.ensures.refuses in (
       one.0,
       (
         handed Client c.args.frame.now,
         stops_between c.args.peer.now c.args.kept.now.core c.args.frame.now _ _ _ one.0 _ _ one.1 refuses.no_step,
-        record { between = c.drain.new.kept; keeps = one.2; refuses = refuses },
+        keeps_up_to D.reads D.may_leave D.moment D.left_since _ _ _ one.0 (handed Client c.args.frame.now) _ one.2 refuses,
       ),
     )

@@ -2,6 +2,7 @@ use Rattle.std.proofs.Common.{[], ◌∷◌, take}
 use Rattle.node_restart.specs.declared.frames.Sender.TheVariants.{Client}
 use Rattle.node_restart.specs.Frames.{handed}
 use Rattle.node_keep.proofs.KeepLaws.{keeps_none}
+use Rattle.node_keep.proofs.UpToLaws.{keeps_up_to}
 use Rattle.node_keep.proofs.ServeLaws.{serves_refused, stops_refused}
 use Rattle.node_keep.proofs.serving.refuse.Goals as goal
 
@@ -24,6 +25,6 @@ returns-in-Err-clause-stops g c = λ peer calls.
       (
         handed Client c.args.frame.now,
         stops_refused peer c.args.kept.now.core c.args.frame.now c.step_leader.new.kept.core calls c.requires.lead c.requires.none refuses.no_step,
-        record { between = c.args.kept.now; keeps = keeps_none D.reads D.may_leave D.moment D.left_since c.args.kept.now; refuses = refuses },
+        keeps_up_to D.reads D.may_leave D.moment D.left_since c.args.kept.now c.args.kept.now _ [] (handed Client c.args.frame.now) _ (keeps_none D.reads D.may_leave D.moment D.left_since c.args.kept.now) refuses,
       ),
     )
