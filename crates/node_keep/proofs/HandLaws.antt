@@ -63,7 +63,7 @@ kept_apart h apart = ap (λ (b : Bool). cond b (h ∷ []) []) (not_true (is_ok (
 
 -- ---- where it went well
 
-first_frames : (limit : ℕ) (o : Opening) (before : List Handed) (h : Handed) (c : List ℕ) → LeavesFrames limit o before h c → LeavesFirst limit o before (h ∷ []) c
+pub first_frames : (limit : ℕ) (o : Opening) (before : List Handed) (h : Handed) (c : List ℕ) → LeavesFrames limit o before h c → LeavesFirst limit o before (h ∷ []) c
 first_frames limit o before h c (inl same, undamaged) = record {
   first = [];
   rest = h ∷ [];
@@ -175,10 +175,10 @@ refuses_handed {D} reads may_leave moment left_since old new sender frame out_ol
     let cause : IsCause fault bytes old new = elim (true_or_false old.journal.closed) [
       | inl is ↦ let all = h.closed one is in subst (λ (why : KeepFault). IsCause why bytes old new) (same_fault fault (Journal Closed) all.0) (is, all.1)
       | inr is ↦ elim (le_or_more (old.journal.end + 5 + bytes + 1) old.journal.limit) [
-          | inl fits ↦ on_disk old new bytes fault is fits (h.fits one is fits) (h.broken one is fits)
-          | inr passes ↦
-              let all = h.full one is passes in
-              subst (λ (why : KeepFault). IsCause why bytes old new) (same_fault fault (Journal (Full old.journal.end)) all.0) (is, passes, refl, all.1)
-        ]
+        | inl fits ↦ on_disk old new bytes fault is fits (h.fits one is fits) (h.broken one is fits)
+        | inr passes ↦
+            let all = h.full one is passes in
+            subst (λ (why : KeepFault). IsCause why bytes old new) (same_fault fault (Journal (Full old.journal.end)) all.0) (is, passes, refl, all.1)
+      ]
     ] in
     record { whole = one; cause = cause; opening = h.opening; no_step = h.no_step.0; any_moment = h.any_moment one }

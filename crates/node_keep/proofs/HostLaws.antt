@@ -21,7 +21,8 @@ use Rattle.node_keep.specs.declared.stop.Halt.TheVariants as halt
 use Rattle.node_keep.specs.Keeping.{Keeps, KeepsUpTo}
 use Rattle.node_keep.specs.Visits.{Standing, standing, IsVisit, Visits, none, then, Broken, broken_calls, IsBroken, IsOfBroken}
 use Rattle.node_keep.specs.Hosting.{ServesAll, DoorFails, KeepFails, OnDoor, OnFault}
-use Rattle.node_keep.proofs.KeepLaws.{keeps_none, keeps_both, keeps_then}
+use Rattle.node_keep.proofs.KeepLaws.{keeps_none, keeps_both}
+use Rattle.node_keep.proofs.UpToLaws.{keeps_then}
 use Rattle.node_keep.proofs.VisitLaws.{visit_keeps}
 
 pub on_door : (why : Halt) (P Q : Type 0) → (P → Q) → OnDoor why P → OnDoor why Q

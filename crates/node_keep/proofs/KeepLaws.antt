@@ -9,11 +9,10 @@ use Rattle.node_journal.specs.Records.{content, IsUndamaged}
 use Rattle.node_journal.specs.Journal.{JournalState, longer}
 use Rattle.node_restart.specs.declared.opening.Opening.{Opening}
 use Rattle.node_restart.specs.declared.server.Core.{Core}
-use Rattle.node_restart.specs.declared.fault.KeepFault.{KeepFault}
 use Rattle.node_restart.specs.Frames.{Handed, records_of}
 use Rattle.node_restart.specs.Steps.{fold_from, step_of}
 use Rattle.node_restart.specs.Kept.{KeptState, HoldsFrames}
-use Rattle.node_keep.specs.Keeping.{kept_of, journal_after, LeavesFirst, Keeps, KeepsUpTo}
+use Rattle.node_keep.specs.Keeping.{kept_of, journal_after, LeavesFirst, Keeps}
 
 -- ---- folds of two lists
 
@@ -47,7 +46,7 @@ keeps_none reads may_leave moment left_since k = record {
   any_moment = λ n. absurd (n refl);
 }
 
-nil_or_not : (xs : List Handed) → (xs ≡ []) ⊎ (xs ≢ [])
+pub nil_or_not : (xs : List Handed) → (xs ≡ []) ⊎ (xs ≢ [])
 nil_or_not [] = inl refl
 nil_or_not (x ∷ xs) = inr (λ e. absurd (cc e))
 
@@ -71,7 +70,7 @@ leaves_more moment left_since a b P Q follows one = record {
   before = λ t x earlier left. elim (one.before t x earlier left) [ inl past ↦ inl past | inr now ↦ inr (follows x now) ];
 }
 
-first_of : (limit : ℕ) (o : Opening) (before xs ys : List Handed) (c : List ℕ) → LeavesFirst limit o before xs c → LeavesFirst limit o before (xs ++ ys) c
+pub first_of : (limit : ℕ) (o : Opening) (before xs ys : List Handed) (c : List ℕ) → LeavesFirst limit o before xs c → LeavesFirst limit o before (xs ++ ys) c
 first_of limit o before xs ys c l = record {
   first = l.first;
   rest = l.rest ++ ys;
@@ -80,7 +79,7 @@ first_of limit o before xs ys c l = record {
   undamaged = l.undamaged;
 }
 
-then_of : (limit : ℕ) (o : Opening) (before xs ys : List Handed) (c : List ℕ) → LeavesFirst limit o (before ++ xs) ys c → LeavesFirst limit o before (xs ++ ys) c
+pub then_of : (limit : ℕ) (o : Opening) (before xs ys : List Handed) (c : List ℕ) → LeavesFirst limit o (before ++ xs) ys c → LeavesFirst limit o before (xs ++ ys) c
 then_of limit o before xs ys c l = record {
   first = xs ++ l.first;
   rest = l.rest;
@@ -89,7 +88,7 @@ then_of limit o before xs ys c l = record {
   undamaged = l.undamaged;
 }
 
-both_nil : (xs ys : List Handed) → xs ++ ys ≡ [] → (xs ≡ []) × (ys ≡ [])
+pub both_nil : (xs ys : List Handed) → xs ++ ys ≡ [] → (xs ≡ []) × (ys ≡ [])
 both_nil [] ys e = (refl, e)
 both_nil (x ∷ xs) ys e = absurd (cc e)
 
@@ -146,12 +145,3 @@ keeps_both {D} reads may_leave moment left_since a b c f g one two =
           subst (λ (x : List Handed). LeavesOnly moment left_since a.disk c.disk (LeavesFirst a.journal.limit a.opening before x)) (sym all)
           (moments reads may_leave moment left_since a b c f g one two (nil_or_not (kept_of f)) (nil_or_not (kept_of g)) (λ e. n (all ∙ e)) before holds);
     }
-
-pub keeps_then : {D : Type 0} (reads may_leave : D → List ℕ → Type 0) (moment : D → ℕ) (left_since : D → ℕ → List ℕ → Type 0) (a b c : KeptState D) (f g : List Handed) (refused : Handed) (fault : KeepFault)
-    → Keeps reads may_leave moment left_since a b f → KeepsUpTo reads may_leave moment left_since b c g refused fault
-    → KeepsUpTo reads may_leave moment left_since a c (f ++ g) refused fault
-keeps_then reads may_leave moment left_since a b c f g refused fault one two = record {
-  between = two.between;
-  keeps = keeps_both reads may_leave moment left_since a b two.between f g one two.keeps;
-  refuses = two.refuses;
-}

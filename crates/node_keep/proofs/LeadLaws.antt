@@ -81,11 +81,18 @@ breaks_late peer (Lead a) bytes (Lead l) (Help h) now first told f g x y z why d
 breaks_late peer (Lead a) bytes (Lead l) (Lead m) now first told f g x y z why d s (b, at, (made, off, more, calls)) =
     let is : stand m told ≡ stepped d.0.leader bytes = stepped_is d.0.leader l m bytes told (one_lead l d.0.leader d.2) (one_lead m _ s.0) s.1 in
     let all : f ++ handed Client bytes ∷ g ≡ around d.0.made bytes made =
-    ap (λ (t : List Handed). t ++ handed Client bytes ∷ g) d.4 ∙ ap (λ (t : List Handed). answers_in d.0.made ++ handed Client bytes ∷ t) more in
-    (b, at, (d.0.made ++ made, exchanges_both peer d.0.made made x y z d.5 calls, (
-      inr (record { before = d.0; first = d.1; more = made; second = subst (λ (t : Stand). BreaksOff t b made why) is off; all = refl }),
-      all,
-    )))
+    ap (λ (t : List Handed). t ++ handed Client bytes ∷ g) d.4 ∙ ap (λ (t : List Handed). answers_in d.0.made ++ handed Client bytes ∷ t) more in (
+      b,
+      at,
+      (
+        d.0.made ++ made,
+        exchanges_both peer d.0.made made x y z d.5 calls,
+        (
+          inr (record { before = d.0; first = d.1; more = made; second = subst (λ (t : Stand). BreaksOff t b made why) is off; all = refl }),
+          all,
+        ),
+      ),
+    )
 
 pub stops_early : (peer : List ℕ) (start : Core) (bytes : List ℕ) (now : Core) (f : List Handed) (refused : Handed) (x y : Option (List Call))
     → DrainStops peer start [] now f refused x y → HandleStops peer start bytes now f refused x y
@@ -109,12 +116,19 @@ stops_late peer (Lead a) bytes (Lead l) (Lead m) now first told f g refused x y 
     let moved : (u : StopsAt (stepped d.0.leader bytes) b made refused) × (g ≡ answers_in u.last.made) =
     subst (λ (t : Stand). (u : StopsAt t b made refused) × (g ≡ answers_in u.last.made)) is (stops, more) in
     let all : f ++ handed Client bytes ∷ g ≡ around d.0.made bytes moved.0.last.made =
-    ap (λ (t : List Handed). t ++ handed Client bytes ∷ g) d.4 ∙ ap (λ (t : List Handed). answers_in d.0.made ++ handed Client bytes ∷ t) moved.1 in
-    (b, at, (d.0.made ++ made, exchanges_both peer d.0.made made x y z d.5 calls, inr (inr (record {
-      before = d.0;
-      first = d.1;
-      more = made;
-      second = moved.0;
-      all = refl;
-      frames_are = all;
-    }))))
+    ap (λ (t : List Handed). t ++ handed Client bytes ∷ g) d.4 ∙ ap (λ (t : List Handed). answers_in d.0.made ++ handed Client bytes ∷ t) moved.1 in (
+      b,
+      at,
+      (
+        d.0.made ++ made,
+        exchanges_both peer d.0.made made x y z d.5 calls,
+        inr (inr (record {
+          before = d.0;
+          first = d.1;
+          more = made;
+          second = moved.0;
+          all = refl;
+          frames_are = all;
+        })),
+      ),
+    )

@@ -1,5 +1,6 @@
 pub mod KeepLaws
 pub mod HandLaws
+pub mod UpToLaws
 pub mod TellLaws
 pub mod StandLaws
 pub mod LeadLaws

@@ -49,13 +49,16 @@ cause_before (opens.Keep (Journal NotEmpty)) limit o a b still cause = tt
 cause_before (opens.Keep (Journal (Full end))) limit o a b still cause = tt
 cause_before (opens.Keep (Journal (Disk faults))) limit o a b still cause = tt
 cause_before (opens.Keep NoMemory) limit o a b still cause = tt
-cause_before (opens.Differs key) limit o a b still cause = (λ x read. cause.0 x (still x read), record {
-  found = cause.1.found;
-  is_opening = cause.1.is_opening;
-  core = cause.1.core;
-  stands = stands_before cause.1.found cause.1.core a b still cause.1.stands;
-  differs = cause.1.differs;
-})
+cause_before (opens.Differs key) limit o a b still cause = (
+  λ x read. cause.0 x (still x read),
+  record {
+    found = cause.1.found;
+    is_opening = cause.1.is_opening;
+    core = cause.1.core;
+    stands = stands_before cause.1.found cause.1.core a b still cause.1.stands;
+    differs = cause.1.differs;
+  },
+)
 
 pub leaves_all : {D : Type 0} (fault : OpenFault) (reads may_leave : D → List ℕ → Type 0) (old new : D) → IsUntouched (reads old) (reads new) (may_leave old) (may_leave new)
     → LeavesDisk fault reads may_leave old new

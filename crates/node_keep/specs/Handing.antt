@@ -1,5 +1,5 @@
 -- One frame is handed to a server: what it tells, and what an exchange comes to.
-use Rattle.std.specs.Prelude.{◌≡◌, ◌≢◌, ℕ, Bool, true, false, List, [], ◌∷◌, ◌++◌, Result, Ok, Err, Option, Some, None}
+use Rattle.std.specs.Prelude.{◌≡◌, ℕ, Bool, true, false, List, [], ◌∷◌, ◌++◌, Result, Ok, Err}
 use Rattle.express_words.specs.Calls.{Call}
 use Rattle.leader_core.specs.declared.turn.Turn.TheVariants as turn
 use Rattle.leader_core.specs.declared.turn.Ack.TheVariants as ack

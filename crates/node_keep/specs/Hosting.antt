@@ -1,5 +1,6 @@
 -- A server whose frames are kept, at its door.
-use Rattle.std.specs.Prelude.{◌≡◌, ℕ, ◌<◌, ◌≤◌, true, List, [], ◌∷◌, ◌++◌, length, flat_map, Option, Result, Ok, Err}
+use Rattle.std.specs.Prelude.{◌≡◌, ℕ, ◌<◌, ◌≤◌, true, List, [], ◌∷◌, ◌++◌, length, flat_map}
+use Rattle.std.specs.Prelude.{Option, Result, Ok, Err}
 use Rattle.express_words.specs.Causes.{Rose, next}
 use Rattle.express_words.specs.Streams.{Stream}
 use Rattle.express_words.specs.Calls.{Call, Accepted}
@@ -42,8 +43,9 @@ pub record DoorFails {D : Type 0} (reads may_leave : D → List ℕ → Type 0) 
 
 -- fewer visits were made, then one at which a frame wasn't kept, and no other call was made
 pub record KeepFails {D : Type 0} (reads may_leave : D → List ℕ → Type 0) (moment : D → ℕ)
-    (left_since : D → ℕ → List ℕ → Type 0) (peer : List ℕ) (connections : ℕ) (tally : Tally) (fault : KeepFault)
-    (visits : List Visit) (last : Broken) (start end : Standing D) (before now : Option (List Call)) : Type 0 where
+    (left_since : D → ℕ → List ℕ → Type 0) (peer : List ℕ) (connections : ℕ) (tally : Tally)
+    (fault : KeepFault) (visits : List Visit) (last : Broken) (start end : Standing D)
+    (before now : Option (List Call)) : Type 0 where
   pub fewer : length visits < connections
   pub frames : List Handed
   pub between : Standing D

@@ -21,8 +21,8 @@ abbrev pub journal_after : JournalState → List Handed → JournalState
 journal_after j [] = j
 journal_after j (h ∷ frames) = journal_after (longer (length h.frame + 1) j) frames
 
--- A crash leaves the records of the opening, of the frames before and of the first of these, and nothing that a
--- journal under the same limit would find damaged.
+-- A crash leaves the records of the opening, of the frames before and of the first of these, and nothing
+-- that a journal under the same limit would find damaged.
 pub record LeavesFirst (limit : ℕ) (o : Opening) (before frames : List Handed) (c : List ℕ) : Type 0 where
   pub first : List Handed
   pub rest : List Handed
@@ -30,8 +30,9 @@ pub record LeavesFirst (limit : ℕ) (o : Opening) (before frames : List Handed)
   pub content : content c ≡ records_of o (before ++ first)
   pub undamaged : IsUndamaged limit 0 c
 
--- From old to new a server was handed these frames, in this order. It took the step of each, and those that are
--- frames stand on its disk behind those from before. A crash at any moment on the way leaves the first of them.
+-- From old to new a server was handed these frames, in this order. It took the step of each, and those that
+-- are frames stand on its disk behind those from before. A crash at any moment on the way leaves the first
+-- of them.
 pub record Keeps {D : Type 0} (reads may_leave : D → List ℕ → Type 0) (moment : D → ℕ)
     (left_since : D → ℕ → List ℕ → Type 0) (old new : KeptState D) (frames : List Handed) : Type 0 where
   pub opening : new.opening ≡ old.opening
@@ -42,12 +43,12 @@ pub record Keeps {D : Type 0} (reads may_leave : D → List ℕ → Type 0) (mom
   pub held : (before : List Handed) → HoldsFrames old.opening before (reads old.disk)
       → HoldsFrames old.opening (before ++ kept_of frames) (reads new.disk)
   pub durable : Within (may_leave old.disk) (reads old.disk) → Within (may_leave new.disk) (reads new.disk)
-  pub any_moment : kept_of frames ≢ [] → (before : List Handed) → HoldsFrames old.opening before (reads old.disk)
-      → LeavesOnly moment left_since old.disk new.disk
+  pub any_moment : kept_of frames ≢ [] → (before : List Handed)
+      → HoldsFrames old.opening before (reads old.disk) → LeavesOnly moment left_since old.disk new.disk
       (LeavesFirst old.journal.limit old.opening before (kept_of frames))
 
--- What a fault says of the journal before a record of so many bytes, and what it leaves: Closed and Full leave
--- all, and Disk leaves a closed journal.
+-- What a fault says of the journal before a record of so many bytes, and what it leaves: Closed and Full
+-- leave all, and Disk leaves a closed journal.
 abbrev pub IsCause : {D : Type 0} → KeepFault → ℕ → (old new : KeptState D) → Type 0
 IsCause (Journal Closed) bytes old new = (old.journal.closed ≡ true) × (new ≡ old)
 IsCause (Journal (Full end)) bytes old new =
@@ -61,10 +62,11 @@ IsCause (Journal (Damaged at)) bytes old new = ⊥
 IsCause NoMemory bytes old new = ⊥
 IsCause (Foreign n) bytes old new = ⊥
 
--- From old to new a server was handed this frame, which wasn't kept for this fault, and took no step. A crash at
--- any moment on the way leaves the frames from before, with it or without.
+-- From old to new a server was handed this frame, which wasn't kept for this fault, and took no step. A
+-- crash at any moment on the way leaves the frames from before, with it or without.
 pub record Refuses {D : Type 0} (reads : D → List ℕ → Type 0) (moment : D → ℕ)
-    (left_since : D → ℕ → List ℕ → Type 0) (old new : KeptState D) (h : Handed) (fault : KeepFault) : Type 0 where
+    (left_since : D → ℕ → List ℕ → Type 0) (old new : KeptState D) (h : Handed) (fault : KeepFault)
+    : Type 0 where
   pub whole : IsOneFrame h.frame
   pub cause : IsCause fault (length h.frame + 1) old new
   pub opening : new.opening ≡ old.opening
@@ -73,10 +75,26 @@ pub record Refuses {D : Type 0} (reads : D → List ℕ → Type 0) (moment : D 
       → HoldsFrames old.opening before (reads old.disk) → LeavesOnly moment left_since old.disk new.disk
       (LeavesFrames old.journal.limit old.opening before h)
 
--- From old to new a server was handed these frames and took their steps, and then this one, which wasn't kept.
+-- what a crash may leave of a frame that wasn't kept: the frame itself, where a call on the disk failed
+abbrev pub begun : KeepFault → Handed → List Handed
+begun (Journal (Disk faults)) h = h ∷ []
+begun (Journal Closed) h = []
+begun (Journal NotEmpty) h = []
+begun (Journal (Full end)) h = []
+begun (Journal (Damaged at)) h = []
+begun NoMemory h = []
+begun (Foreign n) h = []
+
+-- From old to new a server was handed these frames and took their steps, and then this one, which wasn't kept. A
+-- crash at any moment on the way leaves the first of all these, the last among them where a call on the disk
+-- failed.
 pub record KeepsUpTo {D : Type 0} (reads may_leave : D → List ℕ → Type 0) (moment : D → ℕ)
     (left_since : D → ℕ → List ℕ → Type 0) (old new : KeptState D) (frames : List Handed) (refused : Handed)
     (fault : KeepFault) : Type 0 where
   pub between : KeptState D
   pub keeps : Keeps reads may_leave moment left_since old between frames
   pub refuses : Refuses reads moment left_since between new refused fault
+  pub quiet : kept_of frames ++ begun fault refused ≡ [] → new ≡ old
+  pub any_moment : kept_of frames ++ begun fault refused ≢ [] → (before : List Handed)
+      → HoldsFrames old.opening before (reads old.disk) → LeavesOnly moment left_since old.disk new.disk
+      (LeavesFirst old.journal.limit old.opening before (kept_of frames ++ begun fault refused))

@@ -6,7 +6,8 @@ use Rattle.step_rules.specs.Leader.{Leader, Ignored}
 use Rattle.step_rules.specs.LeaderClients.{on_client}
 use Rattle.step_rules.specs.LeaderReplies.{on_reply_bytes}
 use Rattle.node_serve.specs.Exchanging.{Exchange}
-use Rattle.node_serve.specs.Draining.{ExchangeOn, ExchangesOn, Stand, stand, Drained, BreaksOff, Breaks, reply_of, rounds_left}
+use Rattle.node_serve.specs.Draining.{ExchangeOn, ExchangesOn, Stand, stand, Drained, BreaksOff}
+use Rattle.node_serve.specs.Draining.{Breaks, reply_of, rounds_left}
 use Rattle.node_serve.specs.Leading.{reply_to, Handles, BreaksDown}
 use Rattle.node_serve.specs.declared.exchanging.Broken.{Broken}
 use Rattle.node_serve.specs.declared.node.Served.{Served}
@@ -101,5 +102,6 @@ HandleBreaks peer (Help h) bytes new frames before now why = ⊥
 
 -- the step alone, and the reply that it gives at once
 abbrev pub Steps : Core → List ℕ → Core → List ℕ → Type 0
-Steps (Lead a) bytes new reply = (new ≡ Lead (on_client a bytes).leader) × (reply ≡ reply_to (on_client a bytes).answer)
+Steps (Lead a) bytes new reply =
+    (new ≡ Lead (on_client a bytes).leader) × (reply ≡ reply_to (on_client a bytes).answer)
 Steps (Help h) bytes new reply = ⊥

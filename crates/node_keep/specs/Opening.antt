@@ -37,7 +37,8 @@ pub record IsSame (a b : Opening) : Type 0 where
   pub role : a.role ≡ b.role
   pub settings : a.settings ≡ b.settings
 
--- in this setting they differ, and in those before it in the order role, width, boxes, lanes, window they don't
+-- in this setting they differ, and in those before it in the order role, width, boxes, lanes, window they
+-- don't
 abbrev pub DiffersAt : SettingsKey → Opening → Opening → Type 0
 DiffersAt key.Role a b = a.role ≢ b.role
 DiffersAt key.Width a b = (a.role ≡ b.role) × (a.settings.width ≢ b.settings.width)
@@ -64,8 +65,8 @@ pub record IsCreated {D : Type 0} (reads may_leave : D → List ℕ → Type 0) 
   pub durable : Within (may_leave k.disk) (reads k.disk)
 
 -- on a disk with a journal, of a server with the same role and settings: the fold of what stands there
-pub record IsReopened {D : Type 0} (reads may_leave : D → List ℕ → Type 0) (limit : ℕ) (o : Opening) (disk : D)
-    (k : KeptState D) : Type 0 where
+pub record IsReopened {D : Type 0} (reads may_leave : D → List ℕ → Type 0) (limit : ℕ) (o : Opening)
+    (disk : D) (k : KeptState D) : Type 0 where
   pub some : (c : List ℕ) → reads disk c → c ≢ []
   pub is_opening : IsOpening k.opening
   pub same : IsSame k.opening o
@@ -112,7 +113,8 @@ IsCauseOf (opens.Keep NoMemory) limit o reads = Unit {0}
 IsCauseOf (opens.Differs key) limit o reads = ((c : List ℕ) → reads c → c ≢ []) × StandsOther key o reads
 
 -- but where a call on the disk failed, it is as it was
-abbrev pub LeavesDisk : {D : Type 0} → OpenFault → (reads may_leave : D → List ℕ → Type 0) → (old new : D) → Type 0
+abbrev pub LeavesDisk : {D : Type 0} → OpenFault → (reads may_leave : D → List ℕ → Type 0) →
+    (old new : D) → Type 0
 LeavesDisk (opens.Keep (Journal (Disk faults))) reads may_leave old new = Unit {0}
 LeavesDisk (opens.Keep (Journal Closed)) reads may_leave old new = Unit {0}
 LeavesDisk (opens.Keep (Journal NotEmpty)) reads may_leave old new = Unit {0}

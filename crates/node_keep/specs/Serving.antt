@@ -21,8 +21,8 @@ abbrev pub IsHelp : Core → Type 0
 IsHelp (Help h) = Unit {0}
 IsHelp (Lead a) = ⊥
 
--- what a leader was handed, by what it did: a frame that it doesn't take from clients, or, by where its exchanges
--- ended, the helper's answers and the client's frame
+-- what a leader was handed, by what it did: a frame that it doesn't take from clients, or, by where its
+-- exchanges ended, the helper's answers and the client's frame
 abbrev pub frames_led : (found : Option PlainFrame) (a : Leader) (bytes : List ℕ) (b : Leader)
     (made : List Exchange) (count : ℕ) (why : Served) (reply : List ℕ)
     → Leads found a bytes b made count why reply → List Handed
@@ -35,9 +35,9 @@ frames_led (Some f) a bytes b made count (served.LinkFault faults) reply leads =
 frames_led (Some f) a bytes b made count served.LinkBad reply leads =
     frames_broken a bytes b made served.LinkBad leads.0
 
--- What a server did with these bytes, as one whose frames aren't kept: its step, the calls on the net from before
--- to now, whose count of faults is count then, and the reply that the client is to get; and the frames that it was
--- handed, in their order.
+-- What a server did with these bytes, as one whose frames aren't kept: its step, the calls on the net from
+-- before to now, whose count of faults is count then, and the reply that the client is to get; and the
+-- frames that it was handed, in their order.
 abbrev pub Serves : List ℕ → Core → List ℕ → Core → List Handed → (before now : Option (List Call)) → ℕ →
     Served → List ℕ → Type 0
 Serves peer (Help h) bytes new frames before now count why reply =

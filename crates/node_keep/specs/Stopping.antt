@@ -50,8 +50,8 @@ pub record StopsEarly (a : Leader) (bytes : List ℕ) (b : Leader) (made : List 
   pub frames_are : frames ≡ answers_in at.last.made
 
 -- at the client's frame
-pub record StopsBetween (a : Leader) (bytes : List ℕ) (b : Leader) (made : List Exchange) (frames : List Handed)
-    (refused : Handed) : Type 0 where
+pub record StopsBetween (a : Leader) (bytes : List ℕ) (b : Leader) (made : List Exchange)
+    (frames : List Handed) (refused : Handed) : Type 0 where
   pub before : Stand
   pub first : Drained (stand a []) before
   pub stays : b ≡ before.leader
@@ -87,8 +87,8 @@ HandleStops peer (Lead a) bytes new frames refused before now =
     × StopsDown a bytes b made frames refused)
 HandleStops peer (Help h) bytes new frames refused before now = ⊥
 
--- a leader stops at one of the frames that it is handed, by whether the connection's is one that it takes from
--- clients
+-- a leader stops at one of the frames that it is handed, by whether the connection's is one that it takes
+-- from clients
 abbrev pub LeadStops : Option PlainFrame → List ℕ → Leader → List ℕ → Core → List Handed → Handed →
     (before now : Option (List Call)) → Type 0
 LeadStops None peer a bytes new frames refused before now =
@@ -104,8 +104,8 @@ sender_by false = Client
 abbrev pub sender_at_helper : List ℕ → Sender
 sender_at_helper bytes = sender_by (is_from_leader (whole bytes))
 
--- What a server did with these bytes up to a frame that wasn't kept: the frames before it, and the calls on the
--- net.
+-- What a server did with these bytes up to a frame that wasn't kept: the frames before it, and the calls on
+-- the net.
 abbrev pub Stops : List ℕ → Core → List ℕ → Core → List Handed → Handed → (before now : Option (List Call)) →
     Type 0
 Stops peer (Help h) bytes new frames refused before now =

@@ -33,13 +33,14 @@ pub record IsCutOff {D : Type 0} (v : Visit) (old new : KeptState D) (frames : L
   pub calls : v.calls ≡ []
   pub untold : v.taken ≡ []
 
--- the server took its step with what it was handed, and its reply was written; count is the net's count of faults
--- then
+-- the server took its step with what it was handed, and its reply was written; count is the net's count of
+-- faults then
 pub record IsStepped {D : Type 0} (reads may_leave : D → List ℕ → Type 0) (moment : D → ℕ)
     (left_since : D → ℕ → List ℕ → Type 0) (peer : List ℕ) (v : Visit) (old new : KeptState D)
     (frames : List Handed) (count : ℕ) : Type 0 where
   pub reply : List ℕ
-  pub serves : Serves peer old.core (host.handed v) new.core frames (Some []) (Some v.calls) count v.answer reply
+  pub serves : Serves peer old.core (host.handed v) new.core frames (Some []) (Some v.calls) count v.answer
+      reply
   pub writes : Writes v.answer (Some []) (Some v.taken) 0 v.faults reply
   pub keeps : Keeps reads may_leave moment left_since old new frames
   pub alone : IsHelp old.core → v.calls ≡ []
@@ -68,8 +69,8 @@ pub data Visits {D : Type 0} (reads may_leave : D → List ℕ → Type 0) (mome
 
 -- ---- a visit that ended at a frame that wasn't kept
 
--- the bytes that the connection gave, those that it had left at its close, and the calls that the server made on the
--- net meanwhile
+-- the bytes that the connection gave, those that it had left at its close, and the calls that the server
+-- made on the net meanwhile
 pub record Broken : Type 0 where
   pub given : List ℕ
   pub left : List ℕ
@@ -82,7 +83,8 @@ pub record IsBroken {D : Type 0} (reads may_leave : D → List ℕ → Type 0) (
     (left_since : D → ℕ → List ℕ → Type 0) (peer : List ℕ) (v : Broken) (frames : List Handed)
     (refused : Handed) (fault : KeepFault) (old new : Standing D) : Type 0 where
   pub wanted : IsWanted v.given
-  pub stops : Stops peer old.kept.core (gathered [] v.given) new.kept.core frames refused (Some []) (Some v.calls)
+  pub stops : Stops peer old.kept.core (gathered [] v.given) new.kept.core frames refused (Some [])
+      (Some v.calls)
   pub keeps : KeepsUpTo reads may_leave moment left_since old.kept new.kept frames refused fault
   pub alone : IsHelp old.kept.core → v.calls ≡ []
   pub faults : new.faults ≡ old.faults

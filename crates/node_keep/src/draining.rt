@@ -15,8 +15,9 @@ use node_journal::Disk;
 use node_restart::{Kept, Sender};
 use node_serve::{Broken, Served, exchange};
 
-/// One exchange: the command of `size` bytes at the front of `out` goes to the helper, and its answer to the leader.
-/// Gives the length of the reply for the client, which stands at the front of `out` then; 0 where a settle follows.
+/// One exchange: the command of `size` bytes at the front of `out` goes to the helper, and its answer to
+/// the leader. Gives the length of the reply for the client, which stands at the front of `out` then; 0
+/// where a settle follows.
 fn exchange_one<N: Net, D: Disk>(
     kept: &mut Kept<D>,
     peer: &str,
@@ -62,8 +63,9 @@ fn exchange_one<N: Net, D: Disk>(
     }
 }
 
-/// Exchanges the oldest outstanding command until none is outstanding. Gives the length of the last reply for the
-/// client, which stands at the front of `out`: the one of `told` bytes that stands there now where there is no exchange.
+/// Exchanges the oldest outstanding command until none is outstanding. Gives the length of the last reply
+/// for the client, which stands at the front of `out`: the one of `told` bytes that stands there now where
+/// there is no exchange.
 pub(crate) fn drain<N: Net, D: Disk>(
     kept: &mut Kept<D>,
     peer: &str,

@@ -24,8 +24,8 @@ fn sender_of(frame: &[u8]) -> Sender
     }
 }
 
-/// Steps the helper with what a connection brought. Its answer stands at the front of `out`; its length is given, 0
-/// where a command is ignored.
+/// Steps the helper with what a connection brought. Its answer stands at the front of `out`; its length is
+/// given, 0 where a command is ignored.
 pub(crate) fn step_helper<D: Disk>(
     kept: &mut Kept<D>,
     frame: &[u8],

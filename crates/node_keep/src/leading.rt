@@ -16,8 +16,8 @@ use frame_rules::FRAME_MAX;
 use node_journal::Disk;
 use node_restart::{KeepFault, Kept, Sender};
 
-/// Steps the leader with what a connection brought. A reply that it gives at once stands at the front of `out`; its
-/// length is given, 0 where there is none yet.
+/// Steps the leader with what a connection brought. A reply that it gives at once stands at the front of
+/// `out`; its length is given, 0 where there is none yet.
 pub(crate) fn step_leader<D: Disk>(
     kept: &mut Kept<D>,
     frame: &[u8],
@@ -39,8 +39,8 @@ pub(crate) fn step_leader<D: Disk>(
     }
 }
 
-/// Drains the link, steps the leader with a client's frame, and drains the link again. The reply stands at the front
-/// of `out`; its length is given.
+/// Drains the link, steps the leader with a client's frame, and drains the link again. The reply stands at
+/// the front of `out`; its length is given.
 pub(crate) fn handle<N: Net, D: Disk>(
     kept: &mut Kept<D>,
     peer: &str,

@@ -1,5 +1,5 @@
-//! A server whose frames are kept: it is opened from settings or from its journal, and serves connections; each
-//! frame that it is handed is on the disk before its step, and no answer goes out before that.
+//! A server whose frames are kept: it is opened from settings or from its journal, and serves connections;
+//! each frame that it is handed is on the disk before its step, and no answer goes out before that.
 #![tactic(auto)]
 
 mod broke;

@@ -2,7 +2,8 @@
 ghost use Rattle.std.specs.Prelude.{◌≡◌, ◌≢◌, ◌≤◌, ◌⊎◌, ℕ, List, [], IfOk, IfErr};
 ghost use Rattle.express_words.specs.Limits.{KeepsLimits};
 ghost use Rattle.node_journal.specs.Disk.{IsUntouched};
-ghost use Rattle.node_keep.specs.Opening.{opening_of, IsCreated, IsReopened, IsOfOpening, IsCauseOf, LeavesDisk, CountsOpen};
+ghost use Rattle.node_keep.specs.Opening.{opening_of, IsCreated, IsReopened};
+ghost use Rattle.node_keep.specs.Opening.{IsOfOpening, IsCauseOf, LeavesDisk, CountsOpen};
 
 use crate::fault::OpenFault;
 use crate::key::first_difference;
@@ -32,11 +33,7 @@ fn opening_of(settings: &ServeSettings, seed: &[u8; 32]) -> Opening
 }
 
 /// The server of the journal on a disk, if it was opened with the same role and settings.
-fn open_again<D: Disk>(
-    alloc: Global,
-    opening: &Opening,
-    disk: D,
-) -> Result<Kept<D>, (OpenFault, D)>
+fn open_again<D: Disk>(alloc: Global, opening: &Opening, disk: D) -> Result<Kept<D>, (OpenFault, D)>
     requires some { (c : List ℕ) → D.reads disk c → c ≢ [] }
     ensures reopened { IfOk result (IsReopened D.reads D.may_leave JOURNAL_LIMIT opening.now disk) }
     ensures cause { IfErr result (λ x. IsOfOpening x.0) }
@@ -56,9 +53,9 @@ fn open_again<D: Disk>(
     }
 }
 
-/// Opens the server of the settings: on a disk with no byte a new one with this seed, and else the one of the journal
-/// that stands there, whose seed is the journal's, if it has the role and the limits of the settings. A refusal
-/// hands the disk back.
+/// Opens the server of the settings: on a disk with no byte a new one with this seed, and else the one of
+/// the journal that stands there, whose seed is the journal's, if it has the role and the limits of the
+/// settings. A refusal hands the disk back.
 pub fn open_kept<D: Disk>(
     alloc: Global,
     settings: &ServeSettings,
@@ -66,15 +63,16 @@ pub fn open_kept<D: Disk>(
     disk: D,
 ) -> Result<Kept<D>, (OpenFault, D)>
     requires role { settings.now.role ≤ HELPER }
-    requires limits { KeepsLimits settings.now.settings.width settings.now.settings.boxes settings.now.settings.lanes
-        settings.now.settings.window }
+    requires limits { KeepsLimits settings.now.settings.width settings.now.settings.boxes
+        settings.now.settings.lanes settings.now.settings.window }
     // A disk with no byte gives a new server, and another one its journal's.
     ensures opened { IfOk result (λ k.
         IsCreated D.reads D.may_leave JOURNAL_LIMIT (opening_of settings.now seed.now) disk k
         ⊎ IsReopened D.reads D.may_leave JOURNAL_LIMIT (opening_of settings.now seed.now) disk k) }
 
     ensures cause { IfErr result (λ x. IsOfOpening x.0) }
-    ensures why { IfErr result (λ x. IsCauseOf x.0 JOURNAL_LIMIT (opening_of settings.now seed.now) (D.reads disk)) }
+    ensures why { IfErr result (λ x. IsCauseOf x.0 JOURNAL_LIMIT (opening_of settings.now seed.now)
+        (D.reads disk)) }
     ensures leaves { IfErr result (λ x. LeavesDisk x.0 D.reads D.may_leave disk x.1) }
     // The disk's count rose exactly where its fault is told.
     ensures counts_ok { IfOk result (λ k. D.Counted.count k.disk ≡ D.Counted.count disk) }
@@ -83,7 +81,9 @@ pub fn open_kept<D: Disk>(
     let opening = opening_of(settings, seed);
     match Kept::create(alloc, &opening, disk, JOURNAL_LIMIT) {
         Ok(kept) => Ok(kept),
-        Err((KeepFault::Journal(JournalFault::NotEmpty), disk)) => open_again(alloc, &opening, disk),
+        Err((KeepFault::Journal(JournalFault::NotEmpty), disk)) => open_again(
+            alloc, &opening, disk,
+        ),
         Err((fault, disk)) => Err((OpenFault::Keep(fault), disk)),
     }
 }

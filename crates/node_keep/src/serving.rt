@@ -30,11 +30,13 @@ fn serve_helper<C: Conn, D: Disk>(
     conn: &mut C,
 ) -> Result<Served, KeepFault>
     requires help { IsHelp kept.old.core }
-    ensures serves { (peer : List ℕ) (calls : Option (List Call)) (count : ℕ) → IfOk result (λ why. (reply : List ℕ) × ((frames : List Handed)
+    ensures serves { (peer : List ℕ) (calls : Option (List Call)) (count : ℕ) → IfOk result (λ why.
+        (reply : List ℕ) × ((frames : List Handed)
         × Serves peer kept.old.core frame.now kept.new.core frames calls calls count why reply
         × Writes why (C.written conn.old) (C.written conn.new) (C.count conn.old) (C.count conn.new) reply
         × Keeps D.reads D.may_leave D.moment D.left_since kept.old kept.new frames)) }
-    ensures stops { (peer : List ℕ) (calls : Option (List Call)) → IfErr result (λ fault. (frames : List Handed) × ((refused : Handed)
+    ensures stops { (peer : List ℕ) (calls : Option (List Call)) → IfErr result (λ fault.
+        (frames : List Handed) × ((refused : Handed)
         × Stops peer kept.old.core frame.now kept.new.core frames refused calls calls
         × KeepsUpTo D.reads D.may_leave D.moment D.left_since kept.old kept.new frames refused fault)) }
     ensures sent { IfOk result IsSent }
@@ -57,11 +59,13 @@ fn refuse<C: Conn, D: Disk>(
 ) -> Result<Served, KeepFault>
     requires lead { IsLead kept.old.core }
     requires none { None ≡ taken_in (whole frame.now) }
-    ensures serves { (peer : List ℕ) (calls : Option (List Call)) (count : ℕ) → IfOk result (λ why. (reply : List ℕ) × ((frames : List Handed)
+    ensures serves { (peer : List ℕ) (calls : Option (List Call)) (count : ℕ) → IfOk result (λ why.
+        (reply : List ℕ) × ((frames : List Handed)
         × Serves peer kept.old.core frame.now kept.new.core frames calls calls count why reply
         × Writes why (C.written conn.old) (C.written conn.new) (C.count conn.old) (C.count conn.new) reply
         × Keeps D.reads D.may_leave D.moment D.left_since kept.old kept.new frames)) }
-    ensures stops { (peer : List ℕ) (calls : Option (List Call)) → IfErr result (λ fault. (frames : List Handed) × ((refused : Handed)
+    ensures stops { (peer : List ℕ) (calls : Option (List Call)) → IfErr result (λ fault.
+        (frames : List Handed) × ((refused : Handed)
         × Stops peer kept.old.core frame.now kept.new.core frames refused calls calls
         × KeepsUpTo D.reads D.may_leave D.moment D.left_since kept.old kept.new frames refused fault)) }
     ensures sent { IfOk result IsSent }
@@ -85,11 +89,13 @@ fn serve_leader<C: Conn, N: Net, D: Disk>(
 ) -> Result<Served, KeepFault>
     requires lead { IsLead kept.old.core }
     ensures serves { IfOk result (λ why. (reply : List ℕ) × ((frames : List Handed)
-        × Serves peer.now kept.old.core frame.now kept.new.core frames (N.calls net.old) (N.calls net.new) (N.count net.new) why reply
+        × Serves peer.now kept.old.core frame.now kept.new.core frames (N.calls net.old) (N.calls net.new)
+        (N.count net.new) why reply
         × Writes why (C.written conn.old) (C.written conn.new) (C.count conn.old) (C.count conn.new) reply
         × Keeps D.reads D.may_leave D.moment D.left_since kept.old kept.new frames)) }
     ensures stops { IfErr result (λ fault. (frames : List Handed) × ((refused : Handed)
-        × Stops peer.now kept.old.core frame.now kept.new.core frames refused (N.calls net.old) (N.calls net.new)
+        × Stops peer.now kept.old.core frame.now kept.new.core frames refused (N.calls net.old)
+        (N.calls net.new)
         × KeepsUpTo D.reads D.may_leave D.moment D.left_since kept.old kept.new frames refused fault)) }
     ensures fault { IfOk result (λ why. FaultIn why (N.count net.old) (N.count net.new)) }
     ensures unfailed { OnErr result (N.count net.new ≡ N.count net.old) }
@@ -123,11 +129,13 @@ fn answer<C: Conn, N: Net, D: Disk>(
     net: &mut N,
 ) -> Result<Served, KeepFault>
     ensures serves { IfOk result (λ why. (reply : List ℕ) × ((frames : List Handed)
-        × Serves peer.now kept.old.core frame.now kept.new.core frames (N.calls net.old) (N.calls net.new) (N.count net.new) why reply
+        × Serves peer.now kept.old.core frame.now kept.new.core frames (N.calls net.old) (N.calls net.new)
+        (N.count net.new) why reply
         × Writes why (C.written conn.old) (C.written conn.new) (C.count conn.old) (C.count conn.new) reply
         × Keeps D.reads D.may_leave D.moment D.left_since kept.old kept.new frames)) }
     ensures stops { IfErr result (λ fault. (frames : List Handed) × ((refused : Handed)
-        × Stops peer.now kept.old.core frame.now kept.new.core frames refused (N.calls net.old) (N.calls net.new)
+        × Stops peer.now kept.old.core frame.now kept.new.core frames refused (N.calls net.old)
+        (N.calls net.new)
         × KeepsUpTo D.reads D.may_leave D.moment D.left_since kept.old kept.new frames refused fault)) }
     ensures fault { IfOk result (λ why. FaultIn why (N.count net.old) (N.count net.new)) }
     ensures unfailed { OnErr result (N.count net.new ≡ N.count net.old) }
@@ -143,10 +151,11 @@ fn answer<C: Conn, N: Net, D: Disk>(
     }
 }
 
-/// Serves one connection as `serve_one` does, with a server whose frames are kept: reads one frame of it with
-/// `gather`, never taking more bytes than are wanted of it, takes the server's step, and writes one reply. A leader
-/// exchanges its outstanding commands with its helper, which listens at `peer`, before its step and after it. Each
-/// frame is on the disk before its step. Where one isn't kept the answer is that fault, and nothing is written.
+/// Serves one connection as `serve_one` does, with a server whose frames are kept: reads one frame of it
+/// with `gather`, never taking more bytes than are wanted of it, takes the server's step, and writes one
+/// reply. A leader exchanges its outstanding commands with its helper, which listens at `peer`, before its
+/// step and after it. Each frame is on the disk before its step. Where one isn't kept the answer is that
+/// fault, and nothing is written.
 pub fn serve_kept<C: Conn, N: Net, D: Disk>(
     kept: &mut Kept<D>,
     peer: &str,
@@ -154,7 +163,8 @@ pub fn serve_kept<C: Conn, N: Net, D: Disk>(
     conn: &mut C,
     net: &mut N,
 ) -> Result<Served, KeepFault>
-    // What is handed on is what was taken of the connection, up to the end of a frame or the byte at which it is wrong.
+    // What is handed on is what was taken of the connection, up to the end of a frame or the byte at which
+    // it is wrong.
     ensures brings { Brings (C.content conn.old) (C.content conn.new) gather.new }
 
     // Where it ended or failed before that, nothing moves and nothing is written.
@@ -165,8 +175,8 @@ pub fn serve_kept<C: Conn, N: Net, D: Disk>(
     ensures net_rests { decoded gather.new ≡ Err Short → net.new ≡ net.old }
     ensures writes_nothing { decoded gather.new ≡ Err Short → C.written conn.new ≡ C.written conn.old }
 
-    // Else the server takes its step, and its reply is written. All frames that it was handed on the way were kept,
-    // each before its step.
+    // Else the server takes its step, and its reply is written. All frames that it was handed on the way
+    // were kept, each before its step.
     ensures serves { decoded gather.new ≢ Err Short → IfOk result (λ why. (reply : List ℕ)
         × ((frames : List Handed)
         × Serves peer.now kept.old.core gather.new kept.new.core frames (N.calls net.old) (N.calls net.new)
@@ -174,7 +184,8 @@ pub fn serve_kept<C: Conn, N: Net, D: Disk>(
         × Writes why (C.written conn.old) (C.written conn.new) (C.count conn.old) (C.count conn.new) reply
         × Keeps D.reads D.may_leave D.moment D.left_since kept.old kept.new frames)) }
 
-    // Or a frame that it was handed on the way wasn't kept: then it took no step at it, and nothing is written.
+    // Or a frame that it was handed on the way wasn't kept: then it took no step at it, and nothing is
+    // written.
     ensures stops { IfErr result (λ fault. (frames : List Handed) × ((refused : Handed)
         × Stops peer.now kept.old.core gather.new kept.new.core frames refused (N.calls net.old)
         (N.calls net.new)

@@ -17,7 +17,8 @@ const HELD: &str = "000000110106000000000001000000000000000001";
 fn settings(rt: &HostRuntime, boxes: u32) -> ServeSettings
     requires { (1 ≤ boxes) × (boxes ≤ 4096) }
     ensures role { result.role ≤ HELPER }
-    ensures limits { KeepsLimits result.settings.width result.settings.boxes result.settings.lanes result.settings.window }
+    ensures limits { KeepsLimits result.settings.width result.settings.boxes result.settings.lanes
+        result.settings.window }
 {
     let alloc = rt.alloc();
     ServeSettings {
@@ -43,7 +44,11 @@ fn net_of(rt: &HostRuntime, text: &str) -> Result<MemoryNet, Fail> {
     Ok(MemoryNet::new(alloc, conns, 9, 9, &[])?)
 }
 
-fn opened(rt: &HostRuntime, boxes: u32, disk: MemoryDisk) -> Result<Kept<MemoryDisk>, (OpenFault, MemoryDisk)>
+fn opened(
+    rt: &HostRuntime,
+    boxes: u32,
+    disk: MemoryDisk,
+) -> Result<Kept<MemoryDisk>, (OpenFault, MemoryDisk)>
     requires { (1 ≤ boxes) × (boxes ≤ 4096) }
 {
     open_kept(rt.alloc(), &settings(rt, boxes), &[7; 32], disk)

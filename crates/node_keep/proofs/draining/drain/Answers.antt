@@ -1,5 +1,6 @@
 use Rattle.std.proofs.Common.{[], ◌++◌, take, refl, ◌∙◌, arith}
 use Rattle.node_keep.proofs.KeepLaws.{keeps_none, keeps_both}
+use Rattle.node_keep.proofs.UpToLaws.{keeps_up_to}
 use Rattle.node_keep.proofs.LeadLaws.{on_link, on_keep}
 use Rattle.node_keep.proofs.StandLaws.{stands_first, stands_more, stands_broken, stands_stopped}
 use Rattle.node_keep.proofs.draining.drain.Goals as goal
@@ -11,8 +12,11 @@ draining-init g c =
       room = c.requires.room;
       answer_room = c.requires.answer_room;
       within = c.requires.within;
-      stands = ([], stands_first c.args.kept.now.core (take c.args.told c.args.out.now) c.args.peer.now (g.N.Net.calls c.args.net.now) c.requires.lead,
-          keeps_none D.reads D.may_leave D.moment D.left_since c.args.kept.now);
+      stands = (
+        [],
+        stands_first c.args.kept.now.core (take c.args.told c.args.out.now) c.args.peer.now (g.N.Net.calls c.args.net.now) c.requires.lead,
+        keeps_none D.reads D.may_leave D.moment D.left_since c.args.kept.now,
+      );
       count = refl;
       disk = refl;
       door = refl;
@@ -27,8 +31,11 @@ draining-preserved g c =
       room = omega (arith, c.draining.invariant.room, c.resend.auto.out, c.exchange_one.auto.out);
       answer_room = omega (arith, c.draining.invariant.answer_room, c.exchange_one.auto.answer);
       within = c.in-Ok.ensures.within;
-      stands = (s.0 ++ r.0, stands_more _ _ _ _ _ _ _ _ _ _ _ _ _ s.1 c.in-Some.ensures.written r.1,
-          keeps_both D.reads D.may_leave D.moment D.left_since _ _ _ s.0 r.0 s.2 r.2);
+      stands = (
+        s.0 ++ r.0,
+        stands_more _ _ _ _ _ _ _ _ _ _ _ _ _ s.1 c.in-Some.ensures.written r.1,
+        keeps_both D.reads D.may_leave D.moment D.left_since _ _ _ s.0 r.0 s.2 r.2,
+      );
       count = c.in-Ok.ensures.fault ∙ c.draining.invariant.count;
       disk = c.in-Ok.ensures.counts ∙ c.draining.invariant.disk;
       door = c.exchange_one.ensures.door ∙ c.draining.invariant.door;
@@ -38,11 +45,21 @@ pub returns-in-Err-clause-broken : goal.returns-in-Err-clause-broken
 returns-in-Err-clause-broken g c =
     let D = g.D.Disk in
     let s = c.draining.invariant.stands in
-    on_link c.in-Err.why _ _ (λ link h. (s.0 ++ h.0, stands_broken _ _ _ _ _ _ _ _ _ _ _ _ link s.1 c.in-Some.ensures.written h.1,
-        keeps_both D.reads D.may_leave D.moment D.left_since _ _ _ s.0 h.0 s.2 h.2)) c.in-Err.ensures.failed
+    on_link c.in-Err.why _ _ (λ link h. (
+      s.0 ++ h.0,
+      stands_broken _ _ _ _ _ _ _ _ _ _ _ _ link s.1 c.in-Some.ensures.written h.1,
+      keeps_both D.reads D.may_leave D.moment D.left_since _ _ _ s.0 h.0 s.2 h.2,
+    )) c.in-Err.ensures.failed
 
 pub returns-in-Err-clause-stopped : goal.returns-in-Err-clause-stopped
 returns-in-Err-clause-stopped g c =
+    let D = g.D.Disk in
     let s = c.draining.invariant.stands in
-    on_keep c.in-Err.why _ _ (λ fault h. (s.0, (h.0, stands_stopped _ _ _ _ _ _ _ s.0 h.0 _ _ _ s.1 c.in-Some.ensures.written h.1,
-        record { between = c.draining.kept; keeps = s.2; refuses = h.2 }))) c.in-Err.ensures.unkept
+    on_keep c.in-Err.why _ _ (λ fault h. (
+      s.0,
+      (
+        h.0,
+        stands_stopped _ _ _ _ _ _ _ s.0 h.0 _ _ _ s.1 c.in-Some.ensures.written h.1,
+        keeps_up_to D.reads D.may_leave D.moment D.left_since _ _ _ s.0 h.0 fault s.2 h.2,
+      ),
+    )) c.in-Err.ensures.unkept

@@ -12,38 +12,46 @@ use Rattle.node_keep.proofs.draining.exchange_one.Goals as goal
 
 pub returns-in-Err-Fault-clause-failed : goal.returns-in-Err-Fault-clause-failed
 returns-in-Err-Fault-clause-failed g c =
-    let D = g.D.Disk in
-    ([], fails_unheard c.args.peer.now c.args.kept.now.core (take c.args.size c.args.out.now) c.in-Err-Fault.field-0 (broken.Fault c.in-Err-Fault.count) _ _ (served.LinkFault c.in-Err-Fault.count) c.requires.lead c.in-Err-Fault.field-0-is (λ (a : Leader). refl) c.in-Err-Fault.ensures.calls,
-    keeps_none D.reads D.may_leave D.moment D.left_since c.args.kept.now)
+    let D = g.D.Disk in (
+      [],
+      fails_unheard c.args.peer.now c.args.kept.now.core (take c.args.size c.args.out.now) c.in-Err-Fault.field-0 (broken.Fault c.in-Err-Fault.count) _ _ (served.LinkFault c.in-Err-Fault.count) c.requires.lead c.in-Err-Fault.field-0-is (λ (a : Leader). refl) c.in-Err-Fault.ensures.calls,
+      keeps_none D.reads D.may_leave D.moment D.left_since c.args.kept.now,
+    )
 
 pub returns-in-Err-Early-clause-failed : goal.returns-in-Err-Early-clause-failed
 returns-in-Err-Early-clause-failed g c =
-    let D = g.D.Disk in
-    ([], fails_unheard c.args.peer.now c.args.kept.now.core (take c.args.size c.args.out.now) c.in-Err-Early.field-0 (broken.Early c.in-Err-Early.field-0-0) _ _ served.LinkBad c.requires.lead c.in-Err-Early.field-0-is (λ (a : Leader). refl) c.in-Err-Early.ensures.calls,
-    keeps_none D.reads D.may_leave D.moment D.left_since c.args.kept.now)
+    let D = g.D.Disk in (
+      [],
+      fails_unheard c.args.peer.now c.args.kept.now.core (take c.args.size c.args.out.now) c.in-Err-Early.field-0 (broken.Early c.in-Err-Early.field-0-0) _ _ served.LinkBad c.requires.lead c.in-Err-Early.field-0-is (λ (a : Leader). refl) c.in-Err-Early.ensures.calls,
+      keeps_none D.reads D.may_leave D.moment D.left_since c.args.kept.now,
+    )
 
 pub returns-in-Err-Wrong-clause-failed : goal.returns-in-Err-Wrong-clause-failed
 returns-in-Err-Wrong-clause-failed g c =
-    let D = g.D.Disk in
-    ([], fails_unheard c.args.peer.now c.args.kept.now.core (take c.args.size c.args.out.now) c.in-Err-Wrong.field-0 (broken.Wrong c.in-Err-Wrong.field-0-0) _ _ served.LinkBad c.requires.lead c.in-Err-Wrong.field-0-is (λ (a : Leader). refl) c.in-Err-Wrong.ensures.calls,
-    keeps_none D.reads D.may_leave D.moment D.left_since c.args.kept.now)
+    let D = g.D.Disk in (
+      [],
+      fails_unheard c.args.peer.now c.args.kept.now.core (take c.args.size c.args.out.now) c.in-Err-Wrong.field-0 (broken.Wrong c.in-Err-Wrong.field-0-0) _ _ served.LinkBad c.requires.lead c.in-Err-Wrong.field-0-is (λ (a : Leader). refl) c.in-Err-Wrong.ensures.calls,
+      keeps_none D.reads D.may_leave D.moment D.left_since c.args.kept.now,
+    )
 
 pub returns-then-is_ignored-clause-failed : goal.returns-then-is_ignored-clause-failed
 returns-then-is_ignored-clause-failed g c =
-    let bytes : List ℕ = take c.in-Ok.count c.exchange.new.reply in
-    (handed Peer bytes ∷ [],
-    fails_ignored c.args.peer.now c.args.kept.now.core (take c.args.size c.args.out.now) bytes c.hand.new.kept.core c.in-Ok-hand.did c.args.out.now c.hand.new.out _ _ c.requires.lead
-        c.in-Ok-hand.ensures.step (sym c.is_ignored.ensures ∙ c.if-is_ignored.true) c.in-Ok.ensures.calls,
-    c.in-Ok-hand.ensures.keeps)
+    let bytes : List ℕ = take c.in-Ok.count c.exchange.new.reply in (
+      handed Peer bytes ∷ [],
+      fails_ignored c.args.peer.now c.args.kept.now.core (take c.args.size c.args.out.now) bytes c.hand.new.kept.core c.in-Ok-hand.did c.args.out.now c.hand.new.out _ _ c.requires.lead
+          c.in-Ok-hand.ensures.step (sym c.is_ignored.ensures ∙ c.if-is_ignored.true) c.in-Ok.ensures.calls,
+      c.in-Ok-hand.ensures.keeps,
+    )
 
 pub returns-else-is_ignored-clause-replied : goal.returns-else-is_ignored-clause-replied
 returns-else-is_ignored-clause-replied g c =
-    let bytes : List ℕ = take c.in-Ok.count c.exchange.new.reply in
-    (handed Peer bytes ∷ [],
-    subst (λ (n : ℕ). Replies c.args.peer.now c.args.kept.now.core c.hand.new.kept.core (take c.args.size c.args.out.now) (take n c.hand.new.out) (handed Peer bytes ∷ []) (g.N.Net.calls c.args.net.now) (g.N.Net.calls c.exchange.new.net)) (sym c.told.ensures)
-    (replies_by c.args.peer.now c.args.kept.now.core (take c.args.size c.args.out.now) bytes c.hand.new.kept.core c.in-Ok-hand.did c.args.out.now c.hand.new.out _ _ c.requires.lead
-        c.in-Ok-hand.ensures.step (sym c.is_ignored.ensures ∙ c.if-is_ignored.false) c.in-Ok.ensures.calls),
-    c.in-Ok-hand.ensures.keeps)
+    let bytes : List ℕ = take c.in-Ok.count c.exchange.new.reply in (
+      handed Peer bytes ∷ [],
+      subst (λ (n : ℕ). Replies c.args.peer.now c.args.kept.now.core c.hand.new.kept.core (take c.args.size c.args.out.now) (take n c.hand.new.out) (handed Peer bytes ∷ []) (g.N.Net.calls c.args.net.now) (g.N.Net.calls c.exchange.new.net)) (sym c.told.ensures)
+          (replies_by c.args.peer.now c.args.kept.now.core (take c.args.size c.args.out.now) bytes c.hand.new.kept.core c.in-Ok-hand.did c.args.out.now c.hand.new.out _ _ c.requires.lead
+          c.in-Ok-hand.ensures.step (sym c.is_ignored.ensures ∙ c.if-is_ignored.false) c.in-Ok.ensures.calls),
+      c.in-Ok-hand.ensures.keeps,
+    )
 
 pub returns-else-is_ignored-clause-within : goal.returns-else-is_ignored-clause-within
 returns-else-is_ignored-clause-within g c =

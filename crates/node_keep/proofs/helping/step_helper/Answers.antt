@@ -9,7 +9,7 @@ pub returns-in-Ok-clause-helps : goal.returns-in-Ok-clause-helps
 returns-in-Ok-clause-helps g c =
     subst (λ (n : ℕ). Helps c.args.kept.now.core c.args.frame.now c.hand.new.kept.core (take n c.hand.new.out)) (sym c.told.ensures)
     (helps_by c.args.kept.now.core c.args.frame.now c.hand.new.kept.core c.in-Ok.did c.args.out.now c.hand.new.out c.requires.help
-        (subst (λ (s : Sender). Takes (step_of c.args.kept.now.core s c.args.frame.now) c.hand.new.kept.core c.in-Ok.did c.args.out.now c.hand.new.out) c.sender_of.ensures c.in-Ok.ensures.step))
+    (subst (λ (s : Sender). Takes (step_of c.args.kept.now.core s c.args.frame.now) c.hand.new.kept.core c.in-Ok.did c.args.out.now c.hand.new.out) c.sender_of.ensures c.in-Ok.ensures.step))
 
 pub returns-in-Ok-clause-within : goal.returns-in-Ok-clause-within
 returns-in-Ok-clause-within g c =
