@@ -90,13 +90,15 @@ fn crash_at(
 }
 
 // How many frames are on the disk, where the server that is opened again from it is their fold: it answers the
-// others as they were answered.
+// others as they were answered, and then its disk has each frame once.
 fn frames_of(alloc: Global, recorded: &Recorded, left: &[u8]) -> Result<Option<usize>, Fault> {
     let frames = records_of(alloc, left)?.len().saturating_sub(1);
     let steps = recorded.steps();
     let (_, others) = steps.split_at(frames.min(steps.len()));
     let mut server = recorded.again(alloc, left)?;
-    if answers_alike(alloc, &mut server, others)? {
+    let answered = answers_alike(alloc, &mut server, others)?;
+    let kept = server.left(alloc)?;
+    if answered && kept.as_slice() == recorded.disk() {
         Ok(Some(frames))
     } else {
         Ok(None)
@@ -121,7 +123,11 @@ fn tally_crash(
     tally: &mut Tally,
 ) -> Result<(), Fault> {
     if let Some(crash) = crash_at(alloc, recorded, call, arriving)? {
-        count(tally, crash.answered, frames_of(alloc, recorded, &crash.left)?);
+        count(
+            tally,
+            crash.answered,
+            frames_of(alloc, recorded, &crash.left)?,
+        );
     }
     Ok(())
 }

@@ -76,6 +76,11 @@ impl Recorded {
         Server::reopen(alloc, bytes, self.limit)
     }
 
+    /// What a crash leaves on its disk.
+    pub fn disk(&self) -> &[u8] {
+        &self.disk
+    }
+
     /// The frames that it was handed.
     pub fn steps(&self) -> &[Step] {
         &self.steps

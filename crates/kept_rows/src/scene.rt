@@ -77,7 +77,9 @@ fn tally_text(alloc: Global, tally: Tally) -> Result<String, Fault> {
         with,
         without,
     } = tally;
-    Ok(format!(in alloc; "{crashes} crashes, {with} with the frame under way, {without} without it")?)
+    Ok(format!(in alloc;
+        "{crashes} crashes, {with} with the frame under way, {without} without it"
+    )?)
 }
 
 impl Scene {

@@ -12,6 +12,7 @@ use std::marker::Model;
 
 /// So many writes and syncs have room on a disk, and so many bytes of the writes.
 const CALLS: usize = 64;
+
 const ROOM: usize = 16384;
 
 #[derive(Drop)]
