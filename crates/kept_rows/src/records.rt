@@ -1,6 +1,4 @@
 //! A journal's bytes, and the records of bytes.
-ghost use Rattle.std.specs.Prelude.{◌≡◌, ◌≤◌, length};
-
 use crate::fault::Fault;
 use crate::texts::front_of;
 use node_journal::{Journal, MemoryDisk};
@@ -13,14 +11,10 @@ const RECORD_MAX: usize = 8214;
 /// The bytes of the disk may be so many.
 const LIMIT: u64 = 65536;
 
-fn is_sized(record: &[u8]) -> bool {
-    !record.is_empty() && record.len() <= RECORD_MAX
-}
-
 /// What stands on a disk after a journal was made with a first record, and after an append of the second where
 /// that has a byte.
 pub fn journal_bytes(alloc: Global, first: &[u8], second: &[u8]) -> Result<Vec<u8>, Fault> {
-    if !is_sized(first) || second.len() > RECORD_MAX {
+    if first.is_empty() || first.len() > RECORD_MAX || second.len() > RECORD_MAX {
         return Err(Fault::Unknown);
     }
     let mut disk = MemoryDisk::new(alloc, &[], &[], 16, 32768, &[])?;

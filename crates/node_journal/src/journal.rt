@@ -199,6 +199,7 @@ impl Journal {
             → LeavesOnly D.moment D.left_since disk.old disk.new
             (LeavesBeforeOrAfter self.old.limit (D.reads disk.old) bytes.now) }
     {
+        // A closed journal writes nothing.
         if self.closed {
             return Err(JournalFault::Closed);
         }
