@@ -13,7 +13,8 @@ GROUPS = [
     ("frames, texts and files", "#fdecc8", "wire_frames schedule_text express_texts settings_text file_carry"),
     ("stores", "#e2e8f0", "block_region lane_table link_order share_store box_registry server_boxes"),
     ("servers and client", "#fbdcd3", "helper_core leader_core client_core"),
-    ("on sockets and disks", "#cfeff2", "node_journal node_restart node_serve node_client node_host client_run"),
+    ("on sockets and disks", "#cfeff2", "node_journal node_restart node_serve node_keep node_client node_host "
+     "client_run"),
 ]
 TALL, DEEP, WIDE, GAP, THIN = 30, 78, 112, 14, 12
 SWEEPS, MARGIN, TOP = 40, 24, 62
