@@ -85,9 +85,9 @@ begun (Journal (Damaged at)) h = []
 begun NoMemory h = []
 begun (Foreign n) h = []
 
--- From old to new a server was handed these frames and took their steps, and then this one, which wasn't kept. A
--- crash at any moment on the way leaves the first of all these, the last among them where a call on the disk
--- failed.
+-- From old to new a server was handed these frames and took their steps, and then this one, which wasn't
+-- kept. A crash at any moment on the way leaves the first of all these, the last among them where a call on
+-- the disk failed.
 pub record KeepsUpTo {D : Type 0} (reads may_leave : D → List ℕ → Type 0) (moment : D → ℕ)
     (left_since : D → ℕ → List ℕ → Type 0) (old new : KeptState D) (frames : List Handed) (refused : Handed)
     (fault : KeepFault) : Type 0 where
