@@ -1,4 +1,6 @@
 //! Runs over a net in memory that gives recorded answers.
+mod two_parts;
+
 use crate::{Ran, RunEnd, run_carry, run_client};
 use express_words::outside::{MemoryConn, MemoryNet};
 use settings_text::{read_carry, read_client};

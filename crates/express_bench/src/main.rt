@@ -3,6 +3,7 @@
 #![tactic(auto)]
 
 mod closings;
+mod kept;
 mod nodes;
 mod parts;
 mod passes;
@@ -11,6 +12,7 @@ mod servers;
 mod stores;
 mod streams;
 mod work;
+mod writing;
 
 use std::process::ExitCode;
 use std::{env, io};
