@@ -1,4 +1,7 @@
 //! A helper whose frames are kept, over a disk and a net in memory, that is opened again.
+ghost use Rattle.std.specs.Prelude.{◌≤◌};
+ghost use Rattle.express_words.specs.Limits.{KeepsLimits};
+
 use crate::{OpenFault, SettingsKey, host_kept, open_kept};
 use express_words::outside::{MemoryConn, MemoryNet};
 use express_words::{Settings, Text};
