@@ -9,7 +9,7 @@ import threading
 
 TOP = os.path.dirname(os.path.dirname(os.path.abspath(__file__)))
 PROGRAM = os.path.join(TOP, "crates/express/out/express")
-PATIENCE = 100  # seconds for a process to listen, or to come to its end
+PATIENCE = 300  # seconds for a process to listen, or to come to its end
 
 
 class Sizes:
