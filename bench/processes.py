@@ -33,16 +33,18 @@ def free_port():
         return door.getsockname()[1]
 
 
-def lasting_port():
-    """A free port that the system gives to no outgoing connection, also while nobody listens there."""
-    while True:
-        port = random.randrange(20000, 32000)
-        with socket.socket() as door:
-            try:
-                door.bind(("127.0.0.1", port))
-                return port
-            except OSError:
-                pass  # it is taken
+def is_free(port):
+    with socket.socket() as door:
+        try:
+            door.bind(("127.0.0.1", port))
+        except OSError:
+            return False
+    return True
+
+
+def lasting_ports(count):
+    """Free ports that the system gives to no outgoing connection, also while nobody listens there."""
+    return [port for port in random.sample(range(20000, 32000), 1000) if is_free(port)][:count]
 
 
 def digits(count):
