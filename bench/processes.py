@@ -1,4 +1,4 @@
-"""Servers and clients of the built program as processes on loopback, for bench/serve and bench/soak."""
+"""Servers and clients of the built program as processes on loopback, for the scripts in bench/ and examples/carry."""
 
 import os
 import random
@@ -9,6 +9,7 @@ import threading
 
 TOP = os.path.dirname(os.path.dirname(os.path.abspath(__file__)))
 PROGRAM = os.path.join(TOP, "crates/express/out/express")
+PATIENCE = 300  # seconds for a process to listen, or to come to its end
 
 
 class Sizes:
@@ -32,16 +33,38 @@ def free_port():
         return door.getsockname()[1]
 
 
+def is_free(port):
+    with socket.socket() as door:
+        try:
+            door.bind(("127.0.0.1", port))
+        except OSError:
+            return False
+    return True
+
+
+def lasting_ports(count):
+    """Free ports that the system gives to no outgoing connection, also while nobody listens there."""
+    return [port for port in random.sample(range(20000, 32000), 1000) if is_free(port)][:count]
+
+
 def digits(count):
     """Random bytes as hexadecimal digits, the same in each run."""
     return random.getrandbits(8 * count).to_bytes(count, "big").hex()
 
 
-class Server:
-    """A server that listens, as a process."""
+class NoServer(SystemExit):
+    """A server doesn't listen: what it wrote in place of that, and its status."""
 
-    def __init__(self, path, role, port, peer, sizes, connections):
-        settings = f"""role = "{role}"
+    def __init__(self, role, line, status):
+        super().__init__(f"the {role} says {line!r} in place of that it listens, and ended with status {status}")
+        self.line, self.status = line, status
+
+
+class Server:
+    """A server as a process. With a folder it is one with a journal, which stands there."""
+
+    def __init__(self, path, role, port, peer, sizes, connections, folder=None):
+        self.settings = f"""role = "{role}"
 listen = "127.0.0.1:{port}"
 peer = "127.0.0.1:{peer}"
 width = {sizes.width}
@@ -50,14 +73,32 @@ lanes = {sizes.lanes}
 window = {sizes.window}
 connections = {connections}
 """
-        self.role, self.port = role, port
-        self.process = subprocess.Popen([path, "serve"], stdin=subprocess.PIPE, stdout=subprocess.PIPE, text=True)
-        self.process.stdin.write(settings)
+        self.command = [path, "keep" if folder else "serve"]
+        self.role, self.port, self.folder, self.process = role, port, folder, None
+
+    def start(self):
+        """Starts it, and gives it back once it listens."""
+        self.begin()
+        self.wait_until_listens()
+        return self
+
+    def begin(self):
+        """Starts the process, and hands it its settings."""
+        self.process = subprocess.Popen(self.command, cwd=self.folder, stdin=subprocess.PIPE, stdout=subprocess.PIPE,
+                                        text=True)
+        self.process.stdin.write(self.settings)
         self.process.stdin.close()
+
+    def wait_until_listens(self):
+        """Raises NoServer where it says something else, or is killed since it takes too long."""
+        watch = threading.Timer(PATIENCE, self.process.kill)
+        watch.start()
         line = self.process.stdout.readline()
-        if line != "listening\n":
-            self.stop()
-            sys.exit(f"the {role} says {line!r} in place of that it listens")
+        status = None if line == "listening\n" else self.process.wait()
+        watch.cancel()
+        if status is not None:
+            self.process.stdout.close()
+            raise NoServer(self.role, line, status)
 
     def resident(self):
         """The KiB that it has in memory now, and the most that it had."""
@@ -66,7 +107,7 @@ connections = {connections}
         return [int(lines[name].split()[0]) for name in ("VmRSS", "VmHWM")]
 
     def runs(self):
-        return self.process.poll() is None
+        return self.process is not None and self.process.poll() is None
 
     def last_line(self):
         """What it prints when a connection without a frame has ended it."""
@@ -76,10 +117,11 @@ connections = {connections}
         return line
 
     def stop(self):
-        if self.runs():
+        """Kills it where it still runs."""
+        if self.process is not None:
             self.process.kill()
-        self.process.wait()
-        self.process.stdout.close()
+            self.process.wait()
+            self.process.stdout.close()
 
 
 def client_settings(leader, helper, sizes, lane, seed, serial, owned, requests):
@@ -123,7 +165,7 @@ class Client:
 
     def lines(self):
         """The lines that it wrote until its end, and its status. It is killed where it takes too long."""
-        watch = threading.Timer(100, self.process.kill)
+        watch = threading.Timer(PATIENCE, self.process.kill)
         watch.start()
         lines = self.process.stdout.read().splitlines()
         self.process.stdout.close()
