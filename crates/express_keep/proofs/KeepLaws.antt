@@ -1,5 +1,5 @@
 -- What may come of a text, by what its settings may come to.
-use Rattle.std.proofs.Common.{◌≡◌, inl, inr, ℕ, List, Err, string_bytes, refl, sym, subst}
+use Rattle.std.proofs.Common.{◌≡◌, ◌⊎◌, inl, inr, ℕ, List, Err, string_bytes, false, refl, sym, ap, subst}
 use Rattle.express_texts.specs.declared.fault.TextFault.{TextFault}
 use Rattle.express_texts.specs.declared.fault.TextFault.TheVariants as fault
 use Rattle.settings_text.specs.Judging.{Gives}
@@ -11,10 +11,19 @@ use Rattle.express_cli.specs.Talking.{IsBadKey}
 use Rattle.express_cli.specs.declared.words.NetCommand.TheVariants.{Serve}
 use Rattle.express_cli.specs.declared.ends.End.{End}
 use Rattle.express_cli.specs.declared.ends.End.TheVariants as ends
-use Rattle.node_keep.specs.Opening.{key_text}
+use Rattle.node_journal.specs.Journal.{JournalState}
+use Rattle.node_restart.specs.Faults.{CountsFault}
+use Rattle.node_restart.specs.Kept.{KeptState}
+use Rattle.node_restart.specs.declared.fault.KeepFault.{KeepFault}
+use Rattle.node_restart.specs.declared.opening.Opening.{Opening}
+use Rattle.node_keep.specs.Opening.{CountsOpen, IsCreated, IsReopened, key_text}
+use Rattle.node_keep.specs.declared.fault.OpenFault.{OpenFault}
 use Rattle.node_keep.specs.declared.key.SettingsKey.{SettingsKey}
 use Rattle.node_keep.specs.declared.fault.OpenFault.TheVariants as opening
+use Rattle.express_keep.specs.declared.ending.Ending.{Ending}
 use Rattle.express_keep.specs.declared.ending.Ending.TheVariants.{Plain}
+use Rattle.express_keep.specs.Endings.{DiskCounts}
+use Rattle.express_keep.specs.Telling as told
 use Rattle.express_keep.specs.Keeping.{OpenFaultMay, TextMay}
 
 wanting : {D : Type 0} (reads may_leave : D → List ℕ → Type 0) (moment : D → ℕ)
@@ -63,3 +72,43 @@ differs_may key ends.WriteFault text may = absurd may
 differs_may key ends.NetFault text may = absurd may
 differs_may key ends.OutOfMemory text may = inr (refl, may)
 differs_may key ends.TooLong text may = absurd may
+
+pub differs_of : (fault : OpenFault) (key : SettingsKey) (name : List ℕ) → fault ≡ opening.Differs key
+    → name ≡ key_text key → (end : End) (text : List ℕ) → BadKeyMay name end text
+    → OpenFaultMay fault (Plain end) text
+differs_of fault key name is same end text may =
+    let Of : OpenFault → Type 0 = λ x. OpenFaultMay x (Plain end) text in
+    let Named : List ℕ → Type 0 = λ n. BadKeyMay n end text in
+    subst Of (sym is) (differs_may key end text (subst Named same may))
+
+pub keep_of : (fault : OpenFault) (why : KeepFault) → fault ≡ opening.Keep why → (end : Ending) (text : List ℕ)
+    → told.FaultMay why end text → OpenFaultMay fault end text
+keep_of fault why is end text may =
+    let Of : OpenFault → Type 0 = λ x. OpenFaultMay x end text in subst Of (sym is) may
+
+pub counts_keep : (fault : OpenFault) (why : KeepFault) (before now : ℕ) → fault ≡ opening.Keep why
+    → CountsOpen before now fault → CountsFault before now why
+counts_keep fault why before now is h =
+    let Of : OpenFault → Type 0 = λ x. CountsOpen before now x in subst Of is h
+
+pub counts_differ : (fault : OpenFault) (key : SettingsKey) (before now : ℕ) → fault ≡ opening.Differs key
+    → CountsOpen before now fault → now ≡ before
+counts_differ fault key before now is h =
+    let Of : OpenFault → Type 0 = λ x. CountsOpen before now x in subst Of is h
+
+-- a server that was opened has a journal that isn't closed
+pub opened_unclosed : {D : Type 0} (reads may_leave : D → List ℕ → Type 0) (limit : ℕ) (o : Opening) (disk : D)
+    (k : KeptState D) → IsCreated reads may_leave limit o disk k ⊎ IsReopened reads may_leave limit o disk k
+    → k.journal.closed ≡ false
+opened_unclosed reads may_leave limit o disk k (inl created) =
+    ap (λ (j : JournalState). j.closed) created.journal
+opened_unclosed reads may_leave limit o disk k (inr reopened) = reopened.unclosed
+
+-- the counts of the disk that was opened, and of the one that is handed back
+pub counts_between : {D : Type 0} (count : D → ℕ) (end : Ending) (disk opened left after : D)
+    → count opened ≡ count disk → after ≡ left → DiskCounts end (count opened) (count left)
+    → DiskCounts end (count disk) (count after)
+counts_between {D} count end disk opened left after same handed h =
+    let Before : ℕ → Type 0 = λ n. DiskCounts end n (count left) in
+    let Now : D → Type 0 = λ d. DiskCounts end (count disk) (count d) in
+    subst Now (sym handed) (subst Before same h)

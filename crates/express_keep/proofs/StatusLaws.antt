@@ -1,5 +1,6 @@
 -- The statuses, by how a run ends.
-use Rattle.std.proofs.Common.{◌≡◌, ℕ, [], ◌∷◌, Contains, lit<, refl, sym, subst}
+use Rattle.std.proofs.Common.{◌≡◌, ℕ, [], ◌∷◌, All, Contains, lit<, refl}
+use Rattle.std.proofs.lemmas.List.Elements.{All-contains, All-from_recursion, Contains-append_left}
 use Rattle.express_words.specs.Causes.{Rose}
 use Rattle.express_cli.specs.declared.ends.End.TheVariants as ends
 use Rattle.express_keep.specs.Endings.{DiskCounts, status_of}
@@ -36,7 +37,16 @@ disk_fault (ending.Plain ends.NetFault) before now is counts = cc
 disk_fault (ending.Plain ends.OutOfMemory) before now is counts = cc
 disk_fault (ending.Plain ends.TooLong) before now is counts = cc
 
--- a status of a run without a journal
-more_statuses : (status : ℕ) → Contains (0 ∷ 2 ∷ 3 ∷ 4 ∷ 5 ∷ 6 ∷ 7 ∷ 8 ∷ []) status
+-- the statuses of a run without a journal
+pub more_statuses : (status : ℕ) → Contains (0 ∷ 2 ∷ 3 ∷ 4 ∷ 5 ∷ 6 ∷ 7 ∷ 8 ∷ []) status
     → Contains (0 ∷ 2 ∷ 3 ∷ 4 ∷ 5 ∷ 6 ∷ 7 ∷ 8 ∷ 10 ∷ 11 ∷ 12 ∷ 13 ∷ []) status
-more_statuses status h = search
+more_statuses status h =
+    Contains-append_left (0 ∷ 2 ∷ 3 ∷ 4 ∷ 5 ∷ 6 ∷ 7 ∷ 8 ∷ []) (10 ∷ 11 ∷ 12 ∷ 13 ∷ []) status h
+
+pub not_ten : (status : ℕ) → Contains (0 ∷ 2 ∷ 3 ∷ 4 ∷ 5 ∷ 6 ∷ 7 ∷ 8 ∷ []) status → status ≡ 10 → ⊥
+not_ten status h =
+    let Other : ℕ → Type 0 = λ n. n ≡ 10 → ⊥ in
+    let all : All Other (0 ∷ 2 ∷ 3 ∷ 4 ∷ 5 ∷ 6 ∷ 7 ∷ 8 ∷ []) =
+        All-from_recursion Other (0 ∷ 2 ∷ 3 ∷ 4 ∷ 5 ∷ 6 ∷ 7 ∷ 8 ∷ [])
+        ((λ e. cc), ((λ e. cc), ((λ e. cc), ((λ e. cc), ((λ e. cc), ((λ e. cc), ((λ e. cc), ((λ e. cc), tt)))))))) in
+    All-contains Other (0 ∷ 2 ∷ 3 ∷ 4 ∷ 5 ∷ 6 ∷ 7 ∷ 8 ∷ []) status all h

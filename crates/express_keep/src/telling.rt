@@ -50,6 +50,26 @@ fn tell_place<K: Sink>(alloc: Global, out: &mut K, fault: KeepFault, ending: End
     }
 }
 
+// Says which fault of its journal ended a server, or kept it from being opened, unless memory is wanting.
+fn tell_journal_fault<K: Sink>(alloc: Global, out: &mut K, why: JournalFault) -> Ending
+    requires told_of { IsToldOf (KeepFault.Journal why) }
+    ensures tells { Tells (FaultMay (KeepFault.Journal why)) (K.written out.old) (K.written out.new) (K.count out.old) (K.count out.new) result }
+    ensures told { result ≢ Ending.Plain End.WriteFault → K.count out.new ≡ K.count out.old }
+    ensures counts { (before now : ℕ) → CountsFault before now (KeepFault.Journal why) → DiskCounts result before now }
+{
+    match why {
+        JournalFault::Full(_) => tell(out, JOURNAL_FULL, Ending::JournalFull),
+        JournalFault::Damaged(at) => {
+            let fault = KeepFault::Journal(why);
+            tell_place(alloc, out, fault, Ending::JournalDamaged(at))
+        }
+        JournalFault::Disk(_) => tell(out, DISK_FAULT, Ending::DiskFault),
+        // A journal that is closed, and a disk that isn't empty, end no run.
+        JournalFault::Closed => tell(out, DISK_FAULT, Ending::DiskFault),
+        JournalFault::NotEmpty => tell(out, DISK_FAULT, Ending::DiskFault),
+    }
+}
+
 /// Says which fault ended a server, or kept it from being opened, unless memory is wanting.
 pub(crate) fn tell_fault<K: Sink>(alloc: Global, out: &mut K, fault: KeepFault) -> Ending
     requires told_of { IsToldOf fault }
@@ -62,12 +82,7 @@ pub(crate) fn tell_fault<K: Sink>(alloc: Global, out: &mut K, fault: KeepFault) 
         KeepFault::Foreign(number) => {
             tell_place(alloc, out, fault, Ending::JournalForeign(number))
         }
-        KeepFault::Journal(JournalFault::Full(_)) => tell(out, JOURNAL_FULL, Ending::JournalFull),
-        KeepFault::Journal(JournalFault::Damaged(at)) => {
-            tell_place(alloc, out, fault, Ending::JournalDamaged(at))
-        }
-        // A journal that is closed, and a disk that isn't empty, end no run.
-        KeepFault::Journal(_) => tell(out, DISK_FAULT, Ending::DiskFault),
+        KeepFault::Journal(why) => tell_journal_fault(alloc, out, why),
     }
 }
 

@@ -1,0 +1,31 @@
+use Rattle.std.proofs.Common.{refl, ap, sym, subst, inl, inr, List, ℕ, ◌∙◌}
+use Rattle.express_cli.specs.Reading.{GaveAll}
+use Rattle.express_cli.specs.Runs.{UnreadMay}
+use Rattle.express_keep.specs.declared.ending.Ending.TheVariants.{Plain}
+use Rattle.express_keep.proofs.CountLaws.{plain_counts}
+use Rattle.express_keep.proofs.TellLaws.{more, plain, unmoved}
+use Rattle.express_keep.proofs.keeping.keep.Goals as goal
+
+pub returns-in-Ok-clause-tells : goal.returns-in-Ok-clause-tells
+returns-in-Ok-clause-tells g c =
+    let Gave : List ℕ → Type 0 = λ b. GaveAll (g.S.Counted.content c.args.input.now) (g.S.Counted.content c.input_of.new.input) b in
+    unmoved _ _ _ _ _ _ _ _ (ap (λ out. g.K.Counted.written out) c.in-Ok.ensures.rests) (ap (λ out. g.K.Counted.count out) c.in-Ok.ensures.rests)
+    (more _ _ _ _ _ _ _ (λ e t may. inl (c.as_slice.result.now, subst Gave (sym c.as_slice.ensures.value) c.in-Ok.ensures.read, may)) c.keep_text.ensures.tells)
+
+pub returns-in-Ok-clause-told : goal.returns-in-Ok-clause-told
+returns-in-Ok-clause-told g c other =
+    c.keep_text.ensures.told other ∙ ap (λ out. g.K.Counted.count out) c.in-Ok.ensures.rests
+
+pub returns-in-Err-clause-tells : goal.returns-in-Err-clause-tells
+returns-in-Err-clause-tells g c =
+    plain (UnreadMay _ _ _ _) _ _ _ _ _ c.in-Err.end
+    (λ e t may. inr (record { plain = e; ending_is = refl; unread = may; stays = refl; quiet = refl })) c.in-Err.ensures.unread
+
+pub returns-in-Err-clause-disk : goal.returns-in-Err-clause-disk
+returns-in-Err-clause-disk g c = plain_counts c.in-Err.end _ _ refl
+
+pub returns-in-Err-clause-input : goal.returns-in-Err-clause-input
+returns-in-Err-clause-input g c read write = c.in-Err.ensures.told (λ e. read (ap Plain e)) (λ e. write (ap Plain e))
+
+pub returns-in-Err-clause-told : goal.returns-in-Err-clause-told
+returns-in-Err-clause-told g c other = c.in-Err.ensures.sink (λ e. other (ap Plain e))

@@ -1,0 +1,34 @@
+use Rattle.std.proofs.Common.{◌∙◌, sym}
+use Rattle.express_keep.proofs.StatusLaws.{disk_fault, more_statuses, not_ten, statuses}
+use Rattle.express_keep.proofs.top.run_kept.Goals as goal
+
+pub returns-then-asks_keep-clause-kept : goal.returns-then-asks_keep-clause-kept
+returns-then-asks_keep-clause-kept g c asks = record {
+  ending = c.keep.result.0;
+  status_is = c.status.ensures;
+  came = c.keep.ensures.tells;
+  disk_counts = c.keep.ensures.disk;
+  input_counts = c.keep.ensures.input;
+  output_counts = c.keep.ensures.told;
+}
+
+pub returns-then-asks_keep-clause-ran : goal.returns-then-asks_keep-clause-ran
+returns-then-asks_keep-clause-ran g c = ?
+
+pub returns-then-asks_keep-clause-disk_fault : goal.returns-then-asks_keep-clause-disk_fault
+returns-then-asks_keep-clause-disk_fault g c is = disk_fault c.keep.result.0 _ _ (sym c.status.ensures ∙ is) c.keep.ensures.disk
+
+pub returns-then-asks_keep-clause-statuses : goal.returns-then-asks_keep-clause-statuses
+returns-then-asks_keep-clause-statuses g c = rw c.status.ensures (statuses c.keep.result.0)
+
+pub returns-else-asks_keep-clause-kept : goal.returns-else-asks_keep-clause-kept
+returns-else-asks_keep-clause-kept g c = ?
+
+pub returns-else-asks_keep-clause-ran : goal.returns-else-asks_keep-clause-ran
+returns-else-asks_keep-clause-ran g c other = c.run.ensures.ran
+
+pub returns-else-asks_keep-clause-disk_fault : goal.returns-else-asks_keep-clause-disk_fault
+returns-else-asks_keep-clause-disk_fault g c is = absurd (not_ten _ c.run.ensures.ran.statuses is)
+
+pub returns-else-asks_keep-clause-statuses : goal.returns-else-asks_keep-clause-statuses
+returns-else-asks_keep-clause-statuses g c = more_statuses _ c.run.ensures.ran.statuses
