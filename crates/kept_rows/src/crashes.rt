@@ -3,6 +3,7 @@ use crate::fault::Fault;
 use crate::recorded::{Recorded, Step};
 use crate::records::records_of;
 use crate::server::Server;
+use crate::texts::front_of;
 use node_restart::Sender;
 use std::alloc::Global;
 
@@ -141,7 +142,7 @@ fn crash_at_each_byte(
     tally: &mut Tally,
 ) -> Result<(), Fault> {
     for (arrived, _) in body.iter().enumerate() {
-        tally_crash(alloc, recorded, call, &body[..arrived], tally)?;
+        tally_crash(alloc, recorded, call, front_of(body, arrived), tally)?;
     }
     tally_crash(alloc, recorded, call, body, tally)?;
     tally_crash(alloc, recorded, call, &[1], tally)
