@@ -1,5 +1,5 @@
 -- What is said of a server that ended early, by why.
-use Rattle.std.proofs.Common.{◌≡◌, ◌×◌, ℕ, ◌≤◌, Err, subst}
+use Rattle.std.proofs.Common.{◌≡◌, ℕ, Err, subst}
 use Rattle.express_words.specs.Causes.{Rose}
 use Rattle.node_host.specs.declared.tally.Tally.{Tally}
 use Rattle.node_restart.specs.Faults.{CountsFault}

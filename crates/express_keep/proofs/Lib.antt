@@ -5,3 +5,4 @@ pub mod FirstFaults
 pub mod HaltLaws
 pub mod KeepLaws
 pub mod StatusLaws
+pub mod OneWord
