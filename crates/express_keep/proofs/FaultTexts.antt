@@ -22,29 +22,16 @@ disk_may why faults is =
     let May : JournalFault → Type 0 = λ w. FaultMay (Journal w) ending.DiskFault (codes "disk fault\n") in
     subst May (sym is) (inl (refl, refl))
 
-damaged : (at : ℕ) (end : Ending) (text : List ℕ)
-    → SaysOrWants (ending.JournalDamaged at) (fault_line (Journal (Damaged at))) end text
-    → FaultMay (Journal (Damaged at)) end text
-damaged at end text says = says
-
 pub damaged_may : (why : JournalFault) (at : ℕ) → why ≡ Damaged at → (end : Ending) (text : List ℕ)
-    → SaysOrWants (ending.JournalDamaged at) (fault_line (Journal why)) end text → FaultMay (Journal why) end text
-damaged_may why at is end text =
-    let May : JournalFault → Type 0 = λ w.
-        SaysOrWants (ending.JournalDamaged at) (fault_line (Journal w)) end text → FaultMay (Journal w) end text in
-    subst May (sym is) (damaged at end text)
-
-foreign : (number : ℕ) (end : Ending) (text : List ℕ)
-    → SaysOrWants (ending.JournalForeign number) (fault_line (Foreign number)) end text
-    → FaultMay (Foreign number) end text
-foreign number end text says = says
+    → SaysOrWants (ending.JournalDamaged at) (fault_line (Journal (Damaged at))) end text
+    → FaultMay (Journal why) end text
+damaged_may why at is end text says =
+    let May : JournalFault → Type 0 = λ w. FaultMay (Journal w) end text in subst May (sym is) says
 
 pub foreign_may : (fault : KeepFault) (number : ℕ) → fault ≡ Foreign number → (end : Ending) (text : List ℕ)
-    → SaysOrWants (ending.JournalForeign number) (fault_line fault) end text → FaultMay fault end text
-foreign_may fault number is end text =
-    let May : KeepFault → Type 0 = λ f.
-        SaysOrWants (ending.JournalForeign number) (fault_line f) end text → FaultMay f end text in
-    subst May (sym is) (foreign number end text)
+    → SaysOrWants (ending.JournalForeign number) (fault_line (Foreign number)) end text → FaultMay fault end text
+foreign_may fault number is end text says =
+    let May : KeepFault → Type 0 = λ f. FaultMay f end text in subst May (sym is) says
 
 pub journal_may : (fault : KeepFault) (why : JournalFault) → fault ≡ Journal why → (end : Ending) (text : List ℕ)
     → FaultMay (Journal why) end text → FaultMay fault end text

@@ -9,12 +9,12 @@ use Rattle.express_keep.proofs.door.tell_and_serve.Goals as goal
 
 pub returns-in-Ok-clause-tells : goal.returns-in-Ok-clause-tells
 returns-in-Ok-clause-tells g c =
-    behind _ _ _ _ _ _ _ _ _ listening (took_as _ _ _ listening c.as_bytes.ensures c.in-Ok.ensures.took) c.in-Ok.ensures.counts.unfailed
+    behind _ _ _ _ _ _ _ _ _ listening (took_as _ _ _ listening c.as_bytes.ensures.value c.in-Ok.ensures.took) c.in-Ok.ensures.counts.unfailed
     (λ e text may. inl (text, may, refl)) c.serve_all.ensures.tells
 
 pub returns-in-Err-clause-tells : goal.returns-in-Err-clause-tells
 returns-in-Err-clause-tells g c =
-    inr (record { ending_is = refl; rose = c.in-Err.ensures.cause.failed; other = Plain WriteFault; text = c.as_bytes.result.now; may = inr (record { stays = refl; quiet = refl; says = (refl, c.as_bytes.ensures) }); took = c.in-Err.ensures.failed })
+    inr (record { ending_is = refl; rose = c.in-Err.ensures.cause.failed; other = Plain WriteFault; text = c.as_bytes.result.now; may = inr (record { stays = refl; quiet = refl; says = (refl, c.as_bytes.ensures.value) }); took = c.in-Err.ensures.failed })
 
 pub returns-in-Err-clause-disk : goal.returns-in-Err-clause-disk
 returns-in-Err-clause-disk g c = inl refl

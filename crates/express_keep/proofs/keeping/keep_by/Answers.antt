@@ -7,29 +7,29 @@ use Rattle.express_keep.proofs.KeepLaws.{counts_between, opened_unclosed}
 use Rattle.express_keep.proofs.TellLaws.{more, said}
 use Rattle.express_keep.proofs.keeping.keep_by.Goals as goal
 
-pub listen_and_serve-requires : goal.listen_and_serve-requires
-listen_and_serve-requires g c =
-    opened_unclosed g.D.Disk.reads g.D.Disk.may_leave _ _ _ _ c.in-Ok-open_kept.ensures.opened
+pub listen_and_serve-ending-requires : goal.listen_and_serve-ending-requires
+listen_and_serve-ending-requires g c =
+    record { unclosed = opened_unclosed g.D.Disk.reads g.D.Disk.may_leave _ _ _ _ c.in-Ok-open_kept.ensures.opened }
 
 pub tell_unopened-requires : goal.tell_unopened-requires
 tell_unopened-requires g c = c.in-Err.ensures.cause
 
 pub returns-in_default-clause-tells : goal.returns-in_default-clause-tells
 returns-in_default-clause-tells g c =
-    said _ _ _ _ _ (Plain OutOfMemory) _ _ (inr (inr (record { stays = refl; quiet = refl; says = (refl, refl) }))) c.tell.ensures.tells
+    said _ _ _ _ _ (Plain OutOfMemory) _ _ (inr (inr (record { stays = refl; quiet = refl; says = (refl, refl) }))) c.tell-ending.ensures.tells
 
 pub returns-in_default-clause-disk : goal.returns-in_default-clause-disk
-returns-in_default-clause-disk g c = told_counts (Plain OutOfMemory) c.tell.result _ _ c.tell.ensures.only refl
+returns-in_default-clause-disk g c = told_counts (Plain OutOfMemory) c.tell-ending.result _ _ c.tell-ending.ensures.only refl
 
 pub returns-in-Ok-open_kept-clause-tells : goal.returns-in-Ok-open_kept-clause-tells
 returns-in-Ok-open_kept-clause-tells g c =
     more _ _ _ _ _ _ _
-    (λ e t may. inl (record { old = c.in-Ok-open_kept.kept; new = c.listen_and_serve.new.server.kept; opened = c.in-Ok-open_kept.ensures.opened; served = may; handed_back = c.into_disk.ensures })) c.listen_and_serve.ensures.tells
+    (λ e t may. inl (record { old = c.in-Ok-open_kept.kept; new = c.listen_and_serve-ending.new.server.kept; opened = c.in-Ok-open_kept.ensures.opened; served = may; handed_back = c.into_disk.ensures })) c.listen_and_serve-ending.ensures.tells
 
 pub returns-in-Ok-open_kept-clause-disk : goal.returns-in-Ok-open_kept-clause-disk
 returns-in-Ok-open_kept-clause-disk g c =
-    counts_between (λ d. g.D.Counted.count d) c.listen_and_serve.result c.args.disk c.in-Ok-open_kept.kept.disk c.listen_and_serve.new.server.kept.disk c.into_disk.result
-    c.in-Ok-open_kept.ensures.counts_ok c.into_disk.ensures c.listen_and_serve.ensures.disk
+    counts_between (λ d. g.D.Counted.count d) c.listen_and_serve-ending.result c.args.disk c.in-Ok-open_kept.kept.disk c.listen_and_serve-ending.new.server.kept.disk c.into_disk.result
+    c.in-Ok-open_kept.ensures.counts_ok c.into_disk.ensures c.listen_and_serve-ending.ensures.disk
 
 pub returns-in-Err-clause-tells : goal.returns-in-Err-clause-tells
 returns-in-Err-clause-tells g c =

@@ -1,6 +1,6 @@
 use Rattle.std.proofs.Common.{refl, inr}
 use Rattle.express_cli.specs.declared.ends.End.TheVariants.{OutOfMemory}
-use Rattle.node_restart.specs.declared.fault.KeepFault.TheVariants.{Journal}
+use Rattle.node_restart.specs.declared.fault.KeepFault.TheVariants.{Journal, Foreign}
 use Rattle.express_keep.specs.Telling.{FaultMay, SaysOrWants, fault_line}
 use Rattle.express_keep.specs.declared.ending.Ending.TheVariants as ending
 use Rattle.express_keep.proofs.CountLaws.{told_counts}
@@ -18,7 +18,7 @@ returns-in-NoMemory-clause-counts g c before now h =
 
 pub returns-in-Foreign-clause-tells : goal.returns-in-Foreign-clause-tells
 returns-in-Foreign-clause-tells g c =
-    more (SaysOrWants (ending.JournalForeign c.in-Foreign.number) (fault_line c.args.fault)) (FaultMay c.args.fault) _ _ _ _ _
+    more (SaysOrWants (ending.JournalForeign c.in-Foreign.number) (fault_line (Foreign c.in-Foreign.number))) (FaultMay c.args.fault) _ _ _ _ _
     (foreign_may c.args.fault c.in-Foreign.number c.in-Foreign.is) c.tell_place.ensures.tells
 
 pub returns-in-Foreign-clause-counts : goal.returns-in-Foreign-clause-counts
@@ -26,7 +26,7 @@ returns-in-Foreign-clause-counts g c before now h =
     let same = counts_of _ _ before now c.in-Foreign.is h in c.tell_place.ensures.counts before now same same
 
 pub tell_journal_fault-requires : goal.tell_journal_fault-requires
-tell_journal_fault-requires g c = told_of _ _ c.in-Journal.is c.requires.told_of
+tell_journal_fault-requires g c = record { told_of = told_of _ _ c.in-Journal.is c.requires.told_of }
 
 pub returns-in-Journal-clause-tells : goal.returns-in-Journal-clause-tells
 returns-in-Journal-clause-tells g c =

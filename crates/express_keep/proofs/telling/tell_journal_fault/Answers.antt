@@ -19,7 +19,7 @@ returns-in-Full-clause-counts g c before now h =
 
 pub returns-in-Damaged-clause-tells : goal.returns-in-Damaged-clause-tells
 returns-in-Damaged-clause-tells g c =
-    more (SaysOrWants (ending.JournalDamaged c.in-Damaged.at) (fault_line (Journal c.args.why))) (FaultMay (Journal c.args.why)) _ _ _ _ _
+    more (SaysOrWants (ending.JournalDamaged c.in-Damaged.at) (fault_line (Journal (Damaged c.in-Damaged.at)))) (FaultMay (Journal c.args.why)) _ _ _ _ _
     (damaged_may c.args.why c.in-Damaged.at c.in-Damaged.is) c.tell_place.ensures.tells
 
 pub returns-in-Damaged-clause-counts : goal.returns-in-Damaged-clause-counts
@@ -33,7 +33,7 @@ returns-in-Disk-clause-tells g c =
 pub returns-in-Disk-clause-counts : goal.returns-in-Disk-clause-counts
 returns-in-Disk-clause-counts g c before now h =
     told_counts ending.DiskFault c.tell-in-Disk.result before now c.tell-in-Disk.ensures.only
-    (fault_counts _ before now tt (counts_of _ _ before now (ap Journal c.in-Disk.is) h))
+    (fault_counts (Journal (Disk c.in-Disk.field-0)) before now tt (counts_of _ (Journal (Disk c.in-Disk.field-0)) before now (ap Journal c.in-Disk.is) h))
 
 pub returns-in-Closed-clause-tells : goal.returns-in-Closed-clause-tells
 returns-in-Closed-clause-tells g c = absurd (told_of _ _ (ap Journal c.in-Closed.is) c.requires.told_of)

@@ -12,7 +12,7 @@ use Rattle.express_keep.proofs.TellLaws.{more, plain}
 use Rattle.express_keep.proofs.telling.tell_unopened.Goals as goal
 
 pub tell_fault-requires : goal.tell_fault-requires
-tell_fault-requires g c = opening_fault c.in-Keep.fault (subst IsOfOpening c.in-Keep.is c.requires)
+tell_fault-requires g c = record { told_of = opening_fault c.in-Keep.fault (subst IsOfOpening c.in-Keep.is c.requires) }
 
 pub returns-in-Keep-clause-tells : goal.returns-in-Keep-clause-tells
 returns-in-Keep-clause-tells g c =
