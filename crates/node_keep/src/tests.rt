@@ -61,7 +61,8 @@ fn opened(
 fn served_and_opened_again(rt: HostRuntime) -> Result<(), Fail> {
     let mut net = net_of(&rt, DEPOSIT)?;
     let mut gather = Gather::open(rt.alloc())?;
-    let disk = MemoryDisk::new(rt.alloc(), &[], &[], 20, 200, &[])?;
+    let none: [u64; 0] = [];
+    let disk = MemoryDisk::new(rt.alloc(), &[], &[], 20, 200, &none)?;
     let Ok(mut kept) = opened(&rt, 5, disk) else {
         return Err(Fail::from("not opened"));
     };
@@ -69,13 +70,14 @@ fn served_and_opened_again(rt: HostRuntime) -> Result<(), Fail> {
         return Err(Fail::from("not served"));
     };
     assert_eq!(rt; tally.answered, 1);
+    assert_eq!(rt; net.closed().len(), 1);
     let told = hex::encode(rt.alloc(), net.closed()[0].written())?;
     assert_eq!(rt; told.as_str(), HELD);
     let Err((fault, disk)) = opened(&rt, 6, kept.into_disk()) else {
         return Err(Fail::from("opened with other boxes"));
     };
     assert_eq!(rt; fault, OpenFault::Differs(SettingsKey::Boxes));
-    assert_eq!(rt; disk.bytes().len(), 50 + 5 + 54 + 1);
+    assert_eq!(rt; disk.bytes().len(), 110);
     assert_eq!(rt; opened(&rt, 5, disk).is_ok(), true);
     Ok(())
 }
