@@ -148,7 +148,7 @@ fn writes(alloc: Global, boxes: u32, times: u32, openings: u32) -> Result<u128, 
     let mut client = Client::open(alloc, 0, &[7; 32], WIDTH as u32, 4097, 1)?;
     register_all(&mut pair, &mut client, boxes);
     let mut accepted = write_all(&mut pair, &mut client, times);
-    for _ in 0..openings {
+    for _opening in 0..openings {
         let KeptPair { leader, helper } = pair;
         pair = KeptPair {
             leader: opened_again(alloc, leader, limit)?,
