@@ -9,6 +9,6 @@ pub returns-in-Done-clause-says : goal.returns-in-Done-clause-says
 returns-in-Done-clause-says g c =
     said (Said (end_by c.args.ran.now.end) c.args.ran.now.text) _ _ _ _ Done _ _ (sym (ap end_by c.in-Done.is), c.as_str.ensures) c.say.ensures.says
 
-pub returns-clause-says : goal.returns-clause-says
-returns-clause-says g c =
+pub returns-in-NetFault-clause-says : goal.returns-in-NetFault-clause-says
+returns-in-NetFault-clause-says g c =
     said (Said (end_by c.args.ran.now.end) c.args.ran.now.text) _ _ _ _ NetFault _ _ (sym (ap end_by c.in-NetFault.is), c.as_str-in-NetFault.ensures) c.say-in-NetFault.ensures.says
