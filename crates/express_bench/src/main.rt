@@ -3,7 +3,6 @@
 #![tactic(auto)]
 
 mod closings;
-mod kept;
 mod nodes;
 mod parts;
 mod passes;
@@ -12,7 +11,6 @@ mod servers;
 mod stores;
 mod streams;
 mod work;
-mod writing;
 
 use std::process::ExitCode;
 use std::{env, io};

@@ -1,5 +1,5 @@
 //! The pieces of work.
-use crate::{closings, kept, nodes, parts, passes, products, servers, stores, streams};
+use crate::{closings, nodes, parts, passes, products, servers, stores, streams};
 use express_words::NoMemory;
 use std::alloc::Global;
 use std::fmt;
@@ -45,10 +45,6 @@ pub enum Work {
     Client,
     /// A whole write to one of so many boxes of 1,024 bytes.
     Writes(u32),
-    /// The same by servers that keep each frame in a journal.
-    Kept(u32),
-    /// The same, and the servers opened again four times, with one write more after each.
-    Reopened(u32),
     /// A leader of the largest settings, opened once, however often that is asked.
     Leader,
     /// A helper of the largest settings, likewise.
@@ -89,8 +85,6 @@ impl Work {
             "sums" => Some(Work::Sums(count)),
             "outputs" => Some(Work::Outputs(count)),
             "writes" => Some(Work::Writes(count)),
-            "kept" => Some(Work::Kept(count)),
-            "reopened" => Some(Work::Reopened(count)),
             _ => None,
         }
     }
@@ -124,8 +118,6 @@ impl Work {
             Work::Outputs(boxes) => parts::by_outputs(alloc, boxes, times),
             Work::Client => Ok(parts::by_client(times)),
             Work::Writes(boxes) => servers::by_writes(alloc, boxes, times),
-            Work::Kept(boxes) => kept::by_kept(alloc, boxes, times),
-            Work::Reopened(boxes) => kept::by_reopened(alloc, boxes, times),
             Work::Leader => servers::leader(alloc),
             Work::Helper => servers::helper(alloc),
         }
@@ -154,8 +146,6 @@ impl fmt::Display for Work {
             Work::Outputs(boxes) => write!(f, "outputs_{boxes}"),
             Work::Client => write!(f, "client"),
             Work::Writes(boxes) => write!(f, "writes_{boxes}"),
-            Work::Kept(boxes) => write!(f, "kept_{boxes}"),
-            Work::Reopened(boxes) => write!(f, "reopened_{boxes}"),
             Work::Leader => write!(f, "leader"),
             Work::Helper => write!(f, "helper"),
         }
