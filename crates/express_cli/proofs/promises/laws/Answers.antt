@@ -1,7 +1,7 @@
 use Rattle.express_cli.proofs.promises.laws.Goals as goal
 
-pub returns-clause : goal.returns-clause
-returns-clause g c = record {
+pub returns : goal.returns
+returns c = record {
   follows_protocol = c.schedules_hold.ensures.follows;
   outcomes_are_plain = c.schedules_hold.ensures.outcomes;
   journal_is_plain = c.schedules_hold.ensures.journal;
