@@ -64,15 +64,44 @@ impl<'a> FileDisk<'a> {
         }
     }
 
-    // The file, opened at the first call.
-    fn file(&mut self) -> io::Result<&File>
+    // Opens the file at the first call.
+    fn open(&mut self) -> io::Result<()>
         ensures faults { self.new.faults ≡ self.old.faults }
     {
         if self.file.is_none() {
             self.file = Some(opened(self.rt, self.name)?);
         }
+        Ok(())
+    }
+
+    fn read_file(&mut self, at: u64, out: &mut [u8]) -> io::Result<usize>
+        ensures faults { self.new.faults ≡ self.old.faults }
+        ensures bound { IfOk result (λ n. n ≤ length out.new) }
+        ensures length { length out.new ≡ length out.old }
+    {
+        self.open()?;
         match &self.file {
-            Some(file) => Ok(file),
+            Some(file) => read_on(file, at, out),
+            None => Err(io::Error::from(ErrorKind::NotFound)),
+        }
+    }
+
+    fn write_file(&mut self, at: u64, bytes: &[u8]) -> io::Result<()>
+        ensures faults { self.new.faults ≡ self.old.faults }
+    {
+        self.open()?;
+        match &self.file {
+            Some(file) => file.write_all_at(bytes, at),
+            None => Err(io::Error::from(ErrorKind::NotFound)),
+        }
+    }
+
+    fn sync_file(&mut self) -> io::Result<()>
+        ensures faults { self.new.faults ≡ self.old.faults }
+    {
+        self.open()?;
+        match &self.file {
+            Some(file) => file.sync_all(),
             None => Err(io::Error::from(ErrorKind::NotFound)),
         }
     }
@@ -103,11 +132,7 @@ impl<'a> Disk for FileDisk<'a> {
     ghost left_since = { λ d t c. ⊥ };
 
     fn read(&mut self, at: u64, out: &mut [u8]) -> Result<usize, Failed> {
-        let read = match self.file() {
-            Ok(file) => read_on(file, at, out),
-            Err(error) => Err(error),
-        };
-        match read {
+        match self.read_file(at, out) {
             Ok(count) => Ok(count),
             Err(_) => {
                 self.count_fault();
@@ -117,27 +142,23 @@ impl<'a> Disk for FileDisk<'a> {
     }
 
     fn write(&mut self, at: u64, bytes: &[u8]) -> Result<(), Failed> {
-        let written = match self.file() {
-            Ok(file) => file.write_all_at(bytes, at),
-            Err(error) => Err(error),
-        };
-        if written.is_err() {
-            self.count_fault();
-            return Err(Failed);
+        match self.write_file(at, bytes) {
+            Ok(()) => Ok(()),
+            Err(_) => {
+                self.count_fault();
+                Err(Failed)
+            }
         }
-        Ok(())
     }
 
     fn sync(&mut self) -> Result<(), Failed> {
-        let synced = match self.file() {
-            Ok(file) => file.sync_all(),
-            Err(error) => Err(error),
-        };
-        if synced.is_err() {
-            self.count_fault();
-            return Err(Failed);
+        match self.sync_file() {
+            Ok(()) => Ok(()),
+            Err(_) => {
+                self.count_fault();
+                Err(Failed)
+            }
         }
-        Ok(())
     }
 
     ghost one_content = { λ d b c is also. absurd is };
