@@ -20,6 +20,7 @@ const DEPOSIT: &str =
 const SERVED: &str = "listening\nserved 1 answered 1 ended 0 connfaults 0 linkfaults 0 linkbad 0\n";
 
 /// What a run of `keep` answers, writes and leaves.
+#[derive(Drop)]
 struct Kept {
     status: u8,
     written: Vec<u8>,
