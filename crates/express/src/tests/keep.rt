@@ -32,7 +32,7 @@ fn disk_of(alloc: Global, bytes: &[u8], failing: &[u64]) -> Result<MemoryDisk, N
 }
 
 // A run of `keep` whose one connection brings a deposit.
-fn kept(alloc: Global, settings: &str, disk: MemoryDisk) -> Result<Kept, Fail> {
+fn run_of(alloc: Global, settings: &str, disk: MemoryDisk) -> Result<Kept, Fail> {
     let words = texts(alloc, &["keep"])?;
     let mut conns = Vec::new(alloc);
     let deposit = hex::decode(alloc, DEPOSIT)?;
@@ -54,18 +54,18 @@ fn kept(alloc: Global, settings: &str, disk: MemoryDisk) -> Result<Kept, Fail> {
 #[test]
 fn goes_on_where_its_journal_ends(rt: HostRuntime) -> Result<(), Fail> {
     let alloc = rt.alloc();
-    let first = kept(alloc, SETTINGS, disk_of(alloc, &[], &[])?)?;
+    let first = run_of(alloc, SETTINGS, disk_of(alloc, &[], &[])?)?;
     assert_eq!(rt;
         (first.status, first.written.as_slice()),
         (0, SERVED.as_bytes())
     );
     assert_eq!(rt; first.disk.bytes().len(), 50 + 5 + 54 + 1);
-    let other = kept(alloc, OTHER_BOXES, first.disk)?;
+    let other = run_of(alloc, OTHER_BOXES, first.disk)?;
     assert_eq!(rt;
         (other.status, other.written.as_slice()),
         (3, b"bad settings boxes\n".as_slice())
     );
-    let again = kept(alloc, SETTINGS, other.disk)?;
+    let again = run_of(alloc, SETTINGS, other.disk)?;
     assert_eq!(rt;
         (again.status, again.written.as_slice()),
         (0, SERVED.as_bytes())
@@ -86,12 +86,12 @@ fn faults_of_the_journal(rt: HostRuntime) -> Result<(), Fail> {
         (damaged.status, damaged.written.as_slice()),
         (12, b"journal damaged 0\n".as_slice())
     );
-    let foreign = kept(alloc, SETTINGS, disk_of(alloc, &[0], &[])?)?;
+    let foreign = run_of(alloc, SETTINGS, disk_of(alloc, &[0], &[])?)?;
     assert_eq!(rt;
         (foreign.status, foreign.written.as_slice()),
         (13, b"journal foreign 0\n".as_slice())
     );
-    let broken = kept(alloc, SETTINGS, disk_of(alloc, &[], &[1])?)?;
+    let broken = run_of(alloc, SETTINGS, disk_of(alloc, &[], &[1])?)?;
     assert_eq!(rt;
         (broken.status, broken.written.as_slice()),
         (10, b"disk fault\n".as_slice())
