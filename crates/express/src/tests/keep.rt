@@ -77,7 +77,7 @@ fn goes_on_where_its_journal_ends(rt: HostRuntime) -> Result<(), Fail> {
 #[test]
 fn faults_of_the_journal(rt: HostRuntime) -> Result<(), Fail> {
     let alloc = rt.alloc();
-    let damaged = kept(
+    let damaged = run_of(
         alloc,
         SETTINGS,
         disk_of(alloc, &[1, 255, 255, 255, 255], &[])?,
