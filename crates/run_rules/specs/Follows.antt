@@ -314,7 +314,7 @@ pub record ForeignCommands (b : Book) (rows : List leader.Row) (commands : List 
       → (x.lane < b.settings.lanes) × (x.serial ≤ (slice_index_or rows x.lane leader.idle).serial)
   pub still : (c : ℕ) → c < b.settings.lanes → b.foreign c ≡ true
       → StillToIssue commands c (slice_index_or rows c leader.idle).serial
-        (slice_index_or rows c leader.idle).stage
+      (slice_index_or rows c leader.idle).stage
 
 -- an outstanding command of a foreign lane finds its row waiting for it
 abbrev pub Awaits : Command → leader.Stage → Type 0
@@ -344,7 +344,7 @@ abbrev pub HaveBegun : Book → List helper.Row → ℕ → Type 0
 HaveBegun b rows carried =
     (c : ℕ) → c < b.settings.lanes → b.foreign c ≡ true
     → HasBegun b carried c (slice_index_or rows c helper.idle).serial
-      (slice_index_or rows c helper.idle).stage
+    (slice_index_or rows c helper.idle).stage
 
 -- and at the leader
 abbrev pub WasBegun : Book → ℕ → ℕ → ℕ → leader.Stage → Type 0

@@ -94,7 +94,7 @@ AtEnd P = (o : Oracle) (settings : Settings) (seed : List ℕ) (events : List Ev
     → KeepsLimits settings.width settings.boxes settings.lanes settings.window → AreOfClients settings events
     → length events ≤ 20000
     → let v = token_run o settings no_lane events in
-      P (history settings seed v) (frame_run settings seed events) v
+    P (history settings seed v) (frame_run settings seed events) v
 
 -- ---- after a finish
 
