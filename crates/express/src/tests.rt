@@ -2,7 +2,6 @@
 mod batch;
 mod cases;
 mod cloak;
-mod keep;
 mod seed;
 
 use cases::CASES;
