@@ -21,6 +21,3 @@ pub use key::SettingsKey;
 pub use opening::{JOURNAL_LIMIT, open_kept};
 pub use serving::serve_kept;
 pub use stop::{Halt, Stop};
-
-#[cfg(test)]
-mod tests;
