@@ -167,6 +167,3 @@ impl<'a> Disk for FileDisk<'a> {
 
     ghost only_now = { λ d c left. left };
 }
-
-#[cfg(test)]
-mod tests;
