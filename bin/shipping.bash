@@ -13,8 +13,16 @@ PIECES='644 share/man/man1/express.1 man/express.1
 644 share/bash-completion/completions/express-drill completions/express.bash
 644 lib/systemd/system/express-helper.service units/express-helper.service
 644 lib/systemd/system/express-leader.service units/express-leader.service
-644 share/doc/express/helper.toml units/helper.toml
-644 share/doc/express/leader.toml units/leader.toml'
+644 share/doc/express/OPERATIONS.md docs/OPERATIONS.md
+644 share/doc/express/deploy/README.md deploy/README.md
+755 share/doc/express/deploy/keys deploy/keys
+644 share/doc/express/deploy/helper.toml deploy/helper.toml
+644 share/doc/express/deploy/helper.haproxy.cfg deploy/helper.haproxy.cfg
+644 share/doc/express/deploy/helper.stunnel.conf deploy/helper.stunnel.conf
+644 share/doc/express/deploy/leader.toml deploy/leader.toml
+644 share/doc/express/deploy/leader.haproxy.cfg deploy/leader.haproxy.cfg
+644 share/doc/express/deploy/leader.stunnel.conf deploy/leader.stunnel.conf
+644 share/doc/express/deploy/client.stunnel.conf deploy/client.stunnel.conf'
 
 # Whether this program stands as it was built, and the sources as they were then.
 is_built() {
