@@ -1,3 +1,4 @@
+//! What a server sums over its leaves.
 /// The four sums of a sketch, as elements of the field of 2^128 elements.
 #[derive(Clone, Copy, Debug, PartialEq, Eq)]
 pub struct Sums {

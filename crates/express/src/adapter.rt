@@ -18,6 +18,7 @@ pub struct Adapter<T> {
 }
 
 impl<T> Adapter<T> {
+    /// No call of it has failed yet.
     pub fn new(inner: T) -> Self
         ensures { result ≡ record { inner = inner; faults = 0 } }
     {

@@ -37,6 +37,7 @@ fn patient<T: OpenStream + Drop>(stream: T, seconds: u64) -> io::Result<Adapter<
 }
 
 impl<'a, R: net::Net> TcpNet<'a, R> {
+    /// Listens nowhere yet; no call has failed.
     pub fn new(sockets: &'a R) -> Self {
         TcpNet {
             sockets,

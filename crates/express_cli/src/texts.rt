@@ -7,17 +7,23 @@ use express_texts::TextFault;
 use express_words::outside::Sink;
 use std::alloc::{AllocError, Global};
 
+/// What is told of wrong words. Status 2.
 pub const USAGE: &str =
     "usage: express replay, serve, client, cloak, carry, batch or mill NUMBER\n";
 
+/// The source failed before the input's end. Status 5.
 pub const READ_FAULT: &str = "read fault\n";
 
+/// An allocation failed. Status 7.
 pub const OUT_OF_MEMORY: &str = "out of memory\n";
 
+/// The input is longer than is taken. Status 8.
 pub const TOO_LONG: &str = "input too long\n";
 
+/// A server's door is open.
 pub const LISTENING: &str = "listening\n";
 
+/// A call of the net failed. Status 6.
 pub const NET_FAULT: &str = "net fault\n";
 
 /// Writes a text and comes to this end, or to a fault of the sink.

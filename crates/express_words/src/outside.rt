@@ -49,6 +49,7 @@ pub trait Counted {
         ensures { result ≡ count self.now };
 }
 
+/// What bytes come from. A call that fails gives none, and is counted.
 pub trait Source: Counted {
     /// Gives bytes into the front of `buf`. Ok(0) for a buffer that isn't empty is the end.
     fn take(&mut self, buf: &mut [u8]) -> Result<usize, Failed>
@@ -61,6 +62,7 @@ pub trait Source: Counted {
         ensures counts { CountsFault (Self.count self.old) (Self.count self.new) result };
 }
 
+/// What takes bytes. A call that fails is counted.
 pub trait Sink: Counted {
     /// Takes all of `bytes`, or fails after a prefix of them.
     fn put(&mut self, bytes: &[u8]) -> Result<(), Failed>

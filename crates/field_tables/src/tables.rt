@@ -28,6 +28,7 @@ pub struct Tables {
 }
 
 impl Tables {
+    /// Powers of a generator of level 3, and the logarithms of its elements to that base.
     pub fn new() -> Tables {
         let mut power = [0u8; 1379];
         let mut log = [629u16; 256];

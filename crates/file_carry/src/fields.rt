@@ -2,6 +2,7 @@
 ghost use Rattle.std.specs.Prelude.{◌≡◌, ◌+◌, ◌-◌, ◌<◌, ◌≤◌, length, drop, IsTrue};
 ghost use Rattle.file_carry.specs.Boxes.{id_in, index_in, count_in, used_in, is_zeros, is_use, is_part};
 
+/// The id of the file whose part this is: bytes 0 to 7, big-endian.
 pub fn id_in(bytes: &[u8]) -> u64
     requires { 16 ≤ length bytes.now }
     ensures { result ≡ id_in bytes.now }
@@ -18,6 +19,7 @@ fn index_in(bytes: &[u8]) -> u16
     u16::from_be_bytes([bytes[8], bytes[9]])
 }
 
+/// How many parts the file has: bytes 10 and 11, big-endian.
 pub fn count_in(bytes: &[u8]) -> u16
     requires { 16 ≤ length bytes.now }
     ensures { result ≡ count_in bytes.now }
@@ -25,6 +27,7 @@ pub fn count_in(bytes: &[u8]) -> u16
     u16::from_be_bytes([bytes[10], bytes[11]])
 }
 
+/// How many bytes of the file stand behind the header: bytes 12 and 13, big-endian.
 pub fn used_in(bytes: &[u8]) -> u16
     requires { 16 ≤ length bytes.now }
     ensures { result ≡ used_in bytes.now }

@@ -30,6 +30,7 @@ impl Model for FrameRing {
 }
 
 impl FrameRing {
+    /// No frame yet; room for `window` of at most `size` bytes each. NoMemory where none can be had.
     pub fn open(alloc: Global, window: u8, size: u32) -> Result<FrameRing, NoMemory>
         requires { 1 ≤ window }
         ensures { IfOk result (λ r. r ≡ record { pushed = 0; window = window; size = size; frames = [] }) }
@@ -46,12 +47,14 @@ impl FrameRing {
         }
     }
 
+    /// How many frames were ever pushed: the number of the last one.
     pub fn pushed(&self) -> u64
         ensures { result ≡ self.now.pushed }
     {
         self.pushed
     }
 
+    /// How many frames are held.
     pub fn len(&self) -> usize
         ensures len { result ≡ length self.now.frames }
         ensures pushed { result ≤ self.now.pushed }
@@ -60,6 +63,7 @@ impl FrameRing {
         self.lengths.len()
     }
 
+    /// Whether as many are held as the window has.
     pub fn is_full(&self) -> bool
         ensures full { IsTrue result ↔ (length self.now.frames ≡ self.now.window) }
         ensures within { (1 ≤ self.now.window) × (length self.now.frames ≤ self.now.window) }

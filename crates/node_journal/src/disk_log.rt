@@ -66,12 +66,14 @@ impl DiskLog {
         })
     }
 
+    /// Whether there is no room for one more call, or for so many bytes of it.
     pub fn lacks_room(&self, bytes: usize) -> bool
         ensures { IsTrue result ↔ LacksRoom self.now bytes }
     {
         self.calls < 1 || self.room < bytes
     }
 
+    /// Notes a write of `bytes` at the offset `at`.
     pub fn write(&mut self, at: u64, bytes: &[u8])
         requires { (1 ≤ self.old.calls) × (length bytes.now ≤ self.old.room) }
         ensures { self.new ≡ write_noted at bytes.now self.old }
@@ -86,6 +88,7 @@ impl DiskLog {
         self.room -= bytes.len();
     }
 
+    /// Notes a sync.
     pub fn sync(&mut self)
         requires { 1 ≤ self.old.calls }
         ensures { self.new ≡ sync_noted self.old }

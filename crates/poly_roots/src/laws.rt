@@ -1,3 +1,4 @@
+//! How many roots a polynomial has.
 ghost use Rattle.std.specs.Prelude.{◌≡◌, ◌≢◌, ◌<◌, length, All, Any, AllPairs};
 ghost use Rattle.poly_roots.specs.Polynomials.{value_at};
 

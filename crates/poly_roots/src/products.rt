@@ -1,3 +1,4 @@
+//! Products of polynomials, by their coefficients.
 ghost use Rattle.std.specs.Prelude.{◌≡◌, ◌+◌, ◌<◌, ◌≤◌, length};
 ghost use Rattle.poly_roots.specs.Polynomials.{value_at, plus_of, scaled_of, times_of};
 

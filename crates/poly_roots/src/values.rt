@@ -1,3 +1,4 @@
+//! A polynomial's value at a point.
 ghost use Rattle.std.specs.Prelude.{◌≡◌};
 ghost use Rattle.poly_roots.specs.Polynomials.{value_at};
 

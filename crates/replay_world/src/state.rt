@@ -14,6 +14,7 @@ use schedule_text::{Asked, Event, Header};
 use std::alloc::Global;
 use wire_frames::FRAME_MAX;
 
+/// Both servers, the clients, the frames that are under way, and what was told until now.
 #[derive(Drop)]
 pub struct State {
     pub leader: Leader,

@@ -89,6 +89,7 @@ impl Event {
     }
 }
 
+/// A schedule as it was read: what the run is opened with, and its events in order.
 #[derive(Drop)]
 pub struct Schedule {
     pub header: Header,

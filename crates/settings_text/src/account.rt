@@ -20,6 +20,7 @@ use toml::Table;
 /// A client's lane is at most this.
 pub const LAST_LANE: u32 = 255;
 
+/// The keys that a client's settings and a carrier's have in common.
 #[derive(Drop)]
 pub struct Account {
     pub lane: u16,

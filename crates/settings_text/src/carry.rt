@@ -58,6 +58,7 @@ pub struct CarrySettings {
     pub job: CarryJob,
 }
 
+/// Which way a file goes.
 #[derive(Clone, Copy, Debug, PartialEq, Eq)]
 pub enum Mode {
     Send,

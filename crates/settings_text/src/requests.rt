@@ -32,6 +32,7 @@ pub enum Asking {
     Retire(u32),
 }
 
+/// Which of the four requests a table of the text asks.
 #[derive(Clone, Copy, Debug, PartialEq, Eq)]
 pub enum Kind {
     Register,

@@ -5,6 +5,7 @@ ghost use Rattle.audit_rules.specs.Audit.{product, value, through_three};
 
 use field_tables::{Tables, mul_fast};
 
+/// The value at a point of the polynomial with these coefficients, from the constant upwards.
 pub fn value_of(tables: &Tables, p: &[u128], at: u128) -> u128
     ensures value { result ≡ value p.now at }
 {
@@ -17,6 +18,7 @@ pub fn value_of(tables: &Tables, p: &[u128], at: u128) -> u128
     value
 }
 
+/// The polynomial of degree at most 2 with these values at 0, 1 and 2.
 pub fn through(tables: &Tables, at0: u128, at1: u128, at2: u128) -> [u128; 3]
     ensures coefficients { result ≡ through_three at0 at1 at2 }
 {
@@ -25,6 +27,7 @@ pub fn through(tables: &Tables, at0: u128, at1: u128, at2: u128) -> [u128; 3]
     [at0, square ^ change, square]
 }
 
+/// The product of two polynomials of degree 2.
 pub fn times(tables: &Tables, f: &[u128; 3], g: &[u128; 3]) -> [u128; 5]
     ensures product { result ≡ times_of 0 bit_xor product f.now g.now }
 {
@@ -37,6 +40,7 @@ pub fn times(tables: &Tables, f: &[u128; 3], g: &[u128; 3]) -> [u128; 5]
     [constant, linear, square, cube, mul_fast(tables, f2, g2)]
 }
 
+/// The sum of two polynomials of degree 4.
 pub fn plus(p: &[u128; 5], q: &[u128; 5]) -> [u128; 5]
     ensures sum { result ≡ plus_of bit_xor p.now q.now }
 {

@@ -9,6 +9,7 @@ use crate::fields::{address_of, exactly, key_of, u32_of, wide, word_of};
 use express_words::{Closing, Openings, ProofShare};
 use frame_rules::{Body, FrameFault};
 
+/// The register of a client at the leader: an address (16 bytes) and the owner's key (32).
 #[tactic(auto, unfolding(frame_rules::specs::Forms::filled))]
 pub fn register_in(left: usize, rest: &[u8]) -> Result<Body<'_>, FrameFault>
     ensures { Gives plain_body result (filled register left rest.now) }
@@ -20,6 +21,7 @@ pub fn register_in(left: usize, rest: &[u8]) -> Result<Body<'_>, FrameFault>
     })
 }
 
+/// The write of a client at the leader: its root (16 bytes) and the public part, as long as it is.
 #[tactic(auto, unfolding(frame_rules::specs::Forms::filled))]
 pub fn write_in(left: usize, rest: &[u8]) -> Result<Body<'_>, FrameFault>
     ensures { Gives plain_body result (filled write left rest.now) }
@@ -31,6 +33,7 @@ pub fn write_in(left: usize, rest: &[u8]) -> Result<Body<'_>, FrameFault>
     })
 }
 
+/// The read of a client at the leader: a box (4 bytes) and the token (16).
 #[tactic(auto, unfolding(frame_rules::specs::Forms::filled))]
 pub fn read_in(left: usize, rest: &[u8]) -> Result<Body<'_>, FrameFault>
     ensures { Gives plain_body result (filled (boxed Read) left rest.now) }
@@ -42,6 +45,7 @@ pub fn read_in(left: usize, rest: &[u8]) -> Result<Body<'_>, FrameFault>
     })
 }
 
+/// The retire of a client at the leader: a box (4 bytes) and the token (16).
 #[tactic(auto, unfolding(frame_rules::specs::Forms::filled))]
 pub fn retire_in(left: usize, rest: &[u8]) -> Result<Body<'_>, FrameFault>
     ensures { Gives plain_body result (filled (boxed Retire) left rest.now) }
@@ -53,6 +57,7 @@ pub fn retire_in(left: usize, rest: &[u8]) -> Result<Body<'_>, FrameFault>
     })
 }
 
+/// Openings: d, e, each 16 bytes, little-endian.
 pub fn openings_of(bytes: &[u8]) -> Openings
     requires { length bytes.now ≡ 32 }
     ensures { result ≡ openings_of bytes.now }
@@ -64,6 +69,7 @@ pub fn openings_of(bytes: &[u8]) -> Openings
     }
 }
 
+/// A closing: o, tau, each 16 bytes, little-endian.
 pub fn closing_of(bytes: &[u8]) -> Closing
     requires { length bytes.now ≡ 32 }
     ensures { result ≡ closing_of bytes.now }
@@ -112,6 +118,7 @@ fn proof_share_of(bytes: &[u8]) -> ProofShare
     }
 }
 
+/// A share of a proof, 160 bytes.
 #[tactic(auto, unfolding(frame_rules::specs::Forms::filled))]
 pub fn proof_in(left: usize, rest: &[u8]) -> Result<Body<'_>, FrameFault>
     ensures { Gives plain_body result (filled proof left rest.now) }
@@ -120,6 +127,7 @@ pub fn proof_in(left: usize, rest: &[u8]) -> Result<Body<'_>, FrameFault>
     Ok(Body::Proof(proof_share_of(share)))
 }
 
+/// The key of the challenges, 32 bytes.
 #[tactic(auto, unfolding(frame_rules::specs::Forms::filled))]
 pub fn challenge_in(left: usize, rest: &[u8]) -> Result<Body<'_>, FrameFault>
     ensures { Gives plain_body result (filled (key Challenge) left rest.now) }
@@ -128,6 +136,7 @@ pub fn challenge_in(left: usize, rest: &[u8]) -> Result<Body<'_>, FrameFault>
     Ok(Body::Challenge { ckey: key_of(ckey) })
 }
 
+/// The command to register a box under an address (16 bytes).
 #[tactic(auto, unfolding(frame_rules::specs::Forms::filled))]
 pub fn link_register_in(left: usize, rest: &[u8]) -> Result<Body<'_>, FrameFault>
     ensures { Gives plain_body result (filled link_register left rest.now) }
@@ -138,6 +147,7 @@ pub fn link_register_in(left: usize, rest: &[u8]) -> Result<Body<'_>, FrameFault
     })
 }
 
+/// The command to begin a write: the leader's draw (32 bytes) and the public part.
 #[tactic(auto, unfolding(frame_rules::specs::Forms::filled))]
 pub fn link_begin_in(left: usize, rest: &[u8]) -> Result<Body<'_>, FrameFault>
     ensures { Gives plain_body result (filled link_begin left rest.now) }
@@ -149,6 +159,7 @@ pub fn link_begin_in(left: usize, rest: &[u8]) -> Result<Body<'_>, FrameFault>
     })
 }
 
+/// The command to audit a write: the point (16 bytes) and the leader's openings (32).
 #[tactic(auto, unfolding(frame_rules::specs::Forms::filled))]
 pub fn link_audit_in(left: usize, rest: &[u8]) -> Result<Body<'_>, FrameFault>
     ensures { Gives plain_body result (filled link_audit left rest.now) }
@@ -160,6 +171,7 @@ pub fn link_audit_in(left: usize, rest: &[u8]) -> Result<Body<'_>, FrameFault>
     })
 }
 
+/// The command to settle a write, with the leader's closing (32 bytes).
 #[tactic(auto, unfolding(frame_rules::specs::Forms::filled))]
 pub fn link_settle_in(left: usize, rest: &[u8]) -> Result<Body<'_>, FrameFault>
     ensures { Gives plain_body result (filled link_settle left rest.now) }
@@ -168,6 +180,7 @@ pub fn link_settle_in(left: usize, rest: &[u8]) -> Result<Body<'_>, FrameFault>
     Ok(Body::LinkSettle(closing_of(closing)))
 }
 
+/// The command to read a box (4 bytes).
 #[tactic(auto, unfolding(frame_rules::specs::Forms::filled))]
 pub fn link_read_in(left: usize, rest: &[u8]) -> Result<Body<'_>, FrameFault>
     ensures { Gives plain_body result (filled (number w32 LinkRead) left rest.now) }
@@ -178,6 +191,7 @@ pub fn link_read_in(left: usize, rest: &[u8]) -> Result<Body<'_>, FrameFault>
     })
 }
 
+/// The command to retire a box (4 bytes).
 #[tactic(auto, unfolding(frame_rules::specs::Forms::filled))]
 pub fn link_retire_in(left: usize, rest: &[u8]) -> Result<Body<'_>, FrameFault>
     ensures { Gives plain_body result (filled (number w32 LinkRetire) left rest.now) }
@@ -188,6 +202,7 @@ pub fn link_retire_in(left: usize, rest: &[u8]) -> Result<Body<'_>, FrameFault>
     })
 }
 
+/// The reply to a begun write: the count of boxes (4 bytes) and the helper's draw (32).
 #[tactic(auto, unfolding(frame_rules::specs::Forms::filled))]
 pub fn link_begun_in(left: usize, rest: &[u8]) -> Result<Body<'_>, FrameFault>
     ensures { Gives plain_body result (filled link_begun left rest.now) }

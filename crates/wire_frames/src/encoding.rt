@@ -1,4 +1,4 @@
-//! Writing a frame.
+//! Writing a frame. Each function is given the place to write at, and answers the place behind.
 ghost use Rattle.std.specs.Prelude.{◌≡◌, ◌+◌, ◌≤◌, ℕ, List, ◌∷◌, ◌++◌, length, take, drop, Ok};
 ghost use Rattle.std.specs.Int.{w16, w32, w64, to_be_bytes};
 ghost use Rattle.frame_rules.specs.Frames.{plain, plain_body, plain_reply};

@@ -54,6 +54,7 @@ pub fn u64_at(bytes: &[u8], place: usize) -> Result<u64, FrameFault>
     Ok(u64_of(&bytes[place..place + 8]))
 }
 
+/// One byte.
 pub fn u8_of(bytes: &[u8]) -> u8
     requires { length bytes.now ≡ 1 }
     ensures { result ≡ from_be_bytes w8 bytes.now }
@@ -61,6 +62,7 @@ pub fn u8_of(bytes: &[u8]) -> u8
     bytes[0]
 }
 
+/// Two bytes, big-endian.
 pub fn u16_of(bytes: &[u8]) -> u16
     requires { length bytes.now ≡ 2 }
     ensures { result ≡ from_be_bytes w16 bytes.now }
@@ -68,6 +70,7 @@ pub fn u16_of(bytes: &[u8]) -> u16
     u16::from_be_bytes([bytes[0], bytes[1]])
 }
 
+/// Four bytes, big-endian.
 pub fn u32_of(bytes: &[u8]) -> u32
     requires { length bytes.now ≡ 4 }
     ensures { result ≡ from_be_bytes w32 bytes.now }
@@ -75,6 +78,7 @@ pub fn u32_of(bytes: &[u8]) -> u32
     u32::from_be_bytes([bytes[0], bytes[1], bytes[2], bytes[3]])
 }
 
+/// Eight bytes, big-endian.
 pub fn u64_of(bytes: &[u8]) -> u64
     requires { length bytes.now ≡ 8 }
     ensures { result ≡ from_be_bytes w64 bytes.now }

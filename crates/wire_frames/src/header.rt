@@ -83,6 +83,7 @@ fn link_in(kind: Kind, bytes: &[u8]) -> Result<u64, FrameFault>
 impl Header {
     ghost use Rattle.wire_frames.specs.Headers.{seen};
 
+    /// The header that these bytes begin with, or the first fault in it.
     #[tactic(auto, unfolding(frame_rules::specs::Reading::header_in))]
     pub fn of(bytes: &[u8]) -> Result<Header, FrameFault>
         ensures given { Gives seen result (header_in bytes.now) }

@@ -69,6 +69,7 @@ fn addressed(number: u8, lane: u16, serial: u32) -> Result<(), FrameFault>
     Ok(())
 }
 
+/// A refusal of a lane's serial: a number (1 byte) and what belongs to it.
 #[tactic(auto, unfolding(frame_rules::specs::Bodies::refused))]
 pub fn refused_in(lane: u16, serial: u32, left: usize, rest: &[u8]) -> Result<Body<'_>, FrameFault>
     requires { 1 ≤ left }

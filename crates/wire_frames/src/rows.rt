@@ -348,6 +348,7 @@ static ROWS: [Row; 48] = [
     },
 ];
 
+/// A row for each kind of frame.
 pub fn rows() -> &'static [Row] {
     &ROWS
 }

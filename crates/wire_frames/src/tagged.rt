@@ -12,6 +12,7 @@ use frame_rules::{Body, DepositBody, FrameFault, ReplyBody};
 /// The offset of a tag.
 const TAG: u32 = 20;
 
+/// A deposit: of a register the key, of a write the helper's root, of a read the token.
 #[tactic(auto, unfolding(frame_rules::specs::Forms::tagged, frame_rules::specs::Forms::chosen, frame_rules::specs::Forms::filled))]
 pub fn deposit_in(left: usize, rest: &[u8]) -> Result<Body<'_>, FrameFault>
     requires { 1 ≤ left }
@@ -27,6 +28,7 @@ pub fn deposit_in(left: usize, rest: &[u8]) -> Result<Body<'_>, FrameFault>
     Ok(Body::Deposit(deposit))
 }
 
+/// That a deposit is held, or a share of a proof.
 #[tactic(auto, unfolding(frame_rules::specs::Forms::tagged, frame_rules::specs::Forms::chosen, frame_rules::specs::Forms::filled))]
 pub fn held_in(left: usize, rest: &[u8]) -> Result<Body<'_>, FrameFault>
     requires { 1 ≤ left }
@@ -51,6 +53,7 @@ fn message_in(left: usize, rest: &[u8]) -> Result<Body<'_>, FrameFault>
     Ok(Body::Message { zero, one })
 }
 
+/// What a request came to.
 #[tactic(auto, unfolding(frame_rules::specs::Forms::tagged, frame_rules::specs::Forms::chosen, frame_rules::specs::Forms::filled))]
 pub fn done_in(left: usize, rest: &[u8]) -> Result<Body<'_>, FrameFault>
     requires { 1 ≤ left }
@@ -80,6 +83,7 @@ fn audited_in(left: usize, rest: &[u8]) -> Result<Body<'_>, FrameFault>
     Ok(Body::LinkReply(answer))
 }
 
+/// A reply of the helper to a command.
 #[tactic(auto, unfolding(frame_rules::specs::Bodies::replied, frame_rules::specs::Forms::tagged, frame_rules::specs::Forms::chosen, frame_rules::specs::Forms::filled))]
 pub fn reply_in(left: usize, rest: &[u8]) -> Result<Body<'_>, FrameFault>
     requires { 1 ≤ left }

@@ -18,6 +18,7 @@ pub fn put(out: &mut [u8], place: usize, bytes: &[u8]) -> usize
     end
 }
 
+/// Writes a number, big-endian.
 pub fn put_u16(out: &mut [u8], place: usize, number: u16) -> usize
     requires { place + 2 ≤ length out.old }
     ensures written { Writes out.old place (to_be_bytes w16 number) out.new result }
@@ -26,6 +27,7 @@ pub fn put_u16(out: &mut [u8], place: usize, number: u16) -> usize
     put(out, place, &number.to_be_bytes())
 }
 
+/// Writes a number, big-endian.
 pub fn put_u32(out: &mut [u8], place: usize, number: u32) -> usize
     requires { place + 4 ≤ length out.old }
     ensures written { Writes out.old place (to_be_bytes w32 number) out.new result }
@@ -34,6 +36,7 @@ pub fn put_u32(out: &mut [u8], place: usize, number: u32) -> usize
     put(out, place, &number.to_be_bytes())
 }
 
+/// Writes a number, big-endian.
 pub fn put_u64(out: &mut [u8], place: usize, number: u64) -> usize
     requires { place + 8 ≤ length out.old }
     ensures written { Writes out.old place (to_be_bytes w64 number) out.new result }
@@ -62,6 +65,7 @@ pub fn put_word(out: &mut [u8], place: usize, number: u128) -> usize
     put(out, place, &number.to_le_bytes())
 }
 
+/// Writes d and e.
 pub fn put_openings(out: &mut [u8], place: usize, opened: &Openings) -> usize
     requires { place + 32 ≤ length out.old }
     ensures written { Writes out.old place (openings opened.now) out.new result }
@@ -71,6 +75,7 @@ pub fn put_openings(out: &mut [u8], place: usize, opened: &Openings) -> usize
     put_word(out, place, opened.e)
 }
 
+/// Writes o and tau.
 pub fn put_closing(out: &mut [u8], place: usize, closed: &Closing) -> usize
     requires { place + 32 ≤ length out.old }
     ensures written { Writes out.old place (closing closed.now) out.new result }
@@ -93,6 +98,7 @@ fn put_words(out: &mut [u8], place: usize, words: &[u128]) -> usize
     end
 }
 
+/// Writes u, v, the five coefficients h, and the triple a, b, c.
 pub fn put_proof_share(out: &mut [u8], place: usize, share: &ProofShare) -> usize
     requires { place + 160 ≤ length out.old }
     ensures written { Writes out.old place (proof_share share.now) out.new result }

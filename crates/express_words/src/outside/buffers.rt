@@ -23,6 +23,7 @@ impl Model for Input {
 }
 
 impl Input {
+    /// A copy of `bytes`, of which none is given yet; NoMemory where none can be had.
     pub fn new(alloc: Global, bytes: &[u8]) -> Result<Input, NoMemory>
         ensures { IfOk result (λ i. i ≡ record { given = []; left = bytes.now }) }
     {
@@ -44,6 +45,7 @@ impl Input {
         count
     }
 
+    /// The bytes that were given, in order.
     pub fn given(&self) -> &[u8]
         ensures { result.now ≡ self.now.given }
     {
@@ -87,6 +89,7 @@ impl Model for Output {
 }
 
 impl Output {
+    /// Empty, with room for so many bytes; NoMemory where none can be had.
     pub fn new(alloc: Global, room: usize) -> Result<Output, NoMemory>
         ensures { IfOk result (λ o. o ≡ ([], room)) }
     {
@@ -112,6 +115,7 @@ impl Output {
         }
     }
 
+    /// The bytes that it holds, in order.
     pub fn written(&self) -> &[u8]
         ensures { result.now ≡ self.now.0 }
     {

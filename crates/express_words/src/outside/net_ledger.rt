@@ -7,6 +7,7 @@ use crate::outside::MemoryConn;
 use std::alloc::Global;
 use std::marker::Model;
 
+/// How a connection, or the place where connections come, is opened.
 #[derive(Clone, Copy)]
 pub enum Door {
     Listen,
@@ -74,6 +75,7 @@ impl NetLedger {
         })
     }
 
+    /// Whether so many calls more, or a text of this length, don't fit.
     pub fn lacks_room(&self, calls: usize, text: &str) -> bool
         ensures { IsTrue result ↔ LacksRoom self.now calls (length text.now) }
     {
@@ -126,6 +128,7 @@ impl NetLedger {
         self.lent -= 1;
     }
 
+    /// The connections that were closed, in order.
     pub fn closed(&self) -> &[MemoryConn]
         ensures { result.now ≡ self.now.closed }
     {
