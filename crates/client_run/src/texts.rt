@@ -1,33 +1,17 @@
 //! The lines that a run prints.
 ghost use Rattle.std.specs.Prelude.{◌≡◌, ◌++◌, IfOk, OnOk, codes, flat_map, string_bytes};
-ghost use Rattle.client_run.specs.Texts.{refused_text, told_text, outcome_line, end_line};
+ghost use Rattle.client_run.specs.Texts.{told_text, outcome_line, end_line};
 
-use client_core::Outcome;
-use express_words::Refusal;
 use node_client::{Finished, Stop, Told};
+use outcome_text::{no_box_text, outcome_text};
 use std::alloc::{AllocError, Global};
-
-fn refused_text(alloc: Global, refusal: Refusal) -> Result<String, AllocError>
-    ensures { IfOk result (λ text. string_bytes text ≡ refused_text refusal) }
-{
-    if let Refusal::Rejected(_, _, _, _) = refusal {
-        return format!(in alloc; "rejected");
-    }
-    format!(in alloc; "refused {refusal}")
-}
 
 fn told_text(alloc: Global, told: Told, message: &[u8]) -> Result<String, AllocError>
     ensures { IfOk result (λ text. string_bytes text ≡ told_text told message.now) }
 {
     match told {
-        Told::Done(Outcome::Registered(box_number)) => format!(in alloc; "registered {box_number}"),
-        Told::Done(Outcome::Accepted) => format!(in alloc; "accepted"),
-        Told::Done(Outcome::Message) => {
-            let digits = hex::encode(alloc, message)?;
-            format!(in alloc; "message {digits}")
-        }
-        Told::Done(Outcome::Refused(refusal)) => refused_text(alloc, refusal),
-        Told::NoOwnBox(own) => format!(in alloc; "no box {own}"),
+        Told::Done(outcome) => outcome_text(alloc, outcome, message),
+        Told::NoOwnBox(own) => no_box_text(alloc, own),
     }
 }
 

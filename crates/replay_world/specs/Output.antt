@@ -6,13 +6,11 @@ use Rattle.hex.specs.Hex.{encode_lower}
 use Rattle.express_words.specs.Texts.{refusal_text}
 use Rattle.express_words.specs.declared.audit.Openings.{Openings}
 use Rattle.express_words.specs.declared.audit.Closing.{Closing}
-use Rattle.express_words.specs.declared.refusal.Refusal.{Refusal}
-use Rattle.express_words.specs.declared.refusal.Refusal.TheVariants.{Rejected}
 use Rattle.mailbox_rules.specs.Requests.{Command, Registers, Begins, Audits, Settles, Reads, Retires}
 use Rattle.step_rules.specs.Boxes.{Box}
-use Rattle.step_rules.specs.Client as client
 use Rattle.step_rules.specs.Leader.{Leader}
 use Rattle.leader_core.specs.State.{share_in}
+use Rattle.outcome_text.specs.Outcomes.{outcome_text, no_box_text}
 use Rattle.run_rules.specs.Letters.{Value, Registered, Began, Audited, Settled, WasRead, Retired, Refused}
 use Rattle.run_rules.specs.Letters.{JournalLine, Told, Ended, NoOwnBox, Outcome, Shown, FrameWorld}
 
@@ -26,17 +24,9 @@ openings_text o = number_text o.d ++ (codes " " ++ number_text o.e)
 abbrev pub closing_text : Closing → List ℕ
 closing_text c = number_text c.o ++ (codes " " ++ number_text c.tau)
 
--- a rejected write is told by the one word
-abbrev pub refused_text : Refusal → List ℕ
-refused_text (Rejected o0 o1 t0 t1) = codes "rejected"
-refused_text refusal = codes "refused " ++ refusal_text refusal
-
 unfoldable pub told_text : Told → List ℕ
-told_text (Ended (client.Registered box)) = codes "registered " ++ decimal box
-told_text (Ended client.Accepted) = codes "accepted"
-told_text (Ended (client.Message bytes)) = codes "message " ++ encode_lower bytes
-told_text (Ended (client.Refused refusal)) = refused_text refusal
-told_text (NoOwnBox own) = codes "no box " ++ decimal own
+told_text (Ended outcome) = outcome_text outcome
+told_text (NoOwnBox own) = no_box_text own
 
 unfoldable pub outcome_line : Outcome → List ℕ
 outcome_line o =

@@ -1,8 +1,7 @@
 -- The parts of a world as the run's rules have them.
 use Rattle.std.specs.Prelude.{ℕ, nat_eq, List, map}
 use Rattle.mailbox_rules.specs.Requests as rules
-use Rattle.step_rules.specs.Client as client
-use Rattle.client_core.specs.declared.progress.Outcome.TheVariants as outcome
+use Rattle.outcome_text.specs.Outcomes.{with_message}
 use Rattle.run_rules.specs.Letters as run
 use Rattle.run_rules.specs.Letters.{letter}
 use Rattle.run_rules.specs.Run as event
@@ -94,10 +93,7 @@ journal_in lines = map line_in lines
 
 -- with the bytes of a message
 abbrev pub told_in : Told → List ℕ → run.Told
-told_in (told.Done (outcome.Registered number)) message = run.Ended (client.Registered number)
-told_in (told.Done outcome.Accepted) message = run.Ended client.Accepted
-told_in (told.Done outcome.Message) message = run.Ended (client.Message message)
-told_in (told.Done (outcome.Refused refusal)) message = run.Ended (client.Refused refusal)
+told_in (told.Done outcome) message = run.Ended (with_message outcome message)
 told_in (told.NoOwn own) message = run.NoOwnBox own
 
 abbrev pub outcome_in : OutcomeLine → run.Outcome

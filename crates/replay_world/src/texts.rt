@@ -1,6 +1,6 @@
 //! The text of a run: outcomes, journal lines, shares and noted frames.
 ghost use Rattle.std.specs.Prelude.{◌≡◌, ◌≤◌, ◌++◌, length, IfOk, OnOk, codes, flat_map, string_bytes};
-ghost use Rattle.replay_world.specs.Output.{number_text, openings_text, closing_text, refused_text, told_text, outcome_line, command_text, value_text, journal_line, share_line, share_lines, shown_line, run_text};
+ghost use Rattle.replay_world.specs.Output.{number_text, openings_text, closing_text, told_text, outcome_line, command_text, value_text, journal_line, share_line, share_lines, shown_line, run_text};
 ghost use Rattle.replay_world.specs.View.{run_in};
 ghost use Rattle.schedule_text.specs.declared.schedule.Header.{Header};
 ghost use Rattle.run_rules.specs.Letters.{Audited, Settled};
@@ -8,8 +8,8 @@ ghost use Rattle.replay_world.specs.Parts.{command_in, journal_in, line_in, outc
 
 use crate::lines::{Command, Entry, JournalLine, OutcomeLine, Shown, Told};
 use crate::state::State;
-use client_core::Outcome;
-use express_words::{Closing, Openings, Refusal};
+use express_words::{Closing, Openings};
+use outcome_text::{no_box_text, outcome_text};
 use std::alloc::{AllocError, Global};
 
 fn number_text(alloc: Global, number: u128) -> Result<String, AllocError>
@@ -18,28 +18,13 @@ fn number_text(alloc: Global, number: u128) -> Result<String, AllocError>
     hex::encode(alloc, number.to_be_bytes().as_slice())
 }
 
-fn refused_text(alloc: Global, refusal: Refusal) -> Result<String, AllocError>
-    ensures { IfOk result (λ text. string_bytes text ≡ refused_text refusal) }
-{
-    if let Refusal::Rejected(_, _, _, _) = refusal {
-        return format!(in alloc; "rejected");
-    }
-    format!(in alloc; "refused {refusal}")
-}
-
 #[tactic(auto, unfolding(crate::specs::Output::told_text))]
 fn told_text(alloc: Global, told: Told, message: &[u8]) -> Result<String, AllocError>
     ensures { IfOk result (λ text. string_bytes text ≡ told_text (told_in told message.now)) }
 {
     match told {
-        Told::Done(Outcome::Registered(box_number)) => format!(in alloc; "registered {box_number}"),
-        Told::Done(Outcome::Accepted) => format!(in alloc; "accepted"),
-        Told::Done(Outcome::Message) => {
-            let digits = hex::encode(alloc, message)?;
-            format!(in alloc; "message {digits}")
-        }
-        Told::Done(Outcome::Refused(refusal)) => refused_text(alloc, refusal),
-        Told::NoOwn(own) => format!(in alloc; "no box {own}"),
+        Told::Done(outcome) => outcome_text(alloc, outcome, message),
+        Told::NoOwn(own) => no_box_text(alloc, own),
     }
 }
 
