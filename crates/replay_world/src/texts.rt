@@ -1,10 +1,13 @@
 //! The text of a run: outcomes, journal lines, shares and noted frames.
 ghost use Rattle.std.specs.Prelude.{◌≡◌, ◌≤◌, ◌++◌, length, IfOk, OnOk, codes, flat_map, string_bytes};
-ghost use Rattle.replay_world.specs.Output.{number_text, openings_text, closing_text, told_text, outcome_line, command_text, value_text, journal_line, share_line, share_lines, shown_line, run_text};
+ghost use Rattle.replay_world.specs.Output.{number_text, openings_text, closing_text, told_text, outcome_line};
+ghost use Rattle.replay_world.specs.Output.{command_text, value_text, journal_line, share_line, share_lines};
+ghost use Rattle.replay_world.specs.Output.{shown_line, run_text};
 ghost use Rattle.replay_world.specs.View.{run_in};
 ghost use Rattle.schedule_text.specs.declared.schedule.Header.{Header};
 ghost use Rattle.run_rules.specs.Letters.{Audited, Settled};
-ghost use Rattle.replay_world.specs.Parts.{command_in, journal_in, line_in, outcome_in, outcomes_in, shown_in, shown_all_in, told_in, value_in};
+ghost use Rattle.replay_world.specs.Parts.{command_in, value_in, line_in, journal_in, told_in, outcome_in};
+ghost use Rattle.replay_world.specs.Parts.{outcomes_in, shown_in, shown_all_in};
 
 use crate::lines::{Command, Entry, JournalLine, OutcomeLine, Shown, Told};
 use crate::state::State;
@@ -150,7 +153,8 @@ fn shown_line(alloc: Global, shown: &Shown) -> Result<String, AllocError>
 }
 
 fn add_outcomes(alloc: Global, text: &mut String, lines: &[OutcomeLine]) -> Result<(), AllocError>
-    ensures { OnOk result (string_bytes text.new ≡ string_bytes text.old ++ flat_map outcome_line (outcomes_in lines.now)) }
+    ensures { OnOk result (string_bytes text.new
+        ≡ string_bytes text.old ++ flat_map outcome_line (outcomes_in lines.now)) }
 {
     for line in lines {
         let piece = outcome_line(alloc, line)?;
@@ -160,7 +164,8 @@ fn add_outcomes(alloc: Global, text: &mut String, lines: &[OutcomeLine]) -> Resu
 }
 
 fn add_journal(alloc: Global, text: &mut String, lines: &[JournalLine]) -> Result<(), AllocError>
-    ensures { OnOk result (string_bytes text.new ≡ string_bytes text.old ++ flat_map journal_line (journal_in lines.now)) }
+    ensures { OnOk result (string_bytes text.new
+        ≡ string_bytes text.old ++ flat_map journal_line (journal_in lines.now)) }
 {
     for line in lines {
         let piece = journal_line(alloc, line)?;
@@ -172,7 +177,8 @@ fn add_journal(alloc: Global, text: &mut String, lines: &[JournalLine]) -> Resul
 // A line for each box of the helper, beside the leader's share of it, which is zeros where it has no such box yet.
 fn add_shares(alloc: Global, text: &mut String, state: &State) -> Result<(), AllocError>
     requires { state.now.helper.server.settings.boxes ≤ state.now.leader.settings.boxes }
-    ensures { OnOk result (string_bytes text.new ≡ string_bytes text.old ++ share_lines state.now.leader 0 state.now.helper.server.boxes) }
+    ensures { OnOk result (string_bytes text.new
+        ≡ string_bytes text.old ++ share_lines state.now.leader 0 state.now.helper.server.boxes) }
 {
     for box_number in 0..state.helper.count() {
         let piece = share_line(
@@ -187,8 +193,8 @@ fn add_shares(alloc: Global, text: &mut String, state: &State) -> Result<(), All
     Ok(())
 }
 
-// About as many bytes as the lines of the shown frames take: so their text, which may be the most of all, is never grown
-// by copying it.
+// About as many bytes as the lines of the shown frames take: so their text, which may be the most of all, is never
+// grown by copying it.
 fn shown_room(lines: &[Shown]) -> usize {
     let mut room: usize = 0;
     for line in lines {
@@ -199,7 +205,8 @@ fn shown_room(lines: &[Shown]) -> usize {
 }
 
 fn add_shown(alloc: Global, text: &mut String, lines: &[Shown]) -> Result<(), AllocError>
-    ensures { OnOk result (string_bytes text.new ≡ string_bytes text.old ++ flat_map shown_line (shown_all_in lines.now)) }
+    ensures { OnOk result (string_bytes text.new
+        ≡ string_bytes text.old ++ flat_map shown_line (shown_all_in lines.now)) }
 {
     text.reserve_exact(shown_room(lines))?;
     for line in lines {
