@@ -13,7 +13,7 @@ GROUPS = [
     ("frames, texts and files", "#fdecc8", "wire_frames outcome_text schedule_text express_texts settings_text "
      "file_carry"),
     ("stores", "#e2e8f0", "block_region lane_table link_order share_store box_registry server_boxes"),
-    ("servers and client", "#fbdcd3", "helper_core leader_core client_core"),
+    ("servers and client", "#fbdcd3", "helper_core leader_core server_steps client_core"),
     ("on sockets and disks", "#cfeff2", "node_journal node_restart node_serve node_keep node_client node_host "
      "client_run"),
 ]

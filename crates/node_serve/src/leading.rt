@@ -1,10 +1,8 @@
 //! The leader takes its step, between two drains.
-ghost use Rattle.std.specs.Prelude.{◌≡◌, ◌+◌, ◌<◌, ◌≤◌, List, ℕ, [], length, take, true, Some, IfOk, IfErr, IfSome, option_map};
+ghost use Rattle.std.specs.Prelude.{◌≡◌, ◌+◌, ◌≤◌, List, ℕ, [], length, take, true, Some, IfOk, IfErr, IfSome, option_map};
 ghost use Rattle.frame_rules.specs.Frames.{plain, plain_body};
 ghost use Rattle.frame_rules.specs.Spelling.{spelling, IsFrame};
 ghost use Rattle.frame_rules.specs.Whole.{whole as whole_bytes, is_from_client};
-ghost use Rattle.leader_core.specs.Told.{turned};
-ghost use Rattle.step_rules.specs.Leader.{written};
 ghost use Rattle.step_rules.specs.LeaderClients.{on_client};
 ghost use Rattle.node_serve.specs.Draining.{ExchangesOn, FaultBy};
 ghost use Rattle.node_serve.specs.Exchanging.{Exchange};
@@ -12,13 +10,11 @@ ghost use Rattle.node_serve.specs.Leading.{is_taken, taken_in, reply_to, link_do
 
 use crate::draining::drain;
 use crate::node::Served;
-use dpf_eval::Steps;
 use express_words::Refusal;
 use express_words::outside::Net;
 use frame_rules::{Body, FRAME_MAX, Frame};
 use leader_core::{Leader, Turn};
-use std::marker::Brand;
-use std::sync::ledger::{Blank, Ledger};
+use server_steps::take_request;
 use wire_frames::{answer, encode_into, whole};
 
 /// Whether the leader takes it from clients: kinds 2 to 5 and 16.
@@ -54,20 +50,6 @@ pub fn taken_in(bytes: &[u8]) -> Option<Frame<'_>>
     }
 }
 
-// What the leader does with a client's frame; the steps of an audit are counted for this call alone.
-fn turn_of<L: Ledger>(blank: Blank, leader: &mut Leader, frame: &[u8], out: &mut [u8]) -> Turn
-    requires name { blank.name ≡ L.name }
-    requires parts { blank.parts ≡ L.parts }
-    requires shared { 0 < blank.parts }
-    requires room { 8213 ≤ length out.old }
-    ensures leader { leader.new ≡ (on_client leader.old frame.now).leader }
-    ensures turn { result ≡ turned (on_client leader.old frame.now).answer }
-    ensures written { take (length (written (on_client leader.old frame.now).answer)) out.new ≡ written (on_client leader.old frame.now).answer }
-{
-    let mut steps = Steps::<L>::new(blank);
-    leader.on_client(frame, out, &mut steps)
-}
-
 /// Steps the leader with what a connection brought. A reply that it gives at once stands at the front of `out`; its
 /// length is given, 0 where there is none yet.
 pub fn step_leader(leader: &mut Leader, frame: &[u8], out: &mut [u8]) -> usize
@@ -76,7 +58,7 @@ pub fn step_leader(leader: &mut Leader, frame: &[u8], out: &mut [u8]) -> usize
     ensures within { result ≤ length out.new }
     ensures reply { take result out.new ≡ reply_to (on_client leader.old frame.now).answer }
 {
-    match turn_of::<Brand>(Blank::new(1), leader, frame, out) {
+    match take_request(leader, frame, out) {
         Turn::Reply(length) => length,
         Turn::Link(_, _) => 0,
         Turn::Waiting(_) => 0,

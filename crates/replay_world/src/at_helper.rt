@@ -1,9 +1,7 @@
 //! Frames come to the helper.
-ghost use Rattle.std.specs.Prelude.{◌≡◌, ◌<◌, ◌≤◌, [], ◌∷◌, ◌++◌, length, take, OnOk};
+ghost use Rattle.std.specs.Prelude.{◌≡◌, ◌≤◌, [], ◌∷◌, ◌++◌, length, OnOk};
 ghost use Rattle.frame_rules.specs.Spelling.{spelling};
-ghost use Rattle.helper_core.specs.State.{turned, IsCarriedFrame};
 ghost use Rattle.run_rules.specs.Letters.{letter, ToClient};
-ghost use Rattle.step_rules.specs.Helper.{written};
 ghost use Rattle.step_rules.specs.HelperClients.{on_client};
 ghost use Rattle.step_rules.specs.HelperCommands.{on_link_bytes};
 ghost use Rattle.replay_world.specs.Parts.{journal_in, pool_in};
@@ -13,12 +11,10 @@ use crate::entries::{journal_line, note};
 use crate::lane::lane_in;
 use crate::lines::JournalLine;
 use crate::pool::{Addressee, Letter, post};
-use dpf_eval::Steps;
 use express_words::NoMemory;
 use helper_core::{Helper, LinkTurn};
+use server_steps::carry_command;
 use std::alloc::Global;
-use std::marker::Brand;
-use std::sync::ledger::{Blank, Ledger};
 
 /// A client's frame: the helper's reply goes into the pool.
 pub fn frame_comes(
@@ -39,23 +35,6 @@ pub fn frame_comes(
     post(alloc, pool, Addressee::Client(lane_in(reply)), reply)
 }
 
-// What the helper does with a command; the steps of its audit are counted for this call alone.
-fn turn_of<L: Ledger>(blank: Blank, helper: &mut Helper, frame: &[u8], out: &mut [u8]) -> LinkTurn
-    requires name { blank.name ≡ L.name }
-    requires parts { blank.parts ≡ L.parts }
-    requires shared { 0 < blank.parts }
-    requires room { 8213 ≤ length out.old }
-    ensures helper { helper.new ≡ (on_link_bytes helper.old frame.now).helper }
-    ensures turn { result ≡ turned (on_link_bytes helper.old frame.now).answer }
-    ensures written { take (length (written (on_link_bytes helper.old frame.now).answer)) out.new ≡ written (on_link_bytes helper.old frame.now).answer }
-    ensures room { length out.new ≡ length out.old }
-    ensures settings { helper.new.server.settings ≡ helper.old.server.settings }
-    ensures frame { IsCarriedFrame (on_link_bytes helper.old frame.now).answer }
-{
-    let mut steps = Steps::<L>::new(blank);
-    helper.on_link(frame, out, &mut steps)
-}
-
 /// A command of the leader: the reply goes into the pool, and a command that is carried out now into the journal.
 pub fn command_comes(
     alloc: Global,
@@ -71,7 +50,7 @@ pub fn command_comes(
     ensures pool { OnOk result (pool_in pool.new.items ≡ pool_in pool.old.items ++ replied (on_link_bytes helper.old frame.now).answer) }
     ensures settings { helper.new.server.settings ≡ helper.old.server.settings }
 {
-    match turn_of::<Brand>(Blank::new(1), helper, frame, out) {
+    match carry_command(helper, frame, out) {
         LinkTurn::Ignored => Ok(()),
         LinkTurn::Repeated(length) => post(alloc, pool, Addressee::LeaderLink, &out[..length]),
         LinkTurn::Carried(length) => {

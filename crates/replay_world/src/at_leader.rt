@@ -1,36 +1,16 @@
 //! Frames come to the leader.
-ghost use Rattle.std.specs.Prelude.{◌≡◌, ◌<◌, ◌≤◌, ◌++◌, length, take, OnOk};
-ghost use Rattle.leader_core.specs.Told.{turned};
+ghost use Rattle.std.specs.Prelude.{◌≡◌, ◌≤◌, ◌++◌, length, OnOk};
 ghost use Rattle.run_rules.specs.Run.{answer_letters, ack_letters, command_letters};
-ghost use Rattle.step_rules.specs.Leader.{written};
 ghost use Rattle.step_rules.specs.LeaderClients.{on_client};
 ghost use Rattle.step_rules.specs.LeaderReplies.{on_reply_bytes, resent};
 ghost use Rattle.replay_world.specs.Parts.{pool_in};
 
 use crate::lane::lane_in;
 use crate::pool::{Addressee, Letter, post};
-use dpf_eval::Steps;
 use express_words::NoMemory;
 use leader_core::{Ack, Leader, Turn};
+use server_steps::take_request;
 use std::alloc::Global;
-use std::marker::Brand;
-use std::sync::ledger::{Blank, Ledger};
-
-// What the leader does with a client's frame; the steps of an audit are counted for this call alone.
-fn turn_of<L: Ledger>(blank: Blank, leader: &mut Leader, frame: &[u8], out: &mut [u8]) -> Turn
-    requires name { blank.name ≡ L.name }
-    requires parts { blank.parts ≡ L.parts }
-    requires shared { 0 < blank.parts }
-    requires room { 8213 ≤ length out.old }
-    ensures leader { leader.new ≡ (on_client leader.old frame.now).leader }
-    ensures turn { result ≡ turned (on_client leader.old frame.now).answer }
-    ensures written { take (length (written (on_client leader.old frame.now).answer)) out.new ≡ written (on_client leader.old frame.now).answer }
-    ensures room { length out.new ≡ length out.old }
-    ensures settings { leader.new.settings ≡ leader.old.settings }
-{
-    let mut steps = Steps::<L>::new(blank);
-    leader.on_client(frame, out, &mut steps)
-}
 
 /// A client's frame: the leader's reply or its new command goes into the pool.
 pub fn frame_comes(
@@ -45,7 +25,7 @@ pub fn frame_comes(
     ensures pool { OnOk result (pool_in pool.new.items ≡ pool_in pool.old.items ++ answer_letters (on_client leader.old frame.now).answer) }
     ensures settings { leader.new.settings ≡ leader.old.settings }
 {
-    match turn_of::<Brand>(Blank::new(1), leader, frame, out) {
+    match take_request(leader, frame, out) {
         Turn::Waiting(_) => Ok(()),
         Turn::Link(_, length) => post(alloc, pool, Addressee::HelperLink, &out[..length]),
         Turn::Reply(length) => {
