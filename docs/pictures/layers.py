@@ -24,8 +24,9 @@ LEGEND = ("A line goes down to a crate that is named, where no other named one s
 
 
 def read(text):
-    """Each crate with those of the list that it names, lowest first."""
+    """Each crate but those of tests with those of the list that it names, lowest first."""
     lines = [line.split(":") for line in text.splitlines() if line and not line.startswith("#")]
+    lines = [(name, rest) for name, rest in lines if not name.endswith("_tests")]
     known = {name for name, _ in lines}
     return {name: [other for other in rest.split() if other in known] for name, rest in lines}
 

@@ -12,6 +12,3 @@ pub use laws::{
 };
 pub use sorting::sort_out;
 pub use sums::batch_of;
-
-#[cfg(test)]
-mod tests;

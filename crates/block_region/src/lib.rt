@@ -11,6 +11,3 @@ pub use block::Block;
 pub use block_array::BlockArray;
 pub use front::write_front;
 pub use region::{Class, Region};
-
-#[cfg(test)]
-mod tests;

@@ -8,6 +8,3 @@ mod registry;
 pub use fault::RegFault;
 pub use plain::PlainRegistry;
 pub use registry::Registry;
-
-#[cfg(test)]
-mod tests;

@@ -17,6 +17,3 @@ pub use draws::{challenge, choices, draw32, owner_keys};
 pub use eight::children8;
 pub use reads::{mask_into, token};
 pub use tree::{block_into, children};
-
-#[cfg(test)]
-mod tests;

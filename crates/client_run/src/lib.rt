@@ -15,6 +15,3 @@ mod texts;
 pub use carry::run_carry;
 pub use client::run_client;
 pub use ran::{Ran, RunEnd};
-
-#[cfg(test)]
-mod tests;

@@ -14,6 +14,3 @@ mod stream;
 pub use counts::worked_counts;
 pub use steps::Steps;
 pub use stream::Frontier;
-
-#[cfg(test)]
-mod tests;

@@ -10,6 +10,3 @@ mod walking;
 pub use generation::generate;
 pub use part::PublicPart;
 pub use walking::{output_into, output_through, walk};
-
-#[cfg(test)]
-mod tests;

@@ -39,6 +39,3 @@ pub fn xor_into(out: &mut [u8], with: &[u8])
         out[i] ^= with[i];
     }
 }
-
-#[cfg(test)]
-mod tests;

@@ -11,6 +11,3 @@ mod lines;
 pub use batch::{BatchPairs, MOST_PAIRS, batch_is_read_exactly, read_batch};
 pub use cloak::{AimText, CloakGame, MOST_ADDRESSES, game_is_read_exactly, read_cloak};
 pub use fault::TextFault;
-
-#[cfg(test)]
-mod tests;

@@ -14,6 +14,3 @@ pub use lists::{List, Text};
 pub use memory::NoMemory;
 pub use refusal::Refusal;
 pub use settings::Settings;
-
-#[cfg(test)]
-mod tests;

@@ -123,6 +123,3 @@ pub trait Net: Counted {
         ensures whole { Self.Conn.count conn ≡ 0 → Self.count self.new ≡ Self.count self.old }
         ensures broken { Self.Conn.count conn ≢ 0 → Rose (Self.count self.old) (Self.count self.new) };
 }
-
-#[cfg(test)]
-mod tests;

@@ -6,6 +6,3 @@ mod tables;
 
 pub use products::mul_fast;
 pub use tables::Tables;
-
-#[cfg(test)]
-mod tests;

@@ -11,6 +11,3 @@ mod slot;
 pub use gate::{Gate, closing, opening};
 pub use lanes::Lanes;
 pub use row::{Row, Want};
-
-#[cfg(test)]
-mod tests;

@@ -7,6 +7,3 @@ mod outgoing;
 
 pub use incoming::{Arrival, Incoming};
 pub use outgoing::Outgoing;
-
-#[cfg(test)]
-mod tests;

@@ -13,6 +13,3 @@ pub use finished::{Finished, Told, line};
 pub use peers::Peers;
 pub use stop::Stop;
 pub use working::{Work, work_off};
-
-#[cfg(test)]
-mod tests;

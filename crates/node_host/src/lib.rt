@@ -9,6 +9,3 @@ mod visiting;
 pub use hosting::host;
 pub use opening::open_node;
 pub use tally::Tally;
-
-#[cfg(test)]
-mod tests;

@@ -15,6 +15,3 @@ pub use disk::Disk;
 pub use fault::JournalFault;
 pub use journal::Journal;
 pub use memory_disk::MemoryDisk;
-
-#[cfg(test)]
-mod tests;

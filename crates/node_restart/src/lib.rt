@@ -19,6 +19,3 @@ pub use frames::Sender;
 pub use kept::Kept;
 pub use opening::{Opening, Role};
 pub use server::Core;
-
-#[cfg(test)]
-mod tests;

@@ -10,6 +10,3 @@ pub use laws::roots_are_few;
 pub use products::times;
 pub use through::through3;
 pub use values::eval;
-
-#[cfg(test)]
-mod tests;

@@ -19,6 +19,3 @@ pub use milling::mill;
 pub use printing::print;
 pub use reader::read;
 pub use schedule::{Asked, Event, Header, MOST_EVENTS, MOST_OWN, Schedule};
-
-#[cfg(test)]
-mod tests;

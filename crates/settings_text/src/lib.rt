@@ -21,6 +21,3 @@ pub use express_texts::TextFault;
 pub use owned::OwnedBox;
 pub use requests::{Asking, MOST_REQUESTS};
 pub use serve::{HELPER, LEADER, MOST_CONNECTIONS, ServeSettings, read_serve};
-
-#[cfg(test)]
-mod tests;

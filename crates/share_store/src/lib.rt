@@ -4,6 +4,3 @@
 mod store;
 
 pub use store::ShareStore;
-
-#[cfg(test)]
-mod tests;

@@ -12,6 +12,3 @@ pub use client::prove;
 pub use keys::{bad_keys_are_caught, honest_keys_are_accepted};
 pub use laws::{accepted_points_are_few, honest_writes_are_accepted, servers_accept};
 pub use servers::{close_share, judge, open_share};
-
-#[cfg(test)]
-mod tests;

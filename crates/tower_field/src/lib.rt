@@ -11,6 +11,3 @@ pub use bit::Bit;
 pub use field::{Field, Tower};
 pub use gf128::Gf128;
 pub use quad::Quad;
-
-#[cfg(test)]
-mod tests;

@@ -23,8 +23,3 @@ pub use encoding::encode_into;
 pub use frame_rules::{Body, DepositBody, FRAME_MAX, Frame, FrameFault, ReplyBody};
 pub use gathering::Gather;
 pub use whole_bytes::{command_in, reply_in, whole};
-
-#[cfg(test)]
-mod rows;
-#[cfg(test)]
-mod tests;

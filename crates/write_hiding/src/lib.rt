@@ -16,6 +16,3 @@ pub use choice::{Aim, Game, IdealChoice, View};
 pub use laws::{public_part_stays, views_stay, writes_are_choices};
 pub use moves::moved;
 pub use views::view;
-
-#[cfg(test)]
-mod tests;

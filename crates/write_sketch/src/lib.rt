@@ -50,6 +50,3 @@ pub fn sums(states: &[u128], addresses: &[u128], ckey: &[u8; 32]) -> Sums
     }
     sums
 }
-
-#[cfg(test)]
-mod tests;

@@ -1,0 +1,45 @@
+//! Worked products and inverses, and generic code through its bounds.
+use tower_field::{Bit, Field, Gf128, Quad, Tower};
+
+#[test]
+fn worked_products(rt: HostRuntime) {
+    let rows: [(u128, u128, u128); 7] = [
+        (2, 2, 3),
+        (2, 3, 1),
+        (3, 3, 2),
+        (4, 4, 9),
+        (16, 16, 65),
+        (256, 256, 4097),
+        (1 << 64, 1 << 64, (1 << 96) + 1),
+    ];
+    for (a, b, product) in rows {
+        assert_eq!(rt; Gf128(a).mul(Gf128(b)).value(), product, "{a} times {b}");
+    }
+}
+
+#[test]
+fn worked_inverses(rt: HostRuntime) {
+    assert_eq!(rt; Gf128(2).invert(), Some(Gf128(3)));
+    assert_eq!(rt; Gf128(1 << 64).invert(), Some(Gf128((1 << 64) + (1 << 32))));
+    assert_eq!(rt; Gf128::zero().invert(), None);
+}
+
+/// That a value times its inverse is one, that a sum with itself is zero, and that a square is a product.
+fn is_lawful<F: Field>(x: F) -> bool {
+    let inverts = match x.invert() {
+        Some(inverse) => x.mul(inverse) == F::one(),
+        None => x == F::zero(),
+    };
+    inverts && x.add(x) == F::zero() && x.square() == x.mul(x)
+}
+
+#[test]
+fn generic_code(rt: HostRuntime) {
+    let two: Quad<Bit> = Quad::twist();
+    let four: Quad<Quad<Bit>> = Quad::twist();
+    assert!(rt; is_lawful(Bit(true)) && is_lawful(Bit(false)));
+    assert!(rt; is_lawful(two) && is_lawful(Quad::<Bit>::zero()));
+    assert!(rt; is_lawful(four.add(four.square())));
+    assert!(rt; four.trace() && !Quad::<Bit>::one().trace());
+    assert!(rt; is_lawful(Gf128(0x0123_4567_89ab_cdef)));
+}

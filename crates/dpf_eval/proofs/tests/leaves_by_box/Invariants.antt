@@ -1,4 +1,0 @@
-use Rattle.dpf_eval.proofs.tests.leaves_by_box.Given as goal
-
-abbrev pub ghosts-leaves_into : goal.ghosts-leaves_into
-ghosts-leaves_into g a = record { name = a.blank.name; parts = a.blank.parts }

@@ -1,9 +1,0 @@
-use Rattle.std.proofs.Common.{◌≡◌, length}
-use Rattle.file_carry.proofs.tests.is_carried.Given as goal
-
-abbrev pub invariant-loop-index : goal.invariant-loop-index
-invariant-loop-index l = record {
-  width : l.joiner.width ≡ length l.part;
-  most : l.joiner.most ≡ l.count;
-  taken : length l.joiner.taken ≡ l.index;
-}

@@ -1,0 +1,153 @@
+//! The bytes on a disk, damage, each fault of a disk, and a crash at every call and every byte that isn't
+//! synced.
+use node_journal::{Journal, JournalFault, MemoryDisk};
+use express_words::outside::Counted;
+use std::test::Fail;
+
+const LIMIT: u64 = 14;
+
+const MARK: u8 = 0xfe;
+
+const ONE: [u8; 7] = [1, 0, 0, 0, 1, 0xaa, 0];
+
+const TWO: [u8; 14] = [1, 0, 0, 0, 1, 0xaa, 1, 0, 0, 0, 2, 0xbb, 0xcc, 0];
+
+fn disk(
+    rt: &HostRuntime,
+    bytes: &[u8],
+    arriving: &[u8],
+    failing: &[u64],
+) -> Result<MemoryDisk, Fail> {
+    let disk = MemoryDisk::new(rt.alloc(), bytes, arriving, 9, 64, failing)?;
+    Ok(disk)
+}
+
+// Keeps a record that was found, behind a mark.
+fn note(
+    records: &mut Vec<u8>,
+    out: &[u8],
+    found: Result<Option<usize>, JournalFault>,
+) -> Result<(), Fail> {
+    if let Ok(Some(len)) = found {
+        records.push(MARK)?;
+        records.extend_from_slice(&out[..len.min(out.len())])?;
+    }
+    Ok(())
+}
+
+// The records' bytes, each record behind a mark, and what ended them. There are two at most.
+fn walk(rt: &HostRuntime, bytes: &[u8]) -> Result<(Vec<u8>, Option<JournalFault>), Fail> {
+    let none: [u64; 0] = [];
+    let mut disk = disk(rt, bytes, &[], &none)?;
+    let mut journal = Journal::open(&mut disk, LIMIT)?;
+    let mut records = Vec::new(rt.alloc());
+    let mut out = [0; 8214];
+    let first = journal.next(&mut disk, &mut out);
+    note(&mut records, &out, first)?;
+    let second = journal.next(&mut disk, &mut out);
+    note(&mut records, &out, second)?;
+    let end = journal.next(&mut disk, &mut out).err();
+    Ok((records, end))
+}
+
+#[test]
+fn bytes_on_the_disk(rt: HostRuntime) -> Result<(), Fail> {
+    let none: [u64; 0] = [];
+    let mut disk = disk(&rt, &[], &[], &none)?;
+    let mut journal = Journal::create(&mut disk, LIMIT, &[0xaa])?;
+    assert_eq!(rt; disk.bytes(), ONE.as_slice());
+    journal.append(&mut disk, &[0xbb, 0xcc])?;
+    assert_eq!(rt; disk.bytes(), TWO.as_slice());
+    assert_eq!(rt;
+        journal.append(&mut disk, &[0xdd]),
+        Err(JournalFault::Full(13))
+    );
+    assert_eq!(rt; disk.bytes(), TWO.as_slice());
+    let again = Journal::create(&mut disk, LIMIT, &[0xaa]).err();
+    assert_eq!(rt; again, Some(JournalFault::NotEmpty));
+    Ok(())
+}
+
+#[test]
+fn records_and_damage(rt: HostRuntime) -> Result<(), Fail> {
+    let mut shut = TWO;
+    shut[6] = 7;
+    let mut past = TWO;
+    past[10] = 3;
+    let damaged = [1, 0xff, 0xff, 0xff, 0xff];
+    let table: [(&[u8], &[u8], Option<JournalFault>); 5] = [
+        (&TWO, &[MARK, 0xaa, MARK, 0xbb, 0xcc], None),
+        (&shut, &[MARK, 0xaa], None),
+        (&damaged, &[], Some(JournalFault::Damaged(0))),
+        (&past, &[MARK, 0xaa], Some(JournalFault::Damaged(6))),
+        (&TWO[..13], &[MARK, 0xaa], Some(JournalFault::Damaged(6))),
+    ];
+    for (bytes, records, end) in table {
+        let found = walk(&rt, bytes)?;
+        assert_eq!(rt; found.0.as_slice(), records);
+        assert_eq!(rt; found.1, end);
+    }
+    Ok(())
+}
+
+// Opens a disk with one record, reads it, appends another and says how the append ended.
+fn append(disk: &mut MemoryDisk) -> Result<(), JournalFault> {
+    let mut journal = Journal::open(disk, LIMIT)?;
+    let mut out = [0; 8214];
+    match journal.next(disk, &mut out)? {
+        Some(_) => {}
+        None => return Err(JournalFault::NotEmpty),
+    }
+    match journal.next(disk, &mut out)? {
+        Some(_) => return Err(JournalFault::NotEmpty),
+        None => {}
+    }
+    match journal.append(disk, &[0xbb, 0xcc]) {
+        Ok(()) => Ok(()),
+        Err(fault) => {
+            let closed = journal.append(disk, &[0xbb, 0xcc]);
+            if closed != Err(JournalFault::Closed) {
+                return closed;
+            }
+            Err(fault)
+        }
+    }
+}
+
+#[test]
+fn each_call_fails_once(rt: HostRuntime) -> Result<(), Fail> {
+    for number in 1..10 {
+        let mut disk = disk(&rt, &ONE, &[], &[number])?;
+        assert_eq!(rt; append(&mut disk), Err(JournalFault::Disk(1)));
+        assert_eq!(rt; disk.faults(), 1);
+    }
+    Ok(())
+}
+
+// Whether an append that ends at this call, and a crash, leave the record before it, or that and the new one.
+fn crash(rt: &HostRuntime, number: u64, arriving: &[u8]) -> Result<bool, Fail> {
+    let mut disk = disk(rt, &ONE, arriving, &[number])?;
+    let done = append(&mut disk).is_ok();
+    let (records, end) = walk(rt, disk.left())?;
+    let added = records.as_slice() == [MARK, 0xaa, MARK, 0xbb, 0xcc].as_slice();
+    let before = records.as_slice() == [MARK, 0xaa].as_slice();
+    Ok(end == None && (added || (!done && before)))
+}
+
+// Calls 6 to 9 are the write behind the gate, its sync, the write of the gate and its sync. Of a write that
+// isn't synced `arrived` bytes arrive, and then noise or nothing.
+#[test]
+fn a_crash_leaves_the_record_or_not(rt: HostRuntime) -> Result<(), Fail> {
+    for number in 6..11 {
+        for arrived in 0..8 {
+            for noise in [0, 1, 7, 0xff] {
+                let mut arriving = [noise; 7];
+                arriving[..arrived].copy_from_slice(&TWO[7..7 + arrived]);
+                let noisy = crash(&rt, number, &arriving)?;
+                let cut = crash(&rt, number, &arriving[..arrived])?;
+                assert!(rt; noisy && cut);
+            }
+        }
+    }
+    Ok(())
+}

@@ -1,0 +1,15 @@
+//! Tests of public calls. Servers and clients beside their nets and disks in memory.
+#![tactic(auto)]
+
+#[cfg(test)]
+mod door;
+#[cfg(test)]
+mod journal;
+#[cfg(test)]
+mod requests;
+#[cfg(test)]
+mod restart;
+#[cfg(test)]
+mod runs;
+#[cfg(test)]
+mod two_parts;

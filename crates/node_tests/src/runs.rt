@@ -1,0 +1,130 @@
+//! Runs over a net in memory that gives recorded answers.
+use client_run::{Ran, RunEnd, run_carry, run_client};
+use express_words::outside::{MemoryConn, MemoryNet};
+use settings_text::{read_carry, read_client};
+use std::alloc::{AllocError, Global};
+use std::test::Fail;
+
+const SERVERS: &str = "lane = 0\nleader = 'leader'\nhelper = 'helper'\nboxes = 4\n";
+
+const SEED: &str = "seed = 'ef3fdfd6c61578fbf5cf35bd3dd33b8009631634d21e42ac33960bd138e50d32'\n";
+
+// Registers a box at address 0, writes to it, and reads it and a box that isn't there.
+const CLIENT: [&str; 5] = [
+    "width = 16\nserial = 1\n",
+    "request = [{ kind = 'register', address = '00000000000000000000000000000000' },\n",
+    "{ kind = 'write', address = '00000000000000000000000000000000',\n",
+    "message = 'ffffffffffffffffffffffffffffffff' },\n",
+    "{ kind = 'read', own = 0 }, { kind = 'read', own = 1 }]\n",
+];
+
+const SEND: [&str; 2] = [
+    "width = 32\nserial = 2\nmode = 'send'\nid = 7\nfile = '000102'\n",
+    "addresses = ['00000000000000000000000000000000']\n",
+];
+
+const FETCH: [&str; 2] = [
+    "width = 32\nserial = 3\nmode = 'fetch'\n",
+    "owned = [{ box = 0, serial = 1 }]\n",
+];
+
+const FETCH_TWO: [&str; 2] = [
+    "width = 32\nserial = 3\nmode = 'fetch'\n",
+    "owned = [{ box = 0, serial = 1 }, { box = 9, serial = 2 }]\n",
+];
+
+// The answers of an independent program to the client.
+const ANSWERS: [&str; 8] = [
+    "000000110106000000000001000000000000000001",
+    "00000015010800000000000100000000000000000100000000",
+    "000000110106000000000002000000000000000001",
+    "00000030010700000000000200000000000000002207dd24764a1e08c1b72088db60435968dc1dc96c2844bc339ba7042646af16",
+    "000000110106000000000002000000000000000002",
+    "000000110108000000000002000000000000000002",
+    "000000110106000000000003000000000000000001",
+    "00000031010800000000000300000000000000000323ea3d83a3769e9362fd7047e721c92311440b55eb480931e524bb98d8ecf36d",
+];
+
+const AGAIN: &str = "00000019010900000000000100000000000000000d0000000000000001";
+
+// A part of a file, in two shares that were masked by another program, and then a refusal.
+const FETCHED: [&str; 4] = [
+    "000000110106000000000003000000000000000001",
+    "000000510108000000000003000000000000000003d73a4fc62e817e0a17458877b2348d4ab8bf6293d2aca90e74b34e01fcbbfb121a6b86ef994016506f63bc56720548fb3b28c115847cabad989fc674e0b583f5",
+    "000000110106000000000004000000000000000001",
+    "00000015010900000000000400000000000000000800000009",
+];
+
+fn text(alloc: Global, lines: &[&'static str]) -> Result<String, AllocError> {
+    let mut text = String::new(alloc);
+    text.push_str(SERVERS)?;
+    text.push_str(SEED)?;
+    for line in lines {
+        text.push_str(line)?;
+    }
+    Ok(text)
+}
+
+fn net(alloc: Global, answers: &[&'static str], failing: &[u64]) -> Result<MemoryNet, Fail> {
+    let mut conns = Vec::new(alloc);
+    for answer in answers {
+        let bytes = hex::decode(alloc, *answer)?;
+        let conn = MemoryConn::new(alloc, &bytes, 8213, &[])?;
+        conns.push(conn).map_err(AllocError::from)?;
+    }
+    Ok(MemoryNet::new(alloc, conns, 20, 99, failing)?)
+}
+
+// What the client's run comes to, where the connections give these answers in order.
+fn run(alloc: Global, answers: &[&'static str], failing: &[u64]) -> Result<Ran, Fail> {
+    let text = text(alloc, &CLIENT)?;
+    let settings = read_client(alloc, text.as_bytes())?;
+    let mut net = net(alloc, answers, failing)?;
+    Ok(run_client(alloc, &settings, &[7; 32], &mut net)?)
+}
+
+pub(crate) fn carry(alloc: Global, lines: &[&'static str], answers: &[&'static str]) -> Result<Ran, Fail> {
+    let text = text(alloc, lines)?;
+    let settings = read_carry(alloc, text.as_bytes())?;
+    let mut net = net(alloc, answers, &[])?;
+    Ok(run_carry(alloc, &settings, &[7; 32], &mut net)?)
+}
+
+#[test]
+fn runs_to_the_last(rt: HostRuntime) -> Result<(), Fail> {
+    let ran = run(rt.alloc(), &ANSWERS, &[])?;
+    assert_eq!(rt; ran.end, RunEnd::Done);
+    assert_eq!(rt;
+        ran.text.as_str(),
+        "outcome 0 registered 0\noutcome 1 accepted\n\
+        outcome 2 message ffffffffffffffffffffffffffffffff\noutcome 3 no box 1\nend\n"
+    );
+    Ok(())
+}
+
+#[test]
+fn stops(rt: HostRuntime) -> Result<(), Fail> {
+    let again = run(rt.alloc(), &[ANSWERS[0], AGAIN], &[])?;
+    assert_eq!(rt; again.end, RunEnd::Done);
+    assert_eq!(rt; again.text.as_str(), "stopped again 1\n");
+    let fault = run(rt.alloc(), &ANSWERS, &[5])?;
+    assert_eq!(rt; fault.end, RunEnd::NetFault);
+    assert_eq!(rt; fault.text.as_str(), "outcome 0 registered 0\nnet fault\n");
+    Ok(())
+}
+
+#[test]
+fn carries(rt: HostRuntime) -> Result<(), Fail> {
+    let sent = carry(rt.alloc(), &SEND, &ANSWERS[2..6])?;
+    assert_eq!(rt; sent.text.as_str(), "outcome 0 accepted\nsent 1\nend\n");
+    let fetched = carry(rt.alloc(), &FETCH, &FETCHED[..2])?;
+    assert_eq!(rt; fetched.text.as_str(), "file 000102\nend\n");
+    let broken = carry(rt.alloc(), &FETCH_TWO, &FETCHED)?;
+    assert_eq!(rt; broken.end, RunEnd::Done);
+    assert_eq!(rt;
+        broken.text.as_str(),
+        "outcome 1 refused nobox 9\n\
+        box 0 0000000000000007000000010003000000010200000000000000000000000000\nstopped outcome\n"
+    );
+    Ok(())
+}

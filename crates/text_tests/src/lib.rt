@@ -1,0 +1,21 @@
+//! Tests of public calls. Words, frames and texts: limits, the outside in memory, each kind of frame, and what the readers take and refuse.
+#![tactic(auto)]
+
+#[cfg(test)]
+mod batches;
+#[cfg(test)]
+mod files;
+#[cfg(test)]
+mod frame_rows;
+#[cfg(test)]
+mod frames;
+#[cfg(test)]
+mod games;
+#[cfg(test)]
+mod outside;
+#[cfg(test)]
+mod schedules;
+#[cfg(test)]
+mod settings;
+#[cfg(test)]
+mod words;

@@ -1,0 +1,143 @@
+//! Worked rows read and printed again, lines that are bad, and a mill.
+use schedule_text::{Asked, Event, ReadFault, mill, print, read};
+use std::alloc::Global;
+use std::test::Fail;
+
+// Two writers whose replies come out of order.
+const TWO_WRITERS: &[u8] = b"express 1 16 4 2 2 00000000000000000000000000000000\
+    00000000000000000000000000000000\n\
+    ask 0 register 00112233445566778899aabbccddeeff\n\
+    finish 0\n\
+    ask 1 register ffffffffffffffffffffffffffffffff\n\
+    finish 1\n\
+    ask 0 write ffffffffffffffffffffffffffffffff ffffffffffffffffffffffffffffffff\n\
+    ask 1 write 00112233445566778899aabbccddeeff 00112233445566778899aabbccddeeff\n\
+    send 0\n\
+    send 1\n\
+    deliver 14\n\
+    deliver 15\n\
+    deliver 16\n\
+    deliver 17\n\
+    send 0\n\
+    send 1\n\
+    deliver 19\n\
+    deliver 18\n\
+    deliver 21\n\
+    deliver 20\n\
+    deliver 21\n\
+    deliver 23\n\
+    deliver 22\n\
+    deliver 23\n\
+    finish 0\n\
+    finish 1\n\
+    ask 0 read 0\n\
+    finish 0\n\
+    ask 1 read 0\n\
+    finish 1\n";
+
+const RETIRE: &[u8] = b"express 1 16 4 1 1 00000000000000000000000000000000\
+    00000000000000000000000000000000\n\
+    ask 0 register 00112233445566778899aabbccddeeff\n\
+    ask 0 write 00112233445566778899aabbccddeeff ffffffffffffffffffffffffffffffff\n\
+    ask 0 retire 0\n\
+    ask 0 write 00112233445566778899aabbccddeeff ffffffffffffffffffffffffffffffff\n\
+    ask 0 read 0\n\
+    ask 0 register 00112233445566778899aabbccddeeff\n\
+    finish 0\n";
+
+const SHOWN_FRAMES: &[u8] = b"express 1 16 4 1 1 00000000000000000000000000000000\
+    00000000000000000000000000000000\n\
+    ask 0 register 00112233445566778899aabbccddeeff\n\
+    show 1\n\
+    finish 0\n\
+    show 1\n\
+    show 3\n\
+    show 6\n";
+
+// A foreign register that no deposit waits for.
+const NO_DEPOSIT: &[u8] = b"express 1 16 4 2 1 00000000000000000000000000000000\
+    00000000000000000000000000000000\n\
+    inject A 0000004001020001000000010000000000000000ffffffffffffffffffffffffffffffff00000000000000\
+    00000000000000000000000000000000000000000000000000\n\
+    deliver 0\n\
+    deliver 1\n\
+    deliver 2\n";
+
+// The bytes of the line that injects it.
+const FOREIGN_LEN: usize = 146;
+
+const HEADER: &[u8] = b"express 1 16 4 2 1 00000000000000000000000000000000\
+    00000000000000000000000000000000\n";
+
+#[test]
+fn rows_are_printed_again(rt: HostRuntime) -> Result<(), Fail> {
+    for row in [TWO_WRITERS, RETIRE, SHOWN_FRAMES, NO_DEPOSIT, HEADER] {
+        let schedule = read(rt.alloc(), row)?;
+        assert_eq!(rt; print(rt.alloc(), &schedule)?.as_slice(), row);
+    }
+    Ok(())
+}
+
+#[test]
+fn either_case_is_read(rt: HostRuntime) -> Result<(), Fail> {
+    let mut text = HEADER.to_vec(rt.alloc())?;
+    text.extend_from_slice(b"tick\ninject B 0aBF")?;
+    let schedule = read(rt.alloc(), &text)?;
+    let mut printed = HEADER.to_vec(rt.alloc())?;
+    printed.extend_from_slice(b"tick\ninject B 0abf\n")?;
+    assert_eq!(rt;
+        print(rt.alloc(), &schedule)?.as_slice(),
+        printed.as_slice()
+    );
+    Ok(())
+}
+
+// The first bad line of the header and these lines behind it, or 0.
+fn bad_behind_header(alloc: Global, lines: &[&[u8]]) -> Result<u32, Fail> {
+    let mut text = HEADER.to_vec(alloc)?;
+    for line in lines {
+        text.extend_from_slice(line)?;
+    }
+    match read(alloc, &text) {
+        Ok(_) => Ok(0),
+        Err(ReadFault::BadLine(line)) => Ok(line),
+        Err(fault) => Err(fault)?,
+    }
+}
+
+#[test]
+fn bad_lines(rt: HostRuntime) -> Result<(), Fail> {
+    let foreign = &NO_DEPOSIT[HEADER.len()..HEADER.len() + FOREIGN_LEN];
+    for (lines, wanted) in [
+        ([b"".as_slice(), b"".as_slice()], 0),
+        ([b"\n", b""], 2),
+        ([b"finish 0\nask 0 read 00\n", b""], 3),
+        ([b"show 0\n", b"deliver 4294967296\n"], 3),
+        ([b"send 1\n", foreign], 3),
+        ([foreign, b"finish 1\n"], 3),
+        ([foreign, b"finish 0\n"], 0),
+    ] {
+        assert_eq!(rt; bad_behind_header(rt.alloc(), &lines)?, wanted);
+    }
+    let Err(fault) = read(rt.alloc(), b"") else {
+        panic!(rt; "an empty text was read");
+    };
+    assert_eq!(rt; format!(in rt.alloc(); "{fault}")?.as_str(), "bad line 1");
+    Ok(())
+}
+
+// The first address, from an independent program.
+#[test]
+fn a_mill_is_printed_and_read(rt: HostRuntime) -> Result<(), Fail> {
+    let schedule = mill(rt.alloc(), 1)?;
+    assert_eq!(rt; schedule.events.as_slice().len(), 258);
+    if let [Event::Ask(0, Asked::Register(address)), ..] = schedule.events.as_slice() {
+        assert_eq!(rt; *address, 0x01962079dede42113124826b89870941);
+    } else {
+        panic!(rt; "the first event isn't a register of client 0");
+    }
+    let text = print(rt.alloc(), &schedule)?;
+    let again = read(rt.alloc(), &text)?;
+    assert_eq!(rt; print(rt.alloc(), &again)?.as_slice(), text.as_slice());
+    Ok(())
+}

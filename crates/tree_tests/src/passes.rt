@@ -1,0 +1,108 @@
+//! Leaves against an independent program written from the protocol's description, and against walks.
+ghost use Rattle.std.specs.Prelude.{◌≡◌, ◌<◌, ◌≤◌, length};
+
+use dpf_eval::*;
+use dpf_keys::{PublicPart, generate, walk};
+use std::marker::Brand;
+use std::process::Abort;
+use std::sync::ledger::{Blank, Ledger};
+use std::test::Fail;
+
+const TARGET: u128 = 0x855a777d484fc8789311ece17c0ad3c5;
+
+const MESSAGE: [u8; 16] = *b"\xef\xc0\x45\x3f\x0b\x8f\xb8\xbe\xbb\x96\x98\x2b\xb6\x86\x54\x97";
+
+const ROOTS: [u128; 2] = [
+    0xd7ec74e643da718b32a068d002101fe6,
+    0x3ef5615c9c144550d7c820396a443a32,
+];
+
+// An address and both leaves there: where the first bit of the target differs, elsewhere, at the target, at its neighbour.
+const LEAVES: [(u128, u128, u128); 4] = [
+    (
+        0x055a777d484fc8789311ece17c0ad3c5,
+        0xd4396813466eb0e1a1a597256a44d7c2,
+        0xd4396813466eb0e1a1a597256a44d7c2,
+    ),
+    (
+        0x610466a53feda77af2135fa6f3ca652c,
+        0xc0c076736540eb8259735ed65dfb6a94,
+        0xc0c076736540eb8259735ed65dfb6a94,
+    ),
+    (
+        TARGET,
+        0xabdd206344302e625b916db950a47778,
+        0x2da2e3d2c10e78c7497024a120f82de5,
+    ),
+    (
+        0x855a777d484fc8789311ece17c0ad3c4,
+        0x5f8d2bc89f09d2fa11fee20bf5694b3a,
+        0x5f8d2bc89f09d2fa11fee20bf5694b3a,
+    ),
+];
+
+// Inserts an address that isn't there yet, where there is room.
+fn add(frontier: &mut Frontier, address: u128) {
+    if frontier.box_of(address).is_none() && !frontier.is_full() {
+        frontier.insert(address);
+    }
+}
+
+// The leaves of the first addresses, where so many are there, with a counter of this call's own.
+fn leaves_into<L: Ledger>(
+    blank: Blank,
+    frontier: &mut Frontier,
+    part: &PublicPart,
+    server: u8,
+    count: u32,
+    out: &mut [u128],
+)
+    requires name { blank.name ≡ L.name }
+    requires parts { blank.parts ≡ L.parts }
+    requires shared { 0 < blank.parts }
+    requires server { server < 2 }
+    requires room { count ≤ length out.old }
+{
+    let mut steps = Steps::<L>::new(blank);
+    let root = ROOTS[server as usize];
+    if count <= frontier.count() {
+        frontier.run(part, server, root, count, out, &mut steps);
+    }
+}
+
+// Both servers' leaves are the outside program's, by box; those of more addresses, enough for eight nodes at once, are the
+// walks'; and what comes after the count stays.
+#[test]
+fn leaves_by_box(rt: HostRuntime) -> Result<(), Fail> {
+    let mut bytes = [0; 2080];
+    generate(TARGET, &MESSAGE, ROOTS[0], ROOTS[1], &mut bytes);
+    let part = PublicPart::of(&bytes).ok_or("length")?;
+    let mut frontier = Frontier::open(rt.alloc(), 14).map_err(|_| "memory")?;
+    for (address, _, _) in LEAVES {
+        add(&mut frontier, address);
+    }
+    for k in 0..10u32 {
+        add(&mut frontier, u128::from(10 - k) << 100);
+    }
+    assert_eq!(rt; frontier.count(), 14);
+    assert!(rt; frontier.is_full());
+    assert_eq!(rt; frontier.box_of(TARGET), Some(2));
+    assert_eq!(rt; frontier.box_of(1), None);
+    for server in 0..2u8 {
+        let mut out = [7; 14];
+        leaves_into::<Brand>(Blank::new(1), &mut frontier, &part, server, 13, &mut out);
+        for k in 0..4 {
+            let (_, zero, one) = LEAVES[k];
+            assert_eq!(rt; out[k], if server == 0 { zero } else { one });
+        }
+        for k in 4..13u32 {
+            let address = u128::from(14 - k) << 100;
+            assert_eq!(rt;
+                out[k as usize],
+                walk(&part, server, ROOTS[server as usize], address)
+            );
+        }
+        assert_eq!(rt; out[13], 7);
+    }
+    Ok(())
+}
