@@ -4,7 +4,6 @@ pub mod Audit
 pub mod BadWrites
 pub mod Ranges
 pub mod Alone
-pub mod Rows
 pub mod Challenges
 pub mod Values
 pub mod Laws

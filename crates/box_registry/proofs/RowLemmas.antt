@@ -4,23 +4,23 @@ use Rattle.std.specs.Prelude.{◌==◌, position, Ok, Err}
 use Rattle.std.proofs.lemmas.Bool.{le-leb, lt-leb}
 use Rattle.box_registry.specs.declared.fault.RegFault.TheVariants.{Taken, Full}
 use Rattle.box_registry.specs.Boxes.{Box, Boxes, Differ, addresses_of, place_of, answer_at, answer_to, with_box}
-use Rattle.box_registry.specs.Rows.{boxes_of_rows}
+use Rattle.box_registry.specs.Arrays.{boxes_of_arrays}
 
-pub addresses_of-rows : (addresses : List ℕ) (keys : List (List ℕ)) → length keys ≡ length addresses → addresses_of (boxes_of_rows addresses keys) ≡ addresses
+pub addresses_of-rows : (addresses : List ℕ) (keys : List (List ℕ)) → length keys ≡ length addresses → addresses_of (boxes_of_arrays addresses keys) ≡ addresses
 addresses_of-rows [] keys same = refl
 addresses_of-rows (a ∷ addresses) [] same = absurd (omega arith)
 addresses_of-rows (a ∷ addresses) (k ∷ keys) same = ap (λ (xs : List ℕ). a ∷ xs) (addresses_of-rows addresses keys (omega arith))
 
-pub differ-rows : (addresses : List ℕ) (keys : List (List ℕ)) → length keys ≡ length addresses → Differ addresses → Differ (addresses_of (boxes_of_rows addresses keys))
+pub differ-rows : (addresses : List ℕ) (keys : List (List ℕ)) → length keys ≡ length addresses → Differ addresses → Differ (addresses_of (boxes_of_arrays addresses keys))
 differ-rows addresses keys same differ = subst Differ (sym (addresses_of-rows addresses keys same)) differ
 
-pub length-rows : (addresses : List ℕ) (keys : List (List ℕ)) → length keys ≡ length addresses → length (boxes_of_rows addresses keys) ≡ length addresses
+pub length-rows : (addresses : List ℕ) (keys : List (List ℕ)) → length keys ≡ length addresses → length (boxes_of_arrays addresses keys) ≡ length addresses
 length-rows [] keys same = refl
 length-rows (a ∷ addresses) [] same = absurd (omega arith)
 length-rows (a ∷ addresses) (k ∷ keys) same = ap (λ (n : ℕ). suc n) (length-rows addresses keys (omega arith))
 
 pub rows-push : (addresses : List ℕ) (keys : List (List ℕ)) (a : ℕ) (k : List ℕ) → length keys ≡ length addresses
-    → boxes_of_rows (addresses ++ a ∷ []) (keys ++ k ∷ []) ≡ boxes_of_rows addresses keys ++ record { address = a; key = k } ∷ []
+    → boxes_of_arrays (addresses ++ a ∷ []) (keys ++ k ∷ []) ≡ boxes_of_arrays addresses keys ++ record { address = a; key = k } ∷ []
 rows-push [] [] a k same = refl
 rows-push [] (l ∷ keys) a k same = absurd (omega arith)
 rows-push (b ∷ addresses) [] a k same = absurd (omega arith)
@@ -28,7 +28,7 @@ rows-push (b ∷ addresses) (l ∷ keys) a k same =
     ap (λ (bs : List Box). record { address = b; key = l } ∷ bs) (rows-push addresses keys a k (omega arith))
 
 pub key-rows : (addresses : List ℕ) (keys : List (List ℕ)) (n : ℕ) → length keys ≡ length addresses
-    → option_map (λ (found : Box). found.key) (slice_get (boxes_of_rows addresses keys) n) ≡ slice_get keys n
+    → option_map (λ (found : Box). found.key) (slice_get (boxes_of_arrays addresses keys) n) ≡ slice_get keys n
 key-rows [] [] n same = refl
 key-rows [] (k ∷ keys) n same = absurd (omega arith)
 key-rows (a ∷ addresses) [] n same = absurd (omega arith)
@@ -42,7 +42,7 @@ address-get (b ∷ boxes) (suc n) = address-get boxes n
 
 -- what contracts see of a registry's rows
 module _ (limit : ℕ) (addresses : List ℕ) (keys : List (List ℕ)) (now : Boxes)
-    (view : record { limit = limit; boxes = boxes_of_rows addresses keys } ≡ now) (same : length keys ≡ length addresses) where
+    (view : record { limit = limit; boxes = boxes_of_arrays addresses keys } ≡ now) (same : length keys ≡ length addresses) where
   pub addresses-now : addresses ≡ addresses_of now.boxes
   addresses-now = sym (addresses_of-rows addresses keys same) ∙ ap (λ (r : Boxes). addresses_of r.boxes) view
 
@@ -79,7 +79,7 @@ module _ (limit : ℕ) (addresses : List ℕ) (keys : List (List ℕ)) (now : Bo
       next_there = rw (← limit-now, ← length-now, lt-leb limit (length addresses) room) refl
 
   pub one_row_more : (address : ℕ) (key : List ℕ)
-      → record { limit = limit; boxes = boxes_of_rows (addresses ++ address ∷ []) (keys ++ key ∷ []) } ≡ with_box now address key
+      → record { limit = limit; boxes = boxes_of_arrays (addresses ++ address ∷ []) (keys ++ key ∷ []) } ≡ with_box now address key
   one_row_more address key =
       rw (rows-push addresses keys address key same)
       (ap (λ (r : Boxes). record { limit = r.limit; boxes = r.boxes ++ record { address = address; key = key } ∷ [] }) view)

@@ -1,3 +1,3 @@
 pub mod Boxes
 pub mod Entries
-pub mod Rows
+pub mod Arrays

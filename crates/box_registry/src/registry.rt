@@ -23,13 +23,13 @@ pub struct Registry {
 impl Model for Registry {
     ghost use Rattle.std.specs.Prelude.{vec_capacity};
     ghost use Rattle.box_registry.specs.Boxes.{Boxes};
-    ghost use Rattle.box_registry.specs.Rows.{boxes_of_rows, AreRows};
+    ghost use Rattle.box_registry.specs.Arrays.{boxes_of_arrays, AreArrays};
 
     ghost Value = { Boxes };
 
-    ghost view = { λ r. record { limit = r.limit; boxes = boxes_of_rows r.frontier.addresses r.keys.items } };
+    ghost view = { λ r. record { limit = r.limit; boxes = boxes_of_arrays r.frontier.addresses r.keys.items } };
 
-    ghost invariant = { λ r. AreRows r.limit r.frontier r.keys.items (vec_capacity r.keys) };
+    ghost invariant = { λ r. AreArrays r.limit r.frontier r.keys.items (vec_capacity r.keys) };
 }
 
 impl Registry {

@@ -67,7 +67,7 @@ impl State {
     }
 
     // Takes the message of a write, and makes its public part.
-    fn key(&mut self, target: u128, message: &[u8])
+    fn make_keys(&mut self, target: u128, message: &[u8])
         requires is { IsState self.old }
         requires idle { self.old.stage ≡ None }
         requires unspent { self.old.serial < 2 ^ 32 }
@@ -96,7 +96,7 @@ impl State {
         match *request {
             Request::Register { address } => Task::Register(address),
             Request::Write { target, message } => {
-                self.key(target, message);
+                self.make_keys(target, message);
                 Task::Write(target)
             }
             Request::Read { own } => Task::Read(own),

@@ -47,17 +47,17 @@ too_long_text = codes "input too long\n"
 
 -- Of the ends with their texts that may come, one came and its text was written; or the sink failed after a
 -- part of such a text.
-abbrev pub Writes : (End → List ℕ → Type 0) → Option (List ℕ) → Option (List ℕ) → ℕ → ℕ → End → Type 0
-Writes May old new before now Done = (text : List ℕ) × May Done text × Took old new text
-Writes May old new before now Usage = (text : List ℕ) × May Usage text × Took old new text
-Writes May old new before now (BadLine n) = (text : List ℕ) × May (BadLine n) text × Took old new text
-Writes May old new before now BadKey = (text : List ℕ) × May BadKey text × Took old new text
-Writes May old new before now ReadFault = (text : List ℕ) × May ReadFault text × Took old new text
-Writes May old new before now WriteFault =
+abbrev pub Prints : (End → List ℕ → Type 0) → Option (List ℕ) → Option (List ℕ) → ℕ → ℕ → End → Type 0
+Prints May old new before now Done = (text : List ℕ) × May Done text × Took old new text
+Prints May old new before now Usage = (text : List ℕ) × May Usage text × Took old new text
+Prints May old new before now (BadLine n) = (text : List ℕ) × May (BadLine n) text × Took old new text
+Prints May old new before now BadKey = (text : List ℕ) × May BadKey text × Took old new text
+Prints May old new before now ReadFault = (text : List ℕ) × May ReadFault text × Took old new text
+Prints May old new before now WriteFault =
     Rose before now × ((end : End) × (text : List ℕ) × May end text × TookPrefix old new text)
-Writes May old new before now NetFault = (text : List ℕ) × May NetFault text × Took old new text
-Writes May old new before now OutOfMemory = (text : List ℕ) × May OutOfMemory text × Took old new text
-Writes May old new before now TooLong = (text : List ℕ) × May TooLong text × Took old new text
+Prints May old new before now NetFault = (text : List ℕ) × May NetFault text × Took old new text
+Prints May old new before now OutOfMemory = (text : List ℕ) × May OutOfMemory text × Took old new text
+Prints May old new before now TooLong = (text : List ℕ) × May TooLong text × Took old new text
 
 -- this end with this text
 abbrev pub Said : End → List ℕ → End → List ℕ → Type 0

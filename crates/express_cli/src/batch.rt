@@ -2,7 +2,7 @@
 ghost use Rattle.std.specs.Prelude.{◌≡◌, ◌≢◌, ◌≤◌, ◌++◌, length, IfOk, OnOk, string_bytes};
 ghost use Rattle.express_texts.specs.Judging.{batch_in};
 ghost use Rattle.express_cli.specs.Batches.{verdict_line, rejected_lines, batch_text, IsBatchText};
-ghost use Rattle.express_cli.specs.Ends.{Writes, WorkMay};
+ghost use Rattle.express_cli.specs.Ends.{Prints, WorkMay};
 ghost use Rattle.express_cli.specs.declared.words.Command.TheVariants.{Batch};
 
 use crate::End;
@@ -65,7 +65,7 @@ fn batch_text(alloc: Global, pairs: &BatchPairs) -> Result<String, NoMemory>
 
 /// Judges the pairs of closings that the text spells.
 pub fn batch<K: Sink>(alloc: Global, text: &[u8], out: &mut K) -> End
-    ensures ends { Writes (WorkMay Batch text.now)
+    ensures ends { Prints (WorkMay Batch text.now)
         (K.written out.old) (K.written out.new) (K.count out.old) (K.count out.new) result }
     ensures later { K.count out.old ≤ K.count out.new }
     ensures told { result ≢ End.WriteFault → K.count out.new ≡ K.count out.old }

@@ -1,7 +1,7 @@
 //! Works a client's requests off over a net.
 ghost use Rattle.std.specs.Prelude.{◌≡◌, ◌≢◌, ◌≤◌};
 ghost use Rattle.express_cli.specs.Around.{around, seen};
-ghost use Rattle.express_cli.specs.Ends.{Writes};
+ghost use Rattle.express_cli.specs.Ends.{Prints};
 ghost use Rattle.express_cli.specs.Talking.{TalkMay};
 ghost use Rattle.express_cli.specs.declared.words.NetCommand.TheVariants.{Client};
 
@@ -21,7 +21,7 @@ pub fn client<K: Sink, N: Net>(
     out: &mut K,
     net: &mut N,
 ) -> End
-    ensures ends { Writes (TalkMay Client text.now
+    ensures ends { Prints (TalkMay Client text.now
         (around seed.now (seen (N.calls net.old) (N.count net.old) (N.doors net.old)) (seen (N.calls net.new) (N.count net.new) (N.doors net.new))))
         (K.written out.old) (K.written out.new) (K.count out.old) (K.count out.new) result }
     ensures told { result ≢ End.WriteFault → K.count out.new ≡ K.count out.old }

@@ -2,7 +2,7 @@
 ghost use Rattle.std.specs.Prelude.{◌≡◌, ◌≢◌, ◌≤◌, ◌++◌, length, IfOk, string_bytes, AllPairs, Contains};
 ghost use Rattle.express_words.specs.Limits.{IsWidth};
 ghost use Rattle.express_cli.specs.Cloaks.{old_view, new_view, cloak_text, IsCloakText};
-ghost use Rattle.express_cli.specs.Ends.{Writes, WorkMay};
+ghost use Rattle.express_cli.specs.Ends.{Prints, WorkMay};
 ghost use Rattle.express_cli.specs.declared.words.Command.TheVariants.{Cloak};
 
 use crate::End;
@@ -75,7 +75,7 @@ fn cloak_text(alloc: Global, game: &CloakGame) -> Result<String, NoMemory>
 
 /// Shows both views of the game that the text spells.
 pub fn cloak<K: Sink>(alloc: Global, text: &[u8], out: &mut K) -> End
-    ensures ends { Writes (WorkMay Cloak text.now)
+    ensures ends { Prints (WorkMay Cloak text.now)
         (K.written out.old) (K.written out.new) (K.count out.old) (K.count out.new) result }
     ensures later { K.count out.old ≤ K.count out.new }
     ensures told { result ≢ End.WriteFault → K.count out.new ≡ K.count out.old }

@@ -1,7 +1,7 @@
 //! The whole input, or how a run ends without it.
 ghost use Rattle.std.specs.Prelude.{◌≡◌, ◌≢◌, ◌≤◌, IfOk, IfErr, OnOk};
 ghost use Rattle.express_cli.specs.Reading.{GaveAll};
-ghost use Rattle.express_cli.specs.Ends.{Writes};
+ghost use Rattle.express_cli.specs.Ends.{Prints};
 ghost use Rattle.express_cli.specs.Runs.{UnreadMay};
 
 use crate::End;
@@ -17,7 +17,7 @@ pub fn input_of<S: Source, K: Sink>(
     out: &mut K,
 ) -> Result<Vec<u8>, End>
     ensures read { IfOk result (λ text. GaveAll (S.content input.old) (S.content input.new) text.items) }
-    ensures unread { IfErr result (λ end. Writes (UnreadMay (S.content input.old) (S.content input.new) (S.count input.old) (S.count input.new))
+    ensures unread { IfErr result (λ end. Prints (UnreadMay (S.content input.old) (S.content input.new) (S.count input.old) (S.count input.new))
         (K.written out.old) (K.written out.new) (K.count out.old) (K.count out.new) end) }
     ensures rests { OnOk result (out.new ≡ out.old) }
     ensures source { OnOk result (S.count input.new ≡ S.count input.old) }

@@ -3,7 +3,7 @@ ghost use Rattle.std.specs.Prelude.{◌≡◌, ◌≢◌, ◌≤◌, IfOk, strin
 ghost use Rattle.replay_world.specs.Parts.{journal_in, outcome_in, outcomes_in, value_in};
 ghost use Rattle.express_cli.specs.Mills.{is_registered, is_accepted, is_message, outcomes_like};
 ghost use Rattle.express_cli.specs.Mills.{opened_in, fold_of, count_line, outcomes_text, journal_text, mill_lines, mill_text};
-ghost use Rattle.express_cli.specs.Ends.{Writes, MillMay};
+ghost use Rattle.express_cli.specs.Ends.{Prints, MillMay};
 
 use crate::End;
 use crate::replay::world_after;
@@ -129,7 +129,7 @@ fn mill_text(alloc: Global, number: u16) -> Result<String, NoMemory>
 /// Runs the mill's schedule of a number, and says what came of it.
 pub fn mill<K: Sink>(alloc: Global, number: u16, out: &mut K) -> End
     requires { number ≤ 5000 }
-    ensures ends { Writes (MillMay number)
+    ensures ends { Prints (MillMay number)
         (K.written out.old) (K.written out.new) (K.count out.old) (K.count out.new) result }
     ensures later { K.count out.old ≤ K.count out.new }
     ensures told { result ≢ End.WriteFault → K.count out.new ≡ K.count out.old }

@@ -1,6 +1,6 @@
 //! Tells what a client's or a carrier's run came to.
 ghost use Rattle.std.specs.Prelude.{◌≡◌, ◌≢◌};
-ghost use Rattle.express_cli.specs.Ends.{Writes, Said};
+ghost use Rattle.express_cli.specs.Ends.{Prints, Said};
 ghost use Rattle.express_cli.specs.Talking.{end_by};
 
 use crate::End;
@@ -8,9 +8,9 @@ use crate::texts::say;
 use client_run::{Ran, RunEnd};
 use express_words::outside::Sink;
 
-/// Writes the text of a run, and comes to its end, or to a fault of the sink.
+/// Prints the text of a run, and comes to its end, or to a fault of the sink.
 pub fn say_ran<K: Sink>(out: &mut K, ran: &Ran) -> End
-    ensures says { Writes (Said (end_by ran.now.end) ran.now.text) (K.written out.old) (K.written out.new) (K.count out.old) (K.count out.new) result }
+    ensures says { Prints (Said (end_by ran.now.end) ran.now.text) (K.written out.old) (K.written out.new) (K.count out.old) (K.count out.new) result }
     ensures told { result ≢ End.WriteFault → K.count out.new ≡ K.count out.old }
     ensures settings { result ≢ End.BadKey }
 {

@@ -2,7 +2,7 @@
 ghost use Rattle.std.specs.Prelude.{◌≡◌, ◌≢◌, ◌≤◌, IfOk};
 ghost use Rattle.schedule_text.specs.Rules.{KeepsRules};
 ghost use Rattle.replay_world.specs.Played.{played, IsWhole};
-ghost use Rattle.express_cli.specs.Ends.{Writes, WorkMay};
+ghost use Rattle.express_cli.specs.Ends.{Prints, WorkMay};
 ghost use Rattle.express_cli.specs.declared.words.Command.TheVariants.{Replay};
 
 use crate::End;
@@ -28,7 +28,7 @@ pub fn world_after(alloc: Global, schedule: &Schedule) -> Result<World, NoMemory
 
 /// Replays the schedule that the text spells.
 pub fn replay<K: Sink>(alloc: Global, text: &[u8], out: &mut K) -> End
-    ensures ends { Writes (WorkMay Replay text.now) (K.written out.old) (K.written out.new) (K.count out.old) (K.count out.new) result }
+    ensures ends { Prints (WorkMay Replay text.now) (K.written out.old) (K.written out.new) (K.count out.old) (K.count out.new) result }
     ensures later { K.count out.old ≤ K.count out.new }
     ensures told { result ≢ End.WriteFault → K.count out.new ≡ K.count out.old }
 {

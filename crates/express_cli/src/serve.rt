@@ -4,7 +4,7 @@ ghost use Rattle.express_words.specs.Limits.{KeepsLimits};
 ghost use Rattle.node_host.specs.Opening.{IsOpened};
 ghost use Rattle.node_host.specs.Tallies.{tally_text};
 ghost use Rattle.express_cli.specs.Around.{around, seen};
-ghost use Rattle.express_cli.specs.Ends.{Writes};
+ghost use Rattle.express_cli.specs.Ends.{Prints};
 ghost use Rattle.express_cli.specs.Talking.{DoorMay, HostMay, ListeningMay, ServeMay, TalkMay};
 ghost use Rattle.express_cli.specs.declared.words.NetCommand.TheVariants.{Serve};
 
@@ -47,7 +47,7 @@ fn serve_all<K: Sink, N: Net>(
     out: &mut K,
     net: &mut N,
 ) -> End
-    ensures ends { Writes (HostMay connections node.old
+    ensures ends { Prints (HostMay connections node.old
         (seen (N.calls net.old) (N.count net.old) (N.doors net.old)) (seen (N.calls net.new) (N.count net.new) (N.doors net.new)))
         (K.written out.old) (K.written out.new) (K.count out.old) (K.count out.new) result }
     ensures told { result ≢ End.WriteFault → K.count out.new ≡ K.count out.old }
@@ -71,7 +71,7 @@ fn tell_and_serve<K: Sink, N: Net>(
     out: &mut K,
     net: &mut N,
 ) -> End
-    ensures ends { Writes (ListeningMay connections node.old
+    ensures ends { Prints (ListeningMay connections node.old
         (seen (N.calls net.old) (N.count net.old) (N.doors net.old)) (seen (N.calls net.new) (N.count net.new) (N.doors net.new)))
         (K.written out.old) (K.written out.new) (K.count out.old) (K.count out.new) result }
     ensures told { result ≢ End.WriteFault → K.count out.new ≡ K.count out.old }
@@ -92,7 +92,7 @@ fn listen_and_serve<K: Sink, N: Net>(
     out: &mut K,
     net: &mut N,
 ) -> End
-    ensures ends { Writes (DoorMay settings.now node.old
+    ensures ends { Prints (DoorMay settings.now node.old
         (seen (N.calls net.old) (N.count net.old) (N.doors net.old)) (seen (N.calls net.new) (N.count net.new) (N.doors net.new)))
         (K.written out.old) (K.written out.new) (K.count out.old) (K.count out.new) result }
     ensures told { result ≢ End.WriteFault → K.count out.new ≡ K.count out.old }
@@ -114,7 +114,7 @@ fn serve_by<K: Sink, N: Net>(
 ) -> End
     requires role { settings.now.role ≤ HELPER }
     requires limits { KeepsLimits settings.now.settings.width settings.now.settings.boxes settings.now.settings.lanes settings.now.settings.window }
-    ensures ends { Writes (ServeMay settings.now
+    ensures ends { Prints (ServeMay settings.now
         (around seed.now (seen (N.calls net.old) (N.count net.old) (N.doors net.old)) (seen (N.calls net.new) (N.count net.new) (N.doors net.new))))
         (K.written out.old) (K.written out.new) (K.count out.old) (K.count out.new) result }
     ensures told { result ≢ End.WriteFault → K.count out.new ≡ K.count out.old }
@@ -137,7 +137,7 @@ pub fn serve<K: Sink, N: Net>(
     out: &mut K,
     net: &mut N,
 ) -> End
-    ensures ends { Writes (TalkMay Serve text.now
+    ensures ends { Prints (TalkMay Serve text.now
         (around seed.now (seen (N.calls net.old) (N.count net.old) (N.doors net.old)) (seen (N.calls net.new) (N.count net.new) (N.doors net.new))))
         (K.written out.old) (K.written out.new) (K.count out.old) (K.count out.new) result }
     ensures told { result ≢ End.WriteFault → K.count out.new ≡ K.count out.old }

@@ -1,6 +1,6 @@
-//! Writes the texts with which a run ends.
+//! Prints the texts with which a run ends.
 ghost use Rattle.std.specs.Prelude.{◌≡◌, ◌≢◌, ◌≤◌, ◌⊎◌, IfOk, string_bytes};
-ghost use Rattle.express_cli.specs.Ends.{Writes, Said, BadKeyMay, BadLineMay, FaultMay, bad_line, bad_settings};
+ghost use Rattle.express_cli.specs.Ends.{Prints, Said, BadKeyMay, BadLineMay, FaultMay, bad_line, bad_settings};
 
 use crate::End;
 use express_texts::TextFault;
@@ -26,10 +26,10 @@ pub const LISTENING: &str = "listening\n";
 /// A call of the net failed. Status 6.
 pub const NET_FAULT: &str = "net fault\n";
 
-/// Writes a text and comes to this end, or to a fault of the sink.
+/// Prints a text and comes to this end, or to a fault of the sink.
 pub fn say<K: Sink>(out: &mut K, text: &str, end: End) -> End
     requires { end ≢ End.WriteFault }
-    ensures says { Writes (Said end text.now) (K.written out.old) (K.written out.new) (K.count out.old) (K.count out.new) result }
+    ensures says { Prints (Said end text.now) (K.written out.old) (K.written out.new) (K.count out.old) (K.count out.new) result }
     ensures later { K.count out.old ≤ K.count out.new }
     ensures only { (result ≡ end) ⊎ (result ≡ End.WriteFault) }
     ensures told { result ≢ End.WriteFault → K.count out.new ≡ K.count out.old }
@@ -48,7 +48,7 @@ fn bad_line(alloc: Global, line: u32) -> Result<String, AllocError>
 
 /// Says that this line is the first bad one, unless memory is wanting.
 pub fn say_bad_line<K: Sink>(alloc: Global, out: &mut K, line: u32) -> End
-    ensures says { Writes (BadLineMay line) (K.written out.old) (K.written out.new) (K.count out.old) (K.count out.new) result }
+    ensures says { Prints (BadLineMay line) (K.written out.old) (K.written out.new) (K.count out.old) (K.count out.new) result }
     ensures later { K.count out.old ≤ K.count out.new }
     ensures told { result ≢ End.WriteFault → K.count out.new ≡ K.count out.old }
 {
@@ -66,7 +66,7 @@ fn bad_settings(alloc: Global, key: &str) -> Result<String, AllocError>
 
 /// Says that this key is missing or wrong, unless memory is wanting.
 pub fn say_bad_key<K: Sink>(alloc: Global, out: &mut K, key: &str) -> End
-    ensures says { Writes (BadKeyMay key.now) (K.written out.old) (K.written out.new) (K.count out.old) (K.count out.new) result }
+    ensures says { Prints (BadKeyMay key.now) (K.written out.old) (K.written out.new) (K.count out.old) (K.count out.new) result }
     ensures later { K.count out.old ≤ K.count out.new }
     ensures told { result ≢ End.WriteFault → K.count out.new ≡ K.count out.old }
 {
@@ -78,7 +78,7 @@ pub fn say_bad_key<K: Sink>(alloc: Global, out: &mut K, key: &str) -> End
 
 /// Says what is wrong with a text, unless memory is wanting.
 pub fn say_fault<K: Sink>(alloc: Global, out: &mut K, fault: TextFault) -> End
-    ensures says { Writes (FaultMay fault) (K.written out.old) (K.written out.new) (K.count out.old) (K.count out.new) result }
+    ensures says { Prints (FaultMay fault) (K.written out.old) (K.written out.new) (K.count out.old) (K.count out.new) result }
     ensures later { K.count out.old ≤ K.count out.new }
     ensures told { result ≢ End.WriteFault → K.count out.new ≡ K.count out.old }
 {

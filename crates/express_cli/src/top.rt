@@ -2,7 +2,7 @@
 ghost use Rattle.std.specs.Prelude.{◌≡◌, ◌≢◌, ◌≤◌, ◌∷◌, [], Contains, map, string_bytes};
 ghost use Rattle.express_cli.specs.CommandLine.{AskTalk};
 ghost use Rattle.express_cli.specs.Around.{around, outside, seen};
-ghost use Rattle.express_cli.specs.Ends.{Writes};
+ghost use Rattle.express_cli.specs.Ends.{Prints};
 ghost use Rattle.express_cli.specs.Runs.{RunMay, WaitsForNet};
 ghost use Rattle.express_cli.specs.Ran.{Ran};
 ghost use Rattle.express_cli.specs.Laws.{Laws};
@@ -30,7 +30,7 @@ fn finish<S: Source, K: Sink, N: Net>(
     out: &mut K,
     net: &mut N,
 ) -> End
-    ensures ends { Writes (RunMay (map string_bytes words.now.items) (S.content input.old) (S.content input.new) (S.count input.old) (S.count input.new)
+    ensures ends { Prints (RunMay (map string_bytes words.now.items) (S.content input.old) (S.content input.new) (S.count input.old) (S.count input.new)
         (around seed.now (seen (N.calls net.old) (N.count net.old) (N.doors net.old)) (seen (N.calls net.new) (N.count net.new) (N.doors net.new))))
         (K.written out.old) (K.written out.new) (K.count out.old) (K.count out.new) result }
     // A fault of the input or of the sink is told as that, and as nothing else.

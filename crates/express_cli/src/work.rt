@@ -1,6 +1,6 @@
 //! The work of each command on its input.
 ghost use Rattle.std.specs.Prelude.{◌≡◌, ◌≢◌, ◌≤◌};
-ghost use Rattle.express_cli.specs.Ends.{Writes, WorkMay};
+ghost use Rattle.express_cli.specs.Ends.{Prints, WorkMay};
 
 use crate::End;
 use crate::batch::batch;
@@ -12,7 +12,7 @@ use std::alloc::Global;
 
 /// Does a command's work on the text of its input.
 pub fn work<K: Sink>(alloc: Global, command: Command, text: &[u8], out: &mut K) -> End
-    ensures ends { Writes (WorkMay command text.now)
+    ensures ends { Prints (WorkMay command text.now)
         (K.written out.old) (K.written out.new) (K.count out.old) (K.count out.new) result }
     ensures later { K.count out.old ≤ K.count out.new }
     ensures told { result ≢ End.WriteFault → K.count out.new ≡ K.count out.old }

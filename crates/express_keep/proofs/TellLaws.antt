@@ -2,7 +2,7 @@
 use Rattle.std.proofs.Common.{◌≡◌, ◌⊎◌, inl, inr, ℕ, List, ◌++◌, Option, refl, subst, sym}
 use Rattle.express_words.specs.Causes.{Rose}
 use Rattle.express_words.specs.Streams.{Took, TookPrefix}
-use Rattle.express_cli.specs.Ends.{Writes}
+use Rattle.express_cli.specs.Ends.{Prints}
 use Rattle.express_cli.specs.declared.ends.End.{End}
 use Rattle.express_cli.specs.declared.ends.End.TheVariants as ends
 use Rattle.express_cli.proofs.Following.{took_both, took_prefix_both}
@@ -34,7 +34,7 @@ said May old new before now ending end text may =
 -- what a program without a journal writes
 pub plain : (Plainly : End → List ℕ → Type 0) (May : Ending → List ℕ → Type 0) (old new : Option (List ℕ))
     (before now : ℕ) (end : End) → ((e : End) (text : List ℕ) → Plainly e text → May (Plain e) text)
-    → Writes Plainly old new before now end → Tells May old new before now (Plain end)
+    → Prints Plainly old new before now end → Tells May old new before now (Plain end)
 plain Plainly May old new before now ends.Done f h = inl (h.0, f _ _ h.1, h.2)
 plain Plainly May old new before now ends.Usage f h = inl (h.0, f _ _ h.1, h.2)
 plain Plainly May old new before now (ends.BadLine n) f h = inl (h.0, f _ _ h.1, h.2)

@@ -9,25 +9,25 @@ use Rattle.express_words.specs.declared.audit.Closing.{Closing}
 use Rattle.express_words.specs.Limits.{IsPart}
 use Rattle.express_words.specs.Ranges.{IsWord, IsOpenings, IsClosing, IsProofShare}
 use Rattle.frame_rules.specs.Spelling.{word, address, openings, closing, proof_share, IsKey}
-use Rattle.frame_rules.specs.Forms.{word_of}
-use Rattle.frame_rules.specs.Bodies.{openings_of, closing_of, words_of, proof_share_of}
+use Rattle.frame_rules.specs.Forms.{word_in}
+use Rattle.frame_rules.specs.Bodies.{openings_in, closing_in, words_of, proof_share_of}
 use Rattle.std.proofs.lemmas.List.{take_at, drop_at, take-append-drop, length-append, length-take, length-drop, nil_from_length}
 use Rattle.std.proofs.lemmas.List.Concat.{flat_map-cons}
 use Rattle.std.proofs.lemmas.List.Elements.{All-head, All-tail, All-nil, All-cons}
 use Rattle.frame_rules.proofs.Digits.{IsBytes}
 use Rattle.frame_rules.proofs.Fields.{IsBytes-take, IsBytes-drop, IsField, Is, both, pair, raw_field, u32_field, address_field, word_field}
 
-pub words2 : IsField (λ (p : ℕ × ℕ). word p.0 ++ word p.1) (λ bytes. (word_of (take 16 bytes), word_of (drop 16 bytes))) (Is 32) (λ p. IsWord p.0 × IsWord p.1)
-words2 = pair word word_of 16 IsWord word word_of 16 IsWord word_field word_field
+pub words2 : IsField (λ (p : ℕ × ℕ). word p.0 ++ word p.1) (λ bytes. (word_in (take 16 bytes), word_in (drop 16 bytes))) (Is 32) (λ p. IsWord p.0 × IsWord p.1)
+words2 = pair word word_in 16 IsWord word word_in 16 IsWord word_field word_field
 
-pub words3 : IsField (λ (p : ℕ × (ℕ × ℕ)). word p.0 ++ (word p.1.0 ++ word p.1.1)) (λ bytes. (word_of (take 16 bytes), (word_of (take 16 (drop 16 bytes)), word_of (drop 16 (drop 16 bytes))))) (Is 48) (λ p. IsWord p.0 × (IsWord p.1.0 × IsWord p.1.1))
-words3 = pair word word_of 16 IsWord (λ (p : ℕ × ℕ). word p.0 ++ word p.1) (λ bytes. (word_of (take 16 bytes), word_of (drop 16 bytes))) 32 (λ p. IsWord p.0 × IsWord p.1) word_field words2
+pub words3 : IsField (λ (p : ℕ × (ℕ × ℕ)). word p.0 ++ (word p.1.0 ++ word p.1.1)) (λ bytes. (word_in (take 16 bytes), (word_in (take 16 (drop 16 bytes)), word_in (drop 16 (drop 16 bytes))))) (Is 48) (λ p. IsWord p.0 × (IsWord p.1.0 × IsWord p.1.1))
+words3 = pair word word_in 16 IsWord (λ (p : ℕ × ℕ). word p.0 ++ word p.1) (λ bytes. (word_in (take 16 bytes), word_in (drop 16 bytes))) 32 (λ p. IsWord p.0 × IsWord p.1) word_field words2
 
 pub words4 : IsField (λ (p : ℕ × (ℕ × (ℕ × ℕ))). word p.0 ++ (word p.1.0 ++ (word p.1.1.0 ++ word p.1.1.1)))
-    (λ bytes. (word_of (take 16 bytes), (word_of (take 16 (drop 16 bytes)), (word_of (take 16 (drop 16 (drop 16 bytes))), word_of (drop 16 (drop 16 (drop 16 bytes))))))) (Is 64) (λ p. IsWord p.0 × (IsWord p.1.0 × (IsWord p.1.1.0 × IsWord p.1.1.1)))
-words4 = pair word word_of 16 IsWord (λ (p : ℕ × (ℕ × ℕ)). word p.0 ++ (word p.1.0 ++ word p.1.1)) (λ bytes. (word_of (take 16 bytes), (word_of (take 16 (drop 16 bytes)), word_of (drop 16 (drop 16 bytes))))) 48 (λ p. IsWord p.0 × (IsWord p.1.0 × IsWord p.1.1)) word_field words3
+    (λ bytes. (word_in (take 16 bytes), (word_in (take 16 (drop 16 bytes)), (word_in (take 16 (drop 16 (drop 16 bytes))), word_in (drop 16 (drop 16 (drop 16 bytes))))))) (Is 64) (λ p. IsWord p.0 × (IsWord p.1.0 × (IsWord p.1.1.0 × IsWord p.1.1.1)))
+words4 = pair word word_in 16 IsWord (λ (p : ℕ × (ℕ × ℕ)). word p.0 ++ (word p.1.0 ++ word p.1.1)) (λ bytes. (word_in (take 16 bytes), (word_in (take 16 (drop 16 bytes)), word_in (drop 16 (drop 16 bytes))))) 48 (λ p. IsWord p.0 × (IsWord p.1.0 × IsWord p.1.1)) word_field words3
 
-pub openings_field : IsField openings openings_of (Is 32) IsOpenings
+pub openings_field : IsField openings openings_in (Is 32) IsOpenings
 openings_field = record {
   len = λ x h. words2.len (x.d, x.e) (h.d, h.e);
   back = λ bytes h len. words2.back bytes h len;
@@ -36,7 +36,7 @@ openings_field = record {
       ap (λ (p : ℕ × ℕ). let o : Openings = record { d = p.0; e = p.1 } in o) (words2.again (x.d, x.e) (h.d, h.e));
 }
 
-pub closing_field : IsField closing closing_of (Is 32) IsClosing
+pub closing_field : IsField closing closing_in (Is 32) IsClosing
 closing_field = record {
   len = λ x h. words2.len (x.o, x.tau) (h.o, h.tau);
   back = λ bytes h len. words2.back bytes h len;
@@ -68,7 +68,7 @@ words_back (suc n) bytes h len =
     let long : 16 ≤ length bytes = omega arith in
     let front : length (take 16 bytes) ≡ 16 = omega (arith, length-take 16 bytes) in
     let rest : length (drop 16 bytes) ≡ n * 16 = omega (arith, length-drop 16 bytes) in
-    flat_map-cons word (word_of (take 16 bytes)) (words_of n (drop 16 bytes))
+    flat_map-cons word (word_in (take 16 bytes)) (words_of n (drop 16 bytes))
     ∙ ap (λ (t : List ℕ). t ++ flat_map word (words_of n (drop 16 bytes))) (word_field.back (take 16 bytes) (IsBytes-take 16 bytes h) front)
     ∙ ap (λ (t : List ℕ). take 16 bytes ++ t) (words_back n (drop 16 bytes) (IsBytes-drop 16 bytes h) rest) ∙ take-append-drop 16 bytes
 
@@ -99,9 +99,9 @@ five_field = record {
 
 -- h, and the triple
 h_and_triple : IsField (λ (p : List ℕ × (ℕ × (ℕ × ℕ))). flat_map word p.0 ++ (word p.1.0 ++ (word p.1.1.0 ++ word p.1.1.1)))
-    (λ bytes. (words_of 5 (take 80 bytes), (word_of (take 16 (drop 80 bytes)), (word_of (take 16 (drop 16 (drop 80 bytes))), word_of (drop 16 (drop 16 (drop 80 bytes))))))) (Is 128)
+    (λ bytes. (words_of 5 (take 80 bytes), (word_in (take 16 (drop 80 bytes)), (word_in (take 16 (drop 16 (drop 80 bytes))), word_in (drop 16 (drop 16 (drop 80 bytes))))))) (Is 128)
     (λ p. AreWords 5 p.0 × (IsWord p.1.0 × (IsWord p.1.1.0 × IsWord p.1.1.1)))
-h_and_triple = pair (λ xs. flat_map word xs) (λ bytes. words_of 5 bytes) 80 (AreWords 5) (λ (p : ℕ × (ℕ × ℕ)). word p.0 ++ (word p.1.0 ++ word p.1.1)) (λ bytes. (word_of (take 16 bytes), (word_of (take 16 (drop 16 bytes)), word_of (drop 16 (drop 16 bytes))))) 48 (λ p. IsWord p.0 × (IsWord p.1.0 × IsWord p.1.1)) five_field words3
+h_and_triple = pair (λ xs. flat_map word xs) (λ bytes. words_of 5 bytes) 80 (AreWords 5) (λ (p : ℕ × (ℕ × ℕ)). word p.0 ++ (word p.1.0 ++ word p.1.1)) (λ bytes. (word_in (take 16 bytes), (word_in (take 16 (drop 16 bytes)), word_in (drop 16 (drop 16 bytes))))) 48 (λ p. IsWord p.0 × (IsWord p.1.0 × IsWord p.1.1)) five_field words3
 
 abbrev Proof9 : Type 0
 Proof9 = List ℕ × (ℕ × (ℕ × ℕ))
@@ -110,16 +110,16 @@ abbrev write9 : Proof9 → List ℕ
 write9 p = flat_map word p.0 ++ (word p.1.0 ++ (word p.1.1.0 ++ word p.1.1.1))
 
 abbrev read9 : List ℕ → Proof9
-read9 bytes = (words_of 5 (take 80 bytes), (word_of (take 16 (drop 80 bytes)), (word_of (take 16 (drop 16 (drop 80 bytes))), word_of (drop 16 (drop 16 (drop 80 bytes))))))
+read9 bytes = (words_of 5 (take 80 bytes), (word_in (take 16 (drop 80 bytes)), (word_in (take 16 (drop 16 (drop 80 bytes))), word_in (drop 16 (drop 16 (drop 80 bytes))))))
 
 abbrev fits9 : Proof9 → Type 0
 fits9 p = AreWords 5 p.0 × (IsWord p.1.0 × (IsWord p.1.1.0 × IsWord p.1.1.1))
 
-from_v : IsField (λ (p : ℕ × Proof9). word p.0 ++ write9 p.1) (λ bytes. (word_of (take 16 bytes), read9 (drop 16 bytes))) (Is 144) (λ p. IsWord p.0 × fits9 p.1)
-from_v = pair word word_of 16 IsWord write9 read9 128 fits9 word_field h_and_triple
+from_v : IsField (λ (p : ℕ × Proof9). word p.0 ++ write9 p.1) (λ bytes. (word_in (take 16 bytes), read9 (drop 16 bytes))) (Is 144) (λ p. IsWord p.0 × fits9 p.1)
+from_v = pair word word_in 16 IsWord write9 read9 128 fits9 word_field h_and_triple
 
-from_u : IsField (λ (p : ℕ × (ℕ × Proof9)). word p.0 ++ (word p.1.0 ++ write9 p.1.1)) (λ bytes. (word_of (take 16 bytes), (word_of (take 16 (drop 16 bytes)), read9 (drop 16 (drop 16 bytes))))) (Is 160) (λ p. IsWord p.0 × (IsWord p.1.0 × fits9 p.1.1))
-from_u = pair word word_of 16 IsWord (λ (p : ℕ × Proof9). word p.0 ++ write9 p.1) (λ bytes. (word_of (take 16 bytes), read9 (drop 16 bytes))) 144 (λ p. IsWord p.0 × fits9 p.1) word_field from_v
+from_u : IsField (λ (p : ℕ × (ℕ × Proof9)). word p.0 ++ (word p.1.0 ++ write9 p.1.1)) (λ bytes. (word_in (take 16 bytes), (word_in (take 16 (drop 16 bytes)), read9 (drop 16 (drop 16 bytes))))) (Is 160) (λ p. IsWord p.0 × (IsWord p.1.0 × fits9 p.1.1))
+from_u = pair word word_in 16 IsWord (λ (p : ℕ × Proof9). word p.0 ++ write9 p.1) (λ bytes. (word_in (take 16 bytes), read9 (drop 16 bytes))) 144 (λ p. IsWord p.0 × fits9 p.1) word_field from_v
 
 abbrev as_share : ℕ × (ℕ × Proof9) → ProofShare
 as_share p = record { u = p.0; v = p.1.0; h = p.1.1.0; a = p.1.1.1.0; b = p.1.1.1.1.0; c = p.1.1.1.1.1 }
@@ -161,17 +161,17 @@ proof_field = record {
 pub address_key : IsField (λ (p : ℕ × List ℕ). address p.0 ++ p.1) (λ bytes. (from_be_bytes w128 (take 16 bytes), drop 16 bytes)) (Is 48) (λ p. IsWord p.0 × IsKey p.1)
 address_key = pair address (from_be_bytes w128) 16 IsWord (λ bytes. bytes) (λ bytes. bytes) 32 IsKey address_field (raw_field (Is 32))
 
-pub box_word : IsField (λ (p : ℕ × ℕ). to_be_bytes w32 p.0 ++ word p.1) (λ bytes. (from_be_bytes w32 (take 4 bytes), word_of (drop 4 bytes))) (Is 20) (λ p. (p.0 < 2 ^ 32) × IsWord p.1)
-box_word = pair (to_be_bytes w32) (from_be_bytes w32) 4 (λ n. n < 2 ^ 32) word word_of 16 IsWord u32_field word_field
+pub box_word : IsField (λ (p : ℕ × ℕ). to_be_bytes w32 p.0 ++ word p.1) (λ bytes. (from_be_bytes w32 (take 4 bytes), word_in (drop 4 bytes))) (Is 20) (λ p. (p.0 < 2 ^ 32) × IsWord p.1)
+box_word = pair (to_be_bytes w32) (from_be_bytes w32) 4 (λ n. n < 2 ^ 32) word word_in 16 IsWord u32_field word_field
 
 pub count_key : IsField (λ (p : ℕ × List ℕ). to_be_bytes w32 p.0 ++ p.1) (λ bytes. (from_be_bytes w32 (take 4 bytes), drop 4 bytes)) (Is 36) (λ p. (p.0 < 2 ^ 32) × IsKey p.1)
 count_key = pair (to_be_bytes w32) (from_be_bytes w32) 4 (λ n. n < 2 ^ 32) (λ bytes. bytes) (λ bytes. bytes) 32 IsKey u32_field (raw_field (Is 32))
 
-pub word_openings : IsField (λ (p : ℕ × Openings). word p.0 ++ openings p.1) (λ bytes. (word_of (take 16 bytes), openings_of (drop 16 bytes))) (Is 48) (λ p. IsWord p.0 × IsOpenings p.1)
-word_openings = pair word word_of 16 IsWord openings openings_of 32 IsOpenings word_field openings_field
+pub word_openings : IsField (λ (p : ℕ × Openings). word p.0 ++ openings p.1) (λ bytes. (word_in (take 16 bytes), openings_in (drop 16 bytes))) (Is 48) (λ p. IsWord p.0 × IsOpenings p.1)
+word_openings = pair word word_in 16 IsWord openings openings_in 32 IsOpenings word_field openings_field
 
-pub openings_closing : IsField (λ (p : Openings × Closing). openings p.0 ++ closing p.1) (λ bytes. (openings_of (take 32 bytes), closing_of (drop 32 bytes))) (Is 64) (λ p. IsOpenings p.0 × IsClosing p.1)
-openings_closing = pair openings openings_of 32 IsOpenings closing closing_of 32 IsClosing openings_field closing_field
+pub openings_closing : IsField (λ (p : Openings × Closing). openings p.0 ++ closing p.1) (λ bytes. (openings_in (take 32 bytes), closing_in (drop 32 bytes))) (Is 64) (λ p. IsOpenings p.0 × IsClosing p.1)
+openings_closing = pair openings openings_in 32 IsOpenings closing closing_in 32 IsClosing openings_field closing_field
 
 -- ---- parts whose length depends on a message's width
 
@@ -181,9 +181,9 @@ PartLength n = (2064 ≤ n) × IsWidth (n - 2064)
 abbrev pub WideLength : ℕ → ℕ → Type 0
 WideLength base n = (base ≤ n) × IsWidth (n - base)
 
-pub word_part : IsField (λ (p : ℕ × List ℕ). word p.0 ++ p.1) (λ bytes. (word_of (take 16 bytes), drop 16 bytes)) (WideLength 2080) (λ p. IsWord p.0 × IsPart p.1)
+pub word_part : IsField (λ (p : ℕ × List ℕ). word p.0 ++ p.1) (λ bytes. (word_in (take 16 bytes), drop 16 bytes)) (WideLength 2080) (λ p. IsWord p.0 × IsPart p.1)
 word_part =
-    both word word_of 16 IsWord (λ bytes. bytes) (λ bytes. bytes) PartLength IsPart (WideLength 2080) word_field (raw_field PartLength)
+    both word word_in 16 IsWord (λ bytes. bytes) (λ bytes. bytes) PartLength IsPart (WideLength 2080) word_field (raw_field PartLength)
     (λ k h. (omega arith, (omega arith, (omega arith, omega arith, omega arith)))) (λ k h. (omega arith, (omega arith, omega arith, omega arith)))
 
 pub key_part : IsField (λ (p : List ℕ × List ℕ). p.0 ++ p.1) (λ bytes. (take 32 bytes, drop 32 bytes)) (WideLength 2096) (λ p. IsKey p.0 × IsPart p.1)

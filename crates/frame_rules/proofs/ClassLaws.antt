@@ -2,11 +2,11 @@
 use Rattle.std.proofs.Common.{◌≡◌, eqb, leb, refl}
 use Rattle.std.specs.Prelude.{◌&&◌, ◌||◌}
 use Rattle.frame_rules.specs.Frames.{PlainBody, Deposit, Register, Write, Read, Proof, Held, Challenge, Registered, Accepted, Message, Refused, LinkRegister, LinkBegin, LinkAudit, LinkSettle, LinkRead, LinkReply, Retire, LinkRetire, LinkBegun}
-use Rattle.frame_rules.specs.Kinds.{number_of}
+use Rattle.frame_rules.specs.Kinds.{kind_number}
 use Rattle.frame_rules.specs.Spelling.{kind_of}
 use Rattle.frame_rules.specs.Whole.{is_from_client, is_command, is_reply}
 
-pub from_client_is : (b : PlainBody) → is_from_client b ≡ (leb (number_of (kind_of b)) 5 || eqb (number_of (kind_of b)) 16)
+pub from_client_is : (b : PlainBody) → is_from_client b ≡ (leb (kind_number (kind_of b)) 5 || eqb (kind_number (kind_of b)) 16)
 from_client_is (Deposit d) = refl
 from_client_is (Register a k) = refl
 from_client_is (Write r p) = refl
@@ -28,7 +28,7 @@ from_client_is (Retire n t) = refl
 from_client_is (LinkRetire n) = refl
 from_client_is (LinkBegun n d) = refl
 
-pub command_is : (b : PlainBody) → is_command b ≡ ((leb 10 (number_of (kind_of b)) && leb (number_of (kind_of b)) 14) || eqb (number_of (kind_of b)) 17)
+pub command_is : (b : PlainBody) → is_command b ≡ ((leb 10 (kind_number (kind_of b)) && leb (kind_number (kind_of b)) 14) || eqb (kind_number (kind_of b)) 17)
 command_is (Deposit d) = refl
 command_is (Register a k) = refl
 command_is (Write r p) = refl
@@ -50,7 +50,7 @@ command_is (Retire n t) = refl
 command_is (LinkRetire n) = refl
 command_is (LinkBegun n d) = refl
 
-pub reply_is : (b : PlainBody) → is_reply b ≡ (eqb (number_of (kind_of b)) 15 || eqb (number_of (kind_of b)) 18)
+pub reply_is : (b : PlainBody) → is_reply b ≡ (eqb (kind_number (kind_of b)) 15 || eqb (kind_number (kind_of b)) 18)
 reply_is (Deposit d) = refl
 reply_is (Register a k) = refl
 reply_is (Write r p) = refl

@@ -4,7 +4,7 @@ use Rattle.std.specs.Int.{w8, w16, w32, w64, w128, to_be_bytes, from_be_bytes}
 use Rattle.std.proofs.lemmas.Bool.{cases_lt}
 use Rattle.std.proofs.lemmas.List.{take_at, drop_at, take-append-drop, length-append, length-take, length-drop, get_or-drop, get_or-take, get_or_past}
 use Rattle.std.proofs.lemmas.Nat.{be_bytes_2, be_bytes_4, be_bytes_8, from_be_bytes-to_be_bytes_2, from_be_bytes-to_be_bytes_4, from_be_bytes-to_be_bytes_8}
-use Rattle.frame_rules.specs.Forms.{word_of}
+use Rattle.frame_rules.specs.Forms.{word_in}
 use Rattle.express_words.specs.Ranges.{IsWord}
 use Rattle.frame_rules.specs.Spelling.{word, address}
 use Rattle.frame_rules.proofs.Digits.{IsBytes, le_back, le_again, le_below, be_back, be_again, be_below}
@@ -76,8 +76,8 @@ address_field = record {
   again = λ x h. be_again x h;
 }
 
-pub word_field : IsField word word_of (Is 16) IsWord
-unfolding word word_of
+pub word_field : IsField word word_in (Is 16) IsWord
+unfolding word word_in
 word_field = record {
   len = λ x h. refl;
   back = λ bytes h len. le_back bytes len h;

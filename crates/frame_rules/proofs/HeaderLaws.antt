@@ -8,7 +8,7 @@ use Rattle.std.proofs.lemmas.List.{take-take, drop-take, drop-drop, take-append-
 use Rattle.frame_rules.specs.declared.fault.FrameFault.TheVariants.{Short, Malformed, Version}
 use Rattle.frame_rules.specs.declared.kind.Kind.{Kind}
 use Rattle.frame_rules.specs.declared.kind.Kind.TheVariants as kind
-use Rattle.frame_rules.specs.Kinds.{number_of, version_of, is_linked, is_refused, kinds, first_numbered, kind_numbered}
+use Rattle.frame_rules.specs.Kinds.{kind_number, version_of, is_linked, is_refused, kinds, first_numbered, kind_numbered}
 use Rattle.frame_rules.specs.Spelling as spell
 use Rattle.frame_rules.specs.Forms.{◌>>=◌, number_at}
 use Rattle.frame_rules.specs.Reading.{Header, length_in, version_in, kind_with, kind_in, serial_in, link_in, header_in}
@@ -57,14 +57,14 @@ version_takes bytes n h e =
 some_is : (x y : Kind) → Some x ≡ Some y → x ≡ y
 some_is x y e = cc
 
-numbered : (n : ℕ) (all : List Kind) (kind : Kind) → first_numbered n all ≡ Some kind → number_of kind ≡ n
+numbered : (n : ℕ) (all : List Kind) (kind : Kind) → first_numbered n all ≡ Some kind → kind_number kind ≡ n
 numbered n [] kind e = absurd cc
-numbered n (k ∷ all) kind e = pick (eqb n (number_of k)) refl (numbered n all kind) e where
-  pick : (b : Bool) → eqb n (number_of k) ≡ b → (first_numbered n all ≡ Some kind → number_of kind ≡ n) → cond b (Some k) (first_numbered n all) ≡ Some kind → number_of kind ≡ n
-  pick true t others e = ap number_of (sym (some_is k kind e)) ∙ sym (eqb-true _ _ t)
+numbered n (k ∷ all) kind e = pick (eqb n (kind_number k)) refl (numbered n all kind) e where
+  pick : (b : Bool) → eqb n (kind_number k) ≡ b → (first_numbered n all ≡ Some kind → kind_number kind ≡ n) → cond b (Some k) (first_numbered n all) ≡ Some kind → kind_number kind ≡ n
+  pick true t others e = ap kind_number (sym (some_is k kind e)) ∙ sym (eqb-true _ _ t)
   pick false t others e = others e
 
-kind_numbered_is : (n : ℕ) (kind : Kind) → kind_numbered n ≡ Some kind → number_of kind ≡ n
+kind_numbered_is : (n : ℕ) (kind : Kind) → kind_numbered n ≡ Some kind → kind_number kind ≡ n
 unfolding kind_numbered
 kind_numbered_is n kind e = numbered n kinds kind e
 
@@ -75,7 +75,7 @@ kind_with_is version (Some k) kind e =
     let is : k ≡ kind = ok_is _ _ t.1 in
     (ap (λ x. Some x) is, ap version_of (sym is) ∙ eqb-true _ _ t.0)
 
-kind_takes : (version : ℕ) (bytes : List ℕ) (kind : Kind) → IsBytes bytes → kind_in version bytes ≡ Ok kind → IsNumber (λ n. n ∷ []) 1 5 bytes (number_of kind) × (version_of kind ≡ version)
+kind_takes : (version : ℕ) (bytes : List ℕ) (kind : Kind) → IsBytes bytes → kind_in version bytes ≡ Ok kind → IsNumber (λ n. n ∷ []) 1 5 bytes (kind_number kind) × (version_of kind ≡ version)
 unfolding kind_in
 kind_takes version bytes kind h e =
     let b = bind_ok (number_at w8 5 bytes) (λ n. kind_with version (kind_numbered n)) kind e in
@@ -156,7 +156,7 @@ header_takes bytes h fits e =
       most = omega (arith, len.2);
     })
   where
-    parts : (bytes : List ℕ) (len : ℕ) (kind : Kind) (lane serial link : ℕ) → take 4 bytes ≡ to_be_bytes w32 len → take 1 (drop 4 bytes) ≡ version_of kind ∷ [] → take 1 (drop 5 bytes) ≡ number_of kind ∷ []
+    parts : (bytes : List ℕ) (len : ℕ) (kind : Kind) (lane serial link : ℕ) → take 4 bytes ≡ to_be_bytes w32 len → take 1 (drop 4 bytes) ≡ version_of kind ∷ [] → take 1 (drop 5 bytes) ≡ kind_number kind ∷ []
         → take 2 (drop 6 bytes) ≡ to_be_bytes w16 lane → take 4 (drop 8 bytes) ≡ to_be_bytes w32 serial → take 8 (drop 12 bytes) ≡ to_be_bytes w64 link → 16 ≤ len
         → take 20 bytes ≡ spell.header kind lane serial link (len - 16)
     parts bytes len kind lane serial link l v k a s n le =
@@ -164,8 +164,8 @@ header_takes bytes h fits e =
         cut 4 16 bytes ∙ ap (λ (t : List ℕ). t ++ take 16 (drop 4 bytes)) (l ∙ ap (to_be_bytes w32) (sym same))
         ∙ ap (λ (t : List ℕ). to_be_bytes w32 (16 + (len - 16)) ++ t)
         (cut 2 14 (drop 4 bytes) ∙ ap (λ (t : List ℕ). t ++ take 14 (drop 2 (drop 4 bytes))) (cut 1 1 (drop 4 bytes) ∙ ap (λ (t : List ℕ). t ++ take 1 (drop 1 (drop 4 bytes))) v ∙ ap (λ (t : List ℕ). version_of kind ∷ take 1 t) (drop-drop 1 4 bytes) ∙ ap (λ (t : List ℕ). version_of kind ∷ t) k)
-        ∙ ap (λ (t : List ℕ). version_of kind ∷ number_of kind ∷ take 14 t) (drop-drop 2 4 bytes)
-        ∙ ap (λ (t : List ℕ). version_of kind ∷ number_of kind ∷ t)
+        ∙ ap (λ (t : List ℕ). version_of kind ∷ kind_number kind ∷ take 14 t) (drop-drop 2 4 bytes)
+        ∙ ap (λ (t : List ℕ). version_of kind ∷ kind_number kind ∷ t)
         (cut 2 12 (drop 6 bytes) ∙ ap (λ (t : List ℕ). t ++ take 12 (drop 2 (drop 6 bytes))) a ∙ ap (λ (t : List ℕ). to_be_bytes w16 lane ++ take 12 t) (drop-drop 2 6 bytes)
         ∙ ap (λ (t : List ℕ). to_be_bytes w16 lane ++ t)
         (cut 4 8 (drop 8 bytes) ∙ ap (λ (t : List ℕ). t ++ take 8 (drop 4 (drop 8 bytes))) s ∙ ap (λ (t : List ℕ). to_be_bytes w32 serial ++ take 8 t) (drop-drop 4 8 bytes) ∙ ap (λ (t : List ℕ). to_be_bytes w32 serial ++ t) n)))
@@ -199,7 +199,7 @@ version_known kind.Retire = refl
 version_known kind.LinkRetire = refl
 version_known kind.LinkBegun = refl
 
-number_known : (k : Kind) → kind_numbered (number_of k) ≡ Some k
+number_known : (k : Kind) → kind_numbered (kind_number k) ≡ Some k
 unfolding kind_numbered
 number_known kind.Deposit = refl
 number_known kind.Register = refl
@@ -220,7 +220,7 @@ number_known kind.Retire = refl
 number_known kind.LinkRetire = refl
 number_known kind.LinkBegun = refl
 
-bytes_known : (k : Kind) → (version_of k < 2 ^ 8) × (number_of k < 2 ^ 8)
+bytes_known : (k : Kind) → (version_of k < 2 ^ 8) × (kind_number k < 2 ^ 8)
 bytes_known kind.Deposit = (omega arith, omega arith)
 bytes_known kind.Register = (omega arith, omega arith)
 bytes_known kind.Write = (omega arith, omega arith)
@@ -272,7 +272,7 @@ module _ (k : Kind) (lane serial link count : ℕ) (tail : List ℕ) where
   kind_again : kind_in (version_of k) text ≡ Ok k
   unfolding kind_in text
   kind_again =
-      rw (number_again w8 (λ n. n ∷ []) (λ n. n < 2 ^ 8) 5 (spell.header k lane serial link count ++ tail) (number_of k) u8_field (bytes_known k).1 (omega (arith, long)) refl, number_known k, eq-eqb (version_of k) (version_of k) refl) refl
+      rw (number_again w8 (λ n. n ∷ []) (λ n. n < 2 ^ 8) 5 (spell.header k lane serial link count ++ tail) (kind_number k) u8_field (bytes_known k).1 (omega (arith, long)) refl, number_known k, eq-eqb (version_of k) (version_of k) refl) refl
 
   lane_again : lane < 2 ^ 16 → number_at w16 6 text ≡ Ok lane
   unfolding text

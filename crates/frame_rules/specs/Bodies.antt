@@ -17,25 +17,25 @@ use Rattle.frame_rules.specs.Frames.{Registered, Accepted, Message, Refused, Lin
 use Rattle.frame_rules.specs.Frames.{LinkAudit, LinkSettle, LinkRead, LinkReply, Retire, LinkRetire}
 use Rattle.frame_rules.specs.Frames.{LinkBegun, ReplyRegistered, ReplyBegun, ReplyAudited, ReplyAccepted}
 use Rattle.frame_rules.specs.Frames.{ReplyRejected, ReplyMasked, ReplyRefused}
-use Rattle.frame_rules.specs.Forms.{◌>>=◌, first_of, word_of, Form, Exactly, Wide, filled, tagged, nothing}
+use Rattle.frame_rules.specs.Forms.{◌>>=◌, first_of, word_in, Form, Exactly, Wide, filled, tagged, nothing}
 use Rattle.frame_rules.specs.Forms.{number, word, key}
 
 -- ---- what a few fields mean
 
-abbrev pub openings_of : List ℕ → Openings
-openings_of bytes = record { d = word_of (take 16 bytes); e = word_of (drop 16 bytes) }
+abbrev pub openings_in : List ℕ → Openings
+openings_in bytes = record { d = word_in (take 16 bytes); e = word_in (drop 16 bytes) }
 
-abbrev pub closing_of : List ℕ → Closing
-closing_of bytes = record { o = word_of (take 16 bytes); tau = word_of (drop 16 bytes) }
+abbrev pub closing_in : List ℕ → Closing
+closing_in bytes = record { o = word_in (take 16 bytes); tau = word_in (drop 16 bytes) }
 
 -- so many words, one after the other
 abbrev pub words_of : ℕ → List ℕ → List ℕ
 words_of zero bytes = []
-words_of (suc n) bytes = word_of (take 16 bytes) ∷ words_of n (drop 16 bytes)
+words_of (suc n) bytes = word_in (take 16 bytes) ∷ words_of n (drop 16 bytes)
 
 abbrev pub three_words : {A : Type 0} → (ℕ → ℕ → ℕ → A) → List ℕ → A
 three_words make bytes =
-    make (word_of (take 16 bytes)) (word_of (take 16 (drop 16 bytes))) (word_of (drop 16 (drop 16 bytes)))
+    make (word_in (take 16 bytes)) (word_in (take 16 (drop 16 bytes))) (word_in (drop 16 (drop 16 bytes)))
 
 -- u and v, the five of h, and the three of the triple
 abbrev pub proof_share_of : List ℕ → ProofShare
@@ -43,8 +43,8 @@ proof_share_of bytes =
     three_words
     (λ a b c.
     record {
-      u = word_of (take 16 bytes);
-      v = word_of (take 16 (drop 16 bytes));
+      u = word_in (take 16 bytes);
+      v = word_in (take 16 (drop 16 bytes));
       h = words_of 5 (take 80 (drop 16 (drop 16 bytes)));
       a = a;
       b = b;
@@ -54,7 +54,7 @@ proof_share_of bytes =
 
 abbrev pub rejected_of : List ℕ → Refusal
 rejected_of bytes =
-    three_words (λ o1 tau0 tau1. refusal.Rejected (word_of (take 16 bytes)) o1 tau0 tau1) (drop 16 bytes)
+    three_words (λ o1 tau0 tau1. refusal.Rejected (word_in (take 16 bytes)) o1 tau0 tau1) (drop 16 bytes)
 
 -- ---- bodies without a tag
 
@@ -66,13 +66,13 @@ register =
     }
 
 abbrev pub write : Form PlainBody
-write = record { size = Wide 2080 1; meaning = λ bytes. Write (word_of (take 16 bytes)) (drop 16 bytes) }
+write = record { size = Wide 2080 1; meaning = λ bytes. Write (word_in (take 16 bytes)) (drop 16 bytes) }
 
 abbrev pub boxed : (ℕ → ℕ → PlainBody) → Form PlainBody
 boxed make =
     record {
       size = Exactly 20;
-      meaning = λ bytes. make (from_be_bytes w32 (take 4 bytes)) (word_of (drop 4 bytes));
+      meaning = λ bytes. make (from_be_bytes w32 (take 4 bytes)) (word_in (drop 4 bytes));
     }
 
 abbrev pub proof : Form PlainBody
@@ -88,11 +88,11 @@ abbrev pub link_audit : Form PlainBody
 link_audit =
     record {
       size = Exactly 48;
-      meaning = λ bytes. LinkAudit (word_of (take 16 bytes)) (openings_of (drop 16 bytes));
+      meaning = λ bytes. LinkAudit (word_in (take 16 bytes)) (openings_in (drop 16 bytes));
     }
 
 abbrev pub link_settle : Form PlainBody
-link_settle = record { size = Exactly 32; meaning = λ bytes. LinkSettle (closing_of bytes) }
+link_settle = record { size = Exactly 32; meaning = λ bytes. LinkSettle (closing_in bytes) }
 
 abbrev pub link_begun : Form PlainBody
 link_begun =
@@ -145,7 +145,7 @@ audited =
     record {
       size = Exactly 64;
       meaning = λ bytes.
-          LinkReply (ReplyAudited (openings_of (take 32 bytes)) (closing_of (drop 32 bytes)));
+          LinkReply (ReplyAudited (openings_in (take 32 bytes)) (closing_in (drop 32 bytes)));
     }
 
 -- replies but for refusals

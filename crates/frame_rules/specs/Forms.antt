@@ -27,8 +27,8 @@ first_of [] = Err Short
 first_of (b ∷ rest) = Ok (b, rest)
 
 -- a little-endian number of 16 bytes
-unfoldable pub word_of : List ℕ → ℕ
-word_of bytes = from_le_bytes w128 bytes
+unfoldable pub word_in : List ℕ → ℕ
+word_in bytes = from_le_bytes w128 bytes
 
 -- exactly so many bytes, or a base and so many times a message's width
 pub data Size : Type 0 where
@@ -85,7 +85,7 @@ module _ {A : Type 0} where
   number w make = record { size = Exactly (byte_len w); meaning = λ bytes. make (from_be_bytes w bytes) }
 
   abbrev pub word : (ℕ → A) → Form A
-  word make = record { size = Exactly 16; meaning = λ bytes. make (word_of bytes) }
+  word make = record { size = Exactly 16; meaning = λ bytes. make (word_in bytes) }
 
   abbrev pub key : (List ℕ → A) → Form A
   key make = record { size = Exactly 32; meaning = make }

@@ -6,25 +6,25 @@ use Rattle.frame_rules.specs.declared.kind.Kind.TheVariants.{Challenge, Done, Re
 use Rattle.frame_rules.specs.declared.kind.Kind.TheVariants.{LinkBegin, LinkAudit, LinkSettle, LinkRead}
 use Rattle.frame_rules.specs.declared.kind.Kind.TheVariants.{LinkReply, Retire, LinkRetire, LinkBegun}
 
-abbrev pub number_of : Kind → ℕ
-number_of Deposit = 1
-number_of Register = 2
-number_of Write = 3
-number_of Read = 4
-number_of Proof = 5
-number_of Held = 6
-number_of Challenge = 7
-number_of Done = 8
-number_of Refused = 9
-number_of LinkRegister = 10
-number_of LinkBegin = 11
-number_of LinkAudit = 12
-number_of LinkSettle = 13
-number_of LinkRead = 14
-number_of LinkReply = 15
-number_of Retire = 16
-number_of LinkRetire = 17
-number_of LinkBegun = 18
+abbrev pub kind_number : Kind → ℕ
+kind_number Deposit = 1
+kind_number Register = 2
+kind_number Write = 3
+kind_number Read = 4
+kind_number Proof = 5
+kind_number Held = 6
+kind_number Challenge = 7
+kind_number Done = 8
+kind_number Refused = 9
+kind_number LinkRegister = 10
+kind_number LinkBegin = 11
+kind_number LinkAudit = 12
+kind_number LinkSettle = 13
+kind_number LinkRead = 14
+kind_number LinkReply = 15
+kind_number Retire = 16
+kind_number LinkRetire = 17
+kind_number LinkBegun = 18
 
 -- the version byte of the kind's frames
 abbrev pub version_of : Kind → ℕ
@@ -82,7 +82,7 @@ kinds =
 abbrev pub first_numbered : ℕ → List Kind → Option Kind
 first_numbered number [] = None
 first_numbered number (kind ∷ others) =
-    if number == number_of kind then Some kind else first_numbered number others
+    if number == kind_number kind then Some kind else first_numbered number others
 
 unfoldable pub kind_numbered : ℕ → Option Kind
 kind_numbered number = first_numbered number kinds

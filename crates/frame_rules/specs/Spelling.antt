@@ -19,7 +19,7 @@ use Rattle.frame_rules.specs.Frames.{Held, Challenge, Registered, Accepted, Mess
 use Rattle.frame_rules.specs.Frames.{LinkBegin, LinkAudit, LinkSettle, LinkRead, LinkReply, Retire}
 use Rattle.frame_rules.specs.Frames.{LinkRetire, LinkBegun, ReplyRegistered, ReplyBegun, ReplyAudited}
 use Rattle.frame_rules.specs.Frames.{ReplyAccepted, ReplyRejected, ReplyMasked, ReplyRefused}
-use Rattle.frame_rules.specs.Kinds.{number_of, version_of, is_linked}
+use Rattle.frame_rules.specs.Kinds.{kind_number, version_of, is_linked}
 
 abbrev pub kind_of : PlainBody → Kind
 kind_of (Deposit d) = kinds.Deposit
@@ -121,7 +121,7 @@ body (LinkBegun count draw) = to_be_bytes w32 count ++ draw
 -- lane, serial, link number
 abbrev pub header : Kind → ℕ → ℕ → ℕ → ℕ → List ℕ
 header kind lane serial link count =
-    to_be_bytes w32 (16 + count) ++ ((version_of kind ∷ number_of kind ∷ [])
+    to_be_bytes w32 (16 + count) ++ ((version_of kind ∷ kind_number kind ∷ [])
     ++ (to_be_bytes w16 lane ++ (to_be_bytes w32 serial ++ to_be_bytes w64 link)))
 
 unfoldable pub spelling : PlainFrame → List ℕ

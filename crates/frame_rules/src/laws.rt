@@ -1,7 +1,7 @@
 //! The laws of the grammar. Each function is empty: its contract is the law.
 ghost use Rattle.std.specs.Prelude.{◌≡◌, ◌≢◌, ℕ, ◌+◌, ◌<◌, ◌≤◌, ◌==◌, nat_le, ◌&&◌, ◌||◌, List, [], ◌++◌, All, length, take, Ok, Err};
 ghost use Rattle.frame_rules.specs.Frames.{PlainFrame, PlainBody};
-ghost use Rattle.frame_rules.specs.Kinds.{number_of};
+ghost use Rattle.frame_rules.specs.Kinds.{kind_number};
 ghost use Rattle.frame_rules.specs.Spelling.{kind_of, spelling, IsFrame, Spells};
 ghost use Rattle.frame_rules.specs.Reading.{decoded};
 ghost use Rattle.frame_rules.specs.Whole.{whole, is_from_client, is_command, is_reply};
@@ -56,7 +56,7 @@ pub fn whole_as_spelled()
 
 /// The classes of frames are those of these numbers of kinds.
 pub fn classes()
-    ensures from_client { (b : PlainBody) → is_from_client b ≡ (nat_le (number_of (kind_of b)) 5 || number_of (kind_of b) == 16) }
-    ensures command { (b : PlainBody) → is_command b ≡ ((nat_le 10 (number_of (kind_of b)) && nat_le (number_of (kind_of b)) 14) || number_of (kind_of b) == 17) }
-    ensures reply { (b : PlainBody) → is_reply b ≡ (number_of (kind_of b) == 15 || number_of (kind_of b) == 18) }
+    ensures from_client { (b : PlainBody) → is_from_client b ≡ (nat_le (kind_number (kind_of b)) 5 || kind_number (kind_of b) == 16) }
+    ensures command { (b : PlainBody) → is_command b ≡ ((nat_le 10 (kind_number (kind_of b)) && nat_le (kind_number (kind_of b)) 14) || kind_number (kind_of b) == 17) }
+    ensures reply { (b : PlainBody) → is_reply b ≡ (kind_number (kind_of b) == 15 || kind_number (kind_of b) == 18) }
 {}

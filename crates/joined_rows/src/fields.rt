@@ -5,7 +5,7 @@ ghost use Rattle.express_words.specs.Limits.{KeepsLimits};
 use crate::fault::Fault;
 use express_words::Settings;
 use std::alloc::Global;
-use text_fields::{any_bytes_of, word_of};
+use text_fields::{any_bytes_of, spelled_word};
 
 /// The first field, and those behind it.
 pub fn first_of(text: &str) -> Result<(&str, &str), Fault> {
@@ -34,7 +34,7 @@ pub fn seed_of(digits: &str) -> Result<[u8; 32], Fault> {
 
 /// An address, the most significant digit first.
 pub fn address_of(digits: &str) -> Result<u128, Fault> {
-    word_of(digits.as_bytes()).ok_or(Fault::Unknown)
+    spelled_word(digits.as_bytes()).ok_or(Fault::Unknown)
 }
 
 /// Width, boxes, lanes and window.

@@ -10,7 +10,7 @@ use Rattle.frame_rules.specs.declared.fault.FrameFault.TheVariants.{Short, Malfo
 use Rattle.node_serve.specs.Taking.{IsWanted}
 use Rattle.node_serve.specs.Exchanging.{Makes}
 use Rattle.node_serve.specs.Draining.{FaultIn}
-use Rattle.node_serve.specs.Serving.{Brings, IsCut, IsHelper, Serves, Writes}
+use Rattle.node_serve.specs.Serving.{Brings, IsCut, IsHelper, Serves, WritesReply}
 use Rattle.node_serve.specs.declared.node.Node.{Node}
 use Rattle.node_serve.specs.declared.node.Served.{Served}
 use Rattle.node_serve.specs.declared.node.Served.TheVariants as served
@@ -41,9 +41,9 @@ took_all (Some w) (Some x) bytes blank took some = ap Some (took ∙ ap (λ (y :
 
 -- these bytes were taken
 abbrev pub Wrote : Served → (w x : Option (List ℕ)) → ℕ → List ℕ → Type 0
-Wrote why w x n reply = (taken : List ℕ) × Writes why (Some []) (Some taken) 0 n reply × (w ≢ None → x ≡ Some taken)
+Wrote why w x n reply = (taken : List ℕ) × WritesReply why (Some []) (Some taken) 0 n reply × (w ≢ None → x ≡ Some taken)
 
-pub wrote : (why : Served) (w x : Option (List ℕ)) (n : ℕ) (reply : List ℕ) → IsBlank w → Writes why w x 0 n reply → Wrote why w x n reply
+pub wrote : (why : Served) (w x : Option (List ℕ)) (n : ℕ) (reply : List ℕ) → IsBlank w → WritesReply why w x 0 n reply → Wrote why w x n reply
 wrote served.Answered w x n reply blank (took, whole) = (reply, (refl, whole), took_all w x reply blank took)
 wrote (served.ConnFault count) w x n reply blank ((front, rest, is, took), rose, told) =
     (front, ((front, rest, is, refl), rose, told), took_all w x front blank took)
@@ -65,7 +65,7 @@ pub record Serving (old new : Node) (answer : Served) (b c : Option (List Call))
   pub stays : decoded held ≡ Err Short → new ≡ old
   pub rests : decoded held ≡ Err Short → c ≡ b
   pub untold : decoded held ≡ Err Short → x ≡ w
-  pub serves : decoded held ≢ Err Short → (reply : List ℕ) × Serves old held new b c count answer reply × Writes answer w x before now reply
+  pub serves : decoded held ≢ Err Short → (reply : List ℕ) × Serves old held new b c count answer reply × WritesReply answer w x before now reply
   pub alone : IsHelper old → c ≡ b
 
 -- a visit of a connection that ended so

@@ -8,7 +8,7 @@ use Rattle.frame_rules.specs.Reading.{decoded}
 use Rattle.frame_rules.specs.declared.fault.FrameFault.TheVariants.{Short}
 use Rattle.node_serve.specs.Taking.{IsWanted}
 use Rattle.node_serve.specs.Draining.{FaultIn}
-use Rattle.node_serve.specs.Serving.{IsCut, IsHelper, Serves, Writes}
+use Rattle.node_serve.specs.Serving.{IsCut, IsHelper, Serves, WritesReply}
 use Rattle.node_serve.specs.declared.node.Node.{Node}
 use Rattle.node_serve.specs.declared.node.Served.{Served}
 
@@ -51,7 +51,7 @@ pub record IsCutOff (v : Visit) (old new : Node) : Type 0 where
 pub record IsStepped (v : Visit) (old new : Node) (count : ℕ) : Type 0 where
   pub reply : List ℕ
   pub serves : Serves old (handed v) new (Some []) (Some v.calls) count v.answer reply
-  pub writes : Writes v.answer (Some []) (Some v.taken) 0 v.faults reply
+  pub writes : WritesReply v.answer (Some []) (Some v.taken) 0 v.faults reply
   pub alone : IsHelper old → v.calls ≡ []
 
 -- the net's count rises at the close of a connection that failed, and only then

@@ -12,7 +12,7 @@ use Rattle.node_serve.specs.Taking.{IsWanted}
 use Rattle.node_serve.specs.Exchanging.{Makes}
 use Rattle.node_serve.specs.Draining.{FaultIn}
 use Rattle.node_serve.specs.Leading.{taken_in}
-use Rattle.node_serve.specs.Serving.{Brings, IsCut, Writes}
+use Rattle.node_serve.specs.Serving.{Brings, IsCut, WritesReply}
 use Rattle.node_serve.specs.declared.node.Served.{Served}
 use Rattle.node_serve.specs.declared.node.Served.TheVariants as served
 use Rattle.node_host.specs.Visits.{Visit, visit_calls, ClosesWith, IsOf}
@@ -69,7 +69,7 @@ pub record ServedBy {D : Type 0} (reads may_leave : D → List ℕ → Type 0) (
   pub rests : decoded held ≡ Err Short → c ≡ b
   pub untold : decoded held ≡ Err Short → x ≡ w
   pub serves : decoded held ≢ Err Short → (reply : List ℕ) × ((frames : List Handed) × Serves peer old.core held new.core frames b c count answer reply
-      × Writes answer w x before now reply × Keeps reads may_leave moment left_since old new frames)
+      × WritesReply answer w x before now reply × Keeps reads may_leave moment left_since old new frames)
   pub alone : IsHelp old.core → c ≡ b
 
 -- a visit of a connection that ended so

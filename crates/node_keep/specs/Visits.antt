@@ -7,7 +7,7 @@ use Rattle.frame_rules.specs.Reading.{decoded}
 use Rattle.frame_rules.specs.declared.fault.FrameFault.TheVariants.{Short}
 use Rattle.node_serve.specs.Taking.{IsWanted}
 use Rattle.node_serve.specs.Draining.{FaultIn}
-use Rattle.node_serve.specs.Serving.{IsCut, Writes}
+use Rattle.node_serve.specs.Serving.{IsCut, WritesReply}
 use Rattle.node_host.specs.Visits.{Visit, ClosesWith}
 use Rattle.node_host.specs.Visits as host
 use Rattle.node_restart.specs.declared.fault.KeepFault.{KeepFault}
@@ -41,7 +41,7 @@ pub record IsStepped {D : Type 0} (reads may_leave : D → List ℕ → Type 0) 
   pub reply : List ℕ
   pub serves : Serves peer old.core (host.handed v) new.core frames (Some []) (Some v.calls) count v.answer
       reply
-  pub writes : Writes v.answer (Some []) (Some v.taken) 0 v.faults reply
+  pub writes : WritesReply v.answer (Some []) (Some v.taken) 0 v.faults reply
   pub keeps : Keeps reads may_leave moment left_since old new frames
   pub alone : IsHelp old.core → v.calls ≡ []
 

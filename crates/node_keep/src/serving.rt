@@ -6,7 +6,7 @@ ghost use Rattle.node_serve.specs.Leading.{taken_in, IsSent};
 ghost use Rattle.frame_rules.specs.Reading.{decoded};
 ghost use Rattle.frame_rules.specs.declared.fault.FrameFault.TheVariants.{Short};
 ghost use Rattle.node_serve.specs.Draining.{FaultIn};
-ghost use Rattle.node_serve.specs.Serving.{Brings, IsCut, Writes};
+ghost use Rattle.node_serve.specs.Serving.{Brings, IsCut, WritesReply};
 ghost use Rattle.node_restart.specs.Faults.{Counts};
 ghost use Rattle.node_restart.specs.Frames.{Handed};
 ghost use Rattle.node_keep.specs.Keeping.{Keeps, KeepsUpTo};
@@ -33,7 +33,7 @@ fn serve_helper<C: Conn, D: Disk>(
     ensures serves { (peer : List ℕ) (calls : Option (List Call)) (count : ℕ) → IfOk result (λ why.
         (reply : List ℕ) × ((frames : List Handed)
         × Serves peer kept.old.core frame.now kept.new.core frames calls calls count why reply
-        × Writes why (C.written conn.old) (C.written conn.new) (C.count conn.old) (C.count conn.new) reply
+        × WritesReply why (C.written conn.old) (C.written conn.new) (C.count conn.old) (C.count conn.new) reply
         × Keeps D.reads D.may_leave D.moment D.left_since kept.old kept.new frames)) }
     ensures stops { (peer : List ℕ) (calls : Option (List Call)) → IfErr result (λ fault.
         (frames : List Handed) × ((refused : Handed)
@@ -62,7 +62,7 @@ fn refuse<C: Conn, D: Disk>(
     ensures serves { (peer : List ℕ) (calls : Option (List Call)) (count : ℕ) → IfOk result (λ why.
         (reply : List ℕ) × ((frames : List Handed)
         × Serves peer kept.old.core frame.now kept.new.core frames calls calls count why reply
-        × Writes why (C.written conn.old) (C.written conn.new) (C.count conn.old) (C.count conn.new) reply
+        × WritesReply why (C.written conn.old) (C.written conn.new) (C.count conn.old) (C.count conn.new) reply
         × Keeps D.reads D.may_leave D.moment D.left_since kept.old kept.new frames)) }
     ensures stops { (peer : List ℕ) (calls : Option (List Call)) → IfErr result (λ fault.
         (frames : List Handed) × ((refused : Handed)
@@ -91,7 +91,7 @@ fn serve_leader<C: Conn, N: Net, D: Disk>(
     ensures serves { IfOk result (λ why. (reply : List ℕ) × ((frames : List Handed)
         × Serves peer.now kept.old.core frame.now kept.new.core frames (N.calls net.old) (N.calls net.new)
         (N.count net.new) why reply
-        × Writes why (C.written conn.old) (C.written conn.new) (C.count conn.old) (C.count conn.new) reply
+        × WritesReply why (C.written conn.old) (C.written conn.new) (C.count conn.old) (C.count conn.new) reply
         × Keeps D.reads D.may_leave D.moment D.left_since kept.old kept.new frames)) }
     ensures stops { IfErr result (λ fault. (frames : List Handed) × ((refused : Handed)
         × Stops peer.now kept.old.core frame.now kept.new.core frames refused (N.calls net.old)
@@ -131,7 +131,7 @@ fn answer<C: Conn, N: Net, D: Disk>(
     ensures serves { IfOk result (λ why. (reply : List ℕ) × ((frames : List Handed)
         × Serves peer.now kept.old.core frame.now kept.new.core frames (N.calls net.old) (N.calls net.new)
         (N.count net.new) why reply
-        × Writes why (C.written conn.old) (C.written conn.new) (C.count conn.old) (C.count conn.new) reply
+        × WritesReply why (C.written conn.old) (C.written conn.new) (C.count conn.old) (C.count conn.new) reply
         × Keeps D.reads D.may_leave D.moment D.left_since kept.old kept.new frames)) }
     ensures stops { IfErr result (λ fault. (frames : List Handed) × ((refused : Handed)
         × Stops peer.now kept.old.core frame.now kept.new.core frames refused (N.calls net.old)
@@ -181,7 +181,7 @@ pub fn serve_kept<C: Conn, N: Net, D: Disk>(
         × ((frames : List Handed)
         × Serves peer.now kept.old.core gather.new kept.new.core frames (N.calls net.old) (N.calls net.new)
         (N.count net.new) why reply
-        × Writes why (C.written conn.old) (C.written conn.new) (C.count conn.old) (C.count conn.new) reply
+        × WritesReply why (C.written conn.old) (C.written conn.new) (C.count conn.old) (C.count conn.new) reply
         × Keeps D.reads D.may_leave D.moment D.left_since kept.old kept.new frames)) }
 
     // Or a frame that it was handed on the way wasn't kept: then it took no step at it, and nothing is

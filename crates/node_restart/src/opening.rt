@@ -25,7 +25,7 @@ pub struct Opening {
     pub seed: [u8; 32],
 }
 
-fn number_of(role: Role) -> u8
+fn role_number(role: Role) -> u8
     ensures { result ≡ role_number role }
 {
     match role {
@@ -68,7 +68,7 @@ impl Opening {
         let [b0, b1, b2, b3] = self.settings.boxes.to_be_bytes();
         let [l0, l1] = self.settings.lanes.to_be_bytes();
         let window = self.settings.window;
-        let role = number_of(self.role);
+        let role = role_number(self.role);
         let head = [0, role, w0, w1, w2, w3, b0, b1, b2, b3, l0, l1, window];
         let mut bytes = [0; OPENING_LEN];
         bytes[..13].copy_from_slice(&head);

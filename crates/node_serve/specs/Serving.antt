@@ -33,13 +33,13 @@ IsPut old new before now bytes =
     (Took old new bytes × (now ≡ before)) ⊎ (TookPrefix old new bytes × Rose before now)
 
 -- what was written of a reply, by the answer
-abbrev pub Writes : Served → Option (List ℕ) → Option (List ℕ) → (before now : ℕ) → List ℕ → Type 0
-Writes served.Answered old new before now reply = Took old new reply × (now ≡ before)
-Writes (served.ConnFault count) old new before now reply =
+abbrev pub WritesReply : Served → Option (List ℕ) → Option (List ℕ) → (before now : ℕ) → List ℕ → Type 0
+WritesReply served.Answered old new before now reply = Took old new reply × (now ≡ before)
+WritesReply (served.ConnFault count) old new before now reply =
     TookPrefix old new reply × Rose before now × (count ≡ now)
-Writes served.Ended old new before now reply = ⊥
-Writes (served.LinkFault count) old new before now reply = IsPut old new before now reply
-Writes served.LinkBad old new before now reply = IsPut old new before now reply
+WritesReply served.Ended old new before now reply = ⊥
+WritesReply (served.LinkFault count) old new before now reply = IsPut old new before now reply
+WritesReply served.LinkBad old new before now reply = IsPut old new before now reply
 
 abbrev pub IsHelper : Node → Type 0
 IsHelper (node.Help h) = Unit {0}

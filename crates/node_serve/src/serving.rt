@@ -9,7 +9,7 @@ ghost use Rattle.node_serve.specs.Draining.{ExchangesOn, FaultIn};
 ghost use Rattle.node_serve.specs.Exchanging.{Exchange};
 ghost use Rattle.node_serve.specs.Helping.{helper_step};
 ghost use Rattle.node_serve.specs.Leading.{taken_in, IsSent, Leads};
-ghost use Rattle.node_serve.specs.Serving.{Brings, IsComplete, IsCut, IsHelper, NoneFailed, Serves, Writes};
+ghost use Rattle.node_serve.specs.Serving.{Brings, IsComplete, IsCut, IsHelper, NoneFailed, Serves, WritesReply};
 ghost use Rattle.node_serve.specs.Taking.{EndsBy};
 
 use crate::helping::step_helper;
@@ -39,9 +39,9 @@ pub fn gather_frame<S: Source>(source: &mut S, gather: &mut Gather) -> Reading
     reading
 }
 
-/// Writes a reply, if there is one.
+/// WritesReply a reply, if there is one.
 pub fn send<C: Conn>(conn: &mut C, reply: &[u8]) -> Served
-    ensures writes { Writes result (C.written conn.old) (C.written conn.new) (C.count conn.old) (C.count conn.new) reply.now }
+    ensures writes { WritesReply result (C.written conn.old) (C.written conn.new) (C.count conn.old) (C.count conn.new) reply.now }
     ensures sent { IsSent result }
     ensures content { C.content conn.new ≡ C.content conn.old }
 {
@@ -56,7 +56,7 @@ pub fn send<C: Conn>(conn: &mut C, reply: &[u8]) -> Served
 
 fn serve_helper<C: Conn>(helper: &mut Helper, frame: &[u8], conn: &mut C) -> Served
     ensures helper { helper.new ≡ (helper_step helper.old frame.now).helper }
-    ensures writes { Writes result (C.written conn.old) (C.written conn.new) (C.count conn.old) (C.count conn.new) (helper_step helper.old frame.now).answer }
+    ensures writes { WritesReply result (C.written conn.old) (C.written conn.new) (C.count conn.old) (C.count conn.new) (helper_step helper.old frame.now).answer }
     ensures sent { IsSent result }
     ensures content { C.content conn.new ≡ C.content conn.old }
 {
@@ -72,7 +72,7 @@ fn serve_leader<C: Conn, N: Net>(
     conn: &mut C,
     net: &mut N,
 ) -> Served
-    ensures leads { (made : List Exchange) × ExchangesOn peer.now made (N.calls net.old) (N.calls net.new) × ((reply : List ℕ) × Leads (taken_in (whole frame.now)) leader.old frame.now leader.new made (N.count net.new) result reply × Writes result (C.written conn.old) (C.written conn.new) (C.count conn.old) (C.count conn.new) reply) }
+    ensures leads { (made : List Exchange) × ExchangesOn peer.now made (N.calls net.old) (N.calls net.new) × ((reply : List ℕ) × Leads (taken_in (whole frame.now)) leader.old frame.now leader.new made (N.count net.new) result reply × WritesReply result (C.written conn.old) (C.written conn.new) (C.count conn.old) (C.count conn.new) reply) }
     ensures fault { FaultIn result (N.count net.old) (N.count net.new) }
     ensures door { N.doors net.new ≡ N.doors net.old }
     ensures content { C.content conn.new ≡ C.content conn.old }
@@ -98,7 +98,7 @@ fn serve_leader<C: Conn, N: Net>(
 /// The server takes its step at bytes that are a frame, or known to be none.
 #[tactic(auto, using(crate::proofs::CompleteLaws::completed))]
 fn answer<C: Conn, N: Net>(node: &mut Node, frame: &[u8], conn: &mut C, net: &mut N) -> Served
-    ensures serves { (reply : List ℕ) × Serves node.old frame.now node.new (N.calls net.old) (N.calls net.new) (N.count net.new) result reply × Writes result (C.written conn.old) (C.written conn.new) (C.count conn.old) (C.count conn.new) reply }
+    ensures serves { (reply : List ℕ) × Serves node.old frame.now node.new (N.calls net.old) (N.calls net.new) (N.count net.new) result reply × WritesReply result (C.written conn.old) (C.written conn.new) (C.count conn.old) (C.count conn.new) reply }
     ensures fault { FaultIn result (N.count net.old) (N.count net.new) }
     ensures door { N.doors net.new ≡ N.doors net.old }
     ensures content { C.content conn.new ≡ C.content conn.old }
@@ -127,7 +127,7 @@ pub fn serve_one<C: Conn, N: Net>(
     ensures net_rests { decoded gather.new ≡ Err Short → net.new ≡ net.old }
     ensures writes_nothing { decoded gather.new ≡ Err Short → C.written conn.new ≡ C.written conn.old }
     // Else the server takes its step, and its reply is written.
-    ensures serves { decoded gather.new ≢ Err Short → (reply : List ℕ) × Serves node.old gather.new node.new (N.calls net.old) (N.calls net.new) (N.count net.new) result reply × Writes result (C.written conn.old) (C.written conn.new) (C.count conn.old) (C.count conn.new) reply }
+    ensures serves { decoded gather.new ≢ Err Short → (reply : List ℕ) × Serves node.old gather.new node.new (N.calls net.old) (N.calls net.new) (N.count net.new) result reply × WritesReply result (C.written conn.old) (C.written conn.new) (C.count conn.old) (C.count conn.new) reply }
     ensures helper_rests { IsHelper node.old → net.new ≡ net.old }
     // Where no call of the connection or the net failed, its frame is answered, unless a helper answered its leader
     // with what is no reply that fits.

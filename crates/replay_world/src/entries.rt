@@ -2,7 +2,8 @@
 ghost use Rattle.std.specs.Prelude.{◌≡◌, ◌++◌, Ok, OnOk};
 ghost use Rattle.frame_rules.specs.Frames.{PlainFrame, plain, plain_body, plain_reply, LinkReply};
 ghost use Rattle.frame_rules.specs.Whole.{whole as whole_bytes};
-ghost use Rattle.run_rules.specs.Run.{command_of, journal_line, value_of};
+ghost use Rattle.run_rules.specs.Run.{journal_line, value_of};
+ghost use Rattle.step_tokens.specs.Commands.{command_of};
 ghost use Rattle.replay_world.specs.Parts.{command_in, journal_in, line_in, value_in};
 ghost use Rattle.replay_world.specs.Posts.{lines_for, lines_in};
 

@@ -15,7 +15,7 @@ use Rattle.step_rules.specs.Leader as leader
 use Rattle.step_rules.specs.Leader.{Row, Stage, row_at, idle}
 use Rattle.step_rules.specs.LeaderClients as steps
 use Rattle.run_rules.specs.Letters.{Letter, FrameWorld}
-use Rattle.run_rules.specs.Run.{command_of}
+use Rattle.step_tokens.specs.Commands.{command_of}
 use Rattle.run_rules.specs.Book.{Book}
 use Rattle.run_rules.specs.Follows.{Carries, Follows, IsUnissued, StillToIssue}
 use Rattle.run_rules.specs.Known.{Known}

@@ -25,6 +25,7 @@ use Rattle.step_rules.specs.Leader as leader
 use Rattle.step_rules.specs.Leader.{Leader, Row, Stage, Asked, Registering, Writing, Reading, Retiring, row, row_at, idle, phase_of, want_in, want_of}
 use Rattle.step_rules.specs.LeaderClients as steps
 use Rattle.step_tokens.specs.LeaderRows.{bare, bare_asked}
+use Rattle.step_tokens.specs.Commands.{command_of}
 use Rattle.run_rules.specs.Letters.{FrameWorld}
 use Rattle.run_rules.specs.Run as frames
 use Rattle.run_rules.specs.Book.{Book, place, leaders_draw, is_drawn}
@@ -217,7 +218,7 @@ module _ (b : Book) (f : FrameWorld) (v w : World) (g : PlainFrame) (known : Kno
   abbrev IsFree : Type 0
   IsFree = (z : Command) → Awaits z (row_at f.leader c).stage → ⊥
 
-  issue_plain : (y : Command) (asked : Asked) (body : PlainBody) → IsFree → bare_asked asked ≡ y → frames.command_of body ≡ y → (y ≡ Audits → ⊥) → (y ≡ Settles → ⊥) → is_drawn (line_of c s y) ≡ false
+  issue_plain : (y : Command) (asked : Asked) (body : PlainBody) → IsFree → bare_asked asked ≡ y → command_of body ≡ y → (y ≡ Audits → ⊥) → (y ≡ Settles → ⊥) → is_drawn (line_of c s y) ≡ false
       → c < b.settings.lanes → (row_at f.leader c).serial < s → is_full w ≡ false
       → ForeignAsked b c s asked → ForeignOrder b (length w.commands) (line_of c s y) body
       → IsFrame (frame_with c s f.leader.next body)

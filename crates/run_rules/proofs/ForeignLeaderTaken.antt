@@ -16,7 +16,7 @@ use Rattle.step_rules.specs.Boxes.{Box}
 use Rattle.step_rules.specs.Leader as leader
 use Rattle.step_rules.specs.Leader.{Leader, Row, Stage, Asked, Registering, Writing, Reading, Retiring, Turn, row_at, phase_of, want_in, want_of}
 use Rattle.step_rules.specs.LeaderClients as steps
-use Rattle.run_rules.specs.Run.{command_of}
+use Rattle.step_tokens.specs.Commands.{command_of}
 
 -- the command that is issued for a client's frame
 abbrev pub command_for : PlainBody → Command

@@ -16,7 +16,7 @@ use Rattle.step_rules.specs.Boxes.{Box}
 use Rattle.step_rules.specs.Leader as leader
 use Rattle.step_rules.specs.Leader.{Leader, Asked, Registering, Writing, Reading, Retiring, Stage, Idle, Waiting, Challenged, Auditing, Settling, Done, Row, row_at, want_in, want_of, phase_of, Turn, Reply, Link, StillWaiting}
 use Rattle.step_rules.specs.LeaderClients as steps
-use Rattle.run_rules.specs.Run.{command_of}
+use Rattle.step_tokens.specs.Commands.{command_of}
 
 -- the command that a client's frame has issued
 abbrev pub command_in : PlainBody → Option Command

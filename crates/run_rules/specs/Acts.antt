@@ -29,7 +29,8 @@ use Rattle.step_tokens.specs.HelperRows as helper_rows
 use Rattle.step_tokens.specs.LeaderRows as leader_rows
 use Rattle.run_rules.specs.Letters.{Letter, FrameWorld, opened}
 use Rattle.run_rules.specs.Run as frames
-use Rattle.run_rules.specs.Run.{Event, Ask, Send, Tick, Deliver, Show, Finish, Inject, command_of}
+use Rattle.run_rules.specs.Run.{Event, Ask, Send, Tick, Deliver, Show, Finish, Inject}
+use Rattle.step_tokens.specs.Commands.{command_of}
 use Rattle.run_rules.specs.Book.{Book, Brought}
 use Rattle.run_rules.specs.Follows.{Carries, Follows}
 use Rattle.run_rules.specs.Known.{Known}

@@ -4,7 +4,7 @@ use Rattle.std.specs.Prelude.{length, drop, Option, Some, None, slice_get, Resul
 use Rattle.frame_rules.specs.Frames as frame
 use Rattle.frame_rules.specs.Frames.{PlainFrame, PlainBody}
 use Rattle.frame_rules.specs.Spelling.{spelling}
-use Rattle.mailbox_rules.specs.Requests.{Request, Command, Registers, Begins, Audits, Settles, Reads, Retires}
+use Rattle.mailbox_rules.specs.Requests.{Request}
 use Rattle.token_rules.specs.Tokens.{put}
 use Rattle.token_rules.specs.Run.{own_of}
 use Rattle.token_rules.specs.Driven.{Driven, finished_by}
@@ -20,6 +20,7 @@ use Rattle.step_rules.specs.Client as client
 use Rattle.step_rules.specs.Client.{Client, Fault, Progress, Finished, Turn}
 use Rattle.step_rules.specs.ClientAsks.{asked, sends, Sent}
 use Rattle.step_rules.specs.ClientReplies.{on_reply}
+use Rattle.step_tokens.specs.Commands.{command_of}
 use Rattle.run_rules.specs.Letters.{Addressee, ToClient, ToLeader, ToHelper, ToLeaderLink, ToHelperLink}
 use Rattle.run_rules.specs.Letters.{Letter, letter, Value, Registered, Began, Audited, Settled, WasRead}
 use Rattle.run_rules.specs.Letters.{Retired, Refused, JournalLine, Told, Ended, NoOwnBox, FrameWorld}
@@ -28,15 +29,6 @@ abbrev pub posts : FrameWorld → List Letter → FrameWorld
 posts w letters = record w { pool = w.pool ++ letters }
 
 -- The helper
-
--- the command of a frame that the leader sends
-abbrev pub command_of : PlainBody → Command
-command_of (frame.LinkRegister address) = Registers
-command_of (frame.LinkBegin draw part) = Begins
-command_of (frame.LinkAudit sigma opened) = Audits
-command_of (frame.LinkSettle closing) = Settles
-command_of (frame.LinkRetire number) = Retires
-command_of body = Reads
 
 -- what a command came to, by the command and its reply
 unfoldable pub value_of : PlainBody → PlainBody → Value

@@ -8,7 +8,7 @@ use Rattle.express_words.specs.declared.settings.Settings.{Settings}
 use Rattle.schedule_text.specs.declared.schedule.Asked.{Asked}
 use Rattle.schedule_text.specs.declared.schedule.Asked.TheVariants.{Register, Write, Read, Retire}
 use Rattle.schedule_text.specs.declared.schedule.TheConstants.{MOST_OWN}
-use Rattle.text_fields.specs.Fields.{◌>>=◌, after, word_of, word_at, message_of}
+use Rattle.text_fields.specs.Fields.{◌>>=◌, after, spelled_word, word_at, message_of}
 use Rattle.text_fields.specs.Numbers.{last_number}
 use Rattle.text_fields.specs.Spelling.{SpellsWord}
 use Rattle.text_fields.proofs.FieldLaws.{bind_some, map_some, after_found, after_only, word_found, word_only, message_found, message_only}
@@ -34,9 +34,9 @@ register_found : (settings : Settings) (text : List ℕ) (asked : Asked) → reg
     → SpellsAsked settings asked text
 unfolding register_of
 register_found settings text asked k =
-    let a = bind_some (after (codes "register ") text) (λ digits. option_map Register (word_of digits))
+    let a = bind_some (after (codes "register ") text) (λ digits. option_map Register (spelled_word digits))
     asked k in
-    let m = map_some Register (word_of a.0) asked a.2 in
+    let m = map_some Register (spelled_word a.0) asked a.2 in
     subst (λ (x : Asked). SpellsAsked settings x text) m.2
     (a.0, word_found a.0 m.0 m.1, after_found (codes "register ") text a.0 a.1)
 
@@ -74,7 +74,7 @@ target_found text found k =
     let a = bind_some (after (codes "write ") text) _ found k in
     let b = bind_some (word_at a.0) _ found a.2 in
     let d = bind_some (after (codes " ") b.0.1) _ found b.2 in
-    let m = map_some (λ address. (address, drop 32 a.0)) (word_of (take 32 a.0)) b.0 b.1 in
+    let m = map_some (λ address. (address, drop 32 a.0)) (spelled_word (take 32 a.0)) b.0 b.1 in
     let target : m.0 ≡ b.0.0 = ap (λ (r : ℕ × List ℕ). r.0) m.2 in
     let rest : drop 32 a.0 ≡ b.0.1 = ap (λ (r : ℕ × List ℕ). r.1) m.2 in
     let is : (b.0.0, d.0) ≡ found = some_is _ _ d.2 in

@@ -10,7 +10,7 @@ use Rattle.schedule_text.specs.declared.schedule.Event.TheVariants.{Ask, Send, T
 use Rattle.schedule_text.specs.declared.schedule.Event.TheVariants.{Inject}
 use Rattle.schedule_text.specs.declared.schedule.Schedule.{Schedule}
 use Rattle.schedule_text.specs.declared.schedule.TheConstants.{MOST_EVENTS, MOST_OWN}
-use Rattle.text_fields.specs.Fields.{◌>>=◌, after, end, wanted, word_of, word_at, message_of, seed_of}
+use Rattle.text_fields.specs.Fields.{◌>>=◌, after, end, wanted, spelled_word, word_at, message_of, seed_of}
 use Rattle.text_fields.specs.Numbers.{number_at, last_number}
 use Rattle.text_fields.specs.Lines.{lines_of}
 use Rattle.schedule_text.specs.Fields.{or_else, server_at, bytes_of}
@@ -20,7 +20,7 @@ use Rattle.schedule_text.specs.Lanes.{client_of, foreign_by, is_used, is_foreign
 
 -- register ADDRESS
 unfoldable pub register_of : List ℕ → Option Asked
-register_of text = after (codes "register ") text >>= λ digits. option_map Register (word_of digits)
+register_of text = after (codes "register ") text >>= λ digits. option_map Register (spelled_word digits)
 
 -- write ADDRESS MESSAGE, up to the message
 unfoldable pub target_of : List ℕ → Option (ℕ × List ℕ)

@@ -6,14 +6,14 @@ ghost use Rattle.schedule_text.specs.Grammar.{register_of, target_of, write_of, 
 use crate::schedule::{Asked, MOST_OWN};
 use express_words::{List, NoMemory, Settings};
 use std::alloc::Global;
-use text_fields::{after, last_number, message_of, word_at, word_of};
+use text_fields::{after, last_number, message_of, spelled_word, word_at};
 
 #[tactic(auto, unfolding(crate::specs::Grammar::register_of))]
 fn register_of(text: &[u8]) -> Option<Asked>
     ensures { result ≡ register_of text.now }
 {
     let digits = after(b"register ", text)?;
-    let address = word_of(digits)?;
+    let address = spelled_word(digits)?;
     Some(Asked::Register(address))
 }
 

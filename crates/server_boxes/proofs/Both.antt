@@ -13,7 +13,7 @@ use Rattle.box_registry.specs.Boxes as registry
 use Rattle.step_rules.specs.Boxes.{Box, addresses_of, added, with_write, with_new}
 use Rattle.server_boxes.specs.Held.{Held, HasSameAddresses, share_of, with_boxes}
 use Rattle.server_boxes.specs.Held as held
-use Rattle.server_boxes.specs.Rows.{boxes_in, box_in, held_in, AreRows}
+use Rattle.server_boxes.specs.Pairs.{boxes_in, box_in, held_in, ArePairs}
 
 pub length-boxes_in : (bs : List registry.Box) (ss : List Share) → length bs ≤ length ss → length (boxes_in bs ss) ≡ length bs
 length-boxes_in [] ss h = refl
@@ -99,7 +99,7 @@ there (b ∷ bs) (suc n) d h = there bs n d (omega arith)
 
 -- ---- the rows of a registry and of shares
 
-module _ (r : Boxes) (s : Shares) (are : AreRows r s) where
+module _ (r : Boxes) (s : Shares) (are : ArePairs r s) where
   pub fits : length r.boxes ≤ length s.boxes
   fits = let w = are.within in omega (arith, are.room)
 
@@ -118,7 +118,7 @@ module _ (r : Boxes) (s : Shares) (are : AreRows r s) where
       ap (λ x. boxes_in r.boxes s.boxes ++ box_in b x ∷ []) (sym (unused_at (length r.boxes) (omega arith) room d))
       ∙ sym (append-boxes_in r.boxes s.boxes b d (omega (arith, are.room)))
 
-  pub more_rows : (address : ℕ) (key : List ℕ) → length r.boxes < r.limit → AreRows (with_box r address key) s
+  pub more_rows : (address : ℕ) (key : List ℕ) → length r.boxes < r.limit → ArePairs (with_box r address key) s
   more_rows address key room =
       let b : registry.Box = record { address = address; key = key } in
       let one : length (r.boxes ++ b ∷ []) ≡ length r.boxes + 1 = length-append r.boxes (b ∷ []) in
@@ -160,10 +160,10 @@ module _ (r : Boxes) (s : Shares) (are : AreRows r s) where
       full e = cc e
 
   pub registered_rows : (address : ℕ) (key : List ℕ) (added : Result ℕ RegFault) (after : Boxes) → added ≡ answer_to r address →
-      OnOk added (after ≡ with_box r address key) → OnErr added (after ≡ r) → AreRows after s
+      OnOk added (after ≡ with_box r address key) → OnErr added (after ≡ r) → ArePairs after s
   registered_rows address key (Ok n) after answer ok err =
-      subst (λ (b : Boxes). AreRows b s) (sym ok) (more_rows address key (room_of r.limit (length r.boxes) n (registry.place_of address r.boxes) (sym answer)))
-  registered_rows address key (Err fault) after answer ok err = subst (λ (b : Boxes). AreRows b s) (sym err) are
+      subst (λ (b : Boxes). ArePairs b s) (sym ok) (more_rows address key (room_of r.limit (length r.boxes) n (registry.place_of address r.boxes) (sym answer)))
+  registered_rows address key (Err fault) after answer ok err = subst (λ (b : Boxes). ArePairs b s) (sym err) are
 
   pub registered_boxes : (address : ℕ) (key : List ℕ) (added : Result ℕ RegFault) (after : Boxes) → added ≡ answer_to r address →
       OnOk added (after ≡ with_box r address key) → OnOk added (held_in after s ≡ with_boxes (held_in r s) (with_new s.width address key (boxes_in r.boxes s.boxes)))
@@ -174,9 +174,9 @@ module _ (r : Boxes) (s : Shares) (are : AreRows r s) where
   registered_boxes address key (Err fault) after answer ok = ok
 
   -- a write is added to the shares
-  pub written_rows : (part leaves : List ℕ) (after : Shares) → length leaves ≤ length r.boxes → after ≡ shares_of s.width (shares_with part leaves s.boxes) → AreRows r after
+  pub written_rows : (part leaves : List ℕ) (after : Shares) → length leaves ≤ length r.boxes → after ≡ shares_of s.width (shares_with part leaves s.boxes) → ArePairs r after
   written_rows part leaves after few after_is =
-      subst (λ (x : Shares). AreRows r x) (sym after_is)
+      subst (λ (x : Shares). ArePairs r x) (sym after_is)
       (record {
         within = are.within;
         room = length-shares_with part leaves s.boxes ∙ are.room;
@@ -208,9 +208,9 @@ module _ (r : Boxes) (s : Shares) (are : AreRows r s) where
       sym same ∙ ap (λ (b : Box). b.key) (sym (found_is n found inside e))
 
   -- a share is cleared
-  pub read_rows : (n : ℕ) (live : Bool) (after : Shares) → n < length r.boxes → after ≡ with_cleared s n live → AreRows r after
+  pub read_rows : (n : ℕ) (live : Bool) (after : Shares) → n < length r.boxes → after ≡ with_cleared s n live → ArePairs r after
   read_rows n live after inside after_is =
-      subst (λ (x : Shares). AreRows r x) (sym after_is)
+      subst (λ (x : Shares). ArePairs r x) (sym after_is)
       (record {
         within = are.within;
         room = length-set s.boxes n _ ∙ are.room;
@@ -229,7 +229,7 @@ module _ (r : Boxes) (s : Shares) (are : AreRows r s) where
       ∙ ap (λ (b : Box). set (boxes_in r.boxes s.boxes) n (record b { share = replicate s.width 0; live = stays && b.live })) (sym (found_is n found inside e))))
 
 -- the registry alone says which addresses there are
-pub same_addresses : (r : Boxes) (old new : Shares) → AreRows r old → AreRows r new → new.width ≡ old.width → HasSameAddresses (held_in r old) (held_in r new)
+pub same_addresses : (r : Boxes) (old new : Shares) → ArePairs r old → ArePairs r new → new.width ≡ old.width → HasSameAddresses (held_in r old) (held_in r new)
 same_addresses r old new was now width = record {
   width = width;
   limit = refl;

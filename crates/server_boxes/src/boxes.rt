@@ -32,13 +32,13 @@ pub struct ServerBoxes {
 
 impl Model for ServerBoxes {
     ghost use Rattle.server_boxes.specs.Held.{Held};
-    ghost use Rattle.server_boxes.specs.Rows.{held_in, AreRows};
+    ghost use Rattle.server_boxes.specs.Pairs.{held_in, ArePairs};
 
     ghost Value = { Held };
 
     ghost view = { λ b. held_in b.registry b.shares };
 
-    ghost invariant = { λ b. AreRows b.registry b.shares };
+    ghost invariant = { λ b. ArePairs b.registry b.shares };
 }
 
 impl ServerBoxes {

@@ -2,7 +2,7 @@
 use Rattle.std.specs.Prelude.{ℕ, ℤ, pos, negsuc, nat_le, ◌%◌, ◌==◌, ◌&&◌, if◌then◌else◌}
 use Rattle.std.specs.Prelude.{List, [], ◌∷◌, length, Option, Some, None, option_map, option_and_then}
 use Rattle.toml.specs.Data.{Data, Items, no_items, item, Members, get_member, as_integer, as_str, as_array}
-use Rattle.text_fields.specs.Fields.{◌>>=◌, word_of, seed_of, message_of}
+use Rattle.text_fields.specs.Fields.{◌>>=◌, spelled_word, seed_of, message_of}
 
 -- what the value under a key means
 abbrev pub at_key : {A : Type 0} → List ℕ → (Data → Option A) → Members → Option A
@@ -22,7 +22,7 @@ width_in least value = number_in least 4096 value >>= (λ width. if width % 16 =
 
 -- a text of 32 hexadecimal digits, the most significant first, and one of 64
 unfoldable pub address_in : Data → Option ℕ
-address_in value = option_and_then word_of (as_str value)
+address_in value = option_and_then spelled_word (as_str value)
 
 unfoldable pub seed_in : Data → Option (List ℕ)
 seed_in value = option_and_then seed_of (as_str value)

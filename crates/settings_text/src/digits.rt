@@ -1,6 +1,6 @@
 //! Values in hexadecimal digits, of either case.
 ghost use Rattle.std.specs.Prelude.{◌≡◌, length, IfOk, IfSome};
-ghost use Rattle.text_fields.specs.Fields.{word_of, seed_of, message_of};
+ghost use Rattle.text_fields.specs.Fields.{spelled_word, seed_of, message_of};
 
 use express_words::{List, NoMemory};
 use hex::FromHexError;
@@ -8,9 +8,9 @@ use std::alloc::Global;
 
 /// An address in 32 digits, the most significant first.
 pub fn address_of(digits: &str) -> Option<u128>
-    ensures { result ≡ word_of digits.now }
+    ensures { result ≡ spelled_word digits.now }
 {
-    text_fields::word_of(digits.as_bytes())
+    text_fields::spelled_word(digits.as_bytes())
 }
 
 /// A seed in 64 digits.

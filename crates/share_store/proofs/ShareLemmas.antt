@@ -5,7 +5,7 @@ use Rattle.std.proofs.lemmas.List.{length-set, get_or-set_same, set-get_or, set-
 use Rattle.express_words.specs.Bytes.{xor_bytes}
 use Rattle.dpf_rules.specs.Walk.{leaf_bytes}
 use Rattle.share_store.specs.Shares.{Share, Shares, empty_share, share_at, share_with, shares_of, shares_with, with_cleared}
-use Rattle.share_store.specs.Rows.{shares_in}
+use Rattle.share_store.specs.Marks.{shares_in}
 
 -- bytes that are as long as those before them replace them
 pub refill_whole : (old new : List ℕ) → length new ≡ length old → refill (length old) old new ≡ new

@@ -3,7 +3,7 @@ ghost use Rattle.std.specs.Prelude.{◌≡◌, ◌<◌, ◌≤◌, IfOk, false, 
 ghost use Rattle.express_words.specs.Bytes.{xor_bytes};
 ghost use Rattle.dpf_rules.specs.Walk.{last_of};
 ghost use Rattle.share_store.specs.Shares.{empty_share, share_at, shares_of, shares_with, with_cleared};
-ghost use Rattle.share_store.specs.Rows.{shares_in};
+ghost use Rattle.share_store.specs.Marks.{shares_in};
 
 use block_region::BlockArray;
 use dpf_keys::{PublicPart, output_through};
@@ -21,7 +21,7 @@ pub struct ShareStore {
 
 impl Model for ShareStore {
     ghost use Rattle.share_store.specs.Shares.{Shares, shares_of};
-    ghost use Rattle.share_store.specs.Rows.{shares_in};
+    ghost use Rattle.share_store.specs.Marks.{shares_in};
     ghost use Rattle.std.specs.Prelude.{◌≡◌, length};
 
     ghost Value = { Shares };

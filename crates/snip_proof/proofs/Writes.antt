@@ -38,12 +38,12 @@ difference-in_range (x ∷ v) (y ∷ w) hv hw =
     (xor_lt 128 x y (All-head (λ n. n < 2 ^ 128) x v hv) (All-head (λ n. n < 2 ^ 128) y w hw))
     (difference-in_range v w (All-tail (λ n. n < 2 ^ 128) x v hv) (All-tail (λ n. n < 2 ^ 128) y w hw))
 
-pub difference_at : (v w : List ℕ) (i : ℕ) → length v ≡ length w → slice_index (difference v w) i ≡ bit_xor (slice_index v i) (slice_index w i)
-difference_at [] [] i h = refl
-difference_at [] (y ∷ w) i h = cc
-difference_at (x ∷ v) [] i h = cc
-difference_at (x ∷ v) (y ∷ w) zero h = refl
-difference_at (x ∷ v) (y ∷ w) (suc i) h = difference_at v w i (omega arith)
+pub difference_index : (v w : List ℕ) (i : ℕ) → length v ≡ length w → slice_index (difference v w) i ≡ bit_xor (slice_index v i) (slice_index w i)
+difference_index [] [] i h = refl
+difference_index [] (y ∷ w) i h = cc
+difference_index (x ∷ v) [] i h = cc
+difference_index (x ∷ v) (y ∷ w) zero h = refl
+difference_index (x ∷ v) (y ∷ w) (suc i) h = difference_index v w i (omega arith)
 
 sums_under-in_range : (ckey addresses w : List ℕ) → All (λ n. n < 2 ^ 128) w → IsSums (sums_under ckey addresses w)
 sums_under-in_range ckey addresses w h = sums-in_range w (challenge_rs ckey addresses) (challenge_ss ckey addresses) h (rs-in_range ckey addresses) (ss-in_range ckey addresses)
@@ -76,7 +76,7 @@ alone v w addresses p lv lw inside distinct equal i apart =
           ])
       | inr past ↦ get_or_past v i 0 (omega arith) ∙ sym (get_or_past w i 0 (omega arith))
     ] in
-    difference_at v w i size ∙ ap (λ n. bit_xor n (slice_index w i)) both ∙ xor_self (slice_index w i)
+    difference_index v w i size ∙ ap (λ n. bit_xor n (slice_index w i)) both ∙ xor_self (slice_index w i)
 
 -- the soundness law over both servers' leaves
 pub few_points : (ckey places v w : List ℕ) (share0 share1 : ProofShare) (points : List ℕ) → All (λ n. n < 2 ^ 128) v → All (λ n. n < 2 ^ 128) w → length v ≡ length places → length w ≡ length places →
@@ -107,7 +107,7 @@ honest_accepted ckey places v w words p sigma in_v in_w in_words hs lv lw inside
     let r = slice_index (challenge_rs ckey places) p in
     let s = slice_index (challenge_ss ckey places) p in
     let one_is : one_share m r s words ≡ one_share (bit_xor (slice_index v p) (slice_index w p)) (challenge_r ckey (slice_index places p)) (challenge_s ckey (slice_index places p)) words =
-    ap (λ m. one_share m r s words) (difference_at v w p size)
+    ap (λ m. one_share m r s words) (difference_index v w p size)
     ∙ ap (λ r. one_share (bit_xor (slice_index v p) (slice_index w p)) r s words) (r_at ckey places p inside)
     ∙ ap (λ s. one_share (bit_xor (slice_index v p) (slice_index w p)) (challenge_r ckey (slice_index places p)) s words) (s_at ckey places p inside) in
     let passes : PassesAt (sums_under ckey places (difference v w)) (whole_proof (zero_share words) (one_share m r s words)) sigma =

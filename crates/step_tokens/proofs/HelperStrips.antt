@@ -21,7 +21,7 @@ use Rattle.step_rules.specs.Helper.{Server, Row, Stage, Idle, Deposited, Begun, 
 use Rattle.step_rules.specs.HelperClients.{deposit_at, deposit_row, proof_in, proof_at, proof_row}
 use Rattle.step_rules.specs.HelperCommands.{Effect, register_at, register, begin, audit, settle, read_live, read_at, read, command}
 use Rattle.dpf_rules.specs.Expansion as expansion
-use Rattle.step_tokens.specs.HelperRows.{DepositsStrip, ProofsStrip, CommandsStrip, IsReady, TakesProof, bare, bare_phase, bare_turn, bare_command, row_after}
+use Rattle.step_tokens.specs.HelperRows.{DepositsStrip, ProofsStrip, CommandsStrip, IsReady, TakesProof, bare, bare_phase, bare_turn, row_after}
 
 -- ---- deposits
 

@@ -23,7 +23,8 @@ use Rattle.audit_rules.specs.Values.{accepts, Write as Begun}
 use Rattle.step_rules.specs.Leader.{refuses, Leader, Row, Asked, Registering, Writing, Reading, Retiring, Stage, Idle, Waiting, Challenged, Auditing, Settling, Done, row, row_at, idle, door, phase_of, want_in, want_of, Turn, AckTurn}
 use Rattle.step_rules.specs.LeaderClients.{oldest, Named, issued_for, if_token, if_named, if_room, new_at, again_at, submission_at, on_submission, proof_in, proof_at, on_proof, audits}
 use Rattle.step_rules.specs.LeaderReplies.{registered, began, audited, accepted, rejected, read, by_command, registered_in, if_registered, if_begun, if_audited, if_settled, if_read, fits, want_for}
-use Rattle.step_tokens.specs.LeaderRows.{bare, bare_phase, bare_turn, bare_body, bare_refusal, bare_command, bare_asked, bare_ack_turn, is_full, KeepsAnswer, IsOver, IsTaken, HasRoom, IsSubmission, TakesProof, EndsRequest, SubmissionsStrip, ProofsStrip, RepliesStrip, RefusalsStrip}
+use Rattle.step_tokens.specs.Commands.{command_of}
+use Rattle.step_tokens.specs.LeaderRows.{bare, bare_phase, bare_turn, bare_body, bare_refusal, bare_asked, bare_ack_turn, is_full, KeepsAnswer, IsOver, IsTaken, HasRoom, IsSubmission, TakesProof, EndsRequest, SubmissionsStrip, ProofsStrip, RepliesStrip, RefusalsStrip}
 
 -- the row that was set, with what is said
 set_at : (rows : List Row) (i : ℕ) (r : Row) (says : LeaderSays) → i < length rows → leader_step (bare (slice_index_or (slice_set rows i r) i idle)) says ≡ leader_step (bare r) says
@@ -106,7 +107,7 @@ replies a c (frame.LinkRetire number) stage body turn i e = if_reads a c turn i 
 replies a c command stage body turn i e = absurd (cc e)
 
 -- a request that ends is done
-done_for : (serial : ℕ) (command : PlainBody) → EndsRequest command → reply_step serial (bare_command command) ≡ leader_step (token.row serial token.Done) LeaderKept
+done_for : (serial : ℕ) (command : PlainBody) → EndsRequest command → reply_step serial (command_of command) ≡ leader_step (token.row serial token.Done) LeaderKept
 unfolding reply_step
 done_for serial (frame.LinkBegin drawn part) h = absurd h
 done_for serial (frame.LinkAudit sigma opened) h = absurd h

@@ -7,7 +7,7 @@ use Rattle.frame_rules.specs.declared.frame.DepositBody.{DepositBody}
 use Rattle.frame_rules.specs.declared.frame.DepositBody.TheVariants as deposit
 use Rattle.frame_rules.specs.Frames as frame
 use Rattle.frame_rules.specs.Frames.{PlainFrame, PlainBody}
-use Rattle.mailbox_rules.specs.Requests.{Command, Registers, Begins, Audits, Settles, Reads, Retires, Line}
+use Rattle.mailbox_rules.specs.Requests.{Line}
 use Rattle.token_rules.specs.Tokens as token
 use Rattle.token_rules.specs.Tokens.{Phase}
 use Rattle.token_rules.specs.Rows.{HelperSays, HelperNothing, HelperLater, HelperHeldDeposit, HelperHeldProof}
@@ -19,6 +19,7 @@ use Rattle.step_rules.specs.Helper.{Server, Row, Stage, Idle, Deposited, Begun, 
 use Rattle.step_rules.specs.Helper.{want_in, want_of}
 use Rattle.step_rules.specs.HelperClients.{RowTurn, deposit_row, proof_row}
 use Rattle.step_rules.specs.HelperCommands.{Effect, command}
+use Rattle.step_tokens.specs.Commands.{command_of}
 
 abbrev pub bare_phase : Stage → Phase
 bare_phase Idle = token.Idle
@@ -70,14 +71,6 @@ IsReady (frame.LinkRead number) (Deposited (deposit.Read held)) = Unit {0}
 IsReady (frame.LinkRetire number) (Deposited (deposit.Read held)) = Unit {0}
 IsReady body stage = ⊥
 
-abbrev pub bare_command : PlainBody → Command
-bare_command (frame.LinkRegister address) = Registers
-bare_command (frame.LinkBegin draw part) = Begins
-bare_command (frame.LinkAudit sigma opened) = Audits
-bare_command (frame.LinkSettle closing) = Settles
-bare_command (frame.LinkRetire number) = Retires
-bare_command body = Reads
-
 -- ---- the steps
 
 abbrev pub DepositsStrip : Type 0
@@ -97,4 +90,4 @@ abbrev pub CommandsStrip : Type 0
 CommandsStrip =
     (h : Server) (f : PlainFrame) (body : PlainBody) (stage : Stage) → f.lane < length h.rows →
     IsReady body stage →
-    row_after (command h f body stage) f.lane ≡ token.row f.serial (carried_phase (bare_command body))
+    row_after (command h f body stage) f.lane ≡ token.row f.serial (carried_phase (command_of body))

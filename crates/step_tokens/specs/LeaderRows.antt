@@ -7,7 +7,7 @@ use Rattle.express_words.specs.declared.refusal.Refusal.TheVariants as refusal
 use Rattle.frame_rules.specs.Frames as frame
 use Rattle.frame_rules.specs.Frames.{PlainFrame, PlainBody}
 use Rattle.dpf_rules.specs.Expansion as expansion
-use Rattle.mailbox_rules.specs.Requests.{Command, Registers, Begins, Audits, Settles, Reads, Retires}
+use Rattle.mailbox_rules.specs.Requests.{Command, Registers, Begins, Reads, Retires}
 use Rattle.token_rules.specs.Tokens as token
 use Rattle.token_rules.specs.Tokens.{Phase}
 use Rattle.token_rules.specs.Rows.{LeaderSays, LeaderNothing, LeaderLater, LeaderKept, LeaderIssues}
@@ -20,6 +20,7 @@ use Rattle.step_rules.specs.Leader.{Leader, Row, Asked, Registering, Writing, Re
 use Rattle.step_rules.specs.Leader.{Waiting, Challenged, Auditing, Settling, Done, row_at, want_in, want_of}
 use Rattle.step_rules.specs.Leader.{Answer, Reply, Link, StillWaiting, Turn, Ack, ToLane}
 use Rattle.step_rules.specs.Leader.{Settles as SettleIssued, Ignored, AckTurn}
+use Rattle.step_tokens.specs.Commands.{command_of}
 use Rattle.step_rules.specs.LeaderClients.{Named, on_submission, on_proof}
 use Rattle.step_rules.specs.LeaderReplies.{by_command, fits}
 
@@ -46,17 +47,9 @@ abbrev pub bare_body : PlainBody → LeaderSays
 bare_body (frame.Refused r) = bare_refusal r
 bare_body body = LeaderKept
 
-abbrev pub bare_command : PlainBody → Command
-bare_command (frame.LinkRegister address) = Registers
-bare_command (frame.LinkBegin draw part) = Begins
-bare_command (frame.LinkAudit sigma opened) = Audits
-bare_command (frame.LinkSettle closing) = Settles
-bare_command (frame.LinkRetire number) = Retires
-bare_command body = Reads
-
 abbrev pub bare_answer : Answer → LeaderSays
 bare_answer (Reply reply) = bare_body reply.body
-bare_answer (Link number command) = LeaderIssues (bare_command command.body)
+bare_answer (Link number command) = LeaderIssues (command_of command.body)
 bare_answer (StillWaiting number) = LeaderNothing
 
 abbrev pub bare_turn : ℕ → Turn → LeaderStep
@@ -132,7 +125,7 @@ ProofsStrip =
 -- what the leader says of a reply that it applies
 abbrev pub bare_ack : Ack → LeaderSays
 bare_ack (ToLane lane reply) = bare_body reply.body
-bare_ack (SettleIssued number command) = LeaderIssues (bare_command command.body)
+bare_ack (SettleIssued number command) = LeaderIssues (command_of command.body)
 bare_ack Ignored = LeaderNothing
 
 abbrev pub bare_ack_turn : ℕ → AckTurn → LeaderStep
@@ -143,7 +136,7 @@ abbrev pub RepliesStrip : Type 0
 RepliesStrip =
     (a : Leader) (c : PlainFrame) (command : PlainBody) (stage : Stage) (body : PlainBody)
     (turn : AckTurn) → c.lane < length a.rows → by_command a c command stage body ≡ Some turn →
-    bare_ack_turn c.lane turn ≡ reply_step c.serial (bare_command command)
+    bare_ack_turn c.lane turn ≡ reply_step c.serial (command_of command)
 
 -- a refusal of a command that ends its request
 abbrev pub EndsRequest : PlainBody → Type 0
@@ -155,4 +148,4 @@ abbrev pub RefusalsStrip : Type 0
 RefusalsStrip =
     (a : Leader) (c : PlainFrame) (body : PlainBody) (r : Refusal) (turn : AckTurn) →
     c.lane < length a.rows → EndsRequest c.body → bare_refusal r ≡ LeaderKept →
-    fits a c body (Some r) ≡ Some turn → bare_ack_turn c.lane turn ≡ reply_step c.serial (bare_command c.body)
+    fits a c body (Some r) ≡ Some turn → bare_ack_turn c.lane turn ≡ reply_step c.serial (command_of c.body)

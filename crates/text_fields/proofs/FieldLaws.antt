@@ -4,7 +4,7 @@ use Rattle.std.specs.Int.{w128, from_be_bytes}
 use Rattle.std.specs.Result.{result_ok}
 use Rattle.std.proofs.lemmas.Bool.{eqb-true}
 use Rattle.hex.specs.Hex.{decode_sized}
-use Rattle.text_fields.specs.Fields.{◌>>=◌, after, wanted, word_of, seed_of, word_at, message_of}
+use Rattle.text_fields.specs.Fields.{◌>>=◌, after, wanted, spelled_word, seed_of, word_at, message_of}
 use Rattle.text_fields.specs.Spelling.{SpellsWord}
 use Rattle.std.proofs.lemmas.List.{take_at, drop_at, take-append-drop}
 use Rattle.hex.proofs.HexLemmas.{decode_sized-ok}
@@ -37,8 +37,8 @@ after_only [] rest = refl
 after_only (c ∷ w) rest = let same : nat_eq c c ≡ true = grind arith in rw (same, after_only w rest) refl
 
 -- digits
-pub word_found : (digits : List ℕ) (a : ℕ) → word_of digits ≡ Some a → SpellsWord a digits
-unfolding word_of
+pub word_found : (digits : List ℕ) (a : ℕ) → spelled_word digits ≡ Some a → SpellsWord a digits
+unfolding spelled_word
 word_found digits a h = at_read (decode_sized digits 16) refl h
   where
     at_read : (r : Result (List ℕ) _) → decode_sized digits 16 ≡ r
@@ -46,8 +46,8 @@ word_found digits a h = at_read (decode_sized digits 16) refl h
     at_read (Ok bytes) e k = (bytes, e, cc)
     at_read (Err f) e k = cc
 
-pub word_only : (digits : List ℕ) (a : ℕ) → SpellsWord a digits → word_of digits ≡ Some a
-unfolding word_of
+pub word_only : (digits : List ℕ) (a : ℕ) → SpellsWord a digits → spelled_word digits ≡ Some a
+unfolding spelled_word
 word_only digits a h = rw (h.1, h.2) refl
 
 pub wanted_found : (t : Bool) (u : Unit {0}) → wanted t ≡ Some u → t ≡ true
@@ -70,7 +70,7 @@ seed_only digits seed h = rw h refl
 pub word_at_found : (bytes : List ℕ) (found : ℕ × List ℕ) → word_at bytes ≡ Some found → SpellsWord found.0 (take 32 bytes) × (bytes ≡ take 32 bytes ++ found.1)
 unfolding word_at
 word_at_found bytes found h =
-    let m = map_some (λ word. (word, drop 32 bytes)) (word_of (take 32 bytes)) found h in
+    let m = map_some (λ word. (word, drop 32 bytes)) (spelled_word (take 32 bytes)) found h in
     let word : m.0 ≡ found.0 = ap (λ (r : ℕ × List ℕ). r.0) m.2 in
     let rest : drop 32 bytes ≡ found.1 = ap (λ (r : ℕ × List ℕ). r.1) m.2 in
     (subst (λ (x : ℕ). SpellsWord x (take 32 bytes)) word (word_found (take 32 bytes) m.0 m.1), sym (take-append-drop 32 bytes) ∙ ap (λ (t : List ℕ). take 32 bytes ++ t) rest)

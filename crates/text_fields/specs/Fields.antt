@@ -28,15 +28,15 @@ end [] = Some tt
 end (b ∷ bytes) = None
 
 -- a field value or an address in 32 hexadecimal digits, a seed in 64
-unfoldable pub word_of : List ℕ → Option ℕ
-word_of digits = option_map (from_be_bytes w128) (result_ok (decode_sized digits 16))
+unfoldable pub spelled_word : List ℕ → Option ℕ
+spelled_word digits = option_map (from_be_bytes w128) (result_ok (decode_sized digits 16))
 
 unfoldable pub seed_of : List ℕ → Option (List ℕ)
 seed_of digits = result_ok (decode_sized digits 32)
 
 -- a field value or an address in front, and what follows it
 unfoldable pub word_at : List ℕ → Option (ℕ × List ℕ)
-word_at bytes = option_map (λ word. (word, drop 32 bytes)) (word_of (take 32 bytes))
+word_at bytes = option_map (λ word. (word, drop 32 bytes)) (spelled_word (take 32 bytes))
 
 -- any bytes, in twice as many hexadecimal digits
 unfoldable pub any_bytes_of : List ℕ → Option (List ℕ)

@@ -1,6 +1,6 @@
 //! Values in hexadecimal digits of either case, the most significant first.
 ghost use Rattle.std.specs.Prelude.{◌≡◌, option_map, IfOk};
-ghost use Rattle.text_fields.specs.Fields.{word_of, word_at, seed_of, any_bytes_of, message_of};
+ghost use Rattle.text_fields.specs.Fields.{spelled_word, word_at, seed_of, any_bytes_of, message_of};
 
 use express_words::NoMemory;
 use hex::FromHexError;
@@ -9,9 +9,9 @@ use std::alloc::Global;
 const WORD_DIGITS: usize = 32;
 
 /// A field value or an address in 32 hexadecimal digits.
-#[tactic(auto, unfolding(crate::specs::Fields::word_of))]
-pub fn word_of(digits: &[u8]) -> Option<u128>
-    ensures { result ≡ word_of digits.now }
+#[tactic(auto, unfolding(crate::specs::Fields::spelled_word))]
+pub fn spelled_word(digits: &[u8]) -> Option<u128>
+    ensures { result ≡ spelled_word digits.now }
 {
     let mut word = [0u8; 16];
     match hex::decode_to_slice(digits, &mut word) {
@@ -26,7 +26,7 @@ pub fn word_at(bytes: &[u8]) -> Option<(u128, &[u8])>
     ensures { option_map (λ r. (r.0, r.1.now)) result ≡ word_at bytes.now }
 {
     let (digits, rest) = bytes.split_at(WORD_DIGITS.min(bytes.len()));
-    let word = word_of(digits)?;
+    let word = spelled_word(digits)?;
     Some((word, rest))
 }
 

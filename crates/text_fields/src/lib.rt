@@ -7,7 +7,7 @@ mod lines;
 mod numbers;
 mod words;
 
-pub use digits::{any_bytes_of, message_of, seed_of, word_at, word_of};
+pub use digits::{any_bytes_of, message_of, seed_of, spelled_word, word_at};
 pub use lines::first_line;
 pub use numbers::{last_number, number_at};
 pub use words::after;

@@ -4,5 +4,4 @@ pub mod Quads
 pub mod Levels
 pub mod Elements
 pub mod Gf
-pub mod Rows
 pub mod proved

@@ -3,9 +3,9 @@ ghost use Rattle.std.specs.Prelude.{◌≡◌, ◌+◌, ◌≤◌, length};
 ghost use Rattle.std.specs.Int.{w32};
 ghost use Rattle.frame_rules.specs.Frames.{Read, Retire, Challenge, LinkRead, LinkRetire, plain_body};
 ghost use Rattle.frame_rules.specs.Forms.{Gives, filled, number, key};
-ghost use Rattle.frame_rules.specs.Bodies.{openings_of, closing_of, words_of, proof_share_of, register, write, boxed, proof, link_register, link_begin, link_audit, link_settle, link_begun};
+ghost use Rattle.frame_rules.specs.Bodies.{openings_in, closing_in, words_of, proof_share_of, register, write, boxed, proof, link_register, link_begin, link_audit, link_settle, link_begun};
 
-use crate::fields::{address_of, exactly, key_of, u32_of, wide, word_of};
+use crate::fields::{address_of, exactly, key_of, u32_of, wide, word_in};
 use express_words::{Closing, Openings, ProofShare};
 use frame_rules::{Body, FrameFault};
 
@@ -28,7 +28,7 @@ pub fn write_in(left: usize, rest: &[u8]) -> Result<Body<'_>, FrameFault>
 {
     let (root, part) = wide(2080, 1, left, rest)?.split_at(16);
     Ok(Body::Write {
-        root: word_of(root),
+        root: word_in(root),
         part,
     })
 }
@@ -41,7 +41,7 @@ pub fn read_in(left: usize, rest: &[u8]) -> Result<Body<'_>, FrameFault>
     let (box_number, token) = exactly(20, left, rest)?.split_at(4);
     Ok(Body::Read {
         box_number: u32_of(box_number),
-        token: word_of(token),
+        token: word_in(token),
     })
 }
 
@@ -53,31 +53,31 @@ pub fn retire_in(left: usize, rest: &[u8]) -> Result<Body<'_>, FrameFault>
     let (box_number, token) = exactly(20, left, rest)?.split_at(4);
     Ok(Body::Retire {
         box_number: u32_of(box_number),
-        token: word_of(token),
+        token: word_in(token),
     })
 }
 
 /// Openings: d, e, each 16 bytes, little-endian.
-pub fn openings_of(bytes: &[u8]) -> Openings
+pub fn openings_in(bytes: &[u8]) -> Openings
     requires { length bytes.now ≡ 32 }
-    ensures { result ≡ openings_of bytes.now }
+    ensures { result ≡ openings_in bytes.now }
 {
     let (d, e) = bytes.split_at(16);
     Openings {
-        d: word_of(d),
-        e: word_of(e),
+        d: word_in(d),
+        e: word_in(e),
     }
 }
 
 /// A closing: o, tau, each 16 bytes, little-endian.
-pub fn closing_of(bytes: &[u8]) -> Closing
+pub fn closing_in(bytes: &[u8]) -> Closing
     requires { length bytes.now ≡ 32 }
-    ensures { result ≡ closing_of bytes.now }
+    ensures { result ≡ closing_in bytes.now }
 {
     let (o, tau) = bytes.split_at(16);
     Closing {
-        o: word_of(o),
-        tau: word_of(tau),
+        o: word_in(o),
+        tau: word_in(tau),
     }
 }
 
@@ -91,11 +91,11 @@ fn five_words_of(bytes: &[u8]) -> [u128; 5]
     let (fourth, rest) = rest.split_at(16);
     let (fifth, _) = rest.split_at(16);
     [
-        word_of(first),
-        word_of(second),
-        word_of(third),
-        word_of(fourth),
-        word_of(fifth),
+        word_in(first),
+        word_in(second),
+        word_in(third),
+        word_in(fourth),
+        word_in(fifth),
     ]
 }
 
@@ -109,12 +109,12 @@ fn proof_share_of(bytes: &[u8]) -> ProofShare
     let (a, rest) = rest.split_at(16);
     let (b, c) = rest.split_at(16);
     ProofShare {
-        u: word_of(u),
-        v: word_of(v),
+        u: word_in(u),
+        v: word_in(v),
         h: five_words_of(h),
-        a: word_of(a),
-        b: word_of(b),
-        c: word_of(c),
+        a: word_in(a),
+        b: word_in(b),
+        c: word_in(c),
     }
 }
 
@@ -166,8 +166,8 @@ pub fn link_audit_in(left: usize, rest: &[u8]) -> Result<Body<'_>, FrameFault>
 {
     let (sigma, opened) = exactly(48, left, rest)?.split_at(16);
     Ok(Body::LinkAudit {
-        sigma: word_of(sigma),
-        opened: openings_of(opened),
+        sigma: word_in(sigma),
+        opened: openings_in(opened),
     })
 }
 
@@ -177,7 +177,7 @@ pub fn link_settle_in(left: usize, rest: &[u8]) -> Result<Body<'_>, FrameFault>
     ensures { Gives plain_body result (filled link_settle left rest.now) }
 {
     let closing = exactly(32, left, rest)?;
-    Ok(Body::LinkSettle(closing_of(closing)))
+    Ok(Body::LinkSettle(closing_in(closing)))
 }
 
 /// The command to read a box (4 bytes).

@@ -7,7 +7,7 @@ ghost use Rattle.frame_rules.specs.Reading.{decoded};
 ghost use Rattle.wire_frames.specs.Writing.{Writes};
 
 use crate::FRAME_MAX;
-use crate::kinds::{kind_of, number_of, version_of};
+use crate::kinds::{kind_number, kind_of, version_of};
 use crate::tags::{
     put_tag, put_tag_bytes, put_tag_u8, put_tag_u16, put_tag_u32, put_tag_u64, put_tag_word,
 };
@@ -197,7 +197,7 @@ fn put_header(out: &mut [u8], kind: Kind, lane: u16, serial: u32, link: u64, lef
     ensures { Writes out.old 0 (header kind lane serial link left) out.new result }
 {
     let place = put_u32(out, 0, 16 + left as u32);
-    let place = put_tag_u8(out, place, version_of(kind), number_of(kind));
+    let place = put_tag_u8(out, place, version_of(kind), kind_number(kind));
     let place = put_u16(out, place, lane);
     let place = put_u32(out, place, serial);
     put_u64(out, place, link)

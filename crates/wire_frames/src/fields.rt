@@ -1,7 +1,7 @@
 //! Numbers at their places, and the parts of a body.
 ghost use Rattle.std.specs.Prelude.{◌≡◌, ◌+◌, ◌*◌, ◌<◌, ◌≤◌, length, OnOk, IfOk};
 ghost use Rattle.std.specs.Int.{w8, w16, w32, w64, w128, from_be_bytes};
-ghost use Rattle.frame_rules.specs.Forms.{Gives, number_at, first_of, word_of, sized, Exactly, Wide};
+ghost use Rattle.frame_rules.specs.Forms.{Gives, number_at, first_of, word_in, sized, Exactly, Wide};
 
 use frame_rules::FrameFault;
 
@@ -99,10 +99,10 @@ pub fn address_of(bytes: &[u8]) -> u128
 }
 
 /// A word, which is little-endian.
-#[tactic(auto, unfolding(frame_rules::specs::Forms::word_of))]
-pub fn word_of(bytes: &[u8]) -> u128
+#[tactic(auto, unfolding(frame_rules::specs::Forms::word_in))]
+pub fn word_in(bytes: &[u8]) -> u128
     requires { length bytes.now ≡ 16 }
-    ensures { result ≡ word_of bytes.now }
+    ensures { result ≡ word_in bytes.now }
 {
     let mut number = [0; 16];
     number.copy_from_slice(bytes);

@@ -2,7 +2,7 @@
 ghost use Rattle.std.specs.Prelude.{◌≡◌};
 ghost use Rattle.frame_rules.specs.Frames.{plain_body};
 ghost use Rattle.frame_rules.specs.Spelling.{kind_of};
-ghost use Rattle.frame_rules.specs.Kinds.{kind_numbered, number_of, version_of, is_linked};
+ghost use Rattle.frame_rules.specs.Kinds.{kind_numbered, kind_number, version_of, is_linked};
 
 use frame_rules::{Body, Kind};
 
@@ -35,8 +35,8 @@ pub fn kind_numbered(number: u8) -> Option<Kind>
 }
 
 /// The kind's number on the wire.
-pub fn number_of(kind: Kind) -> u8
-    ensures { result ≡ number_of kind }
+pub fn kind_number(kind: Kind) -> u8
+    ensures { result ≡ kind_number kind }
 {
     match kind {
         Kind::Deposit => 1,

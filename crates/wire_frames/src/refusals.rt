@@ -4,7 +4,7 @@ ghost use Rattle.frame_rules.specs.Frames.{plain_body};
 ghost use Rattle.frame_rules.specs.Forms.{Gives, tagged};
 ghost use Rattle.frame_rules.specs.Bodies.{rejected_of, refusals, addressed, refused, reply_refused};
 
-use crate::fields::{exactly, first_of, u8_of, u16_of, u32_of, u64_of, word_of};
+use crate::fields::{exactly, first_of, u16_of, u32_of, u64_of, u8_of, word_in};
 use express_words::Refusal;
 use frame_rules::{Body, FrameFault, ReplyBody};
 
@@ -15,7 +15,7 @@ fn rejected_of(bytes: &[u8]) -> Refusal
     let (o_0, rest) = bytes.split_at(16);
     let (o_1, rest) = rest.split_at(16);
     let (tau_0, tau_1) = rest.split_at(16);
-    Refusal::Rejected(word_of(o_0), word_of(o_1), word_of(tau_0), word_of(tau_1))
+    Refusal::Rejected(word_in(o_0), word_in(o_1), word_in(tau_0), word_in(tau_1))
 }
 
 /// The refusal whose number is at `place`.

@@ -4,8 +4,8 @@ ghost use Rattle.frame_rules.specs.Frames.{plain_body};
 ghost use Rattle.frame_rules.specs.Forms.{Gives, filled, tagged};
 ghost use Rattle.frame_rules.specs.Bodies.{deposits, helds, dones, message, audited, replied};
 
-use crate::bodies::{closing_of, openings_of};
-use crate::fields::{exactly, first_of, key_of, u32_of, wide, word_of};
+use crate::bodies::{closing_in, openings_in};
+use crate::fields::{exactly, first_of, key_of, u32_of, wide, word_in};
 use crate::refusals::reply_refused_in;
 use frame_rules::{Body, DepositBody, FrameFault, ReplyBody};
 
@@ -21,8 +21,8 @@ pub fn deposit_in(left: usize, rest: &[u8]) -> Result<Body<'_>, FrameFault>
     let (tag, rest) = first_of(rest)?;
     let deposit = match tag {
         1 => DepositBody::Register(key_of(exactly(32, left - 1, rest)?)),
-        2 => DepositBody::Write(word_of(exactly(16, left - 1, rest)?)),
-        3 => DepositBody::Read(word_of(exactly(16, left - 1, rest)?)),
+        2 => DepositBody::Write(word_in(exactly(16, left - 1, rest)?)),
+        3 => DepositBody::Read(word_in(exactly(16, left - 1, rest)?)),
         _ => return Err(FrameFault::Malformed(TAG)),
     };
     Ok(Body::Deposit(deposit))
@@ -79,7 +79,7 @@ fn audited_in(left: usize, rest: &[u8]) -> Result<Body<'_>, FrameFault>
     ensures { Gives plain_body result (filled audited left rest.now) }
 {
     let (opened, closing) = exactly(64, left, rest)?.split_at(32);
-    let answer = ReplyBody::Audited(openings_of(opened), closing_of(closing));
+    let answer = ReplyBody::Audited(openings_in(opened), closing_in(closing));
     Ok(Body::LinkReply(answer))
 }
 

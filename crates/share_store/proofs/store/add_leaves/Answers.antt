@@ -4,7 +4,7 @@ use Rattle.std.proofs.lemmas.List.{length-set}
 use Rattle.express_words.specs.Bytes.{xor_bytes}
 use Rattle.dpf_rules.specs.Walk.{leaf_bytes}
 use Rattle.block_region.specs.Region.{Blocks}
-use Rattle.share_store.specs.Rows.{shares_in}
+use Rattle.share_store.specs.Marks.{shares_in}
 use Rattle.share_store.proofs.ShareLemmas.{length-shares_in, added_live, added_retired, lent_back}
 use Rattle.share_store.proofs.store.add_leaves.Goals as goal
 use Rattle.share_store.proofs.store.add_leaves.Goals.{then-live-k, else-live-k}

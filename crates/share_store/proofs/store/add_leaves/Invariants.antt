@@ -1,6 +1,6 @@
 use Rattle.std.proofs.Common.{◌≡◌, length, take}
 use Rattle.dpf_rules.specs.Walk.{last_of}
-use Rattle.share_store.specs.Rows.{shares_in}
+use Rattle.share_store.specs.Marks.{shares_in}
 use Rattle.share_store.specs.Shares.{shares_with}
 use Rattle.share_store.proofs.store.add_leaves.Given as goal
 

@@ -4,7 +4,7 @@ use Rattle.dpf_rules.specs.Walk.{last_of, leaf_of}
 use Rattle.share_store.specs.Shares.{Shares, shares_of, shares_with}
 use Rattle.step_rules.specs.Boxes as steps
 use Rattle.server_boxes.specs.Held.{Held, HasSameAddresses, with_boxes}
-use Rattle.server_boxes.specs.Rows.{held_in}
+use Rattle.server_boxes.specs.Pairs.{held_in}
 use Rattle.server_boxes.proofs.Both.{length-boxes_in, fits, written_boxes, written_rows, same_addresses}
 use Rattle.server_boxes.proofs.boxes.ServerBoxes.add_write.Goals as goal
 

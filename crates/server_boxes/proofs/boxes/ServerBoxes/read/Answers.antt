@@ -5,7 +5,7 @@ use Rattle.dpf_rules.specs.Expansion.{mask}
 use Rattle.share_store.specs.Shares.{Shares, share_at}
 use Rattle.step_rules.specs.Boxes.{with_read}
 use Rattle.server_boxes.specs.Held.{Held, HasSameAddresses, with_boxes}
-use Rattle.server_boxes.specs.Rows.{held_in}
+use Rattle.server_boxes.specs.Pairs.{held_in}
 use Rattle.server_boxes.proofs.Both.{length-boxes_in, fits, found_share, found_key, read_rows, read_boxes, same_addresses}
 use Rattle.server_boxes.proofs.Masks.{masked_is}
 use Rattle.server_boxes.proofs.boxes.ServerBoxes.read.Goals as goal

@@ -3,7 +3,7 @@ use Rattle.std.specs.Prelude.{OnOk}
 use Rattle.box_registry.specs.Boxes.{answer_at}
 use Rattle.step_rules.specs.Boxes.{place_of, with_new}
 use Rattle.server_boxes.specs.Held.{Held, with_boxes}
-use Rattle.server_boxes.specs.Rows.{held_in}
+use Rattle.server_boxes.specs.Pairs.{held_in}
 use Rattle.server_boxes.proofs.Both.{answer_is, registered_rows, registered_boxes}
 use Rattle.server_boxes.proofs.boxes.ServerBoxes.register.Goals as goal
 

@@ -1,6 +1,6 @@
 use Rattle.std.proofs.Common.{◌∙◌, ap, List, Bool, replicate}
 use Rattle.block_region.specs.Region.{Blocks, zeros}
-use Rattle.share_store.specs.Rows.{shares_in}
+use Rattle.share_store.specs.Marks.{shares_in}
 use Rattle.share_store.specs.Shares.{shares_of}
 use Rattle.share_store.proofs.ShareLemmas.{shares_in-new}
 use Rattle.share_store.proofs.store.ShareStore.open.Goals as goal

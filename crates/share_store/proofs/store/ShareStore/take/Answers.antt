@@ -1,7 +1,7 @@
 use Rattle.std.proofs.Common.{◌≡◌, ◌<◌, ◌∙◌, length, sym, ap, true, get_or, set, replicate, [], ℕ, List, arith}
 use Rattle.std.specs.List.{refill}
 use Rattle.express_words.specs.Bytes.{xor_bytes}
-use Rattle.share_store.specs.Rows.{shares_in}
+use Rattle.share_store.specs.Marks.{shares_in}
 use Rattle.share_store.specs.Shares.{Share, Shares, share_at, shares_of, with_cleared}
 use Rattle.share_store.proofs.ShareLemmas.{length-shares_in, share_at-shares_in, cleared_view, lent_back}
 use Rattle.share_store.proofs.store.ShareStore.take.Goals as goal

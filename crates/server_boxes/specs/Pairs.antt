@@ -19,7 +19,7 @@ abbrev pub held_in : Boxes → Shares → Held
 held_in r s = record { width = s.width; limit = r.limit; boxes = boxes_in r.boxes s.boxes }
 
 -- as many shares as boxes may come, and a box that isn't registered is live and has zeros
-pub record AreRows (r : Boxes) (s : Shares) : Type 0 where
+pub record ArePairs (r : Boxes) (s : Shares) : Type 0 where
   pub within : length r.boxes ≤ r.limit
   pub room : length s.boxes ≡ r.limit
   pub unused : drop (length r.boxes) s.boxes ≡ replicate (r.limit - length r.boxes) (empty_share s.width)
