@@ -1,8 +1,8 @@
 //! Proofs of an independent program written from the protocol's description, worked verdicts, and both servers
 //! together.
-use snip_proof::{close_share, judge, open_share, prove, servers_accept};
 use chacha_expand::challenge;
 use express_words::{Closing, Openings, ProofShare};
+use snip_proof::{close_share, judge, open_share, prove, servers_accept};
 use write_sketch::Sums;
 
 /// What a client proves, what server 0 opens of its share with some sums, and what both servers close of some openings.

@@ -1,11 +1,11 @@
 //! Both views of one game, by an independent program written from the protocol's description. The choice is drawn from a seed of
 //! zeros.
-use write_hiding::*;
 use chacha_expand::{choices, draw32};
 use dpf_rules::read_number;
 use express_words::{Closing, List, NoMemory, Openings, ProofShare};
 use std::alloc::Global;
 use std::test::Fail;
+use write_hiding::*;
 
 // The game's two addresses: all zeros, and all ones.
 const ADDRESSES: [u128; 2] = [0, 0xffffffffffffffffffffffffffffffff];

@@ -10,6 +10,7 @@ mod products;
 mod servers;
 mod stores;
 mod streams;
+mod sums;
 mod work;
 
 use std::process::ExitCode;

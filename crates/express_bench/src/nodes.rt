@@ -1,4 +1,5 @@
 //! Eight nodes of a point function's tree, each expanded to the sum of its children, many times over.
+use crate::sums::{sum, total};
 use chacha_expand::{children, children8};
 
 // Any eight different states.
@@ -12,18 +13,6 @@ const STATES: [u128; 8] = [
     1 << 127,
     u128::MAX,
 ];
-
-fn sum(pair: (u128, u128)) -> u128 {
-    pair.0 ^ pair.1
-}
-
-fn total(states: &[u128; 8]) -> u128 {
-    let mut total = 0;
-    for state in states {
-        total ^= *state;
-    }
-    total
-}
 
 /// The checksum by `children`.
 pub fn one_by_one(times: u32) -> u128 {

@@ -1,4 +1,5 @@
 //! Blocks of one stream, and challenges of one key: one by one and eight at once.
+use crate::sums::{sum, total};
 use chacha_expand::{block_into, challenge, challenge8};
 use dpf_rules::read_number;
 
@@ -25,18 +26,6 @@ pub fn blocks(times: u32) -> u128 {
         state = read_number(&block[1008..]);
     }
     state
-}
-
-fn sum(pair: (u128, u128)) -> u128 {
-    pair.0 ^ pair.1
-}
-
-fn total(addresses: &[u128; 8]) -> u128 {
-    let mut total = 0;
-    for address in addresses {
-        total ^= *address;
-    }
-    total
 }
 
 /// The sums of both challenges at eight addresses are the next addresses.

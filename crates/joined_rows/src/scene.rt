@@ -3,11 +3,11 @@ ghost use Rattle.express_words.specs.Limits.{KeepsLimits};
 
 use crate::at_helper::AtHelper;
 use crate::at_leader::AtLeader;
-use crate::fault::Fault;
-use crate::fields::{bytes_of, first_of, number_of, seed_of, settings_of, small_number_of};
-use crate::texts::no_frame;
-use crate::told::ToldClient;
 use express_words::Settings;
+use recordings::{
+    Answer, Answers, Fault, ToldClient, bytes_of, first_of, no_frame, number_of, seed_of,
+    settings_of,
+};
 use std::alloc::Global;
 
 #[derive(Drop)]
@@ -40,7 +40,7 @@ impl Scene {
     fn place_of(&self, digits: &str) -> Result<usize, Fault>
         ensures { IfOk result (λ place. place < length self.now.clients.items) }
     {
-        let number = small_number_of(digits)?;
+        let number = number_of(digits)?;
         let place = usize::from(number);
         if place < self.clients.len() {
             Ok(place)
@@ -70,7 +70,7 @@ impl Scene {
     // A client's seed; behind it may stand how many boxes it has room for, and its first serial.
     fn client_seed(&mut self, alloc: Global, text: &str) -> Result<(), Fault> {
         let (lane, text) = first_of(text)?;
-        let lane = small_number_of(lane)?;
+        let lane = number_of(lane)?;
         match text.split_once(' ') {
             None => {
                 let capacity = self.settings.boxes + 1;
@@ -134,18 +134,22 @@ impl Scene {
         }
     }
 
-    /// The answer to a line's question; None where the line asks nothing.
-    pub fn answer(&mut self, alloc: Global, question: &str) -> Result<Option<String>, Fault> {
+    fn reply(&mut self, alloc: Global, word: &str, text: &str) -> Result<String, Fault> {
+        match word {
+            "ask" => self.ask(alloc, text),
+            "send" => self.send(alloc, text),
+            "told" => self.told(alloc, text),
+            _ => self.deliver(alloc, word, text),
+        }
+    }
+}
+
+impl Answers for Scene {
+    fn answer(&mut self, alloc: Global, question: &str) -> Result<Answer, Fault> {
         let (word, text) = first_of(question)?;
         if self.prepare(alloc, word, text)? {
-            return Ok(None);
+            return Ok(Answer::Nothing);
         }
-        let answer = match word {
-            "ask" => self.ask(alloc, text)?,
-            "send" => self.send(alloc, text)?,
-            "told" => self.told(alloc, text)?,
-            _ => self.deliver(alloc, word, text)?,
-        };
-        Ok(Some(answer))
+        Ok(Answer::Text(self.reply(alloc, word, text)?))
     }
 }

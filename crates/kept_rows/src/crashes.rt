@@ -1,10 +1,9 @@
 //! A server's disk crashes at each of its calls, and at each byte that isn't synced.
-use crate::fault::Fault;
 use crate::recorded::{Recorded, Step};
 use crate::records::records_of;
 use crate::server::Server;
-use crate::texts::front_of;
 use node_restart::Sender;
+use recordings::{Fault, front_of};
 use std::alloc::Global;
 
 /// No run here makes so many calls on its disk.
@@ -39,7 +38,7 @@ fn answered_of(alloc: Global, server: &mut Server, steps: &[Step]) -> Result<usi
     for (place, step) in steps.iter().enumerate() {
         match server.answer(alloc, step.sender, &step.frame) {
             Ok(_) => {}
-            Err(Fault::Kept(_)) => return Ok(place),
+            Err(Fault::Journal(_)) => return Ok(place),
             Err(fault) => return Err(fault),
         }
     }
@@ -82,7 +81,7 @@ fn crash_at(
 ) -> Result<Option<Crash>, Fault> {
     let mut server = match recorded.anew(alloc, call, arriving) {
         Ok(server) => server,
-        Err(Fault::Kept(_)) => return Ok(None),
+        Err(Fault::Journal(_)) => return Ok(None),
         Err(fault) => return Err(fault),
     };
     let answered = answered_of(alloc, &mut server, recorded.steps())?;

@@ -1,9 +1,9 @@
 //! A server of a recording. Between two frames it is only what a crash leaves on its disk.
 ghost use Rattle.express_words.specs.Limits.{KeepsLimits};
 
-use crate::fault::Fault;
 use crate::server::Server;
 use node_restart::{Opening, Sender};
+use recordings::Fault;
 use std::alloc::Global;
 
 /// A frame that the server was handed, and what it answered.

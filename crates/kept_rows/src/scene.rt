@@ -1,15 +1,16 @@
 //! The lines of the input, and what each of them answers.
 ghost use Rattle.express_words.specs.Limits.{KeepsLimits};
 
-use crate::crashes::{Tally, crash_everywhere};
-use crate::fault::Fault;
-use crate::fields::{bytes_of, first_of, number_of, seed_of, settings_of};
+use crate::crashes::crash_everywhere;
 use crate::recorded::Recorded;
 use crate::records::{journal_bytes, records_of};
-use crate::texts::{bytes_text, fault_text, words};
-use crate::told::ToldClient;
+use crate::texts::{fault_text, tally_text};
 use express_words::Settings;
 use node_restart::{Opening, Role, Sender};
+use recordings::{
+    Answer, Answers, Fault, ToldClient, bytes_of, bytes_text, first_of, no_frame, number_of,
+    seed_of, settings_of,
+};
 use std::alloc::Global;
 
 /// The limit of the servers, in bytes, where a recording tells none.
@@ -46,7 +47,7 @@ fn opened(
 fn client_of(alloc: Global, settings: &Settings, seed: &[u8; 32]) -> Result<ToldClient, Fault>
     requires limits { KeepsLimits settings.now.width settings.now.boxes settings.now.lanes settings.now.window }
 {
-    ToldClient::open(alloc, seed, settings.width, settings.boxes + 1)
+    ToldClient::open(alloc, 0, seed, settings.width, settings.boxes + 1, 1)
 }
 
 // What stands on a disk after two records.
@@ -69,17 +70,6 @@ fn records_text(alloc: Global, digits: &str) -> Result<String, Fault> {
         text.push_str(bytes_text(alloc, &record)?.as_str())?;
     }
     Ok(text)
-}
-
-fn tally_text(alloc: Global, tally: Tally) -> Result<String, Fault> {
-    let Tally {
-        crashes,
-        with,
-        without,
-    } = tally;
-    Ok(format!(in alloc;
-        "{crashes} crashes, {with} with the frame under way, {without} without it"
-    )?)
 }
 
 impl Scene {
@@ -131,7 +121,7 @@ impl Scene {
             "helper.link" => self.helper.answer(alloc, Sender::Peer, frame),
             "client" => {
                 self.client.hear(&frame);
-                words(alloc, "-")
+                no_frame(alloc)
             }
             _ => Err(Fault::Unknown),
         }
@@ -165,16 +155,20 @@ impl Scene {
             _ => self.deliver(alloc, word, text),
         }
     }
+}
 
-    /// The answer to a line's question; None where the line asks nothing.
-    pub fn answer(&mut self, alloc: Global, question: &str) -> Result<Option<String>, Fault> {
+impl Answers for Scene {
+    // The fault of a journal is an answer too.
+    fn answer(&mut self, alloc: Global, question: &str) -> Result<Answer, Fault> {
         let (word, text) = first_of(question)?;
         if self.prepare(alloc, word, text)? {
-            return Ok(None);
+            return Ok(Answer::Nothing);
         }
         match self.reply(alloc, word, text) {
-            Ok(answer) => Ok(Some(answer)),
-            Err(Fault::Kept(fault)) => Ok(Some(fault_text(alloc, fault)?)),
+            Ok(answer) => Ok(Answer::Text(answer)),
+            Err(fault @ (Fault::Journal(_) | Fault::Foreign(_))) => {
+                Ok(Answer::Text(fault_text(alloc, fault)?))
+            }
             Err(fault) => Err(fault),
         }
     }

@@ -2,11 +2,11 @@
 ghost use Rattle.std.specs.Prelude.{◌≤◌, length};
 ghost use Rattle.express_words.specs.Limits.{KeepsLimits};
 
-use crate::fault::Fault;
-use crate::texts::{bytes_text, front_of, written};
+use crate::texts::written;
 use frame_rules::FRAME_MAX;
 use node_journal::MemoryDisk;
 use node_restart::{Did, KeepFault, Kept, Opening, Sender};
+use recordings::{Fault, bytes_text, front_text};
 use std::alloc::Global;
 use std::marker::Model;
 
@@ -15,7 +15,6 @@ const CALLS: usize = 64;
 
 const ROOM: usize = 16384;
 
-#[derive(Drop)]
 pub struct Server {
     kept: Kept<MemoryDisk>,
 }
@@ -24,6 +23,21 @@ impl Model for Server {
     ghost Value = { Unit {0} };
 
     ghost view = { λ _. tt };
+}
+
+// Written out, so that a function that lets one go sees one call and not the drop of each part.
+impl Drop for Server {
+    fn drop(self) {
+        let Server { kept: _ } = self;
+    }
+}
+
+fn fault_of(fault: KeepFault) -> Fault {
+    match fault {
+        KeepFault::Journal(fault) => Fault::Journal(fault),
+        KeepFault::NoMemory => Fault::NoMemory,
+        KeepFault::Foreign(number) => Fault::Foreign(number),
+    }
 }
 
 impl Server {
@@ -42,7 +56,7 @@ impl Server {
         let disk = MemoryDisk::new(alloc, &[], arriving, CALLS, ROOM, &[failing])?;
         match Kept::create(alloc, opening, disk, u64::from(limit)) {
             Ok(kept) => Ok(Server { kept }),
-            Err((fault, _)) => Err(Fault::Kept(fault)),
+            Err((fault, _)) => Err(fault_of(fault)),
         }
     }
 
@@ -51,7 +65,7 @@ impl Server {
         let disk = MemoryDisk::new(alloc, bytes, &[], CALLS, ROOM, &[])?;
         match Kept::reopen(alloc, disk, u64::from(limit)) {
             Ok(kept) => Ok(Server { kept }),
-            Err((fault, _)) => Err(Fault::Kept(fault)),
+            Err((fault, _)) => Err(fault_of(fault)),
         }
     }
 
@@ -67,8 +81,10 @@ impl Server {
     /// What it writes at a frame.
     pub fn answer(&mut self, alloc: Global, sender: Sender, frame: &[u8]) -> Result<String, Fault> {
         let mut out = [0u8; FRAME_MAX];
-        let did = self.take(sender, frame, &mut out)?;
-        bytes_text(alloc, front_of(&out, written(did)))
+        match self.take(sender, frame, &mut out) {
+            Ok(did) => front_text(alloc, &out, written(did)),
+            Err(fault) => Err(fault_of(fault)),
+        }
     }
 
     /// What a crash now leaves on its disk.

@@ -1,29 +1,11 @@
-//! Answers as texts.
-use crate::fault::Fault;
-use client_core::{Outcome, Progress};
+//! What a server wrote, and the texts of faults and counts.
+use crate::crashes::Tally;
 use helper_core::LinkTurn;
 use leader_core::{Ack, Turn};
 use node_journal::JournalFault;
-use node_restart::{Did, KeepFault};
+use node_restart::Did;
+use recordings::Fault;
 use std::alloc::Global;
-
-/// These words.
-pub fn words(alloc: Global, text: &str) -> Result<String, Fault> {
-    Ok(String::from_str(alloc, text)?)
-}
-
-/// Bytes in hexadecimal digits; `-` where there are none.
-pub fn bytes_text(alloc: Global, bytes: &[u8]) -> Result<String, Fault> {
-    if bytes.is_empty() {
-        return words(alloc, "-");
-    }
-    Ok(hex::encode(alloc, bytes)?)
-}
-
-/// The first bytes of a room that was written to. Nothing here writes more than the room holds.
-pub fn front_of(room: &[u8], length: usize) -> &[u8] {
-    &room[..length.min(room.len())]
-}
 
 /// How many bytes a server wrote.
 pub fn written(did: Did) -> usize {
@@ -39,31 +21,21 @@ pub fn written(did: Did) -> usize {
 }
 
 /// A fault, with the end of a journal that is full.
-pub fn fault_text(alloc: Global, fault: KeepFault) -> Result<String, Fault> {
+pub fn fault_text(alloc: Global, fault: Fault) -> Result<String, Fault> {
     match fault {
-        KeepFault::Journal(JournalFault::Full(end)) => Ok(format!(in alloc; "{fault} {end}")?),
+        Fault::Journal(JournalFault::Full(end)) => Ok(format!(in alloc; "{fault} {end}")?),
         _ => Ok(format!(in alloc; "{fault}")?),
     }
 }
 
-fn outcome_text(alloc: Global, outcome: Outcome, message: &[u8]) -> Result<String, Fault> {
-    Ok(match outcome {
-        Outcome::Registered(number) => format!(in alloc; "registered {number}")?,
-        Outcome::Accepted => words(alloc, "accepted")?,
-        Outcome::Message => {
-            let digits = hex::encode(alloc, message)?;
-            format!(in alloc; "message {digits}")?
-        }
-        Outcome::Refused(refusal) => format!(in alloc; "refused {refusal}")?,
-    })
-}
-
-/// What a frame did at its client, where a message that was read by it is this one.
-pub fn progress_text(alloc: Global, progress: Progress, message: &[u8]) -> Result<String, Fault> {
-    match progress {
-        Progress::Ignored => words(alloc, "ignored"),
-        Progress::Later(refusal) => Ok(format!(in alloc; "later {refusal}")?),
-        Progress::Next => words(alloc, "next"),
-        Progress::Finished(outcome) => outcome_text(alloc, outcome, message),
-    }
+/// What the crashes of a disk left.
+pub fn tally_text(alloc: Global, tally: Tally) -> Result<String, Fault> {
+    let Tally {
+        crashes,
+        with,
+        without,
+    } = tally;
+    Ok(format!(in alloc;
+        "{crashes} crashes, {with} with the frame under way, {without} without it"
+    )?)
 }

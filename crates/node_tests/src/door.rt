@@ -1,8 +1,8 @@
 //! A helper at its door, over a net in memory. The deposit and its answer are those of an independent
 //! program.
-use node_host::{Tally, host, open_node};
 use express_words::outside::{Failed, MemoryConn, MemoryNet};
 use express_words::{Settings, Text};
+use node_host::{Tally, host, open_node};
 use node_serve::Node;
 use settings_text::{HELPER, ServeSettings};
 use std::alloc::AllocError;

@@ -1,7 +1,7 @@
 //! The bytes on a disk, damage, each fault of a disk, and a crash at every call and every byte that isn't
 //! synced.
-use node_journal::{Journal, JournalFault, MemoryDisk};
 use express_words::outside::Counted;
+use node_journal::{Journal, JournalFault, MemoryDisk};
 use std::test::Fail;
 
 const LIMIT: u64 = 14;

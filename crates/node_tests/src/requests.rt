@@ -1,8 +1,8 @@
 //! A client's requests over a net in memory that gives recorded answers.
-use node_client::{Peers, Stop, Told, Work, work_off};
 use client_core::{Client, Outcome, Request};
 use express_words::Refusal;
 use express_words::outside::{MemoryConn, MemoryNet};
+use node_client::{Peers, Stop, Told, Work, work_off};
 use std::alloc::AllocError;
 use std::test::Fail;
 

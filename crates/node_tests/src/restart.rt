@@ -1,9 +1,9 @@
 //! A server in memory that is full, and one that is opened again.
 ghost use Rattle.std.specs.Prelude.{◌<◌};
 
-use node_restart::{Did, KeepFault, Kept, Opening, Role};
 use express_words::Settings;
 use node_journal::{JournalFault, MemoryDisk};
+use node_restart::{Did, KeepFault, Kept, Opening, Role};
 use std::test::Fail;
 
 const OPENING: Opening = Opening {

@@ -83,7 +83,11 @@ fn run(alloc: Global, answers: &[&'static str], failing: &[u64]) -> Result<Ran, 
     Ok(run_client(alloc, &settings, &[7; 32], &mut net)?)
 }
 
-pub(crate) fn carry(alloc: Global, lines: &[&'static str], answers: &[&'static str]) -> Result<Ran, Fail> {
+pub(crate) fn carry(
+    alloc: Global,
+    lines: &[&'static str],
+    answers: &[&'static str],
+) -> Result<Ran, Fail> {
     let text = text(alloc, lines)?;
     let settings = read_carry(alloc, text.as_bytes())?;
     let mut net = net(alloc, answers, &[])?;

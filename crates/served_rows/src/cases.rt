@@ -1,9 +1,9 @@
 //! The cases of a step at a leader: with no failure, and with one call that fails.
 use crate::failure::{Failure, Place};
-use crate::fault::Fault;
 use crate::server::Server;
 use crate::serving::{Link, serve};
 use crate::step::{Exchange, Step};
+use recordings::Fault;
 use std::alloc::Global;
 
 const PLACES: [Place; 4] = [

@@ -1,11 +1,10 @@
 //! The lines of the input, and what each of them prints.
 use crate::cases::{failing_case, pass_all, places_of, plain_case};
 use crate::failure::{Failure, Place};
-use crate::fault::Fault;
-use crate::fields::{bytes_of, first_of, seed_of};
 use crate::server::Server;
 use crate::serving::{Link, serve};
 use crate::step::{Exchange, Step};
+use recordings::{Answer, Answers, Fault, bytes_of, first_of, seed_of};
 use std::alloc::Global;
 use std::marker::Model;
 
@@ -184,20 +183,17 @@ impl Rows {
             _ => self.answer_badly(alloc, text),
         }
     }
+}
 
-    /// Adds what a line prints.
-    pub fn answer(
-        &mut self,
-        alloc: Global,
-        line: &str,
-        lines: &mut Vec<String>,
-    ) -> Result<(), Fault> {
+impl Answers for Rows {
+    fn answer(&mut self, alloc: Global, line: &str) -> Result<Answer, Fault> {
         let (word, text) = first_of(line)?;
+        let mut lines = Vec::new(alloc);
         match word {
-            "leader" => self.lead(alloc, text, lines)?,
+            "leader" => self.lead(alloc, text, &mut lines)?,
             "helper" | "alone" | "answer" => lines.push(self.one_line(alloc, word, text)?)?,
             _ => self.prepare(alloc, word, text)?,
         }
-        Ok(())
+        Ok(Answer::Lines(lines))
     }
 }

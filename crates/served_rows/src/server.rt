@@ -1,14 +1,13 @@
 //! A leader or a helper. Its contracts hide what it holds, since only what it writes is compared.
 ghost use Rattle.std.specs.Prelude.{◌≤◌, length};
 
-use crate::fault::Fault;
-use crate::texts::front_of;
 use express_words::Settings;
 use express_words::outside::{MemoryConn, MemoryNet};
 use frame_rules::FRAME_MAX;
 use helper_core::Helper;
 use leader_core::Leader;
 use node_serve::{Node, Served, serve_one};
+use recordings::{Fault, front_of};
 use std::alloc::Global;
 use std::marker::Model;
 use wire_frames::Gather;

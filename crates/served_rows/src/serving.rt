@@ -1,11 +1,11 @@
 //! One connection is served, over a net of recorded answers.
 use crate::failure::{Failure, Place};
-use crate::fault::Fault;
 use crate::server::Server;
 use crate::step::{Exchange, Step};
 use crate::texts::{got_text, told_text};
 use express_words::outside::{MemoryConn, MemoryNet};
 use frame_rules::FRAME_MAX;
+use recordings::Fault;
 use std::alloc::Global;
 use std::marker::Model;
 

@@ -1,13 +1,8 @@
 //! What became of a connection, in words.
-use crate::fault::Fault;
 use crate::step::Step;
 use node_serve::Served;
+use recordings::Fault;
 use std::alloc::Global;
-
-/// The first bytes of the room that a frame was written to. No server writes more than the room holds.
-pub fn front_of(room: &[u8], length: usize) -> &[u8] {
-    &room[..length.min(room.len())]
-}
 
 fn served_text(alloc: Global, served: Served) -> Result<String, Fault> {
     Ok(match served {

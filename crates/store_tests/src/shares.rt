@@ -1,6 +1,6 @@
 //! Shares through a write, a read and a retirement.
-use share_store::*;
 use dpf_keys::{PublicPart, generate, walk};
+use share_store::*;
 use std::test::Fail;
 
 const TARGET: u128 = 0x855a777d484fc8789311ece17c0ad3c5;

@@ -1,9 +1,9 @@
 //! One frame of each kind, and the frames of the worked examples: written, read, cut, changed and gathered.
 use crate::frame_rows::{Answer, Row, rows};
-use wire_frames::{FRAME_MAX, FrameFault, Gather, decode, encode_into};
 use std::alloc::{AllocError, Global};
 use std::process::Abort;
 use std::test::Fail;
+use wire_frames::{FRAME_MAX, FrameFault, Gather, decode, encode_into};
 
 /// Held after a deposit on lane 0, serial 1.
 const HELD: [u8; 21] = [

@@ -1,7 +1,7 @@
 //! One server's settings, one client's and one carrier's, the first wrong key of each, and texts that aren't
 //! TOML.
-use settings_text::{Asking, CarryJob, LEADER, OwnedBox, read_carry, read_client, read_serve};
 use express_words::Settings;
+use settings_text::{Asking, CarryJob, LEADER, OwnedBox, read_carry, read_client, read_serve};
 use std::alloc::{AllocError, Global};
 use std::test::Fail;
 

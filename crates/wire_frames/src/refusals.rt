@@ -4,7 +4,7 @@ ghost use Rattle.frame_rules.specs.Frames.{plain_body};
 ghost use Rattle.frame_rules.specs.Forms.{Gives, tagged};
 ghost use Rattle.frame_rules.specs.Bodies.{rejected_of, refusals, addressed, refused, reply_refused};
 
-use crate::fields::{exactly, first_of, u16_of, u32_of, u64_of, u8_of, word_in};
+use crate::fields::{exactly, first_of, u8_of, u16_of, u32_of, u64_of, word_in};
 use express_words::Refusal;
 use frame_rules::{Body, FrameFault, ReplyBody};
 

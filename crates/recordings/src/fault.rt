@@ -1,25 +1,38 @@
 //! Why a line has no answer.
 use express_words::NoMemory;
+use node_journal::JournalFault;
 use std::alloc::{AllocError, AllocFailed};
 use std::fmt;
 
 /// Why a line has no answer. What stood before it stands as it was, except where memory is wanting.
 #[derive(Clone, Copy, Debug, PartialEq, Eq)]
 pub enum Fault {
-    /// It is no line of a recording.
+    /// It is none of the lines that are known, or stands in a place where it makes no sense.
     Unknown,
     /// The recording has told no seed of this client.
     NoClient(u16),
+    /// A call of a journal failed.
+    Journal(JournalFault),
+    /// The record of this number in a server's journal, counted from 0, isn't of the form, or is record 0 and missing.
+    Foreign(u64),
     NoMemory,
 }
 
 impl fmt::Display for Fault {
     fn fmt<W: fmt::Write>(&self, f: &mut fmt::Formatter<W>) -> fmt::Result {
         match self {
-            Fault::Unknown => f.write_str("no line of a recording"),
+            Fault::Unknown => f.write_str("no line that is known here"),
             Fault::NoClient(number) => write!(f, "no client {number}"),
-            Fault::NoMemory => f.write_str("out of memory"),
+            Fault::Journal(fault) => write!(f, "{fault}"),
+            Fault::Foreign(number) => write!(f, "journal foreign {number}"),
+            Fault::NoMemory => write!(f, "{}", NoMemory),
         }
+    }
+}
+
+impl From<JournalFault> for Fault {
+    fn from(fault: JournalFault) -> Self {
+        Fault::Journal(fault)
     }
 }
 

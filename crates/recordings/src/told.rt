@@ -1,20 +1,30 @@
-//! A client, and what the last frame did that came to it. Its contracts hide what it holds.
+//! A client, and what it says of the last frame that came to it. Its contracts hide what it holds.
 ghost use Rattle.std.specs.Prelude.{◌≡◌, ◌≤◌, length};
 ghost use Rattle.express_words.specs.Limits.{IsWidth};
 
 use crate::fault::Fault;
 use crate::fields::{address_of, bytes_of, first_of, number_of};
-use crate::texts::{progress_text, words};
+use crate::progress::progress_text;
+use crate::texts::{front_text, no_frame, words};
 use client_core::{AskFault, Client, Progress, Request};
+use frame_rules::FRAME_MAX;
 use std::alloc::Global;
 use std::marker::Model;
 
-#[derive(Drop)]
+/// A client that takes requests in the words of a line.
 pub struct ToldClient {
     client: Client,
     told: Progress,
     /// The message that was read last.
     message: Vec<u8>,
+}
+
+// A client's frame, which stands at the front of this room, behind the name of its addressee.
+// The leader is server 0, the helper 1.
+fn sent_text(alloc: Global, server: u8, room: &[u8], length: usize) -> Result<String, Fault> {
+    let digits = front_text(alloc, room, length)?;
+    let name = if server == 0 { "leader" } else { "helper" };
+    Ok(format!(in alloc; "{name}.client {digits}")?)
 }
 
 impl Model for ToldClient {
@@ -25,18 +35,33 @@ impl Model for ToldClient {
     ghost invariant = { λ c. length c.message.items ≡ c.client.width };
 }
 
+// Written out, so that a function that lets one go sees one call and not the drop of each part.
+impl Drop for ToldClient {
+    fn drop(self) {
+        let ToldClient {
+            client: _,
+            told: _,
+            message: _,
+        } = self;
+    }
+}
+
 impl ToldClient {
-    /// A client of lane 0, to which no frame has come, with room for so many boxes.
+    /// A client of this lane, to which no frame has come. Lane, seed, width, room for boxes and first serial are as
+    /// `Client::open` takes them.
     pub fn open(
         alloc: Global,
+        lane: u16,
         seed: &[u8; 32],
         width: u32,
         capacity: u32,
+        first_serial: u32,
     ) -> Result<ToldClient, Fault>
         requires width { IsWidth width }
         requires capacity { capacity ≤ 4097 }
+        requires serial { 1 ≤ first_serial }
     {
-        let client = Client::open(alloc, 0, seed, width, capacity, 1)?;
+        let client = Client::open(alloc, lane, seed, width, capacity, first_serial)?;
         Ok(ToldClient {
             client,
             told: Progress::Ignored,
@@ -55,7 +80,8 @@ impl ToldClient {
         }
     }
 
-    /// Whether it takes a request, and if not, why: `register ADDRESS`, `write ADDRESS MESSAGE` or `read K`.
+    /// Whether it takes a request, and if not, why: `register ADDRESS`, `write ADDRESS MESSAGE`, `read K` or
+    /// `retire K`.
     pub fn ask(&mut self, alloc: Global, text: &str) -> Result<String, Fault> {
         let (kind, text) = first_of(text)?;
         match kind {
@@ -74,7 +100,26 @@ impl ToldClient {
                 let own = number_of(text)?;
                 self.taken(alloc, &Request::Read { own })
             }
+            "retire" => {
+                let own = number_of(text)?;
+                self.taken(alloc, &Request::Retire { own })
+            }
             _ => Err(Fault::Unknown),
+        }
+    }
+
+    fn sent(&self, out: &mut [u8]) -> Option<(u8, usize)>
+        requires room { 8213 ≤ length out.old }
+    {
+        self.client.send(out)
+    }
+
+    /// The frame of its present step, if it has a request, and whom it is for.
+    pub fn send(&self, alloc: Global) -> Result<String, Fault> {
+        let mut out = [0u8; FRAME_MAX];
+        match self.sent(&mut out) {
+            None => no_frame(alloc),
+            Some((server, length)) => sent_text(alloc, server, &out, length),
         }
     }
 

@@ -1,4 +1,0 @@
-use Rattle.joined_rows.proofs.at_leader.turn_here.Given as goal
-
-abbrev pub ghosts-turn_of : goal.ghosts-turn_of
-ghosts-turn_of a = record { name = a.blank.name; parts = a.blank.parts }
