@@ -19,6 +19,7 @@ PIECES='644 share/man/man1/express.1 man/express.1
 644 share/doc/express/deploy/helper.toml deploy/helper.toml
 644 share/doc/express/deploy/helper.haproxy.cfg deploy/helper.haproxy.cfg
 644 share/doc/express/deploy/helper.stunnel.conf deploy/helper.stunnel.conf
+644 share/doc/express/deploy/helper.nft deploy/helper.nft
 644 share/doc/express/deploy/leader.toml deploy/leader.toml
 644 share/doc/express/deploy/leader.haproxy.cfg deploy/leader.haproxy.cfg
 644 share/doc/express/deploy/leader.stunnel.conf deploy/leader.stunnel.conf
