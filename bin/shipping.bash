@@ -1,5 +1,5 @@
 # What bin/install and bin/release share: which programs stand here proved, how they are built for a target, and what
-# belongs where. Sourced, with `top` the repository and `room` a temporary folder.
+# belongs where. Sourced, with `top` the repository.
 # shellcheck shell=bash
 # shellcheck disable=SC2034,SC2154
 
@@ -42,41 +42,18 @@ built() {
     echo "$program"
 }
 
-# Puts back the program that .ci/run left where another was being built.
-put_back() {
-    if [[ -e $room/left ]]; then
-        mv "$room/left" "$(<"$room/place")"
-    fi
-}
-
-# Whether a log of rt tells that it proved what it built, for this target.
-tells_proved() {
-    local cpu=
-    [[ $2 == default ]] || cpu="cpu=$2 "
-    grep -q "^logic=proved .*$cpu" "$1"
-}
-
-# Builds a crate's program for a target. `rt run` proves it and runs it once on words that do little; where .ci/run
-# has passed all proofs are at hand, so that this takes minutes. It leaves each target at one place, so what stood
-# there is put back.
+# Builds a crate's program for a target, where it doesn't stand yet. That of the default is what .ci/run left; for
+# another one the crate is proved again over the libraries that .ci/run proved, which takes some minutes.
 build() {
-    local crate=$1 target=$2 program place flags=()
+    local crate=$1 target=$2 program
     program=$(built "$crate" "$target")
     ! is_built "$program" || return 0
-    echo "building $crate for the target $target, which takes some minutes" >&2
-    place=$(built "$crate" default)
-    echo "$place" >"$room/place"
-    [[ ! -e $place ]] || mv "$place" "$room/left"
-    [[ $target == default ]] || flags=("--cpu=$target")
-    (cd "$top/crates/$crate" && rt run "${flags[@]}" -- mill 0) >"$room/log" 2>&1 || true
-    if [[ ! -x $place ]] || ! tells_proved "$room/log" "$target"; then
-        tail -n 20 "$room/log" >&2
-        echo "$crate isn't proved or can't be built" >&2
+    if [[ $target == default ]]; then
+        explain_unproved >&2
         return 1
     fi
-    mv "$place" "$room/new"
-    put_back
-    mv "$room/new" "$program"
+    echo "building $crate for the target $target, which takes some minutes" >&2
+    "$top/bin/build-for" "$crate" "$target" "$program"
     "$top/.ci/sources-hash" "$program" >"$program.sources"
 }
 
