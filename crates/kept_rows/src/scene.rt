@@ -89,6 +89,7 @@ impl Scene {
         })
     }
 
+    // A new server of this role and seed, on a disk of its own, takes the place of the one that was there.
     fn renew(&mut self, alloc: Global, role: Role, seed: &[u8; 32]) -> Result<(), Fault> {
         let recorded = opened(alloc, role, &self.settings, seed, self.limit)?;
         match role {
