@@ -4,7 +4,7 @@ ghost use Rattle.frame_rules.specs.Frames.{plain_body, Refused};
 ghost use Rattle.frame_rules.specs.Whole.{IsAnswer};
 ghost use Rattle.dpf_rules.specs.Walk.{leaf_of};
 ghost use Rattle.server_boxes.specs.Held.{write_in};
-ghost use Rattle.step_rules.specs.Helper.{door, idle, row, Done, Begun as Begins, Audited as Audits};
+ghost use Rattle.step_rules.specs.Helper.{door, phase_of, want_of, idle, row, Done, Begun as Begins, Audited as Audits};
 ghost use Rattle.step_rules.specs.HelperCommands.{stage_for, held_key, held_root, held_token, held_proof, held_closing};
 ghost use Rattle.step_rules.specs.HelperClients.{deposit_row, proof_row, proof_in};
 ghost use Rattle.helper_core.specs.Slots.{row_in, rows_in, stage_in, stage_with, IsSlot};
@@ -42,22 +42,42 @@ fn refused(refusal: Refusal) -> Body<'static>
 }
 
 impl Slot {
+    /// How far the request has come, as the gates of a lane number it.
+    fn phase(&self) -> u8
+        ensures { result ≡ phase_of (stage_in self.now) }
+    {
+        match self.stage {
+            Stage::Idle => phase::IDLE,
+            Stage::Deposited(_) => phase::DEPOSITED,
+            Stage::Begun(_) => phase::BEGUN,
+            Stage::Proved(_, _) => phase::PROVED,
+            Stage::Audited(_, _) => phase::AUDITED,
+            Stage::Done(_) => phase::DONE,
+        }
+    }
+
+    /// What the request asks for.
+    fn want(&self) -> Want
+        ensures { result ≡ want_of (stage_in self.now) }
+    {
+        match self.stage {
+            Stage::Idle => Want::Nothing,
+            Stage::Deposited(held) => want_in(&held),
+            Stage::Begun(_) => Want::Write,
+            Stage::Proved(_, _) => Want::Write,
+            Stage::Audited(_, _) => Want::Write,
+            Stage::Done(want) => want,
+        }
+    }
+
     /// What of the slot lets frames in.
     fn door(&self) -> Row
         ensures { result ≡ door (row_in self.now) }
     {
-        let (phase, want) = match self.stage {
-            Stage::Idle => (phase::IDLE, Want::Nothing),
-            Stage::Deposited(held) => (phase::DEPOSITED, want_in(&held)),
-            Stage::Begun(_) => (phase::BEGUN, Want::Write),
-            Stage::Proved(_, _) => (phase::PROVED, Want::Write),
-            Stage::Audited(_, _) => (phase::AUDITED, Want::Write),
-            Stage::Done(want) => (phase::DONE, want),
-        };
         Row {
             serial: self.serial,
-            phase,
-            want,
+            phase: self.phase(),
+            want: self.want(),
         }
     }
 

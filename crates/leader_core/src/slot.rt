@@ -5,7 +5,7 @@ ghost use Rattle.frame_rules.specs.Frames.{PlainFrame, plain_body, Challenge};
 ghost use Rattle.frame_rules.specs.Whole.{IsAnswer};
 ghost use Rattle.lane_table.specs.Gates.{opening_gate, closing_gate};
 ghost use Rattle.server_boxes.specs.Held.{write_in};
-ghost use Rattle.step_rules.specs.Leader.{Leader, Asked as Asks, Row as Place, row_at, door, row, idle, Auditing, Challenged as Challenges, Done, Settling, Waiting};
+ghost use Rattle.step_rules.specs.Leader.{Leader, Asked as Asks, Row as Place, row_at, door, phase_of, row, idle, want_of, Auditing, Challenged as Challenges, Done, Settling, Waiting};
 ghost use Rattle.step_rules.specs.LeaderClients.{Named as Names, again_at, new_at, submission_at, proof_at, proof_in, if_named, if_room, issued_for};
 ghost use Rattle.step_rules.specs.Boxes.{addresses_of};
 ghost use Rattle.audit_rules.specs.Values.{opens};
@@ -63,22 +63,42 @@ pub(crate) fn refused(refusal: Refusal) -> Said<'static>
 }
 
 impl Slot {
+    /// How far the request has come, as the gates of a lane number it.
+    fn phase(&self) -> u8
+        ensures { result ≡ phase_of (stage_in self.now) }
+    {
+        match self.stage {
+            Stage::Idle => phase::IDLE,
+            Stage::Waiting(_, _) => phase::WAITING,
+            Stage::Challenged(_) => phase::CHALLENGED,
+            Stage::Auditing(_, _, _, _) => phase::AUDITING,
+            Stage::Settling(_, _, _, _) => phase::AUDITING,
+            Stage::Done(_, _) => phase::DONE,
+        }
+    }
+
+    /// What the request asks for.
+    fn want(&self) -> Want
+        ensures { result ≡ want_of (stage_in self.now) }
+    {
+        match self.stage {
+            Stage::Idle => Want::Nothing,
+            Stage::Waiting(_, asked) => asked.want(),
+            Stage::Challenged(_) => Want::Write,
+            Stage::Auditing(_, _, _, _) => Want::Write,
+            Stage::Settling(_, _, _, _) => Want::Write,
+            Stage::Done(want, _) => want,
+        }
+    }
+
     /// What of the slot lets frames in.
     fn door(&self) -> Row
         ensures { result ≡ door (row_in self.now) }
     {
-        let (phase, want) = match self.stage {
-            Stage::Idle => (phase::IDLE, Want::Nothing),
-            Stage::Waiting(_, asked) => (phase::WAITING, asked.want()),
-            Stage::Challenged(_) => (phase::CHALLENGED, Want::Write),
-            Stage::Auditing(_, _, _, _) => (phase::AUDITING, Want::Write),
-            Stage::Settling(_, _, _, _) => (phase::AUDITING, Want::Write),
-            Stage::Done(want, _) => (phase::DONE, want),
-        };
         Row {
             serial: self.serial,
-            phase,
-            want,
+            phase: self.phase(),
+            want: self.want(),
         }
     }
 

@@ -1,5 +1,5 @@
 -- What a crash may leave after one more write or sync, or none.
-use Rattle.std.proofs.Common.{◌≡◌, ◌⊎◌, inl, inr, ⊎_elim, ℕ, ◌+◌, ◌-◌, ◌≤◌, ◌<◌, Bool, true, false, List, [], ◌∷◌, ◌++◌, length, take, drop, if◌then◌else◌, refl, sym, ◌∙◌, ap, subst, arith, append_assoc, length-append, length-take, length-drop}
+use Rattle.std.proofs.Common.{◌≡◌, ◌⊎◌, inl, inr, ⊎_elim, ℕ, suc, ◌+◌, ◌-◌, ◌≤◌, ◌<◌, Bool, true, false, List, [], ◌∷◌, ◌++◌, length, take, drop, if◌then◌else◌, refl, sym, ◌∙◌, ap, subst, arith, append_assoc, length-append, length-take, length-drop}
 use Rattle.std.specs.Prelude.{nat_le}
 use Rattle.std.proofs.lemmas.List.{take_at, drop_at}
 use Rattle.std.proofs.lemmas.Bool.{cases_lt}
@@ -71,19 +71,50 @@ left_may arriving h = left_may_after arriving h.first h.changes
 pub same_time : (h : History) → Elapses (moment_of h) (moment_of h) (LeftSince h) (LeftSince h) (MayLeave h)
 same_time h = record { later = omega arith; nothing_else = λ t c le since. inl since; keeps = λ t c le past. past }
 
-pub write_time : (h : History) (at : ℕ) (bytes : List ℕ) → Elapses (moment_of h) (moment_of (wrote at bytes h)) (LeftSince h) (LeftSince (wrote at bytes h)) (MayLeave (wrote at bytes h))
-write_time h at bytes = record {
+-- a moment of a longer history is now, or one of the history before
+one_earlier : (first : List ℕ) (change : Change) (before : List Change) (m : ℕ) (c : List ℕ)
+    → MayLeaveAfter first (drop (suc (length before) - m) (change ∷ before)) c
+    → MayLeaveAfter first (drop (length before - m) before) c ⊎ MayLeaveAfter first (change ∷ before) c
+one_earlier first change before m c left = elim (cases_lt (length before) m) [
+  | inl past ↦
+      let none : suc (length before) - m ≡ 0 = omega (arith, past) in
+      inr (subst (λ k. MayLeaveAfter first (drop k (change ∷ before)) c) none left)
+  | inr le ↦
+      let one : suc (length before) - m ≡ suc (length before - m) = omega (arith, le) in
+      inl (subst (λ k. MayLeaveAfter first (drop k (change ∷ before)) c) one left)
+]
+
+-- what a history might have left at a moment, it might have left at one that the longer history has
+one_later : (first : List ℕ) (change : Change) (before : List Change) (t : ℕ) (c : List ℕ) → t ≤ length before
+    → (m : ℕ) × (t ≤ m) × MayLeaveAfter first (drop (length before - m) before) c
+    → (m : ℕ) × (t ≤ m) × MayLeaveAfter first (drop (suc (length before) - m) (change ∷ before)) c
+one_later first change before t c le (m, from, left) = elim (cases_lt (length before) m) [
+  | inl past ↦
+      let none : length before - m ≡ 0 = omega (arith, past) in
+      let one : suc (length before) - length before ≡ suc 0 = omega arith in (
+        length before,
+        le,
+        subst (λ k. MayLeaveAfter first (drop k (change ∷ before)) c) (sym one)
+            (subst (λ k. MayLeaveAfter first (drop k before) c) none left),
+      )
+  | inr le' ↦
+      let one : suc (length before) - m ≡ suc (length before - m) = omega (arith, le') in
+      (m, from, subst (λ k. MayLeaveAfter first (drop k (change ∷ before)) c) (sym one) left)
+]
+
+change_time : (h : History) (change : Change) (new : History) → new ≡ record { first = h.first; changes = change ∷ h.changes }
+    → Elapses (moment_of h) (moment_of new) (LeftSince h) (LeftSince new) (MayLeave new)
+change_time h change new is = subst (λ n. Elapses (moment_of h) (moment_of n) (LeftSince h) (LeftSince n) (MayLeave n)) (sym is) record {
   later = omega arith;
-  nothing_else = λ t c le since. ⊎_elim (λ now. inr now) (λ past. inl past.1) since;
-  keeps = λ t c le past. inr (le, past);
+  nothing_else = λ t c le since. ⊎_elim (λ past. inl (since.0, since.1, past)) (λ now. inr now) (one_earlier h.first change h.changes since.0 c since.2);
+  keeps = λ t c le past. one_later h.first change h.changes t c le past;
 }
 
+pub write_time : (h : History) (at : ℕ) (bytes : List ℕ) → Elapses (moment_of h) (moment_of (wrote at bytes h)) (LeftSince h) (LeftSince (wrote at bytes h)) (MayLeave (wrote at bytes h))
+write_time h at bytes = change_time h (Wrote at bytes) (wrote at bytes h) refl
+
 pub sync_time : (h : History) → Elapses (moment_of h) (moment_of (synced h)) (LeftSince h) (LeftSince (synced h)) (MayLeave (synced h))
-sync_time h = record {
-  later = omega arith;
-  nothing_else = λ t c le since. ⊎_elim (λ now. inr now) (λ past. inl past.1) since;
-  keeps = λ t c le past. inr (le, past);
-}
+sync_time h = change_time h Synced (synced h) refl
 
 pub same_content : (h : History) → IsUntouched (Reads h) (Reads h) (MayLeave h) (MayLeave h)
 same_content h = record { gives = λ c is. is; still = λ c is. is; crash = λ c left. left }

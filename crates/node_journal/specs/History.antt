@@ -1,7 +1,6 @@
 -- What was done to a disk in memory, and what a crash may leave of it.
-use Rattle.std.specs.Prelude.{◌≡◌, ◌⊎◌, ℕ, ◌+◌, ◌≤◌, nat_le, List, [], ◌∷◌, ◌++◌, length, take, drop}
+use Rattle.std.specs.Prelude.{◌≡◌, ℕ, ◌+◌, ◌-◌, ◌≤◌, nat_le, List, [], ◌∷◌, ◌++◌, length, take, drop}
 use Rattle.std.specs.Prelude.{if◌then◌else◌}
-use Rattle.std.proofs.Common.{inl, inr, arith}
 use Rattle.node_journal.specs.Disk.{Torn}
 
 -- a write at an offset, or a sync
@@ -54,17 +53,11 @@ MayLeave h c = MayLeaveAfter h.first h.changes c
 abbrev pub moment_of : History → ℕ
 moment_of h = length h.changes
 
--- what a crash might have left, at this moment or a later one
-abbrev pub LeftSinceAfter : List ℕ → List Change → ℕ → List ℕ → Type 0
-LeftSinceAfter first [] t c = c ≡ first
-LeftSinceAfter first (Wrote at bytes ∷ before) t c =
-    ((d : List ℕ) × MayLeaveAfter first before d × Torn at (length bytes) d c)
-    ⊎ ((t ≤ length before) × LeftSinceAfter first before t c)
-LeftSinceAfter first (Synced ∷ before) t c =
-    (c ≡ bytes_after first before) ⊎ ((t ≤ length before) × LeftSinceAfter first before t c)
-
+-- What a crash might have left at a moment m from t on. The changes after it are in front; a moment that is
+-- still to come counts as this one.
 abbrev pub LeftSince : History → ℕ → List ℕ → Type 0
-LeftSince h t c = LeftSinceAfter h.first h.changes t c
+LeftSince h t c =
+    (m : ℕ) × (t ≤ m) × MayLeaveAfter h.first (drop (moment_of h - m) h.changes) c
 
 -- What a crash leaves of what it may leave: of each write since the last sync these bytes arrive, from the
 -- first on.
@@ -76,18 +69,3 @@ left_after arriving first (Synced ∷ before) = bytes_after first before
 
 abbrev pub left_of : List ℕ → History → List ℕ
 left_of arriving h = left_after arriving h.first h.changes
-
--- The trait's two laws of time. They stand here since a `ghost use` takes nothing from proofs/.
-pub counts_now : (first : List ℕ) (changes : List Change) (t : ℕ) (c : List ℕ)
-    → MayLeaveAfter first changes c → LeftSinceAfter first changes t c
-counts_now first [] t c now = now
-counts_now first (Wrote at bytes ∷ before) t c now = inl now
-counts_now first (Synced ∷ before) t c now = inl now
-
-pub only_now : (first : List ℕ) (changes : List Change) (c : List ℕ)
-    → LeftSinceAfter first changes (length changes) c → MayLeaveAfter first changes c
-only_now first [] c left = left
-only_now first (Wrote at bytes ∷ before) c (inl now) = now
-only_now first (Wrote at bytes ∷ before) c (inr past) = absurd (omega (arith, past.0))
-only_now first (Synced ∷ before) c (inl now) = now
-only_now first (Synced ∷ before) c (inr past) = absurd (omega (arith, past.0))

@@ -1,10 +1,11 @@
 //! A disk in memory.
-ghost use Rattle.std.specs.Prelude.{◌≡◌, ℕ, List, ◌≤◌, ◌↔◌, ◌⊎◌, ◌+◌, length, IfOk, OnOk, OnErr, IsErr, vec_len, vec_capacity};
-ghost use Rattle.std.proofs.Common.{sym, ◌∙◌};
+ghost use Rattle.std.specs.Prelude.{◌≡◌, ℕ, List, ◌≤◌, ◌↔◌, ◌⊎◌, ◌+◌, drop, length, IfOk, OnOk, OnErr, IsErr, vec_len, vec_capacity};
+ghost use Rattle.std.proofs.Common.{sym, subst, ◌∙◌};
 ghost use Rattle.express_words.specs.Causes.{HasCause};
 ghost use Rattle.express_words.specs.Memory.{IsListed, started, passed, failed};
 ghost use Rattle.node_journal.specs.Disk.{CountsFault, Holds, Torn, Copies, Follows, Within, IsUntouched, Elapses};
-ghost use Rattle.node_journal.specs.History.{began, bytes_of, left_of, Reads, MayLeave, LeftSince, moment_of, counts_now, only_now};
+ghost use Rattle.node_journal.specs.History.{began, bytes_of, left_of, Reads, MayLeave, MayLeaveAfter, LeftSince, moment_of};
+ghost use Rattle.std.proofs.Math.Nat.{sub_self, sub-eq-zero_of_le};
 ghost use Rattle.node_journal.specs.Memory.{DiskState, LacksRoom, write_noted, sync_noted};
 
 use crate::Disk;
@@ -125,9 +126,16 @@ impl Disk for MemoryDisk {
 
     ghost one_content = { λ d b c is also. is ∙ sym also };
 
-    ghost counts_now = { λ d t c le now. counts_now d.log.history.first d.log.history.changes t c now };
+    ghost counts_now = { λ d t c le now. (
+      moment_of d.log.history,
+      le,
+      subst (λ k. MayLeaveAfter d.log.history.first (drop k d.log.history.changes) c)
+          (sym (sub_self (moment_of d.log.history))) now,
+    ) };
 
-    ghost only_now = { λ d c left. only_now d.log.history.first d.log.history.changes c left };
+    ghost only_now = { λ d c left.
+        subst (λ k. MayLeaveAfter d.log.history.first (drop k d.log.history.changes) c)
+        (sub-eq-zero_of_le left.1) left.2 };
 
     fn read(&mut self, at: u64, out: &mut [u8]) -> Result<usize, Failed>
         ensures bound { IfOk result (λ n. n ≤ length out.new) }

@@ -33,7 +33,9 @@ impl State {
     ghost use Rattle.std.specs.Prelude.{◌≡◌, ◌<◌, ◌≤◌, length, IfOk, OnOk};
     ghost use Rattle.express_words.specs.Limits.{KeepsLimits};
     ghost use Rattle.schedule_text.specs.Rules.{EventKeepsRules};
-    ghost use Rattle.run_rules.specs.Letters.{opened};
+    ghost use Rattle.run_rules.specs.Letters.{opened, leader_seed, helper_seed};
+    ghost use Rattle.step_rules.specs.Helper.{opened_helper};
+    ghost use Rattle.step_rules.specs.Leader.{opened_leader};
     ghost use Rattle.run_rules.specs.Run.{asks, client_sends, delivers_at, frame_moves, happens, ticks};
     ghost use Rattle.replay_world.specs.Parts.{event_in, injected, request_in};
     ghost use Rattle.replay_world.specs.View.{run_in, Moves, Keeps, IsFit, IsWithin};
@@ -46,15 +48,33 @@ impl State {
     {
         let leader = Leader::open(alloc, &header.settings, &draw32(&header.seed, 0))?;
         let helper = Helper::open(alloc, &header.settings, &draw32(&header.seed, 257))?;
+        State::between(alloc, header, leader, helper)
+    }
+
+    // Between these servers, which have no boxes.
+    fn between(
+        alloc: Global,
+        header: &Header,
+        leader: Leader,
+        helper: Helper,
+    ) -> Result<State, NoMemory>
+        requires limits { KeepsLimits header.now.settings.width header.now.settings.boxes header.now.settings.lanes header.now.settings.window }
+        requires leader { leader ≡ opened_leader header.now.settings (leader_seed header.now.seed) }
+        requires helper { helper ≡ opened_helper header.now.settings (helper_seed header.now.seed) }
+        ensures opened { IfOk result (λ s. run_in header.now s ≡ opened header.now.settings header.now.seed) }
+        ensures fit { IfOk result (IsFit header.now) }
+    {
+        let out = vec![in alloc; 0u8; FRAME_MAX]?;
+        let askers = all_askers(alloc, header)?;
         Ok(State {
             leader,
             helper,
-            askers: all_askers(alloc, header)?,
+            askers,
             journal: Vec::new(alloc),
             pool: Vec::new(alloc),
             outcomes: Vec::new(alloc),
             shown: Vec::new(alloc),
-            out: vec![in alloc; 0u8; FRAME_MAX]?,
+            out,
         })
     }
 

@@ -1,6 +1,8 @@
-use Rattle.std.proofs.Common.{◌≡◌, ◌∙◌, ◌≤◌, ◌-◌, List, ℕ, length, take, sym, ap, arith, length-take}
-use Rattle.node_journal.specs.History.{overwritten, bytes_of, left_of}
-use Rattle.node_journal.specs.Memory.{LogState}
+use Rattle.std.proofs.Common.{◌≡◌, ◌∙◌, ◌≤◌, ◌-◌, List, ℕ, length, take, sym, ap, subst, arith, length-take}
+use Rattle.node_journal.specs.History.{History, MayLeave, LeftSince, moment_of, wrote, overwritten, bytes_of, left_of}
+use Rattle.node_journal.specs.Disk.{Elapses}
+use Rattle.node_journal.specs.Memory.{DiskState, LogState}
+use Rattle.node_journal.proofs.Histories.{write_time}
 use Rattle.node_journal.proofs.memory_disk.MemoryDiskDisk.write.Goals as goal
 
 pub invariant_of-self-2 : goal.invariant_of-self-2
@@ -20,3 +22,12 @@ invariant_of-self-2 c =
       omega (arith, c.overwrite.ensures.growth, c.overwrite.ensures.capacity, room, fits, c.self.invariant.3),
       omega (arith, c.overwrite.ensures.growth, c.overwrite-2.ensures.capacity, room, fits, c.self.invariant.4),
     )
+
+pub returns-clause-time : goal.returns-clause-time
+returns-clause-time c =
+    let before = c.self.inside.log.history in
+    let now = c.write.new.self.history in
+    let old : before ≡ c.args.self.now.log.history = ap (λ (d : DiskState). d.log.history) c.self.view_is in
+    let new : wrote c.args.at c.args.bytes.now before ≡ now = sym (ap (λ (l : LogState). l.history) c.write.ensures) in
+    subst (λ (h : History). Elapses (moment_of h) (moment_of now) (LeftSince h) (LeftSince now) (MayLeave now)) old
+    (subst (λ (h : History). Elapses (moment_of before) (moment_of h) (LeftSince before) (LeftSince h) (MayLeave h)) new (write_time before c.args.at c.args.bytes.now))
