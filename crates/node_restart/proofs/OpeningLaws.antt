@@ -39,3 +39,8 @@ one_opening a b ia ib is =
     ∙ ap (λ (x : ℕ). made b.role t.width t.boxes x s.window a.seed) lanes
     ∙ ap (λ (x : ℕ). made b.role t.width t.boxes t.lanes x a.seed) window
     ∙ ap (λ (x : List ℕ). made b.role t.width t.boxes t.lanes t.window x) seed
+
+-- a number past both servers' is no server's
+pub no_role : (number : ℕ) → (number ≡ 0 → ⊥) → (number ≡ 1 → ⊥) → (role : Role) → role_number role ≡ number → ⊥
+no_role number not_leader not_helper Leader is = not_leader (sym is)
+no_role number not_leader not_helper Helper is = not_helper (sym is)

@@ -34,6 +34,7 @@ fn role_number(role: Role) -> u8
     }
 }
 
+#[tactic(auto, using(crate::proofs::OpeningLaws::no_role))]
 fn role_numbered(number: u8) -> Option<Role>
     ensures some { IfSome result (λ role. role_number role ≡ number) }
     ensures none { IsNone result → (role : Role) → role_number role ≡ number → ⊥ }
