@@ -1,6 +1,7 @@
 //! Replays a schedule.
-ghost use Rattle.std.specs.Prelude.{◌≡◌, ◌≢◌, ◌≤◌, IfOk};
+ghost use Rattle.std.specs.Prelude.{◌≡◌, ◌≢◌, ◌≤◌, List, ℕ, IfOk};
 ghost use Rattle.schedule_text.specs.Rules.{KeepsRules};
+ghost use Rattle.schedule_text.specs.Spelling.{SpellsSchedule};
 ghost use Rattle.replay_world.specs.Played.{played, IsWhole};
 ghost use Rattle.express_cli.specs.Ends.{Prints, WorkMay};
 ghost use Rattle.express_cli.specs.declared.words.Command.TheVariants.{Replay};
@@ -26,24 +27,44 @@ pub fn world_after(alloc: Global, schedule: &Schedule) -> Result<World, NoMemory
     Ok(world)
 }
 
+// Writes the text of a world.
+fn put_world<K: Sink>(alloc: Global, world: &World, out: &mut K) -> End
+    requires { IsWhole world.now }
+    ensures ends { (text : List ℕ) → SpellsSchedule (played world.now) text
+        → Prints (WorkMay Replay text) (K.written out.old) (K.written out.new) (K.count out.old) (K.count out.new) result }
+    ensures later { K.count out.old ≤ K.count out.new }
+    ensures told { result ≢ End.WriteFault → K.count out.new ≡ K.count out.old }
+{
+    match world.put(alloc, out) {
+        Ok(()) => End::Done,
+        Err(PutFault::Failed) => End::WriteFault,
+        Err(PutFault::NoMemory) => say(out, OUT_OF_MEMORY, End::OutOfMemory),
+    }
+}
+
+// Replays a schedule.
+fn replay_schedule<K: Sink>(alloc: Global, schedule: &Schedule, out: &mut K) -> End
+    requires { KeepsRules schedule.now }
+    ensures ends { (text : List ℕ) → SpellsSchedule schedule.now text
+        → Prints (WorkMay Replay text) (K.written out.old) (K.written out.new) (K.count out.old) (K.count out.new) result }
+    ensures later { K.count out.old ≤ K.count out.new }
+    ensures told { result ≢ End.WriteFault → K.count out.new ≡ K.count out.old }
+{
+    match world_after(alloc, schedule) {
+        Ok(world) => put_world(alloc, &world, out),
+        Err(_) => say(out, OUT_OF_MEMORY, End::OutOfMemory),
+    }
+}
+
 /// Replays the schedule that the text spells.
 pub fn replay<K: Sink>(alloc: Global, text: &[u8], out: &mut K) -> End
     ensures ends { Prints (WorkMay Replay text.now) (K.written out.old) (K.written out.new) (K.count out.old) (K.count out.new) result }
     ensures later { K.count out.old ≤ K.count out.new }
     ensures told { result ≢ End.WriteFault → K.count out.new ≡ K.count out.old }
 {
-    let schedule = match read(alloc, text) {
-        Ok(schedule) => schedule,
-        Err(ReadFault::BadLine(line)) => return say_bad_line(alloc, out, line),
-        Err(ReadFault::NoMemory) => return say(out, OUT_OF_MEMORY, End::OutOfMemory),
-    };
-    let world = match world_after(alloc, &schedule) {
-        Ok(world) => world,
-        Err(_) => return say(out, OUT_OF_MEMORY, End::OutOfMemory),
-    };
-    match world.put(alloc, out) {
-        Ok(()) => End::Done,
-        Err(PutFault::Failed) => End::WriteFault,
-        Err(PutFault::NoMemory) => say(out, OUT_OF_MEMORY, End::OutOfMemory),
+    match read(alloc, text) {
+        Ok(schedule) => replay_schedule(alloc, &schedule, out),
+        Err(ReadFault::BadLine(line)) => say_bad_line(alloc, out, line),
+        Err(ReadFault::NoMemory) => say(out, OUT_OF_MEMORY, End::OutOfMemory),
     }
 }

@@ -28,7 +28,8 @@ fn opened(
     requires limits { KeepsLimits settings.now.settings.width settings.now.settings.boxes settings.now.settings.lanes settings.now.settings.window }
     ensures opened { IfOk result (λ r. IsOpened settings.now seed.now r.0) }
 {
-    Ok((open_node(alloc, settings, seed)?, Gather::open(alloc)?))
+    let gather = Gather::open(alloc)?;
+    Ok((open_node(alloc, settings, seed)?, gather))
 }
 
 /// The line that tells how many connections had each answer.

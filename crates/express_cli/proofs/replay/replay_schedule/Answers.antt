@@ -1,0 +1,16 @@
+use Rattle.std.proofs.Common.{refl, sym, subst}
+use Rattle.schedule_text.specs.Spelling.{SpellsSchedule}
+use Rattle.schedule_text.specs.declared.schedule.Schedule.{Schedule}
+use Rattle.express_cli.specs.Ends.{WorkMay}
+use Rattle.express_cli.specs.declared.words.Command.TheVariants.{Replay}
+use Rattle.express_cli.specs.declared.ends.End.TheVariants.{OutOfMemory}
+use Rattle.express_cli.proofs.Writing.{said}
+use Rattle.express_cli.proofs.replay.replay_schedule.Goals as goal
+
+pub returns-in-Ok-clause-ends : goal.returns-in-Ok-clause-ends
+returns-in-Ok-clause-ends g c text spelled =
+    let Spelled : Schedule → Type 0 = λ s. SpellsSchedule s text in
+    c.put_world.ensures.ends text (subst Spelled (sym c.in-Ok.ensures.played) spelled)
+
+pub returns-in-Err-clause-ends : goal.returns-in-Err-clause-ends
+returns-in-Err-clause-ends g c text spelled = said (WorkMay Replay text) _ _ _ _ OutOfMemory _ _ refl c.say.ensures.says
