@@ -2,7 +2,7 @@
 //! together.
 use chacha_expand::challenge;
 use express_words::{Closing, Openings, ProofShare};
-use snip_proof::{close_share, judge, open_share, prove, servers_accept};
+use snip_proof::{ProofShares, WriteLeaves, close_share, judge, open_share, prove, servers_accept};
 use write_sketch::Sums;
 
 /// What a client proves, what server 0 opens of its share with some sums, and what both servers close of some openings.
@@ -386,10 +386,22 @@ fn both_servers(rt: HostRuntime) {
     let one = [11u128, 1 << 70, 13];
     let (r, s) = challenge(&ckey, addresses[1]);
     let (share0, share1) = prove(12 ^ (1 << 70), r, s, &ROWS[0].choices);
-    assert!(rt; servers_accept(&zero, &one, &addresses, &ckey, &share0, &share1, 77));
+    let leaves = WriteLeaves {
+        zero: &zero,
+        one: &one,
+    };
+    let shares = ProofShares {
+        zero: &share0,
+        one: &share1,
+    };
+    assert!(rt; servers_accept(leaves, &addresses, &ckey, shares, 77));
     let wrong = ProofShare {
         c: share1.c ^ 1,
         ..share1
     };
-    assert!(rt; !servers_accept(&zero, &one, &addresses, &ckey, &share0, &wrong, 77));
+    let with_wrong = ProofShares {
+        one: &wrong,
+        ..shares
+    };
+    assert!(rt; !servers_accept(leaves, &addresses, &ckey, with_wrong, 77));
 }

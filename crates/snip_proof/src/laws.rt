@@ -6,44 +6,45 @@ ghost use Rattle.audit_rules.specs.Audit.{difference, whole_proof, zero_share, o
 ghost use Rattle.audit_rules.specs.BadWrites.{HasTwo, IsBadChallenge};
 ghost use Rattle.audit_rules.specs.Challenges.{challenge_rs, challenge_ss, sums_under};
 
+use crate::both::{ProofShares, WriteLeaves};
 use crate::servers::{close_share, judge, open_share};
 use audit_rules::{read_share, read_words, servers_accept_what_passes};
-use express_words::{Openings, ProofShare};
+use express_words::Openings;
 use write_sketch::sums;
 
-/// Whether both servers accept at the point `sigma` a write with these leaves at the registered addresses,
-/// `zero` at server 0 and `one` at server 1: exactly where the whole proof passes for the sums of the
-/// difference of their leaves.
+/// Whether both servers accept at the point `sigma` a write with these leaves at the registered addresses:
+/// exactly where the whole proof passes for the sums of the difference of their leaves.
 pub fn servers_accept(
-    zero: &[u128],
-    one: &[u128],
+    leaves: WriteLeaves,
     addresses: &[u128],
     ckey: &[u8; 32],
-    share0: &ProofShare,
-    share1: &ProofShare,
+    shares: ProofShares,
     sigma: u128,
 ) -> bool
-    requires zero { length zero.now ≡ length addresses.now }
-    requires one { length one.now ≡ length addresses.now }
+    requires zero { length leaves.zero.now ≡ length addresses.now }
+    requires one { length leaves.one.now ≡ length addresses.now }
     ensures accept { let sums = sums_under ckey.now addresses.now in
-        IsTrue result ↔ ServersAccept (sums zero.now) (sums one.now) share0.now share1.now sigma }
+        IsTrue result
+        ↔ ServersAccept (sums leaves.entry.zero.now) (sums leaves.entry.one.now)
+        shares.entry.zero.now shares.entry.one.now sigma }
     ensures passes { let sums = sums_under ckey.now addresses.now in
         IsTrue result
-        ↔ PassesAt (sums (difference zero.now one.now)) (whole_proof share0.now share1.now) sigma }
+        ↔ PassesAt (sums (difference leaves.entry.zero.now leaves.entry.one.now))
+        (whole_proof shares.entry.zero.now shares.entry.one.now) sigma }
 {
-    read_words(zero);
-    read_words(one);
-    let sums0 = sums(zero, addresses, ckey);
-    let sums1 = sums(one, addresses, ckey);
-    let opening0 = open_share(&sums0, share0, sigma);
-    let opening1 = open_share(&sums1, share1, sigma);
+    read_words(leaves.zero);
+    read_words(leaves.one);
+    let sums0 = sums(leaves.zero, addresses, ckey);
+    let sums1 = sums(leaves.one, addresses, ckey);
+    let opening0 = open_share(&sums0, shares.zero, sigma);
+    let opening1 = open_share(&sums1, shares.one, sigma);
     let opened = Openings {
         d: opening0.d ^ opening1.d,
         e: opening0.e ^ opening1.e,
     };
-    let closing0 = close_share(0, &sums0, share0, sigma, &opened);
-    let closing1 = close_share(1, &sums1, share1, sigma, &opened);
-    servers_accept_what_passes(&sums0, &sums1, share0, share1, sigma);
+    let closing0 = close_share(0, &sums0, shares.zero, sigma, &opened);
+    let closing1 = close_share(1, &sums1, shares.one, sigma, &opened);
+    servers_accept_what_passes(&sums0, &sums1, shares.zero, shares.one, sigma);
     judge(&closing0, &closing1)
 }
 
@@ -51,58 +52,58 @@ pub fn servers_accept(
 /// places or more that aren't zero, a proof is accepted at five points at most, unless r at the first of
 /// them or s at the last is the one bad value.
 pub fn accepted_points_are_few(
-    zero: &[u128],
-    one: &[u128],
+    leaves: WriteLeaves,
     addresses: &[u128],
     ckey: &[u8; 32],
-    share0: &ProofShare,
-    share1: &ProofShare,
+    shares: ProofShares,
     points: &[u128],
 )
-    requires zero { length zero.now ≡ length addresses.now }
-    requires one { length one.now ≡ length addresses.now }
-    requires two { HasTwo (difference zero.now one.now) }
+    requires zero { length leaves.zero.now ≡ length addresses.now }
+    requires one { length leaves.one.now ≡ length addresses.now }
+    requires two { HasTwo (difference leaves.zero.now leaves.one.now) }
     requires distinct { AllPairs (λ p q. p ≢ q) points.now }
     requires accepted { let sums = sums_under ckey.now addresses.now in
-        All (ServersAccept (sums zero.now) (sums one.now) share0.now share1.now) points.now }
-    ensures caught { let w = difference zero.now one.now in
+        All (ServersAccept (sums leaves.zero.now) (sums leaves.one.now) shares.zero.now shares.one.now)
+        points.now }
+    ensures caught { let w = difference leaves.entry.zero.now leaves.entry.one.now in
         let r = challenge_rs ckey.now addresses.now in
         let s = challenge_ss ckey.now addresses.now in
         IsBadChallenge w r s ⊎ (length points.now ≤ 5) }
 {
-    read_words(zero);
-    read_words(one);
-    read_share(share0);
-    read_share(share1);
+    read_words(leaves.zero);
+    read_words(leaves.one);
+    read_share(shares.zero);
+    read_share(shares.one);
     read_words(points);
 }
 
 /// Honest writes are accepted. Where both servers' leaves are equal at every address but the target's,
 /// which stands at `place` of distinct addresses, the client's proof is accepted at every point.
 pub fn honest_writes_are_accepted(
-    zero: &[u128],
-    one: &[u128],
+    leaves: WriteLeaves,
     addresses: &[u128],
     place: usize,
     ckey: &[u8; 32],
     choices: &[u128; 16],
     sigma: u128,
 )
-    requires zero { length zero.now ≡ length addresses.now }
-    requires one { length one.now ≡ length addresses.now }
+    requires zero { length leaves.zero.now ≡ length addresses.now }
+    requires one { length leaves.one.now ≡ length addresses.now }
     requires place { place < length addresses.now }
     requires distinct { AllPairs (λ p q. p ≢ q) addresses.now }
     requires equal { (i : ℕ) → i < length addresses.now
         → slice_index addresses.now i ≢ slice_index addresses.now place
-        → slice_index zero.now i ≡ slice_index one.now i }
-    ensures accepted { let m = bit_xor (slice_index zero.now place) (slice_index one.now place) in
+        → slice_index leaves.zero.now i ≡ slice_index leaves.one.now i }
+    ensures accepted { let m =
+        bit_xor (slice_index leaves.entry.zero.now place) (slice_index leaves.entry.one.now place) in
         let target = slice_index addresses.now place in
         let r = challenge_r ckey.now target in
         let s = challenge_s ckey.now target in
         let sums = sums_under ckey.now addresses.now in
-        ServersAccept (sums zero.now) (sums one.now) (zero_share choices.now) (one_share m r s choices.now) sigma }
+        ServersAccept (sums leaves.entry.zero.now) (sums leaves.entry.one.now)
+        (zero_share choices.now) (one_share m r s choices.now) sigma }
 {
-    read_words(zero);
-    read_words(one);
+    read_words(leaves.zero);
+    read_words(leaves.one);
     read_words(choices);
 }

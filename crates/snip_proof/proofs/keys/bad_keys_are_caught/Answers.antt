@@ -10,7 +10,7 @@ use Rattle.snip_proof.proofs.keys.bad_keys_are_caught.Goals as goal
 
 pub returns : goal.returns
 returns c =
-    let part = c.args.part.now in
+    let part = c.args.keys.part.now in
     let places = c.args.addresses.now in
     let rs = challenge_rs c.args.ckey.now places in
     let ss = challenge_ss c.args.ckey.now places in
@@ -18,11 +18,11 @@ returns c =
     let Goal : List ℕ → Type 0 = λ w. HasTwo w → IsBadChallenge w rs ss ⊎ (length points ≤ 5) in
     record {
       caught =
-          subst Goal (difference-leaves part c.args.root0 c.args.root1 places)
-          (few_points c.args.ckey.now places (leaves part 0 c.args.root0 places) (leaves part 1 c.args.root1 places) c.args.share0.now c.args.share1.now points
-          (leaves-in_range part 0 c.args.root0 places c.read_bytes.ensures.in_range (lit< tt) c.ranges.root0.fits)
-          (leaves-in_range part 1 c.args.root1 places c.read_bytes.ensures.in_range (lit< tt) c.ranges.root1.fits)
-          (length-map places (leaf_of part 0 c.args.root0)) (length-map places (leaf_of part 1 c.args.root1))
-          c.read_share.ensures.in_range c.read_share-2.ensures.in_range c.read_words.ensures.in_range c.requires.distinct c.requires.accepted)
+          subst Goal (difference-leaves part c.args.keys.root0 c.args.keys.root1 places)
+          (few_points c.args.ckey.now places (leaves part 0 c.args.keys.root0 places) (leaves part 1 c.args.keys.root1 places) c.args.shares.zero.now c.args.shares.one.now points
+          (leaves-in_range part 0 c.args.keys.root0 places c.read_bytes.ensures.in_range (lit< tt) (c.read_words.ensures.in_range 0 0 (lit< tt)))
+          (leaves-in_range part 1 c.args.keys.root1 places c.read_bytes.ensures.in_range (lit< tt) (c.read_words.ensures.in_range 1 0 (lit< tt)))
+          (length-map places (leaf_of part 0 c.args.keys.root0)) (length-map places (leaf_of part 1 c.args.keys.root1))
+          c.read_share.ensures.in_range c.read_share-2.ensures.in_range c.read_words-2.ensures.in_range c.requires.distinct c.requires.accepted)
           c.requires.two;
     }
