@@ -1,5 +1,5 @@
 -- The boxes below a count, in the order of their addresses.
-use Rattle.std.proofs.Common.{◌≡◌, ℕ, ◌+◌, ◌<◌, ◌≤◌, Bool, true, false, List, length, map, filter, take, drop, ◌++◌, get_or, slice_index, refl, sym, ◌∙◌, ap, arith}
+use Rattle.std.proofs.Common.{◌≡◌, ℕ, ◌+◌, ◌<◌, ◌≤◌, Bool, true, false, List, length, map, filter, take, drop, get_or, slice_index, refl, sym, ◌∙◌, ap, arith}
 use Rattle.std.specs.Prelude.{◌==◌, ◌&&◌, nat_lt, IsTrue}
 use Rattle.std.specs.List.{AllPairs}
 use Rattle.std.specs.List.Sorted.{IsStrictlyIncreasing}
@@ -9,15 +9,18 @@ use Rattle.std.proofs.lemmas.Cmp.{nat_eq_equiv}
 use Rattle.std.proofs.lemmas.List.{get_or-map, get_or-take, get_or-drop, get_or_default, ext_get_or, length-map, length-take-le, length-drop}
 use Rattle.std.proofs.lemmas.List.Elements.{filter_passes, All-get_or}
 use Rattle.std.proofs.lemmas.List.Kept.{AllPairs-filter}
+use Rattle.std.proofs.lemmas.List.Sums.{length-filter, count_by-le-length}
 use Rattle.std.proofs.lemmas.Map.Made.{is_member-filter}
 use Rattle.dpf_rules.specs.Evaluation.{prefix_count}
 use Rattle.dpf_eval.specs.Order.{IsOrder, has_box}
-use Rattle.dpf_eval.proofs.OrderLemmas.{read_front}
 use Rattle.dpf_eval.proofs.MemberLemmas.{place_of_member, member_at, same_prefix_count}
 
 module _ (addresses order : List ℕ) (count : ℕ) (sound : IsOrder addresses order) (there : count ≤ length addresses) where
   abbrev chosen : List ℕ
   chosen = filter (λ b. nat_lt b count) order
+
+  pub chosen_few : length chosen ≤ length order
+  chosen_few = omega (arith, length-filter (λ b. nat_lt b count) order, count_by-le-length (λ b. nat_lt b count) order)
 
   pub chosen_below : (k : ℕ) → k < length chosen → slice_index chosen k < count
   chosen_below k inside =
@@ -94,8 +97,3 @@ module _ (addresses order : List ℕ) (count : ℕ) (sound : IsOrder addresses o
   rest_kept out old same kept =
       ext_get_or 0 (drop count out) (drop count old) (length-drop count out ∙ rw same (sym (length-drop count old)))
       (λ k inside. get_or-drop count out k 0 ∙ kept (count + k) (chosen_lacks (count + k) (omega arith)) ∙ sym (get_or-drop count old k 0))
-
--- the chosen boxes, written at the front of a longer array and read again
-pub read_chosen : (n m count : ℕ) (order new rest read : List ℕ) → read ≡ take m (new ++ rest)
-    → take n new ≡ filter (λ b. nat_lt b count) order → n ≤ m → n ≤ length new → take n read ≡ filter (λ b. nat_lt b count) order
-read_chosen n m count order new rest read is chose within inside = ap (take n) is ∙ read_front n m new rest within inside ∙ chose

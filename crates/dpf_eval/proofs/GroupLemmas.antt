@@ -92,15 +92,15 @@ module _ (splits : List ℕ) (level : ℕ) where
     ]
 
 -- each entry reads the raw children of its own state among those of the groups
-pub group_pair : (splits states nodes : List ℕ) (pairs : List (ℕ × ℕ)) (level groups : ℕ) → length splits ≡ length states
-    → slice_index splits 0 ≤ level → groups ≡ groups_of splits level (length states) → groups ≤ length nodes
-    → ((k : ℕ) → k < length states → slice_index nodes (groups_of splits level (k + 1) - 1) ≡ slice_index states k)
+pub group_pair : (splits states nodes : List ℕ) (pairs : List (ℕ × ℕ)) (level groups : ℕ)
+    → slice_index splits 0 ≤ level → groups ≡ groups_of splits level (length splits) → groups ≤ length nodes
+    → ((k : ℕ) → k < length splits → slice_index nodes (groups_of splits level (k + 1) - 1) ≡ slice_index states k)
     → take (length (take groups nodes)) pairs ≡ map raw_pair (take groups nodes)
-    → (k : ℕ) → k < length states
+    → (k : ℕ) → k < length splits
     → slice_index_or pairs (groups_of splits level (k + 1) - 1) (0, 0) ≡ raw_pair (slice_index states k)
-group_pair splits states nodes pairs level groups same first count room gathered expanded k inside =
-    let low : groups_of splits level (k + 1) ≤ groups_of splits level (length states) =
-    groups_le splits level (k + 1) (length states) (omega arith) (omega arith) in
+group_pair splits states nodes pairs level groups first count room gathered expanded k inside =
+    let low : groups_of splits level (k + 1) ≤ groups_of splits level (length splits) =
+    groups_le splits level (k + 1) (length splits) (omega arith) (omega arith) in
     let some : 0 < groups_of splits level (k + 1) = groups_some splits level first k (omega arith) in
     let place = groups_of splits level (k + 1) - 1 in
     let below : place < groups = omega arith in

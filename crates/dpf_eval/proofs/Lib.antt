@@ -2,6 +2,7 @@ pub mod GroupLemmas
 pub mod PrefixLemmas
 pub mod CountLemmas
 pub mod LevelLemmas
+pub mod SplitLemmas
 pub mod OrderLemmas
 pub mod MemberLemmas
 pub mod ChosenLemmas

@@ -1,7 +1,7 @@
 -- Boxes and what is written at their places.
-use Rattle.std.proofs.Common.{◌≡◌, ℕ, ◌+◌, ◌<◌, ◌≤◌, Bool, true, false, List, ◌++◌, length, take, slice_index, set, refl, sym, ◌∙◌, subst, inl, inr, get_or-set_other, get_or-set_same}
+use Rattle.std.proofs.Common.{◌≡◌, ℕ, ◌+◌, ◌<◌, Bool, true, false, List, ◌++◌, length, take, slice_index, set, refl, sym, ◌∙◌, ap, subst, inl, inr, get_or-set_other, get_or-set_same}
 use Rattle.std.specs.Prelude.{◌==◌, ◌||◌, IsTrue}
-use Rattle.std.proofs.lemmas.List.{take-take, take-append-le}
+use Rattle.std.proofs.Math.Seq.{take-append_seam}
 use Rattle.std.proofs.lemmas.List.Folds.{list_any_more}
 use Rattle.std.proofs.lemmas.Bool.{eqb-false, ne_eqb, cases_eq}
 use Rattle.dpf_eval.specs.Order.{has_box}
@@ -40,6 +40,6 @@ module _ (boxes out : List ℕ) (k value : ℕ) (inside : k < length boxes) (roo
       neither true d h = cc
       neither false d h = (refl, h)
 
--- what was written at the front of a longer array and is read again
-pub read_front : (n m : ℕ) (xs ys : List ℕ) → n ≤ m → n ≤ length xs → take n (take m (xs ++ ys)) ≡ take n xs
-read_front n m xs ys within inside = take-take n m (xs ++ ys) within ∙ take-append-le n xs ys inside
+-- what was written over the whole of an array and is read again
+pub read_whole : {A : Type 0} (m : ℕ) (xs ys : List A) → length xs ≡ m → take m (xs ++ ys) ≡ xs
+read_whole m xs ys same = ap (λ (n : ℕ). take n (xs ++ ys)) (sym same) ∙ take-append_seam xs ys

@@ -1,10 +1,14 @@
 -- The sizes of an evaluation's arrays.
-use Rattle.std.specs.Prelude.{◌≡◌, ℕ}
+use Rattle.std.specs.Prelude.{◌≡◌, ◌≤◌, ℕ, vec_capacity}
+use Rattle.dpf_eval.specs.declared.entries.Entries.{Entries}
 
--- each has room for as many entries
-pub record IsRoom (boxes addresses splits states nodes pairs : ℕ) : Type 0 where
-  pub addresses_same : addresses ≡ boxes
-  pub splits_same : splits ≡ boxes
-  pub states_same : states ≡ boxes
-  pub nodes_same : nodes ≡ boxes
-  pub pairs_same : pairs ≡ boxes
+-- room for a number of entries
+pub record HasRoom (entries : Entries) (size : ℕ) : Type 0 where
+  pub boxes : size ≤ vec_capacity entries.boxes
+  pub addresses : size ≤ vec_capacity entries.addresses
+  pub splits : size ≤ vec_capacity entries.splits
+
+-- the arrays of a descent have one length
+pub record AreAsLong (states nodes pairs : ℕ) : Type 0 where
+  pub nodes_same : nodes ≡ states
+  pub pairs_same : pairs ≡ states

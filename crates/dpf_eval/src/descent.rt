@@ -1,79 +1,120 @@
 //! All levels of the tree, from the root to the leaves.
-ghost use Rattle.std.specs.Prelude.{◌≡◌, ℕ, ◌+◌, ◌==◌, ◌^◌, ◌<◌, length, map, slice_index};
+ghost use Rattle.std.specs.Prelude.{◌≡◌, ℕ, ◌+◌, ◌==◌, ◌^◌, ◌<◌, ◌≤◌, IfOk, length, map, slice_index};
 ghost use Rattle.std.specs.List.Sorted.{IsStrictlyIncreasing};
 ghost use Rattle.std.specs.Set.{distinct_count};
 ghost use Rattle.dpf_rules.specs.Walk.{word_of, right_of, side_at, step, leaf_of};
 ghost use Rattle.dpf_rules.specs.Evaluation.{prefix, prefix_count};
 ghost use Rattle.dpf_eval.specs.Groups.{IsSplit};
 
+use crate::entries::Entries;
 use crate::expansion::expand;
-use crate::levels::{correction_at, descend, gather};
+use crate::key::ServerKey;
+use crate::levels::{correction_at, descend, gather, start};
 use crate::steps::Steps;
 use dpf_keys::PublicPart;
+use std::alloc::{AllocError, Global};
+use std::marker::Model;
 use std::sync::ledger::Ledger;
 
-/// Takes every entry one level down, with one step for each different prefix.
-fn descend_level<L: Ledger>(
-    part: &PublicPart,
-    addresses: &[u128],
-    splits: &[u8],
-    level: u8,
-    states: &mut [u128],
-    nodes: &mut [u128],
-    pairs: &mut [(u128, u128)],
-    steps: &mut Steps<L>,
-)
-    requires level { level < 128 }
-    requires size { length states.old < 2 ^ 32 }
-    requires addresses { length addresses.now ≡ length states.old }
-    requires splits { length splits.now ≡ length states.old }
-    requires nodes { length nodes.old ≡ length states.old }
-    requires pairs { length pairs.old ≡ length states.old }
-    requires split { IsSplit addresses.now splits.now }
-    requires rising { IsStrictlyIncreasing addresses.now }
-    requires grouped { (k : ℕ) → k + 1 < length states.old
-        → prefix level (slice_index addresses.now k) ≡ prefix level (slice_index addresses.now (k + 1))
-        → slice_index states.old (k + 1) ≡ slice_index states.old k }
-    ensures states { (k : ℕ) → k < length states.old → slice_index states.new k
-        ≡ step (word_of part.now level) (right_of part.now level) (side_at (slice_index addresses.now k) level)
-        (slice_index states.old k) }
-    ensures steps { steps.new ≡ steps.old + distinct_count ◌==◌ (map (prefix level) addresses.now) }
-{
-    let groups = gather(states, splits, level, nodes);
-    expand(&nodes[..groups], pairs, steps);
-    let correction = correction_at(part, level);
-    descend(addresses, splits, level, &correction, pairs, states);
+/// How far the entries have come: their states; and room for the nodes of one level, their states and raw children.
+#[derive(Drop)]
+pub(crate) struct Descent {
+    states: Vec<u128>,
+    nodes: Vec<u128>,
+    pairs: Vec<(u128, u128)>,
 }
 
-/// Takes every entry from the root to its leaf, with one step for each different proper prefix.
-pub(crate) fn descend_all<L: Ledger>(
-    part: &PublicPart,
-    server: u8,
-    root: u128,
-    addresses: &[u128],
-    splits: &[u8],
-    states: &mut [u128],
-    nodes: &mut [u128],
-    pairs: &mut [(u128, u128)],
-    steps: &mut Steps<L>,
-)
-    requires server { server < 2 }
-    requires size { length states.old < 2 ^ 32 }
-    requires addresses { length addresses.now ≡ length states.old }
-    requires splits { length splits.now ≡ length states.old }
-    requires nodes { length nodes.old ≡ length states.old }
-    requires pairs { length pairs.old ≡ length states.old }
-    requires split { IsSplit addresses.now splits.now }
-    requires rising { IsStrictlyIncreasing addresses.now }
-    ensures states { (k : ℕ) → k < length states.old
-        → slice_index states.new k ≡ leaf_of part.now server root (slice_index addresses.now k) }
-    ensures steps { steps.new ≡ steps.old + prefix_count addresses.now }
-{
-    let start = root / 2 * 2 + u128::from(server);
-    for state in states.iter_mut() {
-        *state = start;
+impl Model for Descent {
+    ghost use Rattle.std.specs.Prelude.{List, ℕ, vec_len};
+    ghost use Rattle.dpf_eval.specs.Room.{AreAsLong};
+
+    ghost Value = { List ℕ };
+
+    ghost view = { λ d. d.states.items };
+
+    ghost invariant = { λ d. AreAsLong (vec_len d.states) (vec_len d.nodes) (vec_len d.pairs) };
+}
+
+impl Descent {
+    /// Takes room for `size` entries.
+    pub(crate) fn open(alloc: Global, size: usize) -> Result<Descent, AllocError>
+        ensures { IfOk result (λ states. length states ≡ size) }
+    {
+        Ok(Descent {
+            states: vec![in alloc; 0u128; size]?,
+            nodes: vec![in alloc; 0u128; size]?,
+            pairs: vec![in alloc; (0u128, 0u128); size]?,
+        })
     }
-    for level in 0..128u8 {
-        descend_level(part, addresses, splits, level, states, nodes, pairs, steps);
+
+    /// The states, those of the entries first.
+    pub(crate) fn states(&self) -> &[u128]
+        ensures { result.now ≡ self.now }
+    {
+        &self.states
+    }
+
+    /// Takes every entry one level down, with one step for each different prefix.
+    fn descend_level<L: Ledger>(
+        &mut self,
+        part: &PublicPart,
+        entries: &Entries,
+        level: u8,
+        steps: &mut Steps<L>,
+    )
+        requires level { level < 128 }
+        requires size { length entries.now.addresses.items < 2 ^ 32 }
+        requires room { length entries.now.addresses.items ≤ length self.old }
+        requires splits { length entries.now.splits.items ≡ length entries.now.addresses.items }
+        requires split { IsSplit entries.now.addresses.items entries.now.splits.items }
+        requires rising { IsStrictlyIncreasing entries.now.addresses.items }
+        requires grouped { let address = slice_index entries.now.addresses.items in
+            (k : ℕ) → k + 1 < length entries.now.addresses.items
+            → prefix level (address k) ≡ prefix level (address (k + 1))
+            → slice_index self.old (k + 1) ≡ slice_index self.old k }
+        ensures states { (k : ℕ) → k < length entries.now.addresses.items → slice_index self.new k
+            ≡ step (word_of part.now level) (right_of part.now level)
+            (side_at (slice_index entries.now.addresses.items k) level) (slice_index self.old k) }
+        ensures room { length self.new ≡ length self.old }
+        ensures steps { steps.new
+            ≡ steps.old + distinct_count ◌==◌ (map (prefix level) entries.now.addresses.items) }
+    {
+        let groups = gather(&self.states, &entries.splits, level, &mut self.nodes);
+        expand(&self.nodes[..groups], &mut self.pairs, steps);
+        let correction = correction_at(part, level);
+        descend(
+            &entries.addresses,
+            &entries.splits,
+            level,
+            &correction,
+            &self.pairs,
+            &mut self.states,
+        );
+    }
+
+    /// Takes every entry from the root to its leaf, with one step for each different proper prefix.
+    pub(crate) fn descend_all<L: Ledger>(
+        &mut self,
+        key: ServerKey,
+        entries: &Entries,
+        steps: &mut Steps<L>,
+    )
+        requires server { key.server < 2 }
+        requires size { length entries.now.addresses.items < 2 ^ 32 }
+        requires room { length entries.now.addresses.items ≤ length self.old }
+        requires splits { length entries.now.splits.items ≡ length entries.now.addresses.items }
+        requires split { IsSplit entries.now.addresses.items entries.now.splits.items }
+        requires rising { IsStrictlyIncreasing entries.now.addresses.items }
+        ensures leaves { let leaf = leaf_of key.entry.part.now key.entry.server key.entry.root in
+            (k : ℕ) → k < length entries.now.addresses.items
+            → slice_index self.new k ≡ leaf (slice_index entries.now.addresses.items k) }
+        ensures room { length self.new ≡ length self.old }
+        ensures steps { steps.new ≡ steps.old + prefix_count entries.now.addresses.items }
+    {
+        let root = key.root / 2 * 2 + u128::from(key.server);
+        start(&mut self.states, entries.addresses.len(), root);
+        for level in 0..128u8 {
+            self.descend_level(key.part, entries, level, steps);
+        }
     }
 }

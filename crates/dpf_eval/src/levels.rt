@@ -10,20 +10,30 @@ ghost use Rattle.dpf_eval.specs.Groups.{groups_of, stepped};
 
 use dpf_keys::PublicPart;
 
+/// Puts the first `count` entries at one state.
+pub(crate) fn start(states: &mut [u128], count: usize, state: u128)
+    requires { count ≤ length states.old }
+    ensures { (k : ℕ) → k < count → slice_index states.new k ≡ state }
+{
+    for k in 0..count {
+        states[k] = state;
+    }
+}
+
 /// Puts the state of each group's first entry into `nodes`, and gives the number of groups.
 pub(crate) fn gather(states: &[u128], splits: &[u8], level: u8, nodes: &mut [u128]) -> usize
-    requires splits { length splits.now ≡ length states.now }
-    requires room { length nodes.old ≡ length states.now }
+    requires states { length splits.now ≤ length states.now }
+    requires nodes { length splits.now ≤ length nodes.old }
     requires first { slice_index splits.now 0 ≤ level }
-    requires grouped { (k : ℕ) → k + 1 < length states.now → level < slice_index splits.now (k + 1)
+    requires grouped { (k : ℕ) → k + 1 < length splits.now → level < slice_index splits.now (k + 1)
         → slice_index states.now (k + 1) ≡ slice_index states.now k }
-    ensures count { result ≡ groups_of splits.now level (length states.now) }
-    ensures within { result ≤ length states.now }
-    ensures nodes { (k : ℕ) → k < length states.now
+    ensures count { result ≡ groups_of splits.now level (length splits.now) }
+    ensures within { result ≤ length splits.now }
+    ensures nodes { (k : ℕ) → k < length splits.now
         → slice_index nodes.new (groups_of splits.now level (k + 1) - 1) ≡ slice_index states.now k }
 {
     let mut groups = 0usize;
-    for k in 0..states.len() {
+    for k in 0..splits.len() {
         if splits[k] <= level {
             nodes[groups] = states[k];
             groups += 1;
@@ -86,18 +96,18 @@ pub(crate) fn descend(
     states: &mut [u128],
 )
     requires level { level < 128 }
-    requires size { length states.old < 2 ^ 32 }
-    requires addresses { length addresses.now ≡ length states.old }
-    requires splits { length splits.now ≡ length states.old }
-    requires room { length pairs.now ≡ length states.old }
+    requires size { length addresses.now < 2 ^ 32 }
+    requires splits { length splits.now ≡ length addresses.now }
+    requires room { length addresses.now ≤ length pairs.now }
+    requires states { length addresses.now ≤ length states.old }
     requires first { slice_index splits.now 0 ≤ level }
-    requires pairs { (k : ℕ) → k < length states.old
+    requires pairs { (k : ℕ) → k < length addresses.now
         → slice_index_or pairs.now (groups_of splits.now level (k + 1) - 1) (0, 0) ≡ raw_pair (slice_index states.old k) }
-    ensures { (k : ℕ) → k < length states.old → slice_index states.new k
+    ensures { (k : ℕ) → k < length addresses.now → slice_index states.new k
         ≡ stepped correction.now.left correction.now.right (side_at (slice_index addresses.now k) level) (slice_index states.old k) }
 {
     let mut groups = 0usize;
-    for k in 0..states.len() {
+    for k in 0..addresses.len() {
         groups = groups_after(groups, splits[k], level);
         states[k] = step(
             addresses[k],

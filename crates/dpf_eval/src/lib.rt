@@ -3,7 +3,9 @@
 
 mod counts;
 mod descent;
+mod entries;
 mod expansion;
+mod key;
 mod levels;
 mod order;
 mod scratch;

@@ -1,6 +1,13 @@
 //! Boxes by the order of their addresses.
-ghost use Rattle.std.specs.Prelude.{◌≡◌, ℕ, ◌<◌, ◌≤◌, length, slice_index, take, filter, map, nat_lt, position, Contains, IfSome, IfNone, IsTrue, false, ◌==◌};
+ghost use Rattle.std.specs.Prelude.{◌≡◌, ℕ, ◌<◌, ◌≤◌, length, vec_len, vec_capacity, slice_index, filter, map, nat_lt, position, Contains, IfSome, IfNone, IsTrue, false, ◌==◌};
 ghost use Rattle.dpf_eval.specs.Order.{IsOrder, has_box};
+
+/// Addresses by box, and the boxes by rising address.
+#[derive(Clone, Copy)]
+pub(crate) struct Sorted<'a> {
+    pub(crate) addresses: &'a [u128],
+    pub(crate) order: &'a [u32],
+}
 
 /// How many boxes have an address below this one.
 pub(crate) fn place_of(addresses: &[u128], order: &[u32], address: u128) -> usize
@@ -38,37 +45,38 @@ pub(crate) fn find(addresses: &[u128], order: &[u32], address: u128) -> Option<u
     }
 }
 
-/// Puts the boxes below `count` into `boxes` in the same order, and gives their number.
-pub(crate) fn choose(order: &[u32], count: u32, boxes: &mut [u32]) -> usize
-    requires { length order.now ≤ length boxes.old }
-    ensures within { result ≤ length order.now }
-    ensures chosen { take result boxes.new ≡ filter (λ b. nat_lt b count) order.now }
+/// Lists the boxes below `count` in the same order.
+pub(crate) fn choose(order: &[u32], count: u32, boxes: &mut Vec<u32>)
+    requires { length order.now ≤ vec_capacity boxes.old }
+    ensures chosen { boxes.new.items ≡ filter (λ b. nat_lt b count) order.now }
+    ensures within { vec_len boxes.new ≤ length order.now }
+    ensures room { vec_capacity boxes.new ≡ vec_capacity boxes.old }
 {
-    let mut n = 0usize;
+    boxes.clear();
     for b in order {
         if *b < count {
-            boxes[n] = *b;
-            n += 1;
+            boxes.push_reserved(*b);
         }
     }
-    n
 }
 
-/// Writes the addresses of the boxes.
-pub(crate) fn addresses_into(addresses: &[u128], boxes: &[u32], out: &mut [u128])
+/// Lists the addresses of the boxes.
+pub(crate) fn addresses_into(addresses: &[u128], boxes: &[u32], out: &mut Vec<u128>)
     requires inside { (k : ℕ) → k < length boxes.now → slice_index boxes.now k < length addresses.now }
-    requires room { length out.old ≡ length boxes.now }
-    ensures { out.new ≡ map (slice_index addresses.now) boxes.now }
+    requires room { length boxes.now ≤ vec_capacity out.old }
+    ensures addresses { out.new.items ≡ map (slice_index addresses.now) boxes.now }
+    ensures room { vec_capacity out.new ≡ vec_capacity out.old }
 {
-    for k in 0..boxes.len() {
-        out[k] = addresses[boxes[k] as usize];
+    out.clear();
+    for b in boxes {
+        out.push_reserved(addresses[*b as usize]);
     }
 }
 
 /// Writes each value to the place of its box.
 pub(crate) fn write_at(boxes: &[u32], values: &[u128], out: &mut [u128])
     requires inside { (k : ℕ) → k < length boxes.now → slice_index boxes.now k < length out.old }
-    requires values { length values.now ≡ length boxes.now }
+    requires values { length boxes.now ≤ length values.now }
     ensures written { (value_of : ℕ → ℕ)
         → ((k : ℕ) → k < length boxes.now → slice_index values.now k ≡ value_of (slice_index boxes.now k))
         → (b : ℕ) → IsTrue (has_box boxes.now b) → slice_index out.new b ≡ value_of b }

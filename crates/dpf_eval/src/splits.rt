@@ -1,5 +1,5 @@
 //! Where neighbours part on the way down.
-ghost use Rattle.std.specs.Prelude.{◌≡◌, ◌≢◌, ℕ, ◌+◌, ◌<◌, ◌≤◌, length, slice_index};
+ghost use Rattle.std.specs.Prelude.{◌≡◌, ◌≢◌, ℕ, ◌<◌, ◌≤◌, length, vec_capacity};
 ghost use Rattle.dpf_rules.specs.Evaluation.{prefix};
 ghost use Rattle.dpf_eval.specs.Groups.{IsSplit};
 
@@ -11,15 +11,20 @@ fn split(before: u128, address: u128) -> u8
     (before ^ address).leading_zeros() as u8 + 1
 }
 
-/// Writes the level at which each address parts from the one before it; the first does so at the root.
-pub(crate) fn split_into(addresses: &[u128], splits: &mut [u8])
-    requires { length splits.old ≡ length addresses.now }
-    ensures { IsSplit addresses.now splits.new }
+/// Lists the level at which each address parts from the one before it; the first does so at the root.
+pub(crate) fn split_into(addresses: &[u128], splits: &mut Vec<u8>)
+    requires { length addresses.now ≤ vec_capacity splits.old }
+    ensures length { length splits.new.items ≡ length addresses.now }
+    ensures split { IsSplit addresses.now splits.new.items }
+    ensures room { vec_capacity splits.new ≡ vec_capacity splits.old }
 {
-    if splits.len() > 0 {
-        splits[0] = 0;
-    }
-    for k in 1..splits.len() {
-        splits[k] = split(addresses[k - 1], addresses[k]);
+    splits.clear();
+    for k in 0..addresses.len() {
+        let level = if k == 0 {
+            0
+        } else {
+            split(addresses[k - 1], addresses[k])
+        };
+        splits.push_reserved(level);
     }
 }

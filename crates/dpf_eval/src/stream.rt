@@ -3,7 +3,8 @@ ghost use Rattle.std.specs.Prelude.{◌≡◌, ◌==◌, ◌<◌, ◌≤◌, ◌
 ghost use Rattle.dpf_rules.specs.Evaluation.{prefix_count};
 ghost use Rattle.dpf_rules.specs.Walk.{leaf_of};
 
-use crate::order::{find, place_of};
+use crate::key::ServerKey;
+use crate::order::{Sorted, find, place_of};
 use crate::scratch::Scratch;
 use crate::steps::Steps;
 use dpf_keys::PublicPart;
@@ -118,15 +119,11 @@ impl Frontier {
         ensures steps { steps.new ≡ steps.old + prefix_count (take count self.old.addresses) }
         ensures same { self.new ≡ self.old }
     {
-        self.scratch.leaves_into(
-            part,
-            server,
-            root,
-            &self.addresses,
-            &self.order,
-            count,
-            out,
-            steps,
-        );
+        let key = ServerKey { part, server, root };
+        let sorted = Sorted {
+            addresses: &self.addresses,
+            order: &self.order,
+        };
+        self.scratch.leaves_into(key, sorted, count, out, steps);
     }
 }

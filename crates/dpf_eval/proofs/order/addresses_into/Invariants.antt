@@ -1,5 +1,8 @@
-use Rattle.std.proofs.Common.{◌≡◌, ℕ, ◌<◌, slice_index}
+use Rattle.std.proofs.Common.{◌≡◌, take, map, slice_index, vec_capacity}
 use Rattle.dpf_eval.proofs.order.addresses_into.Given as goal
 
-abbrev pub invariant-loop-k : goal.invariant-loop-k
-invariant-loop-k l = (j : ℕ) → j < l.k → slice_index l.out j ≡ slice_index l.addresses (slice_index l.boxes j)
+abbrev pub invariant-loop-b : goal.invariant-loop-b
+invariant-loop-b l = record {
+  addresses : l.out.items ≡ map (slice_index l.addresses) (take l.b-index l.boxes);
+  room : vec_capacity l.out ≡ vec_capacity l.initial.out;
+}
