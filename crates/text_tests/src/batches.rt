@@ -1,5 +1,6 @@
 //! Texts of batches: a worked one, lines that are bad, as many pairs as there may be, and what is printed of
 //! a fault.
+use crate::joined::joined;
 use express_texts::{MOST_PAIRS, TextFault, read_batch};
 use express_words::Closing;
 use std::alloc::Global;
@@ -14,23 +15,40 @@ const ZERO: Closing = Closing { o: 1, tau: 10 };
 
 const ONE: Closing = Closing { o: 11, tau: 255 };
 
+fn is_only(closings: &[Closing], wanted: &Closing) -> bool {
+    match closings {
+        [only] => only.o == wanted.o && only.tau == wanted.tau,
+        _ => false,
+    }
+}
+
+// Whether a text is read as this seed and one pair.
+fn is_one_pair(
+    alloc: Global,
+    text: &[u8],
+    seed: &[u8],
+    pair: (Closing, Closing),
+) -> Result<bool, Fail> {
+    let pairs = read_batch(alloc, text)?;
+    Ok(
+        pairs.seed.as_slice() == seed
+            && is_only(&pairs.zero, &pair.0)
+            && is_only(&pairs.one, &pair.1),
+    )
+}
+
 #[test]
 fn one_pair(rt: HostRuntime) -> Result<(), Fail> {
-    let mut text = HEADER.to_vec(rt.alloc())?;
-    text.extend_from_slice(PAIR)?;
-    let pairs = read_batch(rt.alloc(), &text)?;
+    let text = joined(rt.alloc(), &[HEADER, PAIR])?;
     let mut seed = [0; 32];
     seed[31] = 255;
-    assert_eq!(rt; pairs.seed, seed);
-    assert_eq!(rt; pairs.zero.as_slice(), [ZERO].as_slice());
-    assert_eq!(rt; pairs.one.as_slice(), [ONE].as_slice());
+    assert!(rt; is_one_pair(rt.alloc(), &text, &seed, (ZERO, ONE))?);
     Ok(())
 }
 
 // The first bad line of the header and these bytes behind it, or else 0, and how many pairs were read.
 fn read_behind_header(alloc: Global, bytes: &[u8]) -> Result<(u32, usize), Fail> {
-    let mut text = HEADER.to_vec(alloc)?;
-    text.extend_from_slice(bytes)?;
+    let text = joined(alloc, &[HEADER, bytes])?;
     match read_batch(alloc, &text) {
         Ok(pairs) => Ok((0, pairs.zero.len())),
         Err(TextFault::Wrong(line)) => Ok((line, 0)),
@@ -38,10 +56,24 @@ fn read_behind_header(alloc: Global, bytes: &[u8]) -> Result<(u32, usize), Fail>
     }
 }
 
+fn read_behind_pair(alloc: Global, end: &[u8]) -> Result<(u32, usize), Fail> {
+    let bytes = joined(alloc, &[PAIR, end])?;
+    read_behind_header(alloc, &bytes)
+}
+
+// What is printed of a text's fault.
+fn printed_fault(alloc: Global, text: &[u8]) -> Result<String, Fail> {
+    let Err(fault) = read_batch(alloc, text) else {
+        return Err("the text was read")?;
+    };
+    Ok(format!(in alloc; "{fault}")?)
+}
+
 #[test]
 fn bad_lines(rt: HostRuntime) -> Result<(), Fail> {
-    assert_eq!(rt; read_behind_header(rt.alloc(), b"")?, (0, 0));
-    assert_eq!(rt; read_behind_header(rt.alloc(), b"\n")?, (2, 0));
+    for (bytes, wanted) in [(b"".as_slice(), (0, 0)), (b"\n", (2, 0))] {
+        assert_eq!(rt; read_behind_header(rt.alloc(), bytes)?, wanted);
+    }
     for (end, wanted) in [
         (b"\n".as_slice(), (0, 1)),
         (b" \n", (2, 0)),
@@ -50,14 +82,10 @@ fn bad_lines(rt: HostRuntime) -> Result<(), Fail> {
         (b"\n\n", (3, 0)),
         (b"\npair", (3, 0)),
     ] {
-        let mut bytes = PAIR.to_vec(rt.alloc())?;
-        bytes.extend_from_slice(end)?;
-        assert_eq!(rt; read_behind_header(rt.alloc(), &bytes)?, wanted);
+        assert_eq!(rt; read_behind_pair(rt.alloc(), end)?, wanted);
     }
-    let Err(fault) = read_batch(rt.alloc(), b"") else {
-        panic!(rt; "an empty text was read");
-    };
-    assert_eq!(rt; format!(in rt.alloc(); "{fault}")?.as_str(), "bad line 1");
+    let printed = printed_fault(rt.alloc(), b"")?;
+    assert!(rt; printed.as_str() == "bad line 1");
     Ok(())
 }
 

@@ -1,7 +1,6 @@
 //! One frame of each kind, and the frames of the worked examples: written, read, cut, changed and gathered.
 use crate::frame_rows::{Answer, Row, rows};
 use std::alloc::{AllocError, Global};
-use std::process::Abort;
 use std::test::Fail;
 use wire_frames::{FRAME_MAX, FrameFault, Gather, decode, encode_into};
 
@@ -32,45 +31,53 @@ fn answer_to(bytes: &[u8]) -> Answer {
     }
 }
 
-/// The bytes are read as one frame, which is written as the same bytes.
-fn is_written_back(rt: &impl Abort, out: &mut [u8], bytes: &[u8]) {
+/// Reads the bytes as a frame and writes it: how many bytes were read, and how many were written.
+fn written(out: &mut [u8], bytes: &[u8]) -> Option<(usize, usize)> {
     if out.len() < FRAME_MAX {
-        return;
+        return None;
     }
-    match decode(bytes) {
-        Ok((frame, len)) => {
-            assert_eq!(rt; len, bytes.len());
-            let written = encode_into(&frame, out);
-            assert!(rt; out.starts_with(bytes));
-            assert_eq!(rt; written, bytes.len());
-        }
-        Err(_) => panic!(rt; "the bytes are a frame"),
-    }
+    let Ok((frame, len)) = decode(bytes) else {
+        return None;
+    };
+    Some((len, encode_into(&frame, out)))
 }
 
-fn answer_with<const N: usize>(mut bytes: [u8; N], place: usize, byte: u8) -> Answer {
-    if place < N {
-        bytes[place] = byte;
-    }
-    answer_to(&bytes)
+/// Whether the bytes are read as one frame, which is written as the same bytes.
+fn is_written_back(out: &mut [u8], bytes: &[u8]) -> bool {
+    let Some((read, written)) = written(out, bytes) else {
+        return false;
+    };
+    read == bytes.len() && written == bytes.len() && out.starts_with(bytes)
 }
 
-fn is_short_where_cut(rt: &impl Abort, bytes: &[u8]) {
+fn is_short_where_cut(bytes: &[u8]) -> bool {
     for cut in 0..bytes.len() {
-        assert_eq!(rt; answer_to(&bytes[..cut]), Answer::Fault(FrameFault::Short));
+        if answer_to(&bytes[..cut]) != Answer::Fault(FrameFault::Short) {
+            return false;
+        }
     }
+    true
 }
 
-/// The answer with a byte raised by one.
-fn raised(bytes: &mut [u8], place: usize) -> Answer {
+/// The answer with another byte in this place.
+fn answer_with(bytes: &mut [u8], place: usize, other: u8) -> Answer {
     if place >= bytes.len() {
         return Answer::Read;
     }
     let byte = bytes[place];
-    bytes[place] = byte.wrapping_add(1);
+    bytes[place] = other;
     let answer = answer_to(bytes);
     bytes[place] = byte;
     answer
+}
+
+/// The answer with a byte raised by one.
+fn raised(bytes: &mut [u8], place: usize) -> Answer {
+    let byte = match bytes.get(place) {
+        Some(byte) => *byte,
+        None => 0,
+    };
+    answer_with(bytes, place, byte.wrapping_add(1))
 }
 
 /// What the row says of a byte of the header.
@@ -86,18 +93,50 @@ fn expected(row: &Row, place: usize) -> Answer {
     }
 }
 
-/// A new gatherer takes the bytes in pieces of a size, and nothing behind them.
-fn is_gathered(rt: &impl Abort, gather: &mut Gather, bytes: &[u8], size: usize) {
-    gather.clear();
-    for piece in bytes.chunks(size.max(1)) {
-        assert_eq!(rt; gather.feed(piece), Ok(piece.len()));
-    }
-    assert_eq!(rt; gather.want(), 0);
-    assert_eq!(rt; gather.feed(&[1, 2, 3]), Ok(0));
+/// Feeds a gatherer. Its callers learn nothing of what is held, which keeps their proofs small.
+fn fed(gather: &mut Gather, piece: &[u8]) -> Result<usize, FrameFault> {
+    gather.feed(piece)
+}
+
+/// How many bytes are held, and how many are missing.
+fn held_and_missing(gather: &Gather) -> (usize, usize) {
+    (gather.held().len(), gather.want())
+}
+
+fn has_any_frame(gather: &Gather) -> bool {
+    gather.frame().is_some()
+}
+
+fn has_frame(gather: &Gather, bytes: &[u8]) -> bool {
     match gather.frame() {
-        Some(frame) => assert!(rt; frame == bytes),
-        None => panic!(rt; "the frame is whole"),
+        Some(frame) => frame == bytes,
+        None => false,
     }
+}
+
+fn is_taken_in_pieces(gather: &mut Gather, bytes: &[u8], size: usize) -> bool {
+    for piece in bytes.chunks(size.max(1)) {
+        if fed(gather, piece) != Ok(piece.len()) {
+            return false;
+        }
+    }
+    true
+}
+
+/// Whether a cleared gatherer takes the bytes in pieces of a size, and nothing behind them.
+fn is_gathered(gather: &mut Gather, bytes: &[u8], size: usize) -> bool {
+    gather.clear();
+    is_taken_in_pieces(gather, bytes, size)
+        && held_and_missing(gather) == (bytes.len(), 0)
+        && fed(gather, &[1, 2, 3]) == Ok(0)
+        && has_frame(gather, bytes)
+}
+
+fn opened(alloc: Global) -> Result<Gather, Fail> {
+    let Ok(gather) = Gather::open(alloc) else {
+        return Err("memory")?;
+    };
+    Ok(gather)
 }
 
 #[test]
@@ -105,8 +144,8 @@ fn each_kind_and_tag(rt: HostRuntime) -> Result<(), Fail> {
     let mut out = vec![in rt.alloc(); 0u8; FRAME_MAX]?;
     for row in rows() {
         let mut bytes = bytes_of(rt.alloc(), row)?;
-        is_written_back(&rt, &mut out, &bytes);
-        is_short_where_cut(&rt, &bytes);
+        assert!(rt; is_written_back(&mut out, &bytes));
+        assert!(rt; is_short_where_cut(&bytes));
         for place in 0..20usize {
             assert_eq!(rt; raised(&mut bytes, place), expected(row, place));
         }
@@ -118,50 +157,54 @@ fn each_kind_and_tag(rt: HostRuntime) -> Result<(), Fail> {
 fn worked_frames(rt: HostRuntime) -> Result<(), Fail> {
     let mut out = vec![in rt.alloc(); 0u8; FRAME_MAX]?;
     for bytes in [HELD.as_slice(), LINK_RETIRE.as_slice()] {
-        is_written_back(&rt, &mut out, bytes);
-        is_short_where_cut(&rt, bytes);
+        assert!(rt; is_written_back(&mut out, bytes));
+        assert!(rt; is_short_where_cut(bytes));
     }
-    assert_eq!(rt;
-        answer_with(HELD, 4, 9),
-        Answer::Fault(FrameFault::Version(9))
-    );
-    assert_eq!(rt;
-        answer_with(HELD, 4, 2),
-        Answer::Fault(FrameFault::Malformed(5))
-    );
-    assert_eq!(rt;
-        answer_with(HELD, 3, 16),
-        Answer::Fault(FrameFault::Malformed(0))
-    );
-    assert_eq!(rt;
-        answer_with(HELD, 5, 16),
-        Answer::Fault(FrameFault::Malformed(5))
-    );
-    assert_eq!(rt;
-        answer_with(LINK_RETIRE, 4, 1),
-        Answer::Fault(FrameFault::Malformed(5))
-    );
     Ok(())
 }
 
 #[test]
+fn worked_frames_with_a_wrong_byte(rt: HostRuntime) {
+    let mut held = HELD;
+    for (place, byte, fault) in [
+        (4, 9, FrameFault::Version(9)),
+        (4, 2, FrameFault::Malformed(5)),
+        (3, 16, FrameFault::Malformed(0)),
+        (5, 16, FrameFault::Malformed(5)),
+    ] {
+        assert_eq!(rt; answer_with(&mut held, place, byte), Answer::Fault(fault));
+    }
+    let mut retire = LINK_RETIRE;
+    let answer = answer_with(&mut retire, 4, 1);
+    assert_eq!(rt; answer, Answer::Fault(FrameFault::Malformed(5)));
+}
+
+#[test]
 fn gathered_in_any_pieces(rt: HostRuntime) -> Result<(), Fail> {
-    let mut gather = Gather::open(rt.alloc()).ok().ok_or("memory")?;
-    assert_eq!(rt; gather.want(), 4);
+    let mut gather = opened(rt.alloc())?;
+    assert_eq!(rt; held_and_missing(&gather), (0, 4));
     for row in rows() {
         let bytes = bytes_of(rt.alloc(), row)?;
         for size in [1usize, 7, 22, 9000] {
-            is_gathered(&rt, &mut gather, &bytes, size);
+            assert!(rt; is_gathered(&mut gather, &bytes, size));
         }
     }
-    gather.clear();
-    assert_eq!(rt; gather.feed(&HELD[..5]), Ok(5));
-    assert_eq!(rt; gather.want(), 16);
-    // The kind is wrong, so that its byte is the last that is taken, and the fault stays.
-    assert_eq!(rt; gather.feed(&[99, 0, 0]), Err(FrameFault::Malformed(5)));
-    assert_eq!(rt; gather.feed(&HELD), Err(FrameFault::Malformed(5)));
-    assert_eq!(rt; gather.held().len(), 6);
-    assert_eq!(rt; gather.want(), 0);
-    assert!(rt; gather.frame().is_none());
+    Ok(())
+}
+
+// The kind is wrong, so that its byte is the last that is taken, and the fault stays.
+#[test]
+fn a_wrong_kind_is_gathered(rt: HostRuntime) -> Result<(), Fail> {
+    let mut gather = opened(rt.alloc())?;
+    let wrong = Err(FrameFault::Malformed(5));
+    for (piece, answer, after) in [
+        (&HELD[..5], Ok(5), (5, 16)),
+        (&[99, 0, 0], wrong, (6, 0)),
+        (&HELD, wrong, (6, 0)),
+    ] {
+        assert_eq!(rt; fed(&mut gather, piece), answer);
+        assert_eq!(rt; held_and_missing(&gather), after);
+    }
+    assert!(rt; !has_any_frame(&gather));
     Ok(())
 }

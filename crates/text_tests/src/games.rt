@@ -1,6 +1,6 @@
 //! Texts of games: one that is read, and lines that are named.
-use express_texts::{TextFault, read_cloak};
-use std::alloc::Global;
+use express_texts::{AimText, CloakGame, TextFault, read_cloak};
+use std::alloc::{AllocError, Global};
 use std::test::Fail;
 
 const LINES: [&[u8]; 7] = [
@@ -13,37 +13,48 @@ const LINES: [&[u8]; 7] = [
     b"address ffffffffffffffffffffffffffffffff",
 ];
 
-#[test]
-fn a_game(rt: HostRuntime) -> Result<(), Fail> {
-    let mut text = Vec::new(rt.alloc());
-    for line in LINES {
-        text.extend_from_slice(line)?;
+// The first of these lines with another one in place of line `place`.
+fn text_with(
+    alloc: Global,
+    lines: &[&[u8]],
+    place: usize,
+    other: &[u8],
+) -> Result<Vec<u8>, AllocError> {
+    let mut text = Vec::new(alloc);
+    for (i, line) in lines.iter().enumerate() {
+        text.extend_from_slice(if i + 1 == place { other } else { line })?;
         text.push(b'\n')?;
     }
-    let game = read_cloak(rt.alloc(), &text)?;
-    assert_eq!(rt; game.viewer, 1);
-    assert_eq!(rt; game.width, 16);
-    assert_eq!(rt; game.seed[31], 255);
-    assert_eq!(rt; game.ckey[0], 1);
-    assert_eq!(rt; game.sigma, 10);
-    assert_eq!(rt; game.old_aim.address, 0);
-    assert_eq!(rt; game.old_aim.message.as_slice()[15], 1);
-    assert_eq!(rt; game.new_aim.address, u128::MAX);
-    assert_eq!(rt; game.new_aim.message.as_slice()[15], 2);
-    assert_eq!(rt; game.addresses.as_slice(), [0, u128::MAX].as_slice());
+    Ok(text)
+}
+
+// Its callers learn nothing of how games are spelled, which keeps their proofs small.
+fn game_in(alloc: Global, text: &[u8]) -> Result<CloakGame, TextFault> {
+    read_cloak(alloc, text)
+}
+
+fn is_aim(aim: &AimText, address: u128, last: u8) -> bool {
+    aim.address == address && aim.message.as_slice().get(15) == Some(&last)
+}
+
+fn has_aims(game: &CloakGame) -> bool {
+    is_aim(&game.old_aim, 0, 1) && is_aim(&game.new_aim, u128::MAX, 2)
+}
+
+#[test]
+fn a_game(rt: HostRuntime) -> Result<(), Fail> {
+    let text = text_with(rt.alloc(), &LINES, 0, b"")?;
+    let game = game_in(rt.alloc(), &text)?;
+    assert!(rt; game.viewer == 1 && game.width == 16);
+    assert!(rt; game.seed[31] == 255 && game.ckey[0] == 1 && game.sigma == 10);
+    assert!(rt; has_aims(&game));
+    assert!(rt; game.addresses.as_slice() == [0, u128::MAX].as_slice());
     Ok(())
 }
 
-// The line that is named of the game's first lines with another one in place of line `place`, or else 0.
-fn named(alloc: Global, lines: usize, place: usize, other: &[u8]) -> Result<u32, Fail> {
-    let mut text = Vec::new(alloc);
-    for (i, line) in LINES.iter().enumerate() {
-        if i < lines {
-            text.extend_from_slice(if i + 1 == place { other } else { line })?;
-            text.push(b'\n')?;
-        }
-    }
-    match read_cloak(alloc, &text) {
+// The line that is named of a text, or else 0.
+fn named(alloc: Global, text: &[u8]) -> Result<u32, Fail> {
+    match game_in(alloc, text) {
         Ok(_) => Ok(0),
         Err(TextFault::Wrong(line)) => Ok(line),
         Err(fault) => Err(fault)?,
@@ -97,7 +108,8 @@ fn lines_that_are_named(rt: HostRuntime) -> Result<(), Fail> {
             4,
         ),
     ] {
-        assert_eq!(rt; named(rt.alloc(), lines, place, other)?, wanted);
+        let text = text_with(rt.alloc(), &LINES[..lines.min(7)], place, other)?;
+        assert_eq!(rt; named(rt.alloc(), &text)?, wanted);
     }
     Ok(())
 }

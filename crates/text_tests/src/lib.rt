@@ -12,6 +12,8 @@ mod frames;
 #[cfg(test)]
 mod games;
 #[cfg(test)]
+mod joined;
+#[cfg(test)]
 mod outside;
 #[cfg(test)]
 mod schedules;

@@ -1,4 +1,5 @@
 //! Worked rows read and printed again, lines that are bad, and a mill.
+use crate::joined::joined;
 use schedule_text::{Asked, Event, ReadFault, mill, print, read};
 use std::alloc::Global;
 use std::test::Fail;
@@ -69,75 +70,90 @@ const FOREIGN_LEN: usize = 146;
 const HEADER: &[u8] = b"express 1 16 4 2 1 00000000000000000000000000000000\
     00000000000000000000000000000000\n";
 
+// What is printed of the schedule that a text is read as. Its callers learn nothing of how schedules are spelled,
+// which keeps their proofs small.
+fn reprinted(alloc: Global, text: &[u8]) -> Result<Vec<u8>, Fail> {
+    let schedule = read(alloc, text)?;
+    Ok(print(alloc, &schedule)?)
+}
+
 #[test]
 fn rows_are_printed_again(rt: HostRuntime) -> Result<(), Fail> {
     for row in [TWO_WRITERS, RETIRE, SHOWN_FRAMES, NO_DEPOSIT, HEADER] {
-        let schedule = read(rt.alloc(), row)?;
-        assert_eq!(rt; print(rt.alloc(), &schedule)?.as_slice(), row);
+        let printed = reprinted(rt.alloc(), row)?;
+        assert!(rt; printed.as_slice() == row);
     }
     Ok(())
 }
 
 #[test]
 fn either_case_is_read(rt: HostRuntime) -> Result<(), Fail> {
-    let mut text = HEADER.to_vec(rt.alloc())?;
-    text.extend_from_slice(b"tick\ninject B 0aBF")?;
-    let schedule = read(rt.alloc(), &text)?;
-    let mut printed = HEADER.to_vec(rt.alloc())?;
-    printed.extend_from_slice(b"tick\ninject B 0abf\n")?;
-    assert_eq!(rt;
-        print(rt.alloc(), &schedule)?.as_slice(),
-        printed.as_slice()
-    );
+    let text = joined(rt.alloc(), &[HEADER, b"tick\ninject B 0aBF"])?;
+    let wanted = joined(rt.alloc(), &[HEADER, b"tick\ninject B 0abf\n"])?;
+    let printed = reprinted(rt.alloc(), &text)?;
+    assert!(rt; printed.as_slice() == wanted.as_slice());
     Ok(())
 }
 
-// The first bad line of the header and these lines behind it, or 0.
-fn bad_behind_header(alloc: Global, lines: &[&[u8]]) -> Result<u32, Fail> {
-    let mut text = HEADER.to_vec(alloc)?;
-    for line in lines {
-        text.extend_from_slice(line)?;
-    }
-    match read(alloc, &text) {
+// The first bad line of a text, or 0.
+fn bad_line(alloc: Global, text: &[u8]) -> Result<u32, Fail> {
+    match read(alloc, text) {
         Ok(_) => Ok(0),
         Err(ReadFault::BadLine(line)) => Ok(line),
         Err(fault) => Err(fault)?,
     }
 }
 
+fn printed_fault(alloc: Global, text: &[u8]) -> Result<String, Fail> {
+    let Err(fault) = read(alloc, text) else {
+        return Err("the text was read")?;
+    };
+    Ok(format!(in alloc; "{fault}")?)
+}
+
 #[test]
 fn bad_lines(rt: HostRuntime) -> Result<(), Fail> {
     let foreign = &NO_DEPOSIT[HEADER.len()..HEADER.len() + FOREIGN_LEN];
-    for (lines, wanted) in [
-        ([b"".as_slice(), b"".as_slice()], 0),
-        ([b"\n", b""], 2),
-        ([b"finish 0\nask 0 read 00\n", b""], 3),
-        ([b"show 0\n", b"deliver 4294967296\n"], 3),
-        ([b"send 1\n", foreign], 3),
-        ([foreign, b"finish 1\n"], 3),
-        ([foreign, b"finish 0\n"], 0),
+    for (first, second, wanted) in [
+        (b"".as_slice(), b"".as_slice(), 0),
+        (b"\n", b"", 2),
+        (b"finish 0\nask 0 read 00\n", b"", 3),
+        (b"show 0\n", b"deliver 4294967296\n", 3),
+        (b"send 1\n", foreign, 3),
+        (foreign, b"finish 1\n", 3),
+        (foreign, b"finish 0\n", 0),
     ] {
-        assert_eq!(rt; bad_behind_header(rt.alloc(), &lines)?, wanted);
+        let text = joined(rt.alloc(), &[HEADER, first, second])?;
+        assert_eq!(rt; bad_line(rt.alloc(), &text)?, wanted);
     }
-    let Err(fault) = read(rt.alloc(), b"") else {
-        panic!(rt; "an empty text was read");
-    };
-    assert_eq!(rt; format!(in rt.alloc(); "{fault}")?.as_str(), "bad line 1");
+    let printed = printed_fault(rt.alloc(), b"")?;
+    assert!(rt; printed.as_str() == "bad line 1");
     Ok(())
 }
 
 // The first address, from an independent program.
+fn is_mill(events: &[Event]) -> bool {
+    match events {
+        [Event::Ask(0, Asked::Register(address)), ..] => {
+            events.len() == 258 && *address == 0x01962079dede42113124826b89870941
+        }
+        _ => false,
+    }
+}
+
+// What is printed of a mill.
+fn printed_mill(alloc: Global) -> Result<Vec<u8>, Fail> {
+    let schedule = mill(alloc, 1)?;
+    if !is_mill(schedule.events.as_slice()) {
+        return Err("it isn't the mill")?;
+    }
+    Ok(print(alloc, &schedule)?)
+}
+
 #[test]
 fn a_mill_is_printed_and_read(rt: HostRuntime) -> Result<(), Fail> {
-    let schedule = mill(rt.alloc(), 1)?;
-    assert_eq!(rt; schedule.events.as_slice().len(), 258);
-    if let [Event::Ask(0, Asked::Register(address)), ..] = schedule.events.as_slice() {
-        assert_eq!(rt; *address, 0x01962079dede42113124826b89870941);
-    } else {
-        panic!(rt; "the first event isn't a register of client 0");
-    }
-    let text = print(rt.alloc(), &schedule)?;
-    let again = read(rt.alloc(), &text)?;
-    assert_eq!(rt; print(rt.alloc(), &again)?.as_slice(), text.as_slice());
+    let text = printed_mill(rt.alloc())?;
+    let again = reprinted(rt.alloc(), &text)?;
+    assert!(rt; again.as_slice() == text.as_slice());
     Ok(())
 }

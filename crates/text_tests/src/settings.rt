@@ -1,7 +1,10 @@
 //! One server's settings, one client's and one carrier's, the first wrong key of each, and texts that aren't
 //! TOML.
-use express_words::Settings;
-use settings_text::{Asking, CarryJob, LEADER, OwnedBox, read_carry, read_client, read_serve};
+use express_words::{Settings, Text};
+use settings_text::{
+    Asking, CarryJob, CarrySettings, ClientSettings, LEADER, OwnedBox, ServeSettings, TextFault,
+    read_carry, read_client, read_serve,
+};
 use std::alloc::{AllocError, Global};
 use std::test::Fail;
 
@@ -73,79 +76,117 @@ fn text_of(alloc: Global, keys: &[Key], wrong_from: usize) -> Result<String, All
     Ok(text)
 }
 
-// What is printed of a fault at this key.
-fn bad(alloc: Global, key: &str) -> Result<String, AllocError> {
-    format!(in alloc; "bad settings {key}")
+// Whether this is printed as a fault at the key.
+fn is_bad(alloc: Global, fault: &TextFault, key: &str) -> Result<bool, AllocError> {
+    let printed = format!(in alloc; "{fault}")?;
+    Ok(printed.strip_prefix("bad settings ") == Some(key))
+}
+
+// Its callers learn nothing of how settings are spelled, which keeps their proofs small.
+fn server_in(alloc: Global, text: &[u8]) -> Result<ServeSettings, TextFault> {
+    read_serve(alloc, text)
+}
+
+fn is_at(place: &Text, wanted: &str) -> bool {
+    place.as_str() == wanted
 }
 
 #[test]
 fn a_leader(rt: HostRuntime) -> Result<(), Fail> {
     let text = text_of(rt.alloc(), &SERVE, SERVE.len())?;
-    let leader = read_serve(rt.alloc(), text.as_bytes())?;
-    assert_eq!(rt; leader.role, LEADER);
-    assert_eq!(rt; leader.listen.as_str(), "127.0.0.1:7001");
-    assert_eq!(rt; leader.peer.as_str(), "127.0.0.1:7000");
+    let leader = server_in(rt.alloc(), text.as_bytes())?;
+    assert!(rt; leader.role == LEADER);
+    assert!(rt; is_at(&leader.listen, "127.0.0.1:7001"));
+    assert!(rt; is_at(&leader.peer, "127.0.0.1:7000"));
     let settings = Settings {
         width: 4096,
         boxes: 4096,
         lanes: 256,
         window: 32,
     };
-    assert_eq!(rt; leader.settings, settings);
-    assert_eq!(rt; leader.connections, 1_000_000);
+    assert!(rt; leader.settings == settings);
+    assert!(rt; leader.connections == 1_000_000);
     Ok(())
+}
+
+// Whether the text's fault as a server's settings is at the key.
+fn is_bad_server(alloc: Global, text: &[u8], key: &str) -> Result<bool, Fail> {
+    match server_in(alloc, text) {
+        Ok(_) => Ok(false),
+        Err(fault) => Ok(is_bad(alloc, &fault, key)?),
+    }
 }
 
 #[test]
 fn first_wrong_key_of_a_server(rt: HostRuntime) -> Result<(), Fail> {
     for (i, (name, _, _)) in SERVE.iter().enumerate() {
         let text = text_of(rt.alloc(), &SERVE, i)?;
-        let Err(fault) = read_serve(rt.alloc(), text.as_bytes()) else {
-            panic!(rt; "a wrong key was read");
-        };
-        assert_eq!(rt; format!(in rt.alloc(); "{fault}")?, bad(rt.alloc(), name)?);
+        assert!(rt; is_bad_server(rt.alloc(), text.as_bytes(), name)?, "{name}");
     }
     Ok(())
 }
 
-#[test]
-fn a_client(rt: HostRuntime) -> Result<(), Fail> {
-    let text = text_of(rt.alloc(), &CLIENT, CLIENT.len())?;
-    let client = read_client(rt.alloc(), text.as_bytes())?;
-    assert_eq!(rt; (client.lane, client.serial), (255, u32::MAX));
-    assert_eq!(rt; client.leader.as_str(), "127.0.0.1:7001");
-    assert_eq!(rt; client.helper.as_str(), "127.0.0.1:7000");
-    assert_eq!(rt; (client.width, client.boxes), (16, 1));
-    let mut seed = [0; 32];
-    seed[31] = 255;
-    assert_eq!(rt; client.seed, Some(seed));
-    let owned = OwnedBox {
-        box_number: 4095,
-        serial: 1,
-    };
-    assert_eq!(rt; client.owned.as_slice(), [owned].as_slice());
-    let message: [u8; 16] = [0, 1, 2, 3, 4, 5, 6, 7, 8, 9, 10, 11, 12, 13, 14, 15];
-    let as_asked = match client.requests.as_slice() {
+fn client_in(alloc: Global, text: &[u8]) -> Result<ClientSettings, TextFault> {
+    read_client(alloc, text)
+}
+
+// Whether the requests are the four of the text, with this message.
+fn are_asked(requests: &[Asking], message: &[u8]) -> bool {
+    match requests {
         [
             Asking::Register(0x00112233445566778899aabbccddeeff),
             Asking::Write(1, written),
             Asking::Read(0),
             Asking::Retire(4095),
-        ] => written.as_slice() == message.as_slice(),
+        ] => written.as_slice() == message,
         _ => false,
-    };
-    assert!(rt; as_asked);
+    }
+}
+
+// Whether the only box is this one.
+fn is_owned(boxes: &[OwnedBox], number: u32, serial: u32) -> bool {
+    match boxes {
+        [only] => only.box_number == number && only.serial == serial,
+        _ => false,
+    }
+}
+
+fn is_seed(found: &Option<[u8; 32]>, wanted: &[u8; 32]) -> bool {
+    match found {
+        Some(seed) => seed == wanted,
+        None => false,
+    }
+}
+
+#[test]
+fn a_client(rt: HostRuntime) -> Result<(), Fail> {
+    let text = text_of(rt.alloc(), &CLIENT, CLIENT.len())?;
+    let client = client_in(rt.alloc(), text.as_bytes())?;
+    assert!(rt; client.lane == 255 && client.serial == u32::MAX);
+    assert!(rt; is_at(&client.leader, "127.0.0.1:7001"));
+    assert!(rt; is_at(&client.helper, "127.0.0.1:7000"));
+    assert!(rt; client.width == 16 && client.boxes == 1);
+    let mut seed = [0; 32];
+    seed[31] = 255;
+    assert!(rt; is_seed(&client.seed, &seed));
+    assert!(rt; is_owned(client.owned.as_slice(), 4095, 1));
+    let message = [0, 1, 2, 3, 4, 5, 6, 7, 8, 9, 10, 11, 12, 13, 14, 15];
+    assert!(rt; are_asked(client.requests.as_slice(), &message));
     Ok(())
+}
+
+fn is_bad_client(alloc: Global, text: &[u8], key: &str) -> Result<bool, Fail> {
+    match client_in(alloc, text) {
+        Ok(_) => Ok(false),
+        Err(fault) => Ok(is_bad(alloc, &fault, key)?),
+    }
 }
 
 #[test]
 fn first_wrong_key_of_a_client(rt: HostRuntime) -> Result<(), Fail> {
     for (i, (name, _, _)) in CLIENT.iter().enumerate() {
         let text = text_of(rt.alloc(), &CLIENT, i)?;
-        let Err(fault) = read_client(rt.alloc(), text.as_bytes()) else {
-            panic!(rt; "a wrong key was read");
-        };
-        assert_eq!(rt; format!(in rt.alloc(); "{fault}")?, bad(rt.alloc(), name)?);
+        assert!(rt; is_bad_client(rt.alloc(), text.as_bytes(), name)?, "{name}");
     }
     Ok(())
 }
@@ -157,23 +198,40 @@ fn carrier(alloc: Global, wrong_from: usize) -> Result<String, AllocError> {
     Ok(text)
 }
 
+fn carrier_in(alloc: Global, text: &[u8]) -> Result<CarrySettings, TextFault> {
+    read_carry(alloc, text)
+}
+
+// Whether a file of 17 bytes is to be sent to addresses 1 and 2.
+fn is_sent(job: &CarryJob) -> bool {
+    match job {
+        CarryJob::Send {
+            id,
+            file,
+            addresses,
+        } => {
+            *id == 9_223_372_036_854_775_807
+                && file.as_slice().len() == 17
+                && addresses.as_slice() == [1, 2].as_slice()
+        }
+        CarryJob::Fetch => false,
+    }
+}
+
 #[test]
 fn a_carrier(rt: HostRuntime) -> Result<(), Fail> {
     let text = carrier(rt.alloc(), CARRY.len())?;
-    let settings = read_carry(rt.alloc(), text.as_bytes())?;
-    assert_eq!(rt; (settings.width, settings.seed), (32, None));
-    let CarryJob::Send {
-        id,
-        file,
-        addresses,
-    } = &settings.job
-    else {
-        panic!(rt; "nothing is to be sent");
-    };
-    assert_eq!(rt; *id, 9_223_372_036_854_775_807);
-    assert_eq!(rt; file.as_slice().len(), 17);
-    assert_eq!(rt; addresses.as_slice(), [1, 2].as_slice());
+    let settings = carrier_in(rt.alloc(), text.as_bytes())?;
+    assert!(rt; settings.width == 32 && settings.seed.is_none());
+    assert!(rt; is_sent(&settings.job));
     Ok(())
+}
+
+fn is_bad_carrier(alloc: Global, text: &[u8], key: &str) -> Result<bool, Fail> {
+    match carrier_in(alloc, text) {
+        Ok(_) => Ok(false),
+        Err(fault) => Ok(is_bad(alloc, &fault, key)?),
+    }
 }
 
 // A fetch without owned boxes is a wrong `owned`, which the last row shows.
@@ -189,12 +247,9 @@ fn first_wrong_key_of_a_carrier(rt: HostRuntime) -> Result<(), Fail> {
         (3, "owned"),
     ] {
         let text = carrier(rt.alloc(), i)?;
-        let Err(fault) = read_carry(rt.alloc(), text.as_bytes()) else {
-            panic!(rt; "a wrong key was read");
-        };
-        assert_eq!(rt;
-            format!(in rt.alloc(); "{fault}")?,
-            bad(rt.alloc(), wanted)?
+        assert!(rt;
+            is_bad_carrier(rt.alloc(), text.as_bytes(), wanted)?,
+            "{wanted}"
         );
     }
     Ok(())
@@ -207,13 +262,7 @@ fn no_toml(rt: HostRuntime) -> Result<(), Fail> {
         (b"# \xff\n", "toml"),
         (b"", "role"),
     ] {
-        let Err(fault) = read_serve(rt.alloc(), text) else {
-            panic!(rt; "no settings were read");
-        };
-        assert_eq!(rt;
-            format!(in rt.alloc(); "{fault}")?,
-            bad(rt.alloc(), wanted)?
-        );
+        assert!(rt; is_bad_server(rt.alloc(), text, wanted)?, "{wanted}");
     }
     Ok(())
 }

@@ -1,22 +1,35 @@
 //! Settings at the edges of their limits, and printed texts.
 use express_words::outside::Failed;
 use express_words::{NoMemory, Refusal, Settings};
+use std::alloc::{AllocError, Global};
 use std::test::Fail;
 
-#[test]
-fn settings_at_their_limits(rt: HostRuntime) -> Result<(), Fail> {
-    assert_eq!(rt; Settings::new(24, 4, 1, 1), None);
-    assert_eq!(rt; Settings::new(16, 4, 1, 33), None);
-    for window in [1u8, 2] {
-        let wanted = Settings {
-            width: 16,
-            boxes: 4,
-            lanes: 1,
-            window,
-        };
-        assert_eq!(rt; Settings::new(16, 4, 1, window), Some(wanted));
+// Whether settings of 4 boxes and a lane are the ones of these numbers, or else none.
+fn is_taken(width: u32, window: u8) -> bool {
+    match Settings::new(width, 4, 1, window) {
+        Some(found) => {
+            let wanted = Settings {
+                width,
+                boxes: 4,
+                lanes: 1,
+                window,
+            };
+            found == wanted
+        }
+        None => false,
     }
-    Ok(())
+}
+
+#[test]
+fn settings_at_their_limits(rt: HostRuntime) {
+    for (width, window, wanted) in [
+        (24, 1, false),
+        (16, 33, false),
+        (16, 1, true),
+        (16, 2, true),
+    ] {
+        assert!(rt; is_taken(width, window) == wanted);
+    }
 }
 
 const REFUSALS: [(Refusal, &str); 14] = [
@@ -43,16 +56,24 @@ const REFUSALS: [(Refusal, &str); 14] = [
     (Refusal::LinkDown(6), "linkdown 6"),
 ];
 
+fn is_printed(alloc: Global, refusal: Refusal, wanted: &str) -> Result<bool, AllocError> {
+    let text = refusal.to_string(alloc)?;
+    Ok(text.as_str() == wanted)
+}
+
 #[test]
-fn printed_texts(rt: HostRuntime) -> Result<(), Fail> {
-    let alloc = rt.alloc();
+fn printed_refusals(rt: HostRuntime) -> Result<(), Fail> {
     for (refusal, wanted) in REFUSALS {
-        let text = refusal.to_string(alloc)?;
-        assert_eq!(rt; text.as_str(), wanted);
+        assert!(rt; is_printed(rt.alloc(), refusal, wanted)?, "{wanted}");
     }
-    let memory = NoMemory.to_string(alloc)?;
-    assert_eq!(rt; memory.as_str(), "out of memory");
-    let failed = Failed.to_string(alloc)?;
-    assert_eq!(rt; failed.as_str(), "the call failed");
+    Ok(())
+}
+
+#[test]
+fn printed_failures(rt: HostRuntime) -> Result<(), Fail> {
+    let memory = NoMemory.to_string(rt.alloc())?;
+    assert!(rt; memory.as_str() == "out of memory");
+    let failed = Failed.to_string(rt.alloc())?;
+    assert!(rt; failed.as_str() == "the call failed");
     Ok(())
 }

@@ -1,0 +1,10 @@
+//! Parts of a text put together.
+use std::alloc::{AllocError, Global};
+
+pub fn joined(alloc: Global, parts: &[&[u8]]) -> Result<Vec<u8>, AllocError> {
+    let mut text = Vec::new(alloc);
+    for part in parts {
+        text.extend_from_slice(part)?;
+    }
+    Ok(text)
+}
