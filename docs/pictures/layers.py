@@ -5,8 +5,8 @@ from drawing import FAINT, GROUND, INK, Picture
 
 BASE = "express_words"  # nearly all stand on it, so no line is drawn to it
 GROUPS = [
-    ("definitions and laws", "#efe3f7", "mailbox_rules token_rules dpf_rules audit_rules frame_rules step_rules "
-     "step_tokens run_rules file_table"),
+    ("definitions and laws", "#efe3f7", "mailbox_rules token_rules dpf_rules tower_numbers tower_laws audit_rules "
+     "frame_rules step_rules step_tokens run_rules file_table"),
     ("the point function", "#dbeafe", "chacha_expand dpf_keys dpf_eval"),
     ("the field, the audit, what one server sees", "#dcf5e4", "tower_field field_tables poly_roots write_sketch "
      "snip_proof batch_audit write_hiding"),

@@ -4,10 +4,10 @@ use Rattle.std.specs.Prelude.{◌≡◌, ◌≢◌, ℕ, ◌<◌, ◌^◌, List,
 use Rattle.std.proofs.Common.{◌∙◌, ap, sym, subst, get_or, arith}
 use Rattle.std.specs.Int.Bits.{xor_assoc, xor_self, xor_zero_l}
 use Rattle.std.proofs.lemmas.Nat.{xor_comm}
-use Rattle.tower_field.specs.Elements.{element_one}
-use Rattle.tower_field.specs.proved.ElementLaws.{level_laws, element_path}
-use Rattle.tower_field.specs.Gf.{gf, values}
-use Rattle.tower_field.proofs.GfLaws.{gf_two}
+use Rattle.tower_laws.specs.Elements.{element_one}
+use Rattle.tower_laws.proofs.ElementLaws.{level_laws, element_path}
+use Rattle.tower_laws.specs.Gf.{gf, values}
+use Rattle.tower_laws.proofs.GfLaws.{gf_two}
 use Rattle.poly_roots.specs.Polynomials.{value_at, plus_of, times_of}
 use Rattle.poly_roots.specs.Through.{through}
 use Rattle.audit_rules.specs.Sketch as sketch

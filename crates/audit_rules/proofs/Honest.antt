@@ -1,8 +1,8 @@
 -- The sketch of a vector that is zero everywhere but at one place, and that its proof passes at every point, over any field.
 use Rattle.std.specs.Prelude.{◌≡◌, ◌≢◌, ℕ, ◌<◌, Bool, List, [], ◌∷◌, length, refl}
 use Rattle.std.proofs.Common.{zero, suc, ◌∙◌, ap, get_or, arith}
-use Rattle.tower_field.specs.Laws.{FieldLaws}
-use Rattle.tower_field.specs.proved.Rings.{var, nil, ◌⊕◌, ◌⊗◌, solve, zero_add}
+use Rattle.tower_laws.specs.Laws.{FieldLaws}
+use Rattle.tower_laws.proofs.Rings.{var, nil, ◌⊕◌, ◌⊗◌, solve, zero_add}
 use Rattle.poly_roots.specs.Polynomials.{value_at, times_of}
 use Rattle.poly_roots.specs.Through.{through}
 use Rattle.poly_roots.proofs.ThroughLaws.{through_one, through_two}

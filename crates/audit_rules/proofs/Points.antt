@@ -1,8 +1,8 @@
 -- At how many points a proof can pass for a bad vector.
 use Rattle.std.specs.Prelude.{◌≡◌, ◌≢◌, ℕ, ◌≤◌, Bool, List, [], ◌∷◌, length, All, AllPairs}
 use Rattle.std.proofs.Common.{zero, suc, sym, ◌∙◌, ap, arith, get_or}
-use Rattle.tower_field.specs.Laws.{FieldLaws}
-use Rattle.tower_field.specs.proved.Rings.{mul_zero, zero_add}
+use Rattle.tower_laws.specs.Laws.{FieldLaws}
+use Rattle.tower_laws.proofs.Rings.{mul_zero, zero_add}
 use Rattle.poly_roots.specs.Polynomials.{value_at, plus_of, times_of}
 use Rattle.poly_roots.proofs.Roots.{all_zero, sum_zero, product_zero}
 use Rattle.poly_roots.proofs.ValueLaws.{value-plus, value-times, value-all_zero}

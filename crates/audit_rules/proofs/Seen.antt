@@ -1,8 +1,8 @@
 -- Where neither challenge is bad, a vector with two places that aren't zero is seen.
 use Rattle.std.specs.Prelude.{◌≡◌, ◌≢◌, ℕ, ◌<◌, Bool, List, [], ◌∷◌, length, refl}
 use Rattle.std.proofs.Common.{zero, suc, sym, ◌∙◌, ap, get_or, set, arith}
-use Rattle.tower_field.specs.Laws.{FieldLaws}
-use Rattle.tower_field.specs.proved.Rings.{var, nil, ◌⊕◌, ◌⊗◌, solve, mul_zero}
+use Rattle.tower_laws.specs.Laws.{FieldLaws}
+use Rattle.tower_laws.proofs.Rings.{var, nil, ◌⊕◌, ◌⊗◌, solve, mul_zero}
 use Rattle.poly_roots.proofs.Roots.{sum_zero, product_zero}
 use Rattle.audit_rules.specs.Sketch.{total, dot, dot3, verdict, bad_s, divisor, bad_r}
 

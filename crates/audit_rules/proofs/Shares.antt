@@ -1,8 +1,8 @@
 -- The two servers' shares of a sketch and of a proof add up to the whole, over any field.
 use Rattle.std.specs.Prelude.{◌≡◌, Bool, List, [], ◌∷◌, length, refl}
 use Rattle.std.proofs.Common.{◌∙◌, ap, sym, arith}
-use Rattle.tower_field.specs.Laws.{FieldLaws}
-use Rattle.tower_field.specs.proved.Rings.{var, nil, ◌⊕◌, ◌⊗◌, solve}
+use Rattle.tower_laws.specs.Laws.{FieldLaws}
+use Rattle.tower_laws.proofs.Rings.{var, nil, ◌⊕◌, ◌⊗◌, solve}
 use Rattle.poly_roots.specs.Polynomials.{value_at}
 use Rattle.poly_roots.specs.Through.{through}
 use Rattle.audit_rules.specs.Sketch.{total, dot, dot3, both}

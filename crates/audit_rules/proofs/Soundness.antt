@@ -3,11 +3,11 @@ use Rattle.std.specs.Prelude.{◌≡◌, ◌≢◌, ℕ, ◌<◌, ◌≤◌, ◌
 use Rattle.std.proofs.Common.{◌∙◌, ap, sym, subst, get_or, set, inl, inr, arith}
 use Rattle.std.proofs.lemmas.Bool.{cases_eq, cases_lt}
 use Rattle.std.proofs.lemmas.List.{set-set, get_or-set_other}
-use Rattle.tower_field.specs.Levels.{inverse_at}
-use Rattle.tower_field.specs.Elements.{element_one}
-use Rattle.tower_field.specs.proved.ElementLaws.{element_path, level_laws}
-use Rattle.tower_field.specs.Gf.{gf, values}
-use Rattle.tower_field.proofs.GfLaws.{gf_two}
+use Rattle.tower_numbers.specs.Levels.{inverse_at}
+use Rattle.tower_laws.specs.Elements.{element_one}
+use Rattle.tower_laws.proofs.ElementLaws.{element_path, level_laws}
+use Rattle.tower_laws.specs.Gf.{gf, values}
+use Rattle.tower_laws.proofs.GfLaws.{gf_two}
 use Rattle.poly_roots.specs.Polynomials.{value_at}
 use Rattle.poly_roots.specs.Through.{through}
 use Rattle.express_words.specs.declared.audit.ProofShare.{ProofShare}

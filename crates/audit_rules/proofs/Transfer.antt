@@ -3,9 +3,9 @@
 use Rattle.std.specs.Prelude.{◌≡◌, ℕ, ◌<◌, ◌^◌, List, [], ◌∷◌, length, All, bit_xor, refl}
 use Rattle.std.proofs.Common.{zero, suc, ◌∙◌, ap, get_or, set}
 use Rattle.std.proofs.lemmas.List.Elements.{All-head, All-tail}
-use Rattle.tower_field.specs.Levels.{inverse_at}
-use Rattle.tower_field.specs.Elements.{Element, element_zero, element_add, element_mul, element_inverse}
-use Rattle.tower_field.specs.Gf.{values}
+use Rattle.tower_numbers.specs.Levels.{inverse_at}
+use Rattle.tower_laws.specs.Elements.{Element, element_zero, element_add, element_mul, element_inverse}
+use Rattle.tower_laws.specs.Gf.{values}
 use Rattle.poly_roots.specs.Polynomials.{value_at, plus_of, scaled_of, times_of}
 use Rattle.audit_rules.specs.Sketch as sketch
 use Rattle.audit_rules.specs.Audit.{product, value, sums_of, bad_s, bad_r_divisor, bad_r, difference}

@@ -5,8 +5,8 @@ use Rattle.std.specs.Int.Bits.{xor_comm}
 use Rattle.std.proofs.lemmas.Bool.Decides.{eqb_tells}
 use Rattle.std.proofs.lemmas.Nat.{xor_lt}
 use Rattle.std.proofs.lemmas.List.{length-map}
-use Rattle.tower_field.specs.proved.Bounds.{product_below}
-use Rattle.tower_field.specs.Gf.{gf}
+use Rattle.tower_numbers.proofs.Bounds.{product_below}
+use Rattle.tower_laws.specs.Gf.{gf}
 use Rattle.poly_roots.specs.Polynomials.{value_at}
 use Rattle.poly_roots.specs.Through.{through}
 use Rattle.dpf_rules.specs.Bytes.{AreBytes}

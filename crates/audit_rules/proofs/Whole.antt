@@ -3,9 +3,9 @@ use Rattle.std.specs.Prelude.{◌≡◌, ℕ, ◌<◌, ◌^◌, List, length, Al
 use Rattle.std.proofs.Common.{◌∙◌, ap, sym, subst}
 use Rattle.std.specs.Int.Bits.{xor_assoc}
 use Rattle.std.proofs.lemmas.Nat.{xor_comm}
-use Rattle.tower_field.specs.Elements.{element_one}
-use Rattle.tower_field.specs.proved.ElementLaws.{level_laws}
-use Rattle.tower_field.specs.Gf.{gf, values}
+use Rattle.tower_laws.specs.Elements.{element_one}
+use Rattle.tower_laws.proofs.ElementLaws.{level_laws}
+use Rattle.tower_laws.specs.Gf.{gf, values}
 use Rattle.poly_roots.specs.Polynomials.{value_at, plus_of}
 use Rattle.poly_roots.specs.Through.{through}
 use Rattle.poly_roots.proofs.ValueLaws.{value-plus}

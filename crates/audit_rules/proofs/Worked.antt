@@ -1,6 +1,6 @@
 -- Worked sketches and proofs, computed on the definitions.
 use Rattle.std.specs.Prelude.{◌≡◌, ℕ, [], ◌∷◌, refl, bit_xor}
-use Rattle.tower_field.specs.Levels.{product_at, twist_at, inverse_at}
+use Rattle.tower_numbers.specs.Levels.{product_at, twist_at, inverse_at}
 use Rattle.poly_roots.specs.Polynomials.{times_of}
 use Rattle.express_words.specs.declared.audit.ProofShare.{ProofShare}
 use Rattle.audit_rules.specs.declared.sums.Sums.{Sums}

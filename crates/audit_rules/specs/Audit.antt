@@ -3,7 +3,7 @@
 -- section 4), with two multiplication gates, x·y and M·z, and one multiplication triple. A sum of field
 -- values is their XOR.
 use Rattle.std.specs.Prelude.{◌≡◌, ℕ, ◌==◌, ◌&&◌, Bool, if◌then◌else◌, List, [], ◌∷◌, slice_index, bit_xor}
-use Rattle.tower_field.specs.Levels.{product_at, inverse_at}
+use Rattle.tower_numbers.specs.Levels.{product_at, inverse_at}
 use Rattle.poly_roots.specs.Polynomials.{value_at, plus_of, times_of}
 use Rattle.poly_roots.specs.Through.{through}
 use Rattle.express_words.specs.declared.audit.ProofShare.{ProofShare}

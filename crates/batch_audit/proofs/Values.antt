@@ -4,8 +4,8 @@ use Rattle.std.proofs.Common.{suc, ◌∙◌, ap, sym, subst, get_or, arith, inl
 use Rattle.std.proofs.lemmas.Bool.{cases_lt}
 use Rattle.std.proofs.lemmas.Grind.{common_steps}
 use Rattle.std.proofs.lemmas.List.Elements.{All-nil, All-cons, All-head, All-tail}
-use Rattle.tower_field.specs.proved.ElementLaws.{level_laws, element_path}
-use Rattle.tower_field.specs.Gf.{values}
+use Rattle.tower_laws.proofs.ElementLaws.{level_laws, element_path}
+use Rattle.tower_laws.specs.Gf.{values}
 use Rattle.poly_roots.specs.Polynomials.{value_at, plus_of}
 use Rattle.poly_roots.proofs.ValueLaws.{value-plus, value-all_zero}
 use Rattle.poly_roots.proofs.Roots.{all_zero}

@@ -3,7 +3,7 @@ use Rattle.std.specs.Prelude.{◌≡◌, ℕ, ◌/◌, ◌%◌, ◌<◌, ◌==�
 use Rattle.std.proofs.Common.{zero, suc, inl, inr, subst, sym, arith}
 use Rattle.std.proofs.lemmas.Bool.{cases_eq}
 use borrow.Author.Tests.{eqb-true}
-use Rattle.tower_field.specs.Levels.{product_at, twist_at}
+use Rattle.tower_numbers.specs.Levels.{product_at, twist_at}
 use Rattle.field_tables.specs.declared.tables.TheConstants.{OF_LOW, OF_HIGH}
 use Rattle.field_tables.proofs.Logarithms.{from_and}
 

@@ -1,7 +1,7 @@
 -- The first 255 powers of 128 are the numbers from 1 to 255, each once: by computing them.
 use Rattle.std.specs.Prelude.{◌≡◌, ℕ, List, [], ◌∷◌, Bool, true, false, cond, ◌&&◌, ◌==◌, not, refl}
 use Rattle.std.proofs.Common.{zero, suc}
-use Rattle.tower_field.specs.Levels.{product_at, twist_at}
+use Rattle.tower_numbers.specs.Levels.{product_at, twist_at}
 use Rattle.field_tables.specs.Powers.{power_of}
 
 -- n powers, from x on

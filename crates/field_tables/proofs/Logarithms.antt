@@ -4,9 +4,9 @@ use Rattle.std.proofs.Common.{zero, suc, sym, ◌∙◌, ap, subst, get_or, arit
 use Rattle.std.proofs.Common.{set, inl, inr, get_or-set_same, get_or-set_other}
 use Rattle.std.proofs.lemmas.Bool.{cases_eq}
 use borrow.Author.Tests.{eqb-true, eq-eqb, eqb_apart}
-use Rattle.tower_field.specs.Levels.{product_at, twist_at}
-use Rattle.tower_field.specs.proved.Bounds.{product_below}
-use Rattle.tower_field.proofs.Products.{product_assoc, product_comm, zero_times, one_times, times_one}
+use Rattle.tower_numbers.specs.Levels.{product_at, twist_at}
+use Rattle.tower_numbers.proofs.Bounds.{product_below}
+use Rattle.tower_laws.proofs.Products.{product_assoc, product_comm, zero_times, one_times, times_one}
 use Rattle.field_tables.specs.Powers.{power_of}
 use Rattle.field_tables.proofs.Covered.{powers, has, covers, all_differ, covered, differ, no_zero, log_of_twist}
 

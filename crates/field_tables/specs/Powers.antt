@@ -1,7 +1,7 @@
 -- The powers of 128 at level 3.
 use Rattle.std.specs.Prelude.{ℕ}
 use Rattle.std.proofs.Common.{zero, suc}
-use Rattle.tower_field.specs.Levels.{product_at}
+use Rattle.tower_numbers.specs.Levels.{product_at}
 
 unfoldable pub power_of : ℕ → ℕ
 power_of zero = 1

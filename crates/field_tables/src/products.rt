@@ -1,6 +1,6 @@
 //! Products by halves, from level 7 down to level 3. A level takes three products of halves and one with the twist.
 ghost use Rattle.std.specs.Prelude.{◌≡◌, ◌^◌, ◌%◌, ◌/◌, ◌*◌, ◌+◌};
-ghost use Rattle.tower_field.specs.Levels.{product_at, twist_at};
+ghost use Rattle.tower_numbers.specs.Levels.{product_at, twist_at};
 
 use crate::tables::Tables;
 

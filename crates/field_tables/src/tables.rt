@@ -1,6 +1,6 @@
 //! Logarithms and powers of level 3 to the base 128, whose order is 255.
 ghost use Rattle.std.specs.Prelude.{◌≡◌, ℕ, ◌<◌, ◌≤◌, slice_index};
-ghost use Rattle.tower_field.specs.Levels.{product_at, twist_at};
+ghost use Rattle.tower_numbers.specs.Levels.{product_at, twist_at};
 ghost use Rattle.field_tables.specs.Powers.{power_of};
 
 // The products with 128 of the numbers below 16.

@@ -1,11 +1,11 @@
 -- The coefficients that `through3` makes step by step, and their values at 0, 1 and 2.
 use Rattle.std.specs.Prelude.{◌≡◌, ℕ, ◌^◌, ◌<◌, List, [], ◌∷◌, bit_xor}
 use Rattle.std.proofs.Common.{ap, ◌∙◌}
-use Rattle.tower_field.specs.Levels.{product_at}
-use Rattle.tower_field.specs.Elements.{Element, element_add, element_mul}
-use Rattle.tower_field.specs.proved.ElementLaws.{level_laws}
-use Rattle.tower_field.specs.Gf.{gf, values}
-use Rattle.tower_field.proofs.GfLaws.{gf_value, gf_two}
+use Rattle.tower_numbers.specs.Levels.{product_at}
+use Rattle.tower_laws.specs.Elements.{Element, element_add, element_mul}
+use Rattle.tower_laws.proofs.ElementLaws.{level_laws}
+use Rattle.tower_laws.specs.Gf.{gf, values}
+use Rattle.tower_laws.proofs.GfLaws.{gf_value, gf_two}
 use Rattle.poly_roots.specs.Polynomials.{value_at}
 use Rattle.poly_roots.specs.Through.{through}
 use Rattle.poly_roots.proofs.ThroughLaws.{through_zero, through_one, through_two}

@@ -2,8 +2,8 @@
 use Rattle.std.specs.Prelude.{◌≡◌, ◌≢◌, ◌≤◌, Bool, List, [], ◌∷◌, length, All, AllPairs, refl}
 use Rattle.std.proofs.Common.{suc, sym, ◌∙◌, ap, arith, get_or}
 use Rattle.std.proofs.lemmas.List.Elements.{All-nil, All-cons, All-head, All-tail}
-use Rattle.tower_field.specs.Laws.{FieldLaws}
-use Rattle.tower_field.specs.proved.Rings.{var, nil, ◌⊕◌, ◌⊗◌, solve, mul_zero, one_mul}
+use Rattle.tower_laws.specs.Laws.{FieldLaws}
+use Rattle.tower_laws.proofs.Rings.{var, nil, ◌⊕◌, ◌⊗◌, solve, mul_zero, one_mul}
 use Rattle.poly_roots.specs.Polynomials.{value_at}
 
 -- p less its value at r, divided by x + r

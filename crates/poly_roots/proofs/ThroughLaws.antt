@@ -1,8 +1,8 @@
 -- The polynomial through three values has them.
 use Rattle.std.specs.Prelude.{◌≡◌, Bool, List, [], ◌∷◌, refl}
 use Rattle.std.proofs.Common.{◌∙◌, ap}
-use Rattle.tower_field.specs.Laws.{FieldLaws}
-use Rattle.tower_field.specs.proved.Rings.{var, nil, unit, ◌⊕◌, ◌⊗◌, solve}
+use Rattle.tower_laws.specs.Laws.{FieldLaws}
+use Rattle.tower_laws.proofs.Rings.{var, nil, unit, ◌⊕◌, ◌⊗◌, solve}
 use Rattle.poly_roots.specs.Polynomials.{value_at}
 use Rattle.poly_roots.specs.Through.{square_coefficient, through}
 

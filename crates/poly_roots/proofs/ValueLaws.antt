@@ -2,8 +2,8 @@
 use Rattle.std.specs.Prelude.{◌≡◌, Bool, List, [], ◌∷◌, All, refl}
 use Rattle.std.proofs.Common.{sym, ◌∙◌, ap}
 use Rattle.std.proofs.lemmas.List.Elements.{All-head, All-tail}
-use Rattle.tower_field.specs.Laws.{FieldLaws}
-use Rattle.tower_field.specs.proved.Rings.{var, nil, ◌⊕◌, ◌⊗◌, solve, mul_zero, zero_add}
+use Rattle.tower_laws.specs.Laws.{FieldLaws}
+use Rattle.tower_laws.proofs.Rings.{var, nil, ◌⊕◌, ◌⊗◌, solve, mul_zero, zero_add}
 use Rattle.poly_roots.specs.Polynomials.{value_at, plus_of, scaled_of, times_of}
 
 module _ {F : Type 0} {z o : F} {add mul : F → F → F} {inverse : F → F} {eq : F → F → Bool} (laws : FieldLaws z o add mul inverse eq) where

@@ -1,6 +1,6 @@
 //! The polynomial through three values.
 ghost use Rattle.std.specs.Prelude.{◌≡◌, bit_xor};
-ghost use Rattle.tower_field.specs.Levels.{product_at};
+ghost use Rattle.tower_numbers.specs.Levels.{product_at};
 ghost use Rattle.poly_roots.specs.Polynomials.{value_at};
 
 use tower_field::{Field, Gf128};

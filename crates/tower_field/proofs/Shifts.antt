@@ -3,9 +3,9 @@ use Rattle.std.proofs.Common.{◌≡◌, ℕ, suc, ◌+◌, ◌-◌, ◌*◌, �
 use Rattle.std.proofs.Math.Nat.{pow-le-pow_right}
 use Rattle.std.proofs.lemmas.Nat.{one_shl}
 use Rattle.std.specs.Prelude.{bit_xor}
-use Rattle.tower_field.specs.Levels.{twist_at, product_at, inverse_at}
-use Rattle.tower_field.specs.proved.Bounds.{joined_below, high_below}
-use Rattle.tower_field.proofs.Products.{by_three, by_twist}
+use Rattle.tower_numbers.specs.Levels.{twist_at, product_at, inverse_at}
+use Rattle.tower_numbers.proofs.Bounds.{joined_below, high_below}
+use Rattle.tower_laws.proofs.Products.{by_three, by_twist}
 
 pub width_small : (k : ℕ) → k < 7 → (1 * 2 ^ k) % 2 ^ 32 ≤ 64
 width_small k h =

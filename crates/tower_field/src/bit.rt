@@ -1,12 +1,9 @@
-//! Level 0: the field of two elements.
-ghost use Rattle.tower_field.specs.Bits.{bit_zero, bit_one, bit_add, bit_mul, bit_inverse, bit_trace};
-ghost use Rattle.tower_field.specs.proved.BitLaws.{bit_laws, bit_tower_laws};
+//! Level 0 as a field and a level of the tower.
+ghost use Rattle.tower_laws.specs.Bits.{bit_zero, bit_one, bit_add, bit_mul, bit_inverse, bit_trace};
+ghost use Rattle.tower_laws.proofs.BitLaws.{bit_laws, bit_tower_laws};
 
 use crate::field::{Field, Tower};
-
-/// Zero where it is false, one where it is true.
-#[derive(Clone, Copy, Debug, PartialEq, Eq)]
-pub struct Bit(pub bool);
+use tower_laws::Bit;
 
 impl Field for Bit {
     ghost neutral = { bit_zero };

@@ -1,6 +1,6 @@
 //! What generic code may use of a field, and of a level of the tower.
 ghost use Rattle.std.specs.Prelude.{◌≡◌, ◌≢◌, Bool, Some, None};
-ghost use Rattle.tower_field.specs.Laws.{FieldLaws, TowerLaws};
+ghost use Rattle.tower_laws.specs.Laws.{FieldLaws, TowerLaws};
 
 /// A field of characteristic two.
 pub trait Field: Copy + Eq {

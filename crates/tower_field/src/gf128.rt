@@ -1,8 +1,8 @@
 //! Level 7 of the tower, the field of 2^128 elements, as numbers.
 ghost use Rattle.std.specs.Prelude.{◌≡◌, ◌<◌, ◌^◌};
-ghost use Rattle.tower_field.specs.Elements.{Element, element_zero, element_one, element_add, element_mul, element_inverse};
-ghost use Rattle.tower_field.specs.proved.ElementLaws.{level_laws};
-ghost use Rattle.tower_field.specs.Gf.{gf};
+ghost use Rattle.tower_laws.specs.Elements.{Element, element_zero, element_one, element_add, element_mul, element_inverse};
+ghost use Rattle.tower_laws.proofs.ElementLaws.{level_laws};
+ghost use Rattle.tower_laws.specs.Gf.{gf};
 ghost use Rattle.std.proofs.Math.Nat.{mod-eq_of_lt};
 
 use crate::field::Field;

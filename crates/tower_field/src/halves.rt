@@ -1,6 +1,6 @@
 //! Sums, products and inverses of numbers of a level, by halves. A number of level k has 2^k bits, and its high bits are its high half.
 ghost use Rattle.std.specs.Prelude.{◌≡◌, ◌≢◌, ◌+◌, ◌-◌, ◌*◌, ◌/◌, ◌%◌, ◌^◌, ◌<◌, ◌≤◌, bit_xor};
-ghost use Rattle.tower_field.specs.Levels.{twist_at, product_at, inverse_at};
+ghost use Rattle.tower_numbers.specs.Levels.{twist_at, product_at, inverse_at};
 
 // The number of bits of a half.
 fn width_of(level: u32) -> u32

@@ -7,7 +7,6 @@ mod gf128;
 mod halves;
 mod quad;
 
-pub use bit::Bit;
 pub use field::{Field, Tower};
 pub use gf128::Gf128;
-pub use quad::Quad;
+pub use tower_laws::{Bit, Quad};

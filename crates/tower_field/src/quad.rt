@@ -1,15 +1,9 @@
-//! The next level over a level: its quadratic extension.
-ghost use Rattle.tower_field.specs.Quads.{quad, quad_add, quad_mul, quad_inverse, quad_trace};
-ghost use Rattle.tower_field.specs.proved.QuadLaws.{quad_laws, quad_tower_laws};
+//! The next level over a level, as a field and a level of the tower.
+ghost use Rattle.tower_laws.specs.Quads.{quad, quad_add, quad_mul, quad_inverse, quad_trace};
+ghost use Rattle.tower_laws.proofs.QuadLaws.{quad_laws, quad_tower_laws};
 
 use crate::field::{Field, Tower};
-
-/// The value low + high·X over the level `K`, where X² = c·X + 1 with the twist c of `K`.
-#[derive(Clone, Copy, Debug, PartialEq, Eq)]
-pub struct Quad<K> {
-    pub low: K,
-    pub high: K,
-}
+use tower_laws::Quad;
 
 impl<K: Tower> Field for Quad<K> {
     ghost neutral = { quad K.neutral K.neutral };

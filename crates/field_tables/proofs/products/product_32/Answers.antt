@@ -1,5 +1,5 @@
 use Rattle.std.proofs.Common.{◌<◌, ◌^◌}
-use Rattle.tower_field.proofs.Products.{by_three}
+use Rattle.tower_laws.proofs.Products.{by_three}
 use Rattle.field_tables.proofs.products.product_32.Goals as goal
 
 pub returns : goal.returns

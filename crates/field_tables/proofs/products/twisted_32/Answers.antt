@@ -1,5 +1,5 @@
 use Rattle.std.proofs.Common.{◌<◌, ◌^◌}
-use Rattle.tower_field.proofs.Products.{by_twist}
+use Rattle.tower_laws.proofs.Products.{by_twist}
 use Rattle.field_tables.proofs.products.twisted_32.Goals as goal
 
 pub returns : goal.returns

@@ -1,4 +1,4 @@
-use Rattle.tower_field.specs.Levels.{twist_at}
+use Rattle.tower_numbers.specs.Levels.{twist_at}
 use Rattle.field_tables.proofs.products.twisted_8.Goals as goal
 
 pub returns : goal.returns

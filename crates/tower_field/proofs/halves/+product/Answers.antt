@@ -1,5 +1,5 @@
 use Rattle.std.proofs.Common.{◌<◌, ap, sym, arith}
-use Rattle.tower_field.specs.Levels.{product_at}
+use Rattle.tower_numbers.specs.Levels.{product_at}
 use Rattle.tower_field.proofs.Shifts.{by_three_above}
 use Rattle.tower_field.proofs.halves.+product.Goals as goal
 

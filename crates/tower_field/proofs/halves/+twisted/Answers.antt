@@ -1,6 +1,6 @@
 use Rattle.std.proofs.Common.{◌<◌, ◌^◌, subst, ap, ◌∙◌, sym, arith}
-use Rattle.tower_field.specs.Levels.{product_at, twist_at}
-use Rattle.tower_field.proofs.Products.{one_times}
+use Rattle.tower_numbers.specs.Levels.{product_at, twist_at}
+use Rattle.tower_laws.proofs.Products.{one_times}
 use Rattle.tower_field.proofs.Shifts.{twisted_above}
 use Rattle.tower_field.proofs.halves.+twisted.Goals as goal
 

@@ -1,7 +1,7 @@
 use Rattle.std.proofs.Common.{◌≡◌, ◌-◌, ◌*◌, ◌%◌, ◌^◌, ap, ◌∙◌, sym, arith}
 use Rattle.std.proofs.lemmas.Nat.{one_shl}
-use Rattle.tower_field.specs.Levels.{twist_at}
-use Rattle.tower_field.specs.proved.Bounds.{twist_below}
+use Rattle.tower_numbers.specs.Levels.{twist_at}
+use Rattle.tower_numbers.proofs.Bounds.{twist_below}
 use Rattle.tower_field.proofs.Shifts.{twist_above}
 use Rattle.tower_field.proofs.halves.twist_of.Goals as goal
 

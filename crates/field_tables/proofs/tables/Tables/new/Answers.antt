@@ -1,5 +1,5 @@
 use Rattle.std.proofs.Common.{◌≡◌, ◌<◌, ◌+◌, ℕ, get_or, length, set, refl, sym, ◌∙◌, ap, subst, arith, add-one, length-set, get_or-set_other}
-use Rattle.tower_field.specs.Levels.{product_at}
+use Rattle.tower_numbers.specs.Levels.{product_at}
 use Rattle.field_tables.specs.Powers.{power_of}
 use Rattle.field_tables.proofs.Logarithms.{power_filled, log_filled, power_apart, zeros_alone}
 use Rattle.field_tables.proofs.tables.Tables.new.Goals as goal

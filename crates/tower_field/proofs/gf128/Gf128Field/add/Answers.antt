@@ -1,8 +1,8 @@
 use Rattle.std.proofs.Common.{◌∙◌, ap}
 use Rattle.std.specs.Prelude.{bit_xor}
 use Rattle.std.proofs.lemmas.Nat.{xor_lt}
-use Rattle.tower_field.specs.Elements.{element_add}
-use Rattle.tower_field.proofs.GfLaws.{gf_path, inside_is}
+use Rattle.tower_laws.specs.Elements.{element_add}
+use Rattle.tower_laws.proofs.GfLaws.{gf_path, inside_is}
 use Rattle.tower_field.proofs.gf128.Gf128Field.add.Goals as goal
 
 pub invariant_of-result : goal.invariant_of-result

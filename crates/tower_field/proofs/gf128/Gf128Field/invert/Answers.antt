@@ -1,8 +1,8 @@
 use Rattle.std.proofs.Common.{Some, sym, ◌∙◌, ap}
-use Rattle.tower_field.specs.Levels.{inverse_at}
-use Rattle.tower_field.specs.Elements.{element_zero, element_inverse}
-use Rattle.tower_field.specs.proved.ElementLaws.{element_path}
-use Rattle.tower_field.proofs.GfLaws.{gf_path, inside_is}
+use Rattle.tower_numbers.specs.Levels.{inverse_at}
+use Rattle.tower_laws.specs.Elements.{element_zero, element_inverse}
+use Rattle.tower_laws.proofs.ElementLaws.{element_path}
+use Rattle.tower_laws.proofs.GfLaws.{gf_path, inside_is}
 use Rattle.tower_field.proofs.gf128.Gf128Field.invert.Goals as goal
 
 pub returns-then-self-eq0-clause-some : goal.returns-then-self-eq0-clause-some

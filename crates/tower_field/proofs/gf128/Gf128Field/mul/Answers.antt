@@ -1,7 +1,7 @@
 use Rattle.std.proofs.Common.{◌∙◌, ap}
-use Rattle.tower_field.specs.Levels.{product_at}
-use Rattle.tower_field.specs.Elements.{element_mul}
-use Rattle.tower_field.proofs.GfLaws.{gf_path, inside_is}
+use Rattle.tower_numbers.specs.Levels.{product_at}
+use Rattle.tower_laws.specs.Elements.{element_mul}
+use Rattle.tower_laws.proofs.GfLaws.{gf_path, inside_is}
 use Rattle.tower_field.proofs.gf128.Gf128Field.mul.Goals as goal
 
 pub returns : goal.returns

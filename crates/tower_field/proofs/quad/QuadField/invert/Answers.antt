@@ -1,6 +1,6 @@
 use Rattle.std.proofs.Common.{◌≡◌, sym, ◌∙◌, ap}
-use Rattle.tower_field.specs.Quads.{norm}
-use Rattle.tower_field.specs.proved.QuadLaws.{norm_zero, norm_apart}
+use Rattle.tower_laws.specs.Quads.{norm}
+use Rattle.tower_laws.proofs.QuadLaws.{norm_zero, norm_apart}
 use Rattle.tower_field.proofs.quad.QuadField.invert.Goals as goal
 
 -- the norm of zero is zero, which has no inverse

@@ -1,8 +1,8 @@
 -- The numbers of a level, with the operations on them.
 use Rattle.std.specs.Prelude.{ℕ, ◌^◌, ◌<◌, ◌==◌, Bool, bit_xor}
 use Rattle.std.proofs.lemmas.Nat.{xor_lt}
-use Rattle.tower_field.specs.Levels.{twist_at, product_at, inverse_at, trace_at}
-use Rattle.tower_field.specs.proved.Bounds.{half_pos, twist_below, product_below, inverse_below, one_below}
+use Rattle.tower_numbers.specs.Levels.{twist_at, product_at, inverse_at, trace_at}
+use Rattle.tower_numbers.proofs.Bounds.{half_pos, twist_below, product_below, inverse_below, one_below}
 
 -- the numbers of a level
 pub record Element (k : ℕ) : Type 0 where

@@ -1,7 +1,7 @@
 -- Level 0: one bit.
 use Rattle.std.specs.Prelude.{Bool, true, false, ◌&&◌}
-use Rattle.tower_field.specs.Laws.{differ}
-use Rattle.tower_field.specs.declared.bit.Bit.{Bit}
+use Rattle.tower_laws.specs.Laws.{differ}
+use Rattle.tower_laws.specs.declared.bit.Bit.{Bit}
 
 abbrev pub bit : Bool → Bit
 bit b = record { 0 = b }

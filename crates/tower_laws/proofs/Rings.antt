@@ -2,7 +2,7 @@
 use Rattle.std.specs.Prelude.{◌≡◌, ℕ, Bool, true, false, cond, ◌&&◌, List, [], ◌∷◌, refl}
 use Rattle.std.proofs.Common.{sym, ◌∙◌, ap, eqb, ltb, get_or}
 use borrow.Author.Tests.{eqb-true}
-use Rattle.tower_field.specs.Laws.{FieldLaws}
+use Rattle.tower_laws.specs.Laws.{FieldLaws}
 
 -- a term of a ring over numbered variables
 pub data Term : Type 0 where

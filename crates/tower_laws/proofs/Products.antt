@@ -2,11 +2,11 @@
 use Rattle.std.specs.Prelude.{◌≡◌, ℕ, ◌+◌, ◌*◌, ◌/◌, ◌%◌, ◌^◌, ◌<◌, List, [], ◌∷◌, refl, bit_xor}
 use Rattle.std.proofs.Common.{suc, sym, ◌∙◌, ap}
 use Rattle.std.proofs.Math.Nat.{mod_self, div_self}
-use Rattle.tower_field.specs.proved.Rings.{var, ◌⊕◌, ◌⊗◌, solve, mul_zero, one_mul}
-use Rattle.tower_field.specs.Levels.{product_at, twist_at}
-use Rattle.tower_field.specs.Elements.{Element, element_zero}
-use Rattle.tower_field.specs.proved.ElementLaws.{level_laws}
-use Rattle.tower_field.specs.proved.Bounds.{low_below, high_below, half_pos}
+use Rattle.tower_laws.proofs.Rings.{var, ◌⊕◌, ◌⊗◌, solve, mul_zero, one_mul}
+use Rattle.tower_numbers.specs.Levels.{product_at, twist_at}
+use Rattle.tower_laws.specs.Elements.{Element, element_zero}
+use Rattle.tower_laws.proofs.ElementLaws.{level_laws}
+use Rattle.tower_numbers.proofs.Bounds.{low_below, high_below, half_pos}
 
 abbrev in_level : (k a : ℕ) → a < 2 ^ (2 ^ k) → Element k
 in_level k a h = record { value = a; in_range = h }

@@ -7,17 +7,17 @@ use store.Seg.{eqb_same}
 use Rattle.std.proofs.lemmas.Nat.{xor_mod, xor_shr, shr_high, mod_low, shr_split}
 use native.Mathlib.Bridge.{le_prop}
 use mathlib.Core.HLevel.{is_prop→PathP}
-use Rattle.tower_field.specs.Laws.{FieldLaws, TowerLaws, differ}
-use Rattle.tower_field.specs.Bits.{bit, bit_zero, bit_one, bit_add, bit_mul, bit_inverse}
-use Rattle.tower_field.specs.proved.BitLaws.{bit_laws, bit_tower_laws}
-use Rattle.tower_field.specs.Quads.{quad, quad_add, quad_mul, quad_inverse}
-use Rattle.tower_field.specs.proved.QuadLaws.{quad_laws, quad_tower_laws}
-use Rattle.tower_field.specs.proved.Pulled.{FieldMap, field_pulled, tower_pulled}
-use Rattle.tower_field.specs.declared.quad.Quad.{Quad}
-use Rattle.tower_field.specs.Levels.{twist_at, product_at, inverse_at, trace_at}
-use Rattle.tower_field.specs.proved.Bounds.{half_pos, low_below, high_below, one_below}
-use Rattle.tower_field.specs.Elements.{Element, element_zero, element_one, element_add, element_mul}
-use Rattle.tower_field.specs.Elements.{element_inverse, element_twist, element_eq, element_trace}
+use Rattle.tower_laws.specs.Laws.{FieldLaws, TowerLaws, differ}
+use Rattle.tower_laws.specs.Bits.{bit, bit_zero, bit_one, bit_add, bit_mul, bit_inverse}
+use Rattle.tower_laws.proofs.BitLaws.{bit_laws, bit_tower_laws}
+use Rattle.tower_laws.specs.Quads.{quad, quad_add, quad_mul, quad_inverse}
+use Rattle.tower_laws.proofs.QuadLaws.{quad_laws, quad_tower_laws}
+use Rattle.tower_laws.proofs.Pulled.{FieldMap, field_pulled, tower_pulled}
+use Rattle.tower_laws.specs.declared.quad.Quad.{Quad}
+use Rattle.tower_numbers.specs.Levels.{twist_at, product_at, inverse_at, trace_at}
+use Rattle.tower_numbers.proofs.Bounds.{half_pos, low_below, high_below, one_below}
+use Rattle.tower_laws.specs.Elements.{Element, element_zero, element_one, element_add, element_mul}
+use Rattle.tower_laws.specs.Elements.{element_inverse, element_twist, element_eq, element_trace}
 
 pub element_path : (k : ℕ) (x y : Element k) → x.value ≡ y.value → x ≡ y
 element_path k x y h = λ i. record { value = h i; in_range = is_prop→PathP (λ j. h j < 2 ^ (2 ^ k)) (λ j. le_prop) x.in_range y.in_range i }

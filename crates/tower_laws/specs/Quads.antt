@@ -1,6 +1,6 @@
 -- The next level over a level K: pairs low + high·X with X² = c·X + 1, where c is K's constant.
 use Rattle.std.specs.Prelude.{Bool, ◌&&◌}
-use Rattle.tower_field.specs.declared.quad.Quad.{Quad}
+use Rattle.tower_laws.specs.declared.quad.Quad.{Quad}
 
 abbrev pub quad : {K : Type 0} → K → K → Quad K
 quad a b = record { low = a; high = b }

@@ -1,8 +1,8 @@
 -- Level 0 is a field and a level of the tower.
 use Rattle.std.specs.Prelude.{◌≡◌, Bool, true, false, ◌&&◌, refl}
 use Rattle.std.proofs.Common.{ap}
-use Rattle.tower_field.specs.Laws.{FieldLaws, TowerLaws, differ}
-use Rattle.tower_field.specs.Bits.{bit, bit_zero, bit_one, bit_add, bit_mul, bit_inverse, bit_trace, bit_eq}
+use Rattle.tower_laws.specs.Laws.{FieldLaws, TowerLaws, differ}
+use Rattle.tower_laws.specs.Bits.{bit, bit_zero, bit_one, bit_add, bit_mul, bit_inverse, bit_trace, bit_eq}
 
 differ_comm : (a b : Bool) → differ a b ≡ differ b a
 differ_comm true true = refl

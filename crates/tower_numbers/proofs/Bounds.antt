@@ -4,7 +4,7 @@ use Rattle.std.proofs.Common.{zero, suc, ◌∙◌, ap, subst, arith}
 use Rattle.std.proofs.Math.Nat.{pow-suc}
 use Rattle.std.proofs.lemmas.Nat.{pow_pos, pow-add, xor_lt, mod_below, shr_below, mul-add-lt, mul-le}
 use Rattle.std.proofs.lemmas.Nat.{pow_below}
-use Rattle.tower_field.specs.Levels.{twist_at, product_at, inverse_at}
+use Rattle.tower_numbers.specs.Levels.{twist_at, product_at, inverse_at}
 
 pub half_pos : (k : ℕ) → 0 < 2 ^ (2 ^ k)
 half_pos k = pow_pos (2 ^ k)

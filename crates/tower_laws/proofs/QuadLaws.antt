@@ -1,10 +1,10 @@
 -- The next level over a level is a field and a level of the tower.
 use Rattle.std.specs.Prelude.{◌≡◌, ◌≢◌, Bool, true, false, ◌&&◌, List, [], ◌∷◌, refl}
 use Rattle.std.proofs.Common.{sym, ◌∙◌, ap, ◌⊎◌, inl, inr}
-use Rattle.tower_field.specs.Laws.{FieldLaws, TowerLaws, differ}
-use Rattle.tower_field.specs.proved.Rings.{var, nil, unit, ◌⊕◌, ◌⊗◌, solve, mul_zero, one_mul}
-use Rattle.tower_field.specs.declared.quad.Quad.{Quad}
-use Rattle.tower_field.specs.Quads.{quad, quad_add, quad_mul, norm, quad_inverse, quad_eq, quad_trace}
+use Rattle.tower_laws.specs.Laws.{FieldLaws, TowerLaws, differ}
+use Rattle.tower_laws.proofs.Rings.{var, nil, unit, ◌⊕◌, ◌⊗◌, solve, mul_zero, one_mul}
+use Rattle.tower_laws.specs.declared.quad.Quad.{Quad}
+use Rattle.tower_laws.specs.Quads.{quad, quad_add, quad_mul, norm, quad_inverse, quad_eq, quad_trace}
 
 from_and : (a b : Bool) → (a && b) ≡ true → (a ≡ true) × (b ≡ true)
 from_and true b h = (refl, h)

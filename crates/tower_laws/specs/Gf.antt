@@ -1,7 +1,7 @@
 -- Level 7, as the numbers of 128 bits.
 use Rattle.std.specs.Prelude.{ℕ, ◌%◌, ◌^◌, List, [], ◌∷◌}
-use Rattle.tower_field.specs.Elements.{Element}
-use Rattle.tower_field.specs.proved.Bounds.{low_below}
+use Rattle.tower_laws.specs.Elements.{Element}
+use Rattle.tower_numbers.proofs.Bounds.{low_below}
 
 -- the element with this number; a number of more than 128 bits loses the rest
 abbrev pub gf : ℕ → Element 7

@@ -3,10 +3,10 @@ use Rattle.std.specs.Prelude.{◌≡◌, ℕ, ◌%◌, ◌^◌, ◌<◌, List, [
 use Rattle.std.proofs.Common.{sym, ◌∙◌, ap}
 use Rattle.std.proofs.Math.Nat.{mod-eq_of_lt}
 use Rattle.std.proofs.lemmas.List.Elements.{All-head, All-tail}
-use Rattle.tower_field.specs.Elements.{Element, element_one, element_add, element_mul}
-use Rattle.tower_field.specs.proved.ElementLaws.{element_path}
-use Rattle.tower_field.specs.Levels.{product_at, twist_at}
-use Rattle.tower_field.specs.Gf.{gf, values, gfs}
+use Rattle.tower_laws.specs.Elements.{Element, element_one, element_add, element_mul}
+use Rattle.tower_laws.proofs.ElementLaws.{element_path}
+use Rattle.tower_numbers.specs.Levels.{product_at, twist_at}
+use Rattle.tower_laws.specs.Gf.{gf, values, gfs}
 
 pub gf_is : (x : Element 7) (n : ℕ) → x.value ≡ n → x ≡ gf n
 gf_is x n h = element_path 7 x (gf n) (sym (mod-eq_of_lt x.in_range) ∙ ap (λ k. k % 2 ^ 128) h)
