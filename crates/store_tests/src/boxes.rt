@@ -1,57 +1,81 @@
 //! The registry in arrays beside the plain one, and one of the largest settings.
 use box_registry::*;
-use std::process::Abort;
 use std::test::Fail;
 
-// Addresses to register, with a limit of three: new ones, one that stands, more than fit, one that stands among them.
-const CALLS: [u128; 7] = [5, u128::MAX, 5, 0, 7, u128::MAX, 1 << 127];
-
-const ANSWERS: [Result<u32, RegFault>; 7] = [
-    Ok(0),
-    Ok(1),
-    Err(RegFault::Taken(0)),
-    Ok(2),
-    Err(RegFault::Full(3)),
-    Err(RegFault::Taken(1)),
-    Err(RegFault::Full(3)),
+// Addresses to register, with a limit of three, and the answers: new ones, one that stands, more than fit,
+// one that stands among them.
+const CALLS: [(u128, Result<u32, RegFault>); 7] = [
+    (5, Ok(0)),
+    (u128::MAX, Ok(1)),
+    (5, Err(RegFault::Taken(0))),
+    (0, Ok(2)),
+    (7, Err(RegFault::Full(3))),
+    (u128::MAX, Err(RegFault::Taken(1))),
+    (1 << 127, Err(RegFault::Full(3))),
 ];
 
-// Both hold the same boxes.
-fn same_boxes(rt: &impl Abort, arrays: &Registry, plain: &PlainRegistry) {
-    let count = arrays.count();
-    assert!(rt; count == plain.count());
-    for b in 0..count {
-        let same = arrays.address_of(b) == plain.address_of(b)
-            && *arrays.key_of(b) == *plain.key_of(b);
-        assert!(rt; same);
-    }
-    assert!(rt; *arrays.first(count) == *plain.first(count));
+fn array_adds(
+    boxes: &mut Registry,
+    address: u128,
+    key: &[u8; 32],
+    answer: Result<u32, RegFault>,
+) -> bool {
+    boxes.add(address, key) == answer
 }
 
-// Both answer each call alike.
+fn plain_adds(
+    boxes: &mut PlainRegistry,
+    address: u128,
+    key: &[u8; 32],
+    answer: Result<u32, RegFault>,
+) -> bool {
+    match boxes.add(address, key) {
+        Ok(plain) => plain == answer,
+        Err(_) => false,
+    }
+}
+
+fn same_place(arrays: &Registry, plain: &PlainRegistry, address: u128) -> bool {
+    arrays.box_of(address) == plain.box_of(address)
+}
+
+fn same_box(arrays: &Registry, plain: &PlainRegistry, b: u32) -> bool {
+    b < arrays.count()
+        && b < plain.count()
+        && arrays.address_of(b) == plain.address_of(b)
+        && *arrays.key_of(b) == *plain.key_of(b)
+}
+
+fn same_addresses(arrays: &Registry, plain: &PlainRegistry) -> bool {
+    let count = arrays.count();
+    count == plain.count() && *arrays.first(count) == *plain.first(count)
+}
+
+// Both answer each call alike, and hold the same boxes then.
 #[test]
 fn both_agree(rt: HostRuntime) -> Result<(), Fail> {
-    let mut arrays = Registry::open(rt.alloc(), 3).map_err(|_| "memory")?;
+    let mut arrays = Registry::open(rt.alloc(), 3)?;
     let mut plain = PlainRegistry::open(rt.alloc(), 3);
     for k in 0..7 {
+        let (address, answer) = CALLS[k];
         let key = [k as u8; 32];
-        let answer = plain.add(CALLS[k], &key).map_err(|_| "memory")?;
-        assert!(rt; answer == ANSWERS[k]);
-        assert!(rt; arrays.add(CALLS[k], &key) == answer);
-        assert!(rt; arrays.box_of(CALLS[k]) == plain.box_of(CALLS[k]));
+        assert!(rt; plain_adds(&mut plain, address, &key, answer));
+        assert!(rt; array_adds(&mut arrays, address, &key, answer));
+        assert!(rt; same_place(&arrays, &plain, address));
     }
-    same_boxes(&rt, &arrays, &plain);
+    assert!(rt; same_box(&arrays, &plain, 0) && same_box(&arrays, &plain, 1));
+    assert!(rt; same_box(&arrays, &plain, 2) && same_addresses(&arrays, &plain));
     Ok(())
 }
 
 // As many boxes as may stand: the last one has its address and key.
 #[test]
 fn largest_settings(rt: HostRuntime) -> Result<(), Fail> {
-    let mut boxes = Registry::open(rt.alloc(), 4096).map_err(|_| "memory")?;
+    let mut boxes = Registry::open(rt.alloc(), 4096)?;
     for address in 0..4096u32 {
-        assert!(rt; boxes.add(u128::from(address), &[7; 32]) == Ok(address));
+        assert!(rt; array_adds(&mut boxes, u128::from(address), &[7; 32], Ok(address)));
     }
-    assert!(rt; boxes.add(u128::MAX, &[7; 32]) == Err(RegFault::Full(4096)));
+    assert!(rt; array_adds(&mut boxes, u128::MAX, &[7; 32], Err(RegFault::Full(4096))));
     assert!(rt; boxes.count() == 4096 && boxes.box_of(4095) == Some(4095));
     Ok(())
 }

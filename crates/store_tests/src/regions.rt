@@ -1,51 +1,113 @@
 //! A region of one class through takes and gives, and arrays of the largest settings.
-ghost use Rattle.std.specs.Prelude.{◌<◌};
+ghost use Rattle.std.specs.Prelude.{◌≡◌, ◌<◌, IsSome, length};
+ghost use Rattle.block_region.specs.Region.{bytes_at};
 
-use block_region::{BlockArray, Class, Region};
+use block_region::{Block, BlockArray, Class, Region};
 use express_words::NoMemory;
 use std::alloc::Global;
-use std::process::Abort;
 use std::test::Fail;
+
+fn is_all(bytes: &[u8], value: u8) -> bool {
+    let mut same = true;
+    for byte in bytes {
+        same = same && *byte == value;
+    }
+    same
+}
+
+// The block has 16 bytes of this value.
+fn holds(region: &Region, block: &Block, value: u8) -> bool
+    requires { IsSome (bytes_at region.now block.now) }
+{
+    let bytes = region.bytes(block);
+    bytes.len() == 16 && is_all(bytes, value)
+}
+
+fn no_third_block(region: &mut Region) -> bool
+    requires { 0 < length region.old }
+{
+    let first = region.take(0).is_some();
+    let second = region.take(0).is_some();
+    first && second && region.take(0).is_none()
+}
+
+fn gives_zeros(region: &mut Region) -> bool
+    requires { 0 < length region.old }
+{
+    match region.take(0) {
+        Some(block) => holds(region, &block, 0),
+        None => false,
+    }
+}
+
+// A block that is written and given back is handed out with zeros.
+fn fills_and_gives(region: &mut Region) -> bool
+    requires { 0 < length region.old }
+{
+    let Some(first) = region.take(0) else {
+        return false;
+    };
+    let Some(second) = region.take(0) else {
+        return false;
+    };
+    region.bytes_mut(&first).fill(7);
+    let filled = holds(region, &first, 7) && holds(region, &second, 0);
+    region.give(first);
+    filled && region.free(0) == 1 && gives_zeros(region)
+}
+
+const CLASS: Class = Class { size: 16, count: 2 };
 
 #[test]
 fn two_blocks_of_one_class(rt: HostRuntime) -> Result<(), Fail> {
-    let class = Class { size: 16, count: 2 };
-    let mut region = Region::open(rt.alloc(), &[class])?;
-    let first = region.take(0).ok_or("first")?;
-    let second = region.take(0).ok_or("second")?;
-    assert!(rt; region.take(0).is_none());
-    for byte in region.bytes_mut(&first) {
-        *byte = 7;
-    }
-    assert_eq!(rt; region.bytes(&first), [7u8; 16].as_slice());
-    assert_eq!(rt; region.bytes(&second), [0u8; 16].as_slice());
-    region.give(first);
-    assert_eq!(rt; region.free(0), 1);
-    let third = region.take(0).ok_or("third")?;
-    assert_eq!(rt; region.bytes(&third), [0u8; 16].as_slice());
+    let mut region = Region::open(rt.alloc(), &[CLASS])?;
+    assert!(rt; no_third_block(&mut region));
+    let mut region = Region::open(rt.alloc(), &[CLASS])?;
+    assert!(rt; fills_and_gives(&mut region));
     Ok(())
 }
 
+fn fill(blocks: &mut BlockArray, index: usize)
+    requires { index < length blocks.old.blocks }
+    ensures { length blocks.new.blocks ≡ length blocks.old.blocks }
+{
+    blocks.get_mut(index).fill(7);
+}
+
+fn is_filled(blocks: &BlockArray, index: usize, value: u8) -> bool
+    requires { index < length blocks.now.blocks }
+{
+    is_all(blocks.get(index), value)
+}
+
+// The bytes of a block of which nothing was written over.
+fn kept_room(blocks: &mut BlockArray, index: usize) -> usize
+    requires { index < length blocks.old.blocks }
+{
+    blocks.write(index, &[]);
+    blocks.get(index).len()
+}
+
+fn writes(blocks: &mut BlockArray, index: usize, size: usize) -> bool
+    requires { (0 < index) × (index < length blocks.old.blocks) }
+{
+    fill(blocks, index);
+    let filled = is_filled(blocks, index, 7) && is_filled(blocks, index - 1, 0);
+    filled && kept_room(blocks, index) == size
+}
+
 // An array of the largest settings opens, and its last block can be written.
-fn last_block(rt: &impl Abort, alloc: Global, size: u32, count: u32) -> Result<(), NoMemory>
+fn last_block(alloc: Global, size: u32, count: u32) -> Result<bool, NoMemory>
     requires { 1 < count }
 {
     let mut blocks = BlockArray::open(alloc, size, count)?;
-    let last = count as usize - 1;
-    for byte in blocks.get_mut(last) {
-        *byte = 7;
-    }
-    assert!(rt; blocks.get(last).iter().all(|byte| *byte == 7));
-    assert!(rt; blocks.get(last - 1).iter().all(|byte| *byte == 0));
-    blocks.write(last, &[]);
-    assert!(rt; blocks.get(last).len() == size as usize);
-    Ok(())
+    Ok(writes(&mut blocks, count as usize - 1, size as usize))
 }
 
 #[test]
 fn largest_settings(rt: HostRuntime) -> Result<(), Fail> {
-    last_block(&rt, rt.alloc(), 4096, 4096)?;
-    last_block(&rt, rt.alloc(), 8213, 256)?;
-    last_block(&rt, rt.alloc(), 8213, 32)?;
+    assert!(rt; last_block(rt.alloc(), 4096, 4096)?);
+    assert!(rt; last_block(rt.alloc(), 8213, 256)?);
+    assert!(rt; last_block(rt.alloc(), 8213, 32)?);
     Ok(())
 }

@@ -1,4 +1,7 @@
 //! Shares through a write, a read and a retirement.
+//! What the helpers say of a store is what the next call on it requires, and no more.
+ghost use Rattle.std.specs.Prelude.{◌≡◌, ◌<◌, ◌≤◌, length};
+
 use dpf_keys::{PublicPart, generate, walk};
 use share_store::*;
 use std::test::Fail;
@@ -14,51 +17,108 @@ const ROOTS: [u128; 2] = [
     0x3ef5615c9c144550d7c820396a443a32,
 ];
 
-// Server 0's write bytes at both addresses, by an independent program written from the protocol's description.
+// Server 0's write bytes at both addresses, by an independent program written from the protocol's
+// description.
 const BYTES: [[u8; 16]; 2] = [
     *b"\xd2\x36\x06\x44\x6a\x4d\xa1\xdf\xeb\x45\x35\xb7\x3b\xc2\xd8\x03",
     *b"\x47\xf5\xf2\x0a\x8a\xa1\x38\xfe\xca\xeb\x9d\xa9\x03\xb3\xa3\xc0",
 ];
 
+fn write_keys(message: &[u8; 16], root0: u128, root1: u128, out: &mut [u8; 2080]) {
+    generate(TARGET, message, root0, root1, out);
+}
+
+fn leaf_at(part: &PublicPart, root: u128, address: u128) -> u128 {
+    walk(part, 0, root, address)
+}
+
+fn add(store: &mut ShareStore, count: u32, part: &PublicPart, leaves: &[u128; 3])
+    requires width { store.old.width ≡ 16 }
+    requires boxes { length store.old.boxes ≡ 3 }
+    requires count { count ≤ 3 }
+    ensures width { store.new.width ≡ 16 }
+    ensures boxes { length store.new.boxes ≡ 3 }
+{
+    if part.last().len() == 16 {
+        store.add_write(count, part, leaves);
+    }
+}
+
+// Reads one box, and retires the next one.
+fn read_two(store: &mut ShareStore, out: &mut [u8; 16])
+    requires width { store.old.width ≡ 16 }
+    requires boxes { length store.old.boxes ≡ 3 }
+    ensures width { store.new.width ≡ 16 }
+    ensures boxes { length store.new.boxes ≡ 3 }
+{
+    store.take(0, out);
+    store.retire(1, out);
+}
+
+fn has_share(store: &ShareStore, box_number: u32, bytes: &[u8; 16]) -> bool
+    requires { box_number < length store.now.boxes }
+{
+    store.share(box_number) == bytes.as_slice()
+}
+
+fn is_retired(store: &ShareStore, box_number: u32) -> bool
+    requires { box_number < length store.now.boxes }
+{
+    store.retired(box_number)
+}
+
+fn is_sum(sum: &[u8; 16], left: &[u8; 16], right: &[u8; 16]) -> bool {
+    let mut same = true;
+    for k in 0..16 {
+        same = same && sum[k] == left[k] ^ right[k];
+    }
+    same
+}
+
 #[test]
 fn one_write(rt: HostRuntime) -> Result<(), Fail> {
     let mut public = [0; 2080];
-    generate(TARGET, &MESSAGE, ROOTS[0], ROOTS[1], &mut public);
+    write_keys(&MESSAGE, ROOTS[0], ROOTS[1], &mut public);
     let part = PublicPart::of(&public).ok_or("length")?;
     let leaves = [
-        walk(&part, 0, ROOTS[0], TARGET),
-        walk(&part, 0, ROOTS[0], OTHER),
+        leaf_at(&part, ROOTS[0], TARGET),
+        leaf_at(&part, ROOTS[0], OTHER),
         0,
     ];
-    let mut store = ShareStore::open(rt.alloc(), 3, 16).map_err(|_| "memory")?;
-    if part.last().len() == 16 {
-        store.add_write(2, &part, &leaves);
-    }
-    assert!(rt; store.share(0) == BYTES[0].as_slice());
-    assert!(rt; store.share(1) == BYTES[1].as_slice());
-    assert!(rt; store.share(2) == [0; 16].as_slice());
     let mut out = [0; 16];
-    store.take(0, &mut out);
-    store.retire(1, &mut out);
-    assert!(rt; !store.retired(0) && store.retired(1));
-    if part.last().len() == 16 {
-        store.add_write(3, &part, &leaves);
-    }
-    assert!(rt; store.share(0) == BYTES[0].as_slice());
-    assert!(rt; store.share(1) == [0; 16].as_slice());
-    for k in 0..16 {
-        assert!(rt; out[k] == BYTES[0][k] ^ BYTES[1][k]);
-    }
+    let mut store = ShareStore::open(rt.alloc(), 3, 16)?;
+    add(&mut store, 2, &part, &leaves);
+    assert!(rt; has_share(&store, 0, &BYTES[0]) && has_share(&store, 1, &BYTES[1]));
+    assert!(rt; has_share(&store, 2, &[0; 16]));
+    read_two(&mut store, &mut out);
+    assert!(rt; !is_retired(&store, 0) && is_retired(&store, 1));
+    add(&mut store, 3, &part, &leaves);
+    assert!(rt; has_share(&store, 0, &BYTES[0]) && has_share(&store, 1, &[0; 16]));
+    assert!(rt; is_sum(&out, &BYTES[0], &BYTES[1]));
     Ok(())
 }
 
-// The most boxes of the greatest width: the last one's share can be taken.
+// Of the last box of the most boxes, each of the greatest width, the share can be taken.
+fn retire_last(store: &mut ShareStore, out: &mut [u8; 4096])
+    requires width { store.old.width ≡ 4096 }
+    requires boxes { length store.old.boxes ≡ 4096 }
+    ensures boxes { length store.new.boxes ≡ 4096 }
+{
+    store.retire(4095, out);
+}
+
+fn is_clear(store: &ShareStore, box_number: u32) -> bool
+    requires { box_number < length store.now.boxes }
+{
+    store.share(box_number) == [0; 4096].as_slice()
+}
+
 #[test]
 fn largest_settings(rt: HostRuntime) -> Result<(), Fail> {
-    let mut store = ShareStore::open(rt.alloc(), 4096, 4096).map_err(|_| "memory")?;
+    let mut store = ShareStore::open(rt.alloc(), 4096, 4096)?;
     let mut out = [7; 4096];
-    store.retire(4095, &mut out);
-    assert!(rt; store.retired(4095) && !store.retired(4094));
-    assert!(rt; store.share(4095) == [0; 4096].as_slice() && out == [7; 4096]);
+    retire_last(&mut store, &mut out);
+    assert!(rt; is_retired(&store, 4095) && !is_retired(&store, 4094));
+    assert!(rt; is_clear(&store, 4095) && out == [7; 4096]);
     Ok(())
 }

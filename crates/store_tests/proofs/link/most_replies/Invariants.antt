@@ -1,0 +1,8 @@
+use Rattle.std.proofs.Common.{◌≡◌, ◌<◌}
+use Rattle.store_tests.proofs.link.most_replies.Given as goal
+
+abbrev pub invariant-loop-number : goal.invariant-loop-number
+invariant-loop-number g l = record {
+  replies : l.replies.size ≡ 8213;
+  carried : l.replies.carried < l.number;
+}
