@@ -1,21 +1,29 @@
 //! Worked values of batches and sorts.
-ghost use Rattle.std.specs.Prelude.{◌<◌, ◌≤◌, ◌^◌};
+ghost use Rattle.std.specs.Prelude.{◌<◌};
 
 use batch_audit::{batch_of, sort_out};
-use express_words::Closing;
+use express_words::{Closing, NoMemory};
 use snip_proof::judge;
 use std::alloc::Global;
 use std::test::Fail;
 
 const NOTHING: Closing = Closing { o: 0, tau: 0 };
 
+fn closing_of(closings: &[Closing], rho: u128) -> Closing {
+    batch_of(closings, rho)
+}
+
+fn is_good(zero: &[Closing], one: &[Closing], rho: u128) -> bool {
+    judge(&closing_of(zero, rho), &closing_of(one, rho))
+}
+
 #[test]
 fn the_one_bad_value(rt: HostRuntime) {
     let zero = [Closing { o: 2, tau: 0 }, Closing { o: 1, tau: 0 }];
     let one = [NOTHING; 2];
-    assert!(rt; judge(&batch_of(&zero, 2), &batch_of(&one, 2)));
-    assert_eq!(rt; batch_of(&zero, 3), Closing { o: 1, tau: 0 });
-    assert!(rt; !judge(&batch_of(&zero, 3), &batch_of(&one, 3)));
+    assert!(rt; is_good(&zero, &one, 2));
+    assert!(rt; closing_of(&zero, 3) == Closing { o: 1, tau: 0 });
+    assert!(rt; !is_good(&zero, &one, 3));
 }
 
 // The product is an independent program's.
@@ -25,9 +33,17 @@ fn the_second_closing_is_taken_times_rho(rt: HostRuntime) {
     let b = 0xd7ec74e643da718b32a068d002101fe6;
     let product = 0xb22ba96e5f948fb0e90cd378592316cd;
     let closings = [Closing { o: 5, tau: 9 }, Closing { o: a, tau: b }];
-    assert_eq!(rt; batch_of(&closings, b).o, product ^ 5);
-    assert_eq!(rt; batch_of(&closings, a).tau, product ^ 9);
-    assert_eq!(rt; batch_of(&[], a), NOTHING);
+    assert!(rt; closing_of(&closings, b).o == product ^ 5);
+    assert!(rt; closing_of(&closings, a).tau == product ^ 9);
+    assert!(rt; closing_of(&[], a) == NOTHING);
+}
+
+// How many ranges are judged, where the lengths are equal.
+fn judged_of(zero: &[Closing], one: &[Closing], rejected: &mut [bool]) -> Option<u32> {
+    if one.len() != zero.len() || rejected.len() != zero.len() || zero.len() > 1 << 20 {
+        return None;
+    }
+    Some(sort_out(zero, one, &[0; 32], rejected))
 }
 
 #[test]
@@ -35,41 +51,56 @@ fn the_second_of_two(rt: HostRuntime) {
     let zero = [NOTHING, Closing { o: 1, tau: 0 }];
     let one = [NOTHING; 2];
     let mut rejected = [true, false];
-    assert_eq!(rt; sort_out(&zero, &one, &[0; 32], &mut rejected), 3);
-    assert_eq!(rt; rejected, [false, true]);
-    assert_eq!(rt; sort_out(&[], &[], &[0; 32], &mut []), 0);
+    assert!(rt; judged_of(&zero, &one, &mut rejected) == Some(3));
+    assert!(rt; rejected == [false, true]);
+    assert!(rt; judged_of(&[], &[], &mut []) == Some(0));
 }
 
-// How many ranges are judged where of so many pairs each `step`-th one isn't good, and whether just those are
-// rejected.
-fn judged_of(alloc: Global, pairs: usize, step: usize) -> Result<(u32, bool), Fail>
-    requires few { pairs ≤ 2 ^ 20 }
-    requires step { 0 < step }
+fn is_bad(place: usize, step: usize) -> bool
+    requires { 0 < step }
 {
-    let one: Vec<Closing> = vec![in alloc; Closing { o: 3, tau: 4 }; pairs]?;
-    let mut zero: Vec<Closing> = vec![in alloc; Closing { o: 3, tau: 4 }; pairs]?;
-    for i in 0..pairs {
-        if i % step == step - 1 {
-            zero[i].tau = 5;
-        }
+    place % step == step - 1
+}
+
+// Server 0's closings of so many pairs, of which each `step`-th one isn't good.
+fn closings(alloc: Global, pairs: usize, step: usize) -> Result<Vec<Closing>, NoMemory>
+    requires { 0 < step }
+{
+    let mut zero = Vec::new(alloc);
+    for place in 0..pairs {
+        let tau = if is_bad(place, step) { 5 } else { 4 };
+        zero.push(Closing { o: 3, tau })?;
     }
-    let mut rejected: Vec<bool> = vec![in alloc; true; pairs]?;
-    let judged = sort_out(&zero, &one, &[0; 32], &mut rejected);
+    Ok(zero)
+}
+
+// Just each `step`-th one is rejected.
+fn is_exact(rejected: &[bool], step: usize) -> bool
+    requires { 0 < step }
+{
     let mut exact = true;
-    for (i, is_rejected) in rejected.iter().enumerate() {
-        exact = exact && *is_rejected == (i % step == step - 1);
+    for place in 0..rejected.len() {
+        exact = exact && rejected[place] == is_bad(place, step);
     }
-    Ok((judged, exact))
+    exact
+}
+
+// How many ranges are judged of so many pairs, and whether just the ones that aren't good are rejected.
+fn sorted_of(alloc: Global, pairs: usize, step: usize) -> Result<(Option<u32>, bool), Fail>
+    requires { 0 < step }
+{
+    let zero = closings(alloc, pairs, step)?;
+    let one: Vec<Closing> = vec![in alloc; Closing { o: 3, tau: 4 }; pairs]?;
+    let mut rejected: Vec<bool> = vec![in alloc; true; pairs]?;
+    let judged = judged_of(&zero, &one, &mut rejected);
+    Ok((judged, is_exact(&rejected, step)))
 }
 
 #[test]
 fn a_thousand_pairs(rt: HostRuntime) -> Result<(), Fail> {
     for (step, judged) in [(2048, 1), (1024, 21), (64, 223), (1, 2047)] {
-        assert_eq!(rt;
-            judged_of(rt.alloc(), 1024, step)?,
-            (judged, true),
-            "each {step}-th"
-        );
+        let sorted = sorted_of(rt.alloc(), 1024, step)?;
+        assert!(rt; sorted == (Some(judged), true), "each {step}-th");
     }
     Ok(())
 }

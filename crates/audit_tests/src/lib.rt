@@ -1,4 +1,5 @@
-//! Tests of public calls. The audit of a write: fields, polynomials, sketch, proof, batches and views, against outside vectors.
+//! Tests of public calls. The audit of a write: fields, polynomials, sketch, proof, batches and views,
+//! against outside vectors.
 #![tactic(auto)]
 
 #[cfg(test)]

@@ -86,15 +86,25 @@ const ROWS: [Row; 12] = [
     },
 ];
 
+fn is_product(a: u128, b: u128, product: u128) -> bool {
+    Gf128(a).mul(Gf128(b)).value() == product
+}
+
+fn is_fast_product(tables: &Tables, a: u128, b: u128, product: u128) -> bool {
+    mul_fast(tables, a, b) == product
+}
+
+fn is_inverse(a: u128, inverse: u128) -> bool {
+    Gf128(a).invert() == Some(Gf128(inverse))
+}
+
 #[test]
 fn rows_of_another_program(rt: HostRuntime) {
     let tables = Tables::new();
     for row in &ROWS {
-        let product = Gf128(row.a).mul(Gf128(row.b)).value();
-        assert_eq!(rt; product, row.product, "plain {} times {}", row.a, row.b);
-        let fast = mul_fast(&tables, row.a, row.b);
-        assert_eq!(rt; fast, row.product, "{} times {}", row.a, row.b);
-        assert_eq!(rt; Gf128(row.a).invert(), Some(Gf128(row.inverse)));
+        assert!(rt; is_product(row.a, row.b, row.product));
+        assert!(rt; is_fast_product(&tables, row.a, row.b, row.product));
+        assert!(rt; is_inverse(row.a, row.inverse));
     }
 }
 
@@ -111,8 +121,12 @@ fn worked_products(rt: HostRuntime) {
         (1 << 64, 1 << 64, (1 << 96) + 1),
     ];
     for (a, b, product) in rows {
-        assert_eq!(rt; mul_fast(&tables, a, b), product, "{a} times {b}");
+        assert!(rt; is_fast_product(&tables, a, b, product));
     }
+}
+
+fn next_power(tables: &Tables, power: u128) -> u128 {
+    mul_fast(tables, power, 128)
 }
 
 /// The powers 128^0 to 128^254 all differ.
@@ -125,7 +139,7 @@ fn powers_of_the_base_differ(rt: HostRuntime) {
         assert!(rt; power < 256);
         assert!(rt; !seen[power as usize], "128 to the {i}");
         seen[power as usize] = true;
-        power = mul_fast(&tables, power, 128);
+        power = next_power(&tables, power);
     }
-    assert_eq!(rt; power, 1);
+    assert!(rt; power == 1);
 }

@@ -1,11 +1,14 @@
-//! Proofs of an independent program written from the protocol's description, worked verdicts, and both servers
-//! together.
+//! Proofs of an independent program written from the protocol's description, worked verdicts, and both
+//! servers together.
+ghost use Rattle.std.specs.Prelude.{◌≤◌};
+
 use chacha_expand::challenge;
 use express_words::{Closing, Openings, ProofShare};
 use snip_proof::{ProofShares, WriteLeaves, close_share, judge, open_share, prove, servers_accept};
 use write_sketch::Sums;
 
-/// What a client proves, what server 0 opens of its share with some sums, and what both servers close of some openings.
+/// What a client proves, what server 0 opens of its share with some sums, and what both servers close of some
+/// openings.
 struct Row {
     m: u128,
     r: u128,
@@ -334,74 +337,111 @@ const ROWS: [Row; 4] = [
     },
 ];
 
+fn proves(row: &Row) -> bool {
+    let (zero, one) = prove(row.m, row.r, row.s, &row.choices);
+    zero == row.shares.0 && one == row.shares.1
+}
+
+fn opens(sums: &Sums, share: &ProofShare, sigma: u128, opened: &Openings) -> bool {
+    open_share(sums, share, sigma) == *opened
+}
+
+fn closing_of(
+    server: u8,
+    sums: &Sums,
+    share: &ProofShare,
+    sigma: u128,
+    opened: &Openings,
+) -> Closing
+    requires { server ≤ 1 }
+{
+    close_share(server, sums, share, sigma, opened)
+}
+
+fn is_judged(zero: &Closing, one: &Closing) -> bool {
+    judge(zero, one)
+}
+
+// Both servers' closings are the row's, and their sum isn't a pass.
+fn closes(row: &Row) -> bool {
+    let (share0, share1) = &row.shares;
+    let zero = closing_of(0, &row.sums, share0, row.sigma, &row.opened);
+    let one = closing_of(1, &row.sums, share1, row.sigma, &row.opened);
+    zero == row.closings.0 && one == row.closings.1 && !is_judged(&zero, &one)
+}
+
 #[test]
 fn rows_of_another_program(rt: HostRuntime) {
     for row in &ROWS {
-        let (zero, one) = prove(row.m, row.r, row.s, &row.choices);
-        assert_eq!(rt; zero, row.shares.0);
-        assert_eq!(rt; one, row.shares.1);
-        assert_eq!(rt; open_share(&row.sums, &zero, row.sigma), row.openings);
-        let closing0 = close_share(0, &row.sums, &zero, row.sigma, &row.opened);
-        assert_eq!(rt; closing0, row.closings.0);
-        let closing1 = close_share(1, &row.sums, &one, row.sigma, &row.opened);
-        assert_eq!(rt; closing1, row.closings.1);
-        assert!(rt; !judge(&closing0, &closing1));
+        assert!(rt; proves(row));
+        assert!(rt; opens(&row.sums, &row.shares.0, row.sigma, &row.openings));
+        assert!(rt; closes(row));
     }
 }
 
-/// The proof of m = 1 with r = 2 and s = 3 whose f is 2t² and whose g is 3t, at the point 4: as it is, with another
-/// constant of h, and with a triple's error that hides this at the point.
-#[test]
-fn worked_verdicts(rt: HostRuntime) {
+// Of the proof of m = 1 with r = 2 and s = 3 whose f is 2t² and whose g is 3t, at the point 4: with this
+// constant of h and this product of the triple.
+fn closes_with(constant: u128, c: u128, closing: Closing) -> bool {
     let sums = Sums {
         x: 2,
         y: 3,
         m: 1,
         z: 1,
     };
+    let share = ProofShare {
+        u: 0,
+        v: 0,
+        h: [constant, 0, 0, 1, 0],
+        a: 1,
+        b: 1,
+        c,
+    };
+    let opened = Openings { d: 15, e: 6 };
+    opens(&sums, &share, 4, &opened) && closing_of(0, &sums, &share, 4, &opened) == closing
+}
+
+/// The proof as it is, with another constant of h, and with a triple's error that hides this at the point.
+#[test]
+fn worked_verdicts(rt: HostRuntime) {
+    let nothing = Closing { o: 0, tau: 0 };
     for (constant, c, tau) in [(0u128, 1u128, 0u128), (1, 1, 4), (1, 5, 0)] {
-        let share = ProofShare {
-            u: 0,
-            v: 0,
-            h: [constant, 0, 0, 1, 0],
-            a: 1,
-            b: 1,
-            c,
-        };
-        let opened = open_share(&sums, &share, 4);
-        assert_eq!(rt; opened, Openings { d: 15, e: 6 });
-        let closing = close_share(0, &sums, &share, 4, &opened);
-        assert_eq!(rt; closing, Closing { o: 0, tau });
-        let nothing = Closing { o: 0, tau: 0 };
-        assert_eq!(rt; judge(&closing, &nothing), tau == 0);
+        let closing = Closing { o: 0, tau };
+        assert!(rt; closes_with(constant, c, closing));
+        assert!(rt; is_judged(&closing, &nothing) == (tau == 0));
     }
 }
 
-/// Leaves that differ at the second of three addresses, with an honest proof and with one whose triple is wrong.
+// The shares of a write to the second of these addresses, whose leaves there have this sum.
+fn shares_at(addresses: &[u128; 3], ckey: &[u8; 32], sum: u128) -> (ProofShare, ProofShare) {
+    let (r, s) = challenge(ckey, addresses[1]);
+    prove(sum, r, s, &ROWS[0].choices)
+}
+
+fn both_accept(
+    addresses: &[u128; 3],
+    ckey: &[u8; 32],
+    zero: &ProofShare,
+    one: &ProofShare,
+) -> bool {
+    let leaves = WriteLeaves {
+        zero: &[11, 12, 13],
+        one: &[11, 1 << 70, 13],
+    };
+    let shares = ProofShares { zero, one };
+    servers_accept(leaves, addresses, ckey, shares, 77)
+}
+
+/// Leaves that differ at the second of three addresses, with an honest proof and with one whose triple is
+/// wrong.
 #[test]
 fn both_servers(rt: HostRuntime) {
     let addresses = [3u128, 1 << 90, u128::MAX];
     let ckey = [9u8; 32];
-    let zero = [11u128, 12, 13];
-    let one = [11u128, 1 << 70, 13];
-    let (r, s) = challenge(&ckey, addresses[1]);
-    let (share0, share1) = prove(12 ^ (1 << 70), r, s, &ROWS[0].choices);
-    let leaves = WriteLeaves {
-        zero: &zero,
-        one: &one,
-    };
-    let shares = ProofShares {
-        zero: &share0,
-        one: &share1,
-    };
-    assert!(rt; servers_accept(leaves, &addresses, &ckey, shares, 77));
+    let (zero, one) = shares_at(&addresses, &ckey, 12 ^ (1 << 70));
+    assert!(rt; both_accept(&addresses, &ckey, &zero, &one));
     let wrong = ProofShare {
-        c: share1.c ^ 1,
-        ..share1
+        c: one.c ^ 1,
+        ..one
     };
-    let with_wrong = ProofShares {
-        one: &wrong,
-        ..shares
-    };
-    assert!(rt; !servers_accept(leaves, &addresses, &ckey, with_wrong, 77));
+    assert!(rt; !both_accept(&addresses, &ckey, &zero, &wrong));
 }

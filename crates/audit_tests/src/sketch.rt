@@ -152,12 +152,14 @@ const ROWS: [Row; 6] = [
     },
 ];
 
+fn has_sums(states: &[u128], addresses: &[u128], ckey: &[u8; 32], wanted: &Sums) -> bool {
+    states.len() == addresses.len() && sums(states, addresses, ckey) == *wanted
+}
+
 #[test]
 fn rows_of_another_program(rt: HostRuntime) {
     for row in &ROWS {
-        let n = row.states.len();
-        assert_eq!(rt; n, row.addresses.len());
-        assert_eq!(rt; sums(row.states, row.addresses, &row.ckey), row.sums);
+        assert!(rt; has_sums(row.states, row.addresses, &row.ckey, &row.sums));
     }
 }
 
@@ -169,5 +171,5 @@ fn no_boxes(rt: HostRuntime) {
         m: 0,
         z: 0,
     };
-    assert_eq!(rt; sums(&[], &[], &[7; 32]), zeros);
+    assert!(rt; has_sums(&[], &[], &[7; 32], &zeros));
 }

@@ -1,5 +1,7 @@
-//! Both views of one game, by an independent program written from the protocol's description. The choice is drawn from a seed of
-//! zeros.
+//! Both views of one game, by an independent program written from the protocol's description. The choice is
+//! drawn from a seed of zeros.
+ghost use Rattle.std.specs.Prelude.{◌+◌, ◌≤◌, length};
+
 use chacha_expand::{choices, draw32};
 use dpf_rules::read_number;
 use express_words::{Closing, List, NoMemory, Openings, ProofShare};
@@ -10,8 +12,24 @@ use write_hiding::*;
 // The game's two addresses: all zeros, and all ones.
 const ADDRESSES: [u128; 2] = [0, 0xffffffffffffffffffffffffffffffff];
 
-// Of a view: the words of levels 0, 64 and 127, the right bits as bytes, the last correction, the share, and what the other
-// server opens and closes.
+const GAME: Game = Game {
+    addresses: &ADDRESSES,
+    ckey: [0; 32],
+    sigma: 0,
+};
+
+const FIRST: Aim = Aim {
+    target: ADDRESSES[0],
+    message: &[0xff; 16],
+};
+
+const SECOND: Aim = Aim {
+    target: ADDRESSES[1],
+    message: &[0; 16],
+};
+
+// Of a view: the words of levels 0, 64 and 127, the right bits as bytes, the last correction, the share, and
+// what the other server opens and closes.
 struct Seen {
     words: [u128; 3],
     rights: u128,
@@ -87,9 +105,32 @@ const SEEN: [Seen; 2] = [
     },
 ];
 
+const SEED: [u8; 32] = [0; 32];
+
+fn drawn_words() -> [u128; 16] {
+    choices(&SEED, 0)
+}
+
+fn drawn_level(index: u64) -> (u128, u128) {
+    let draw = draw32(&SEED, index);
+    (read_number(&draw[..16]), read_number(&draw[16..]))
+}
+
+fn drawn_levels(alloc: Global) -> Result<List<(u128, u128)>, NoMemory> {
+    let mut levels = Vec::new(alloc);
+    for index in 1..129u64 {
+        levels.push(drawn_level(index))?;
+    }
+    Ok(List::from_vec(levels))
+}
+
+fn drawn_block(alloc: Global) -> Result<List<u8>, NoMemory> {
+    let draw = draw32(&SEED, 129);
+    Ok(List::from_vec(Vec::from_slice(alloc, &draw[..16])?))
+}
+
 // The choice that a seed of zeros gives a viewer, for messages of 16 bytes.
 fn drawn_choice(alloc: Global, viewer: u8) -> Result<IdealChoice, NoMemory> {
-    let seed = [0; 32];
     let [
         own_root,
         other_root,
@@ -107,71 +148,74 @@ fn drawn_choice(alloc: Global, viewer: u8) -> Result<IdealChoice, NoMemory> {
         b0,
         b1,
         c0,
-    ] = choices(&seed, 0);
-    let levels = (1..129u64)
-        .map(|index| {
-            let draw = draw32(&seed, index);
-            (read_number(&draw[..16]), read_number(&draw[16..]))
-        })
-        .collect(alloc)?;
-    let draw = draw32(&seed, 129);
+    ] = drawn_words();
+    let levels = drawn_levels(alloc)?;
+    let last_block = drawn_block(alloc)?;
     Ok(IdealChoice {
         viewer,
         own_root,
         other_root,
-        levels: List::from_vec(levels),
-        last_block: List::from_vec(Vec::from_slice(alloc, &draw[..16])?),
+        levels,
+        last_block,
         words: [u0, u1, v0, v1, h0, h1, h2, h3, h4, a0, a1, b0, b1, c0],
     })
 }
 
+fn number_at(bytes: &[u8], at: usize) -> u128
+    requires { at + 16 ≤ length bytes.now }
+{
+    read_number(&bytes[at..at + 16])
+}
+
+fn is_public(public: &[u8], want: &Seen) -> bool {
+    public.len() == 2080
+        && number_at(public, 0) == want.words[0]
+        && number_at(public, 1024) == want.words[1]
+        && number_at(public, 2032) == want.words[2]
+        && number_at(public, 2048) == want.rights
+        && public[2064..2080] == want.last[..]
+}
+
 // Whether a view is the one that is wanted.
 fn is_seen(view: &View, want: &Seen) -> bool {
-    let public = view.public.as_slice();
-    if public.len() != 2080 {
-        return false;
-    }
-    let words = [
-        read_number(&public[..16]),
-        read_number(&public[1024..1040]),
-        read_number(&public[2032..2048]),
-    ];
     view.own_root == 0x28bd8653e56a5d40903df1a0ade0b876
-        && words == want.words
-        && read_number(&public[2048..2064]) == want.rights
-        && public[2064..2080] == want.last[..]
+        && is_public(view.public.as_slice(), want)
         && view.proof == want.proof
         && view.opened == want.opened
         && view.closed == want.closed
 }
 
+// Whether the choice is one for messages of 16 bytes, and gives this view of the write.
+fn sees(alloc: Global, choice: &IdealChoice, aim: &Aim, want: &Seen) -> Result<bool, NoMemory> {
+    if choice.viewer > 1 || choice.levels.as_slice().len() != 128 {
+        return Ok(false);
+    }
+    if choice.last_block.as_slice().len() != 16 || aim.message.len() != 16 {
+        return Ok(false);
+    }
+    let seen = view(alloc, choice, aim, &GAME)?;
+    Ok(is_seen(&seen, want))
+}
+
+// The choice that gives the same view of the second write, where this one is one for messages of 16 bytes.
+fn moved_choice(alloc: Global, choice: &IdealChoice) -> Result<IdealChoice, Fail> {
+    if choice.viewer > 1 || choice.levels.as_slice().len() != 128 {
+        Err("levels")?;
+    }
+    if choice.last_block.as_slice().len() != 16 {
+        Err("last block")?;
+    }
+    Ok(moved(alloc, choice, &FIRST, &SECOND, &GAME)?)
+}
+
 #[test]
 fn both_writes_look_alike(rt: HostRuntime) -> Result<(), Fail> {
-    let game = Game {
-        addresses: &ADDRESSES,
-        ckey: [0; 32],
-        sigma: 0,
-    };
-    let from = Aim {
-        target: ADDRESSES[0],
-        message: &[0xff; 16],
-    };
-    let to = Aim {
-        target: ADDRESSES[1],
-        message: &[0; 16],
-    };
     for viewer in 0..2u8 {
-        let choice = drawn_choice(rt.alloc(), viewer).map_err(|_| "memory")?;
-        assert!(rt; choice.viewer == viewer && choice.levels.as_slice().len() == 128);
-        assert!(rt; choice.last_block.as_slice().len() == 16);
         let want = &SEEN[viewer as usize];
-        let seen = view(rt.alloc(), &choice, &from, &game).map_err(|_| "memory")?;
-        assert!(rt; is_seen(&seen, want));
-        let gone = moved(rt.alloc(), &choice, &from, &to, &game).map_err(|_| "memory")?;
-        assert!(rt; gone.viewer == viewer && gone.levels.as_slice().len() == 128);
-        assert!(rt; gone.last_block.as_slice().len() == 16);
-        let seen = view(rt.alloc(), &gone, &to, &game).map_err(|_| "memory")?;
-        assert!(rt; is_seen(&seen, want));
+        let choice = drawn_choice(rt.alloc(), viewer)?;
+        assert!(rt; choice.viewer == viewer && sees(rt.alloc(), &choice, &FIRST, want)?);
+        let gone = moved_choice(rt.alloc(), &choice)?;
+        assert!(rt; gone.viewer == viewer && sees(rt.alloc(), &gone, &SECOND, want)?);
     }
     Ok(())
 }
