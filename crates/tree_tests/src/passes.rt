@@ -1,10 +1,11 @@
 //! Leaves against an independent program written from the protocol's description, and against walks.
 ghost use Rattle.std.specs.Prelude.{◌≡◌, ◌<◌, ◌≤◌, length};
 
+use crate::keys::writes_keys;
 use dpf_eval::*;
-use dpf_keys::{PublicPart, generate, walk};
+use dpf_keys::{PublicPart, walk};
+use std::alloc::Global;
 use std::marker::Brand;
-use std::process::Abort;
 use std::sync::ledger::{Blank, Ledger};
 use std::test::Fail;
 
@@ -17,7 +18,8 @@ const ROOTS: [u128; 2] = [
     0x3ef5615c9c144550d7c820396a443a32,
 ];
 
-// An address and both leaves there: where the first bit of the target differs, elsewhere, at the target, at its neighbour.
+// An address and both leaves there: where the first bit of the target differs, elsewhere, at the target, at
+// its neighbour.
 const LEAVES: [(u128, u128, u128); 4] = [
     (
         0x055a777d484fc8789311ece17c0ad3c5,
@@ -70,39 +72,61 @@ fn leaves_into<L: Ledger>(
     }
 }
 
-// Both servers' leaves are the outside program's, by box; those of more addresses, enough for eight nodes at once, are the
-// walks'; and what comes after the count stays.
-#[test]
-fn leaves_by_box(rt: HostRuntime) -> Result<(), Fail> {
-    let mut bytes = [0; 2080];
-    generate(TARGET, &MESSAGE, ROOTS[0], ROOTS[1], &mut bytes);
-    let part = PublicPart::of(&bytes).ok_or("length")?;
-    let mut frontier = Frontier::open(rt.alloc(), 14).map_err(|_| "memory")?;
+fn has_place(frontier: &Frontier, address: u128, place: Option<u32>) -> bool {
+    frontier.box_of(address) == place
+}
+
+fn is_walk(part: &PublicPart, server: u8, address: u128, leaf: u128) -> bool
+    requires { server < 2 }
+{
+    walk(part, server, ROOTS[server as usize], address) == leaf
+}
+
+// The addresses of the outside program, and more of them, enough for eight nodes at once.
+fn fourteen_addresses(alloc: Global) -> Result<Frontier, Fail> {
+    let mut frontier = Frontier::open(alloc, 14)?;
     for (address, _, _) in LEAVES {
         add(&mut frontier, address);
     }
     for k in 0..10u32 {
         add(&mut frontier, u128::from(10 - k) << 100);
     }
-    assert_eq!(rt; frontier.count(), 14);
-    assert!(rt; frontier.is_full());
-    assert_eq!(rt; frontier.box_of(TARGET), Some(2));
-    assert_eq!(rt; frontier.box_of(1), None);
+    Ok(frontier)
+}
+
+fn are_outside(leaves: &[u128; 14], server: u8) -> bool {
+    let mut same = true;
+    for k in 0..4 {
+        let (_, zero, one) = LEAVES[k];
+        same = same && leaves[k] == if server == 0 { zero } else { one };
+    }
+    same
+}
+
+fn are_walks(part: &PublicPart, leaves: &[u128; 14], server: u8) -> bool
+    requires { server < 2 }
+{
+    let mut same = true;
+    for k in 4..13u32 {
+        same = same && is_walk(part, server, u128::from(14 - k) << 100, leaves[k as usize]);
+    }
+    same
+}
+
+// Both servers' leaves are right by box, and what comes after the count stays.
+#[test]
+fn leaves_by_box(rt: HostRuntime) -> Result<(), Fail> {
+    let mut bytes = [0; 2080];
+    assert!(rt; writes_keys(TARGET, &MESSAGE, ROOTS, &mut bytes));
+    let part = PublicPart::of(&bytes).ok_or("length")?;
+    let mut frontier = fourteen_addresses(rt.alloc())?;
+    assert!(rt; frontier.count() == 14 && frontier.is_full());
+    assert!(rt; has_place(&frontier, TARGET, Some(2)) && has_place(&frontier, 1, None));
     for server in 0..2u8 {
         let mut out = [7; 14];
         leaves_into::<Brand>(Blank::new(1), &mut frontier, &part, server, 13, &mut out);
-        for k in 0..4 {
-            let (_, zero, one) = LEAVES[k];
-            assert_eq!(rt; out[k], if server == 0 { zero } else { one });
-        }
-        for k in 4..13u32 {
-            let address = u128::from(14 - k) << 100;
-            assert_eq!(rt;
-                out[k as usize],
-                walk(&part, server, ROOTS[server as usize], address)
-            );
-        }
-        assert_eq!(rt; out[13], 7);
+        assert!(rt; are_outside(&out, server) && are_walks(&part, &out, server));
+        assert!(rt; out[13] == 7);
     }
     Ok(())
 }
