@@ -4,18 +4,58 @@ mod cases;
 mod cloak;
 mod seed;
 
-use cases::CASES;
+use cases::{CASES, Case, SMALLEST};
 use express_cli::run;
 use express_words::outside::{Counted, Failed, MemoryNet, MemorySink, MemorySource, Source};
-use std::alloc::Global;
+use std::alloc::{AllocError, Global};
 use std::test::Fail;
 
-fn texts(alloc: Global, words: &[&str]) -> Result<Vec<String>, Fail> {
+fn add_text(alloc: Global, texts: &mut Vec<String>, word: &str) -> Result<(), AllocError> {
+    Ok(texts.push(String::from_str(alloc, word)?)?)
+}
+
+fn texts(alloc: Global, words: &[&str]) -> Result<Vec<String>, AllocError> {
     let mut texts = Vec::new(alloc);
     for word in words {
-        texts.push(String::from_str(alloc, word)?)?;
+        add_text(alloc, &mut texts, word)?;
     }
     Ok(texts)
+}
+
+// The call's own status. Its callers learn nothing of what it promises, which keeps their proofs small.
+fn answer<S: Source>(
+    alloc: Global,
+    words: &Vec<String>,
+    seed: &[u8; 32],
+    input: &mut S,
+    out: &mut MemorySink,
+    net: &mut MemoryNet,
+) -> u8 {
+    run(alloc, words, seed, input, out, net)
+}
+
+// The status of a run over a net with no connections.
+fn status_of<S: Source>(
+    alloc: Global,
+    words: &[&str],
+    input: &mut S,
+    out: &mut MemorySink,
+) -> Result<u8, Fail> {
+    let words = texts(alloc, words)?;
+    let mut net = MemoryNet::new(alloc, Vec::new(alloc), 0, 0, &[])?;
+    Ok(answer(alloc, &words, &[0; 32], input, out, &mut net))
+}
+
+// The status of a run over a source, and the bytes written. The puts with these numbers fail.
+fn ran_over<S: Source>(
+    alloc: Global,
+    words: &[&str],
+    input: &mut S,
+    bad_puts: &[u64],
+) -> Result<(u8, Vec<u8>), Fail> {
+    let mut out = MemorySink::new(alloc, 10_000, bad_puts)?;
+    let status = status_of(alloc, words, input, &mut out)?;
+    Ok((status, out.written().to_vec(alloc)?))
 }
 
 // The status of a run over an input, and the bytes written. The calls with these numbers fail.
@@ -26,34 +66,34 @@ fn ran(
     bad_takes: &[u64],
     bad_puts: &[u64],
 ) -> Result<(u8, Vec<u8>), Fail> {
-    let words = texts(alloc, words)?;
     let mut input = MemorySource::new(alloc, input, bad_takes)?;
-    let mut out = MemorySink::new(alloc, 10_000, bad_puts)?;
-    let mut net = MemoryNet::new(alloc, Vec::new(alloc), 0, 0, &[])?;
-    let status = run(alloc, &words, &[0; 32], &mut input, &mut out, &mut net);
-    Ok((status, out.written().to_vec(alloc)?))
+    ran_over(alloc, words, &mut input, bad_puts)
+}
+
+// Whether a run had this status and wrote this.
+fn is_end(ran: &(u8, Vec<u8>), status: u8, written: &[u8]) -> bool {
+    ran.0 == status && ran.1.as_slice() == written
+}
+
+fn ends_as_wanted(alloc: Global, case: &Case) -> Result<bool, Fail> {
+    let end = ran(alloc, case.words, case.input, &[], &[])?;
+    Ok(is_end(&end, case.status, case.written))
 }
 
 #[test]
 fn answers_and_writes(rt: HostRuntime) -> Result<(), Fail> {
-    let alloc = rt.alloc();
     for case in &CASES {
-        let (status, written) = ran(alloc, case.words, case.input, &[], &[])?;
-        assert_eq!(rt; status, case.status, "{}", case.name);
-        assert_eq!(rt; written.as_slice(), case.written, "{}", case.name);
+        assert!(rt; ends_as_wanted(rt.alloc(), case)?, "{}", case.name);
     }
     Ok(())
 }
 
 #[test]
 fn faults_of_source_and_sink(rt: HostRuntime) -> Result<(), Fail> {
-    let alloc = rt.alloc();
-    let (status, written) = ran(alloc, &["replay"], CASES[0].input, &[1], &[])?;
-    assert_eq!(rt; status, 4);
-    assert_eq!(rt; written.as_slice(), b"read fault\n".as_slice());
-    let (status, written) = ran(alloc, &["replay"], CASES[0].input, &[], &[1])?;
-    assert_eq!(rt; status, 5);
-    assert!(rt; written.is_empty());
+    let read = ran(rt.alloc(), &["replay"], SMALLEST, &[1], &[])?;
+    assert!(rt; is_end(&read, 4, b"read fault\n"));
+    let written = ran(rt.alloc(), &["replay"], SMALLEST, &[], &[1])?;
+    assert!(rt; is_end(&written, 5, b""));
     Ok(())
 }
 
@@ -79,28 +119,15 @@ impl Source for Long {
     }
 }
 
+// Whether a run over so many bytes has this status and writes this.
+fn ends_long(alloc: Global, bytes: usize, status: u8, written: &[u8]) -> Result<bool, Fail> {
+    let end = ran_over(alloc, &["replay"], &mut Long { left: bytes }, &[])?;
+    Ok(is_end(&end, status, written))
+}
+
 #[test]
 fn an_input_that_is_too_long(rt: HostRuntime) -> Result<(), Fail> {
-    let alloc = rt.alloc();
-    let words = texts(alloc, &["replay"])?;
-    for (bytes, wanted) in [(67_108_865, 8), (67_108_864, 3)] {
-        let mut out = MemorySink::new(alloc, 4096, &[])?;
-        let mut net = MemoryNet::new(alloc, Vec::new(alloc), 0, 0, &[])?;
-        let status = run(
-            alloc,
-            &words,
-            &[0; 32],
-            &mut Long { left: bytes },
-            &mut out,
-            &mut net,
-        );
-        assert_eq!(rt; status, wanted);
-        let text: &[u8] = if wanted == 8 {
-            b"input too long\n"
-        } else {
-            b"bad line 1\n"
-        };
-        assert_eq!(rt; out.written(), text);
-    }
+    assert!(rt; ends_long(rt.alloc(), 67_108_865, 8, b"input too long\n")?);
+    assert!(rt; ends_long(rt.alloc(), 67_108_864, 3, b"bad line 1\n")?);
     Ok(())
 }

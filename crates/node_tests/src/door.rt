@@ -1,11 +1,13 @@
 //! A helper at its door, over a net in memory. The deposit and its answer are those of an independent
 //! program.
+ghost use Rattle.express_words.specs.Limits.{KeepsLimits};
+
 use express_words::outside::{Failed, MemoryConn, MemoryNet};
-use express_words::{Settings, Text};
+use express_words::{NoMemory, Settings, Text};
 use node_host::{Tally, host, open_node};
 use node_serve::Node;
 use settings_text::{HELPER, ServeSettings};
-use std::alloc::AllocError;
+use std::alloc::{AllocError, Global};
 use std::test::Fail;
 use wire_frames::Gather;
 
@@ -14,21 +16,17 @@ const DEPOSIT: &str =
 
 const HELD: &str = "000000110106000000000001000000000000000001";
 
-fn helper(rt: &HostRuntime) -> Result<Node, Fail> {
-    let alloc = rt.alloc();
+fn helper(alloc: Global, settings: Settings, seed: &[u8; 32]) -> Result<Node, NoMemory>
+    requires { KeepsLimits settings.width settings.boxes settings.lanes settings.window }
+{
     let settings = ServeSettings {
         role: HELPER,
         listen: Text::from_string(String::new(alloc)),
         peer: Text::from_string(String::new(alloc)),
-        settings: Settings {
-            width: 16,
-            boxes: 5,
-            lanes: 1,
-            window: 1,
-        },
+        settings,
         connections: 3,
     };
-    Ok(open_node(alloc, &settings, &[7; 32])?)
+    open_node(alloc, &settings, seed)
 }
 
 fn net_of(rt: &HostRuntime, texts: &[&str], failing: &[u64]) -> Result<MemoryNet, Fail> {
@@ -42,33 +40,62 @@ fn net_of(rt: &HostRuntime, texts: &[&str], failing: &[u64]) -> Result<MemoryNet
     Ok(MemoryNet::new(alloc, conns, 9, 9, failing)?)
 }
 
+// Its callers learn nothing of what the host promises, which keeps their proofs small.
+fn served(
+    node: &mut Node,
+    gather: &mut Gather,
+    connections: u32,
+    net: &mut MemoryNet,
+) -> Result<Tally, Failed> {
+    host(node, gather, connections, net)
+}
+
 // A helper serves three connections of this net.
 fn hosted(rt: &HostRuntime, net: &mut MemoryNet) -> Result<Result<Tally, Failed>, Fail> {
-    let mut node = helper(rt)?;
+    let Some(settings) = Settings::new(16, 5, 1, 1) else {
+        return Err(Fail::new("settings out of their limits"));
+    };
     let mut gather = Gather::open(rt.alloc())?;
-    Ok(host(&mut node, &mut gather, 3, net))
+    let mut node = helper(rt.alloc(), settings, &[7; 32])?;
+    Ok(served(&mut node, &mut gather, 3, net))
+}
+
+// The text of a tally, or of none where an accept failed.
+fn text_of(rt: &HostRuntime, tally: Result<Tally, Failed>) -> Result<String, Fail> {
+    match tally {
+        Ok(tally) => Ok(format!(in rt.alloc(); "{tally}")?),
+        Err(Failed) => Ok(String::from_str(rt.alloc(), "an accept failed")?),
+    }
+}
+
+fn hex_of(rt: &HostRuntime, conn: &MemoryConn) -> Result<String, Fail> {
+    Ok(hex::encode(rt.alloc(), conn.written())?)
+}
+
+// How many connections were closed, and in hex what was written to the first of them.
+fn told(rt: &HostRuntime, net: &MemoryNet) -> Result<(usize, String), Fail> {
+    let closed = net.closed();
+    let [first, ..] = closed else {
+        return Err(Fail::new("no connection was closed"));
+    };
+    Ok((closed.len(), hex_of(rt, first)?))
 }
 
 #[test]
 fn three_connections(rt: HostRuntime) -> Result<(), Fail> {
     let mut net = net_of(&rt, &[DEPOSIT, "00000031", "00000000"], &[])?;
-    let tally = hosted(&rt, &mut net)??;
-    let text = format!(in rt.alloc(); "{tally}")?;
-    assert_eq!(rt;
-        text.as_str(),
-        "served 3 answered 2 ended 1 connfaults 0 linkfaults 0 linkbad 0"
-    );
-    assert_eq!(rt; net.closed().len(), 3);
-    let told = hex::encode(rt.alloc(), net.closed()[0].written())?;
-    assert_eq!(rt; told.as_str(), HELD);
+    let text = text_of(&rt, hosted(&rt, &mut net)?)?;
+    let wanted = "served 3 answered 2 ended 1 connfaults 0 linkfaults 0 linkbad 0";
+    assert!(rt; text.as_str() == wanted);
+    let (closed, first) = told(&rt, &net)?;
+    assert!(rt; closed == 3 && first.as_str() == HELD);
     Ok(())
 }
 
 #[test]
 fn failed_accept(rt: HostRuntime) -> Result<(), Fail> {
     let mut net = net_of(&rt, &[DEPOSIT, DEPOSIT, DEPOSIT], &[2])?;
-    let end = hosted(&rt, &mut net)?;
-    assert_eq!(rt; end, Err(Failed));
-    assert_eq!(rt; net.closed().len(), 1);
+    assert!(rt; hosted(&rt, &mut net)?.is_err());
+    assert!(rt; net.closed().len() == 1);
     Ok(())
 }

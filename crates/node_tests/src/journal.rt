@@ -50,22 +50,45 @@ fn walk(rt: &HostRuntime, bytes: &[u8]) -> Result<(Vec<u8>, Option<JournalFault>
     Ok((records, end))
 }
 
+// Whether the disk has these bytes.
+fn holds(disk: &MemoryDisk, bytes: &[u8]) -> bool {
+    disk.bytes() == bytes
+}
+
+// Makes a journal, adds a record to it, and one for which there is no room. Whether the disk has the bytes `one`
+// after the first, and `two` after each of the others.
+fn fill(disk: &mut MemoryDisk, one: &[u8], two: &[u8]) -> Result<[bool; 3], JournalFault> {
+    let mut journal = Journal::create(disk, LIMIT, &[0xaa])?;
+    let made = holds(disk, one);
+    journal.append(disk, &[0xbb, 0xcc])?;
+    let added = holds(disk, two);
+    let full = journal.append(disk, &[0xdd]) == Err(JournalFault::Full(13));
+    Ok([made, added, full && holds(disk, two)])
+}
+
+fn create_again(disk: &mut MemoryDisk) -> Option<JournalFault> {
+    Journal::create(disk, LIMIT, &[0xaa]).err()
+}
+
 #[test]
 fn bytes_on_the_disk(rt: HostRuntime) -> Result<(), Fail> {
     let none: [u64; 0] = [];
     let mut disk = disk(&rt, &[], &[], &none)?;
-    let mut journal = Journal::create(&mut disk, LIMIT, &[0xaa])?;
-    assert_eq!(rt; disk.bytes(), ONE.as_slice());
-    journal.append(&mut disk, &[0xbb, 0xcc])?;
-    assert_eq!(rt; disk.bytes(), TWO.as_slice());
-    assert_eq!(rt;
-        journal.append(&mut disk, &[0xdd]),
-        Err(JournalFault::Full(13))
-    );
-    assert_eq!(rt; disk.bytes(), TWO.as_slice());
-    let again = Journal::create(&mut disk, LIMIT, &[0xaa]).err();
-    assert_eq!(rt; again, Some(JournalFault::NotEmpty));
+    let [made, added, full] = fill(&mut disk, &ONE, &TWO)?;
+    assert!(rt; made && added && full);
+    assert!(rt; create_again(&mut disk) == Some(JournalFault::NotEmpty));
     Ok(())
+}
+
+// Whether these bytes are read as these records and this end.
+fn walks(
+    rt: &HostRuntime,
+    bytes: &[u8],
+    records: &[u8],
+    end: Option<JournalFault>,
+) -> Result<bool, Fail> {
+    let found = walk(rt, bytes)?;
+    Ok(found.0.as_slice() == records && found.1 == end)
 }
 
 #[test]
@@ -83,9 +106,7 @@ fn records_and_damage(rt: HostRuntime) -> Result<(), Fail> {
         (&TWO[..13], &[MARK, 0xaa], Some(JournalFault::Damaged(6))),
     ];
     for (bytes, records, end) in table {
-        let found = walk(&rt, bytes)?;
-        assert_eq!(rt; found.0.as_slice(), records);
-        assert_eq!(rt; found.1, end);
+        assert!(rt; walks(&rt, bytes, records, end)?);
     }
     Ok(())
 }
@@ -114,12 +135,17 @@ fn append(disk: &mut MemoryDisk) -> Result<(), JournalFault> {
     }
 }
 
+// Whether an append of which this call fails answers the disk's fault, the only one.
+fn fails_at(rt: &HostRuntime, number: u64) -> Result<bool, Fail> {
+    let mut disk = disk(rt, &ONE, &[], &[number])?;
+    let end = append(&mut disk);
+    Ok(end == Err(JournalFault::Disk(1)) && disk.faults() == 1)
+}
+
 #[test]
 fn each_call_fails_once(rt: HostRuntime) -> Result<(), Fail> {
     for number in 1..10 {
-        let mut disk = disk(&rt, &ONE, &[], &[number])?;
-        assert_eq!(rt; append(&mut disk), Err(JournalFault::Disk(1)));
-        assert_eq!(rt; disk.faults(), 1);
+        assert!(rt; fails_at(&rt, number)?);
     }
     Ok(())
 }

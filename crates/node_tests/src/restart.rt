@@ -1,5 +1,6 @@
 //! A server in memory that is full, and one that is opened again.
 ghost use Rattle.std.specs.Prelude.{◌<◌};
+ghost use Rattle.express_words.specs.Limits.{KeepsLimits};
 
 use express_words::Settings;
 use node_journal::{JournalFault, MemoryDisk};
@@ -24,15 +25,23 @@ const FIRST: &[u8; 37] =
 const SECOND: &[u8; 37] =
     b"\0\0\0\x21\x01\x01\0\0\0\0\0\x02\0\0\0\0\0\0\0\0\x02\0\0\0\0\0\0\0\0\0\0\0\0\0\0\0\0";
 
-fn made(rt: &HostRuntime, limit: u64) -> Result<Kept<MemoryDisk>, Fail>
-    requires { limit < 4096 }
+fn created(rt: &HostRuntime, opening: &Opening, limit: u64) -> Result<Kept<MemoryDisk>, Fail>
+    requires settings { KeepsLimits opening.now.settings.width opening.now.settings.boxes
+        opening.now.settings.lanes opening.now.settings.window }
+    requires limit { limit < 4096 }
 {
     let none: [u64; 0] = [];
     let disk = MemoryDisk::new(rt.alloc(), &[], &[], 20, 200, &none)?;
-    match Kept::create(rt.alloc(), &OPENING, disk, limit) {
+    match Kept::create(rt.alloc(), opening, disk, limit) {
         Ok(kept) => Ok(kept),
-        Err((fault, _)) => Err(Fail::from(fault)),
+        Err((fault, _)) => Err(Fail::new(fault)),
     }
+}
+
+fn made(rt: &HostRuntime, limit: u64) -> Result<Kept<MemoryDisk>, Fail>
+    requires { limit < 4096 }
+{
+    created(rt, &OPENING, limit)
 }
 
 fn reopened(rt: &HostRuntime, kept: Kept<MemoryDisk>, limit: u64) -> Result<Kept<MemoryDisk>, Fail>
@@ -40,7 +49,7 @@ fn reopened(rt: &HostRuntime, kept: Kept<MemoryDisk>, limit: u64) -> Result<Kept
 {
     match Kept::reopen(rt.alloc(), kept.into_disk(), limit) {
         Ok(kept) => Ok(kept),
-        Err((fault, _)) => Err(Fail::from(fault)),
+        Err((fault, _)) => Err(Fail::new(fault)),
     }
 }
 
@@ -49,11 +58,30 @@ fn handed(kept: &mut Kept<MemoryDisk>, frame: &[u8]) -> Result<Did, KeepFault> {
     kept.on_client(frame, &mut out)
 }
 
+// Whether a server answers a frame by a reply of so many bytes.
+fn replies(kept: &mut Kept<MemoryDisk>, frame: &[u8], bytes: usize) -> bool {
+    match handed(kept, frame) {
+        Ok(Did::Replied(count)) => count == bytes,
+        _ => false,
+    }
+}
+
+// Whether a frame has no room in a journal that ends here.
+fn is_full(kept: &mut Kept<MemoryDisk>, frame: &[u8], end: u64) -> bool {
+    match handed(kept, frame) {
+        Err(KeepFault::Journal(JournalFault::Full(at))) => at == end,
+        _ => false,
+    }
+}
+
+fn is_as_opened(kept: &Kept<MemoryDisk>) -> bool {
+    *kept.opening() == OPENING
+}
+
 #[test]
 fn full_from_the_first_frame(rt: HostRuntime) -> Result<(), Fail> {
     let mut kept = made(&rt, 52)?;
-    let full = KeepFault::Journal(JournalFault::Full(50));
-    assert_eq!(rt; handed(&mut kept, FIRST), Err(full));
+    assert!(rt; is_full(&mut kept, FIRST, 50));
     Ok(())
 }
 
@@ -61,9 +89,9 @@ fn full_from_the_first_frame(rt: HostRuntime) -> Result<(), Fail> {
 #[test]
 fn opened_again(rt: HostRuntime) -> Result<(), Fail> {
     let mut kept = made(&rt, 200)?;
-    assert_eq!(rt; handed(&mut kept, SECOND), Ok(Did::Replied(21)));
+    assert!(rt; replies(&mut kept, SECOND, 21));
     let mut kept = reopened(&rt, kept, 200)?;
-    assert_eq!(rt; *kept.opening(), OPENING);
-    assert_eq!(rt; handed(&mut kept, FIRST), Ok(Did::Replied(25)));
+    assert!(rt; is_as_opened(&kept));
+    assert!(rt; replies(&mut kept, FIRST, 25));
     Ok(())
 }

@@ -55,7 +55,7 @@ const FETCHED: [&str; 4] = [
     "00000015010900000000000400000000000000000800000009",
 ];
 
-fn text(alloc: Global, lines: &[&'static str]) -> Result<String, AllocError> {
+fn text(alloc: Global, lines: &[&str]) -> Result<String, AllocError> {
     let mut text = String::new(alloc);
     text.push_str(SERVERS)?;
     text.push_str(SEED)?;
@@ -65,70 +65,94 @@ fn text(alloc: Global, lines: &[&'static str]) -> Result<String, AllocError> {
     Ok(text)
 }
 
-fn net(alloc: Global, answers: &[&'static str], failing: &[u64]) -> Result<MemoryNet, Fail> {
+fn net(alloc: Global, answers: &[&str], failing: &[u64]) -> Result<MemoryNet, Fail> {
     let mut conns = Vec::new(alloc);
     for answer in answers {
-        let bytes = hex::decode(alloc, *answer)?;
+        let bytes = hex::decode(alloc, answer)?;
         let conn = MemoryConn::new(alloc, &bytes, 8213, &[])?;
         conns.push(conn).map_err(AllocError::from)?;
     }
     Ok(MemoryNet::new(alloc, conns, 20, 99, failing)?)
 }
 
-// What the client's run comes to, where the connections give these answers in order.
-fn run(alloc: Global, answers: &[&'static str], failing: &[u64]) -> Result<Ran, Fail> {
-    let text = text(alloc, &CLIENT)?;
-    let settings = read_client(alloc, text.as_bytes())?;
-    let mut net = net(alloc, answers, failing)?;
-    Ok(run_client(alloc, &settings, &[7; 32], &mut net)?)
+// The run of the client, or of the carrier, of these settings. Callers learn nothing of what they promise, which
+// keeps their proofs small.
+fn run_of(alloc: Global, text: &[u8], seed: &[u8; 32], net: &mut MemoryNet) -> Result<Ran, Fail> {
+    let settings = read_client(alloc, text)?;
+    Ok(run_client(alloc, &settings, seed, net)?)
 }
 
-pub(crate) fn carry(
-    alloc: Global,
-    lines: &[&'static str],
-    answers: &[&'static str],
-) -> Result<Ran, Fail> {
+fn carry_of(alloc: Global, text: &[u8], seed: &[u8; 32], net: &mut MemoryNet) -> Result<Ran, Fail> {
+    let settings = read_carry(alloc, text)?;
+    Ok(run_carry(alloc, &settings, seed, net)?)
+}
+
+// What the client's run comes to, where the connections give these answers in order.
+fn run(alloc: Global, answers: &[&str], failing: &[u64]) -> Result<Ran, Fail> {
+    let text = text(alloc, &CLIENT)?;
+    let mut net = net(alloc, answers, failing)?;
+    run_of(alloc, text.as_bytes(), &[7; 32], &mut net)
+}
+
+fn carry(alloc: Global, lines: &[&str], answers: &[&str]) -> Result<Ran, Fail> {
     let text = text(alloc, lines)?;
-    let settings = read_carry(alloc, text.as_bytes())?;
     let mut net = net(alloc, answers, &[])?;
-    Ok(run_carry(alloc, &settings, &[7; 32], &mut net)?)
+    carry_of(alloc, text.as_bytes(), &[7; 32], &mut net)
+}
+
+// Whether a run came to this end, and prints this.
+fn is_end(ran: &Ran, end: RunEnd, text: &str) -> bool {
+    ran.end == end && ran.text.as_str() == text
+}
+
+fn runs(
+    alloc: Global,
+    answers: &[&str],
+    failing: &[u64],
+    end: RunEnd,
+    text: &str,
+) -> Result<bool, Fail> {
+    let ran = run(alloc, answers, failing)?;
+    Ok(is_end(&ran, end, text))
+}
+
+// Whether a carrier's run comes to its end, and prints this.
+pub(crate) fn carries(
+    alloc: Global,
+    lines: &[&str],
+    answers: &[&str],
+    text: &str,
+) -> Result<bool, Fail> {
+    let ran = carry(alloc, lines, answers)?;
+    Ok(is_end(&ran, RunEnd::Done, text))
 }
 
 #[test]
 fn runs_to_the_last(rt: HostRuntime) -> Result<(), Fail> {
-    let ran = run(rt.alloc(), &ANSWERS, &[])?;
-    assert_eq!(rt; ran.end, RunEnd::Done);
-    assert_eq!(rt;
-        ran.text.as_str(),
-        "outcome 0 registered 0\noutcome 1 accepted\n\
-        outcome 2 message ffffffffffffffffffffffffffffffff\noutcome 3 no box 1\nend\n"
-    );
+    let text = "outcome 0 registered 0\noutcome 1 accepted\n\
+        outcome 2 message ffffffffffffffffffffffffffffffff\noutcome 3 no box 1\nend\n";
+    assert!(rt; runs(rt.alloc(), &ANSWERS, &[], RunEnd::Done, text)?);
     Ok(())
 }
 
 #[test]
 fn stops(rt: HostRuntime) -> Result<(), Fail> {
-    let again = run(rt.alloc(), &[ANSWERS[0], AGAIN], &[])?;
-    assert_eq!(rt; again.end, RunEnd::Done);
-    assert_eq!(rt; again.text.as_str(), "stopped again 1\n");
-    let fault = run(rt.alloc(), &ANSWERS, &[5])?;
-    assert_eq!(rt; fault.end, RunEnd::NetFault);
-    assert_eq!(rt; fault.text.as_str(), "outcome 0 registered 0\nnet fault\n");
+    let again = "stopped again 1\n";
+    assert!(rt; runs(rt.alloc(), &[ANSWERS[0], AGAIN], &[], RunEnd::Done, again)?);
+    let fault = "outcome 0 registered 0\nnet fault\n";
+    assert!(rt; runs(rt.alloc(), &ANSWERS, &[5], RunEnd::NetFault, fault)?);
     Ok(())
 }
 
 #[test]
-fn carries(rt: HostRuntime) -> Result<(), Fail> {
-    let sent = carry(rt.alloc(), &SEND, &ANSWERS[2..6])?;
-    assert_eq!(rt; sent.text.as_str(), "outcome 0 accepted\nsent 1\nend\n");
-    let fetched = carry(rt.alloc(), &FETCH, &FETCHED[..2])?;
-    assert_eq!(rt; fetched.text.as_str(), "file 000102\nend\n");
-    let broken = carry(rt.alloc(), &FETCH_TWO, &FETCHED)?;
-    assert_eq!(rt; broken.end, RunEnd::Done);
-    assert_eq!(rt;
-        broken.text.as_str(),
-        "outcome 1 refused nobox 9\n\
-        box 0 0000000000000007000000010003000000010200000000000000000000000000\nstopped outcome\n"
-    );
+fn sends_and_fetches(rt: HostRuntime) -> Result<(), Fail> {
+    let alloc = rt.alloc();
+    let sent = "outcome 0 accepted\nsent 1\nend\n";
+    assert!(rt; carries(alloc, &SEND, &ANSWERS[2..6], sent)?);
+    let fetched = "file 000102\nend\n";
+    assert!(rt; carries(alloc, &FETCH, &FETCHED[..2], fetched)?);
+    let broken = "outcome 1 refused nobox 9\n\
+        box 0 0000000000000007000000010003000000010200000000000000000000000000\nstopped outcome\n";
+    assert!(rt; carries(alloc, &FETCH_TWO, &FETCHED, broken)?);
     Ok(())
 }

@@ -1,7 +1,7 @@
-//! A file of two parts over answers of both servers, recorded: by the cores of the leader and the helper, opened for four
-//! boxes of 32 bytes and one lane with seeds of bytes 1 and of bytes 2. The client had registered both boxes before, by
-//! its serials 1 and 2.
-use crate::runs::carry;
+//! A file of two parts over answers of both servers, recorded: by the cores of the leader and the helper, opened
+//! for four boxes of 32 bytes and one lane with seeds of bytes 1 and of bytes 2. The client had registered both
+//! boxes before, by its serials 1 and 2.
+use crate::runs::carries;
 use std::test::Fail;
 
 const SEND: [&str; 3] = [
@@ -37,15 +37,9 @@ const FETCHED: [&str; 4] = [
 
 #[test]
 fn two_parts(rt: HostRuntime) -> Result<(), Fail> {
-    let sent = carry(rt.alloc(), &SEND, &SENT)?;
-    assert_eq!(rt;
-        sent.text.as_str(),
-        "outcome 0 accepted\noutcome 1 accepted\nsent 2\nend\n"
-    );
-    let fetched = carry(rt.alloc(), &FETCH, &FETCHED)?;
-    assert_eq!(rt;
-        fetched.text.as_str(),
-        "file 000102030405060708090a0b0c0d0e0f10\nend\n"
-    );
+    let sent = "outcome 0 accepted\noutcome 1 accepted\nsent 2\nend\n";
+    assert!(rt; carries(rt.alloc(), &SEND, &SENT, sent)?);
+    let fetched = "file 000102030405060708090a0b0c0d0e0f10\nend\n";
+    assert!(rt; carries(rt.alloc(), &FETCH, &FETCHED, fetched)?);
     Ok(())
 }

@@ -23,17 +23,26 @@ impl Read for Interrupted {
     }
 }
 
+// Whether the next take gives so many bytes, and so many calls have failed by then.
+fn gives(source: &mut Adapter<Interrupted>, buf: &mut [u8; 8], bytes: usize, faults: u64) -> bool {
+    match source.take(buf) {
+        Ok(count) => count == bytes && source.faults() == faults,
+        Err(Failed) => false,
+    }
+}
+
+fn fails(source: &mut Adapter<Interrupted>, buf: &mut [u8; 8], faults: u64) -> bool {
+    source.take(buf).is_err() && source.faults() == faults
+}
+
 #[test]
 fn a_source_counts_errors(rt: HostRuntime) {
     let mut source = Adapter::new(Interrupted { reads: 0 });
     let mut buf = [0u8; 8];
-    assert_eq!(rt; source.take(&mut buf), Ok(2));
-    assert_eq!(rt; &buf[..2], b"ok".as_slice());
-    assert_eq!(rt; source.faults(), 0);
-    assert_eq!(rt; source.take(&mut buf), Err(Failed));
-    assert_eq!(rt; source.faults(), 1);
-    assert_eq!(rt; source.take(&mut buf), Ok(0));
-    assert_eq!(rt; source.faults(), 1);
+    assert!(rt; gives(&mut source, &mut buf, 2, 0));
+    assert!(rt; buf[0] == b'o' && buf[1] == b'k');
+    assert!(rt; fails(&mut source, &mut buf, 1));
+    assert!(rt; gives(&mut source, &mut buf, 0, 1));
 }
 
 /// A writer that takes two bytes a time, as long as there is room, and may fail at each flush.
@@ -59,20 +68,22 @@ impl Write for Narrow {
     }
 }
 
+// Whether a put of these bytes goes so, and so many calls have failed by then.
+fn puts(sink: &mut Adapter<Narrow>, bytes: &[u8], taken: bool, faults: u64) -> bool {
+    sink.put(bytes).is_ok() == taken && sink.faults() == faults
+}
+
 #[test]
 fn a_sink_writes_on_and_counts_what_is_not_taken(rt: HostRuntime) {
     let mut sink = Adapter::new(Narrow {
         room: 7,
         flushes: true,
     });
-    assert_eq!(rt; sink.put(b"short"), Ok(()));
-    assert_eq!(rt; sink.faults(), 0);
-    assert_eq!(rt; sink.put(b"longer"), Err(Failed));
-    assert_eq!(rt; sink.faults(), 1);
+    assert!(rt; puts(&mut sink, b"short", true, 0));
+    assert!(rt; puts(&mut sink, b"longer", false, 1));
     let mut unflushed = Adapter::new(Narrow {
         room: 7,
         flushes: false,
     });
-    assert_eq!(rt; unflushed.put(b"short"), Err(Failed));
-    assert_eq!(rt; unflushed.faults(), 1);
+    assert!(rt; puts(&mut unflushed, b"short", false, 1));
 }

@@ -2,58 +2,86 @@
 use super::*;
 use express_words::outside::{Conn, Sink, Source};
 use std::net::Shutdown;
-use std::process::Abort;
 use std::test::Fail;
 
-// The next bytes of a source, of which no more are asked, are these.
-fn gives<S: Source>(rt: &impl Abort, from: &mut S, wanted: &[u8; 3]) {
+// Whether the next bytes of a source, of which no more are asked, are these.
+fn gives<S: Source>(from: &mut S, wanted: &[u8; 3]) -> bool {
     let mut buf = [0u8; 3];
-    assert_eq!(rt; from.take(&mut buf), Ok(3));
-    assert_eq!(rt; buf, *wanted);
+    matches!(from.take(&mut buf), Ok(3)) && buf == *wanted
 }
 
-// What the one end puts, the other takes, and after it the end.
-fn talk<N: Net>(rt: &impl Abort, net: &mut N, near: &mut N::Conn, far: N::Conn) {
+fn has_ended<S: Source>(from: &mut S) -> bool {
+    matches!(from.take(&mut [0; 3]), Ok(0))
+}
+
+// Whether what the one end puts, the other takes, and after it the end.
+fn talk<N: Net>(net: &mut N, near: &mut N::Conn, far: N::Conn) -> bool {
     let mut far = far;
-    assert_eq!(rt; near.put(b"tothem"), Ok(()));
-    gives(rt, &mut far, b"tot");
-    gives(rt, &mut far, b"hem");
-    assert_eq!(rt; far.put(b"you"), Ok(()));
+    let asked = near.put(b"tothem").is_ok() && gives(&mut far, b"tot") && gives(&mut far, b"hem");
+    let answered = far.put(b"you").is_ok();
     net.close(far);
-    gives(rt, near, b"you");
-    assert_eq!(rt; near.take(&mut [0; 3]), Ok(0), "the other end was closed");
+    asked && answered && gives(near, b"you") && has_ended(near)
 }
 
-// A connection that can't be written to any more, and to which nobody answers.
-fn fails<C: Conn>(rt: &impl Abort, conn: &mut C) {
-    assert_eq!(rt; conn.put(b"more"), Err(Failed));
-    assert_eq!(rt; conn.take(&mut [0; 3]), Err(Failed), "no answer comes");
-    assert_eq!(rt; conn.faults(), 2);
+// Whether a connection can't be written to any more, and nobody answers to it.
+fn is_mute<C: Conn>(conn: &mut C) -> bool {
+    conn.put(b"more").is_err() && conn.take(&mut [0; 3]).is_err() && conn.faults() == 2
+}
+
+fn has_counted(net: &TcpNet<'_, HostRuntime>, faults: u64, doors: u64) -> bool {
+    net.faults() == faults && net.doors == doors
+}
+
+fn accepts(net: &mut TcpNet<'_, HostRuntime>) -> bool {
+    net.accept().is_ok()
+}
+
+fn dials(net: &mut TcpNet<'_, HostRuntime>, peer: &str) -> bool {
+    net.dial(peer).is_ok()
+}
+
+// Where the net listens from now on.
+fn listening(rt: &HostRuntime, net: &mut TcpNet<'_, HostRuntime>) -> Result<String, Fail> {
+    if net.listen("127.0.0.1:0").is_err() {
+        Err("it can't listen")?;
+    }
+    let Some(listener) = &net.listener else {
+        return Err(Fail::from("nothing listens"));
+    };
+    Ok(format!(in rt.alloc(); "{}", listener.local_addr()?)?)
+}
+
+// Whether bytes go both ways between the net and itself.
+fn talks(net: &mut TcpNet<'_, HostRuntime>, at: &str) -> bool {
+    let (Ok(mut near), Ok(far)) = (net.dial(at), net.accept()) else {
+        return false;
+    };
+    let talked = talk(net, &mut near, far);
+    net.close(near);
+    talked
+}
+
+// Whether a connection that was shut at this end, and to which nobody answers, fails in both directions.
+fn fails(rt: &HostRuntime, net: &mut TcpNet<'_, HostRuntime>, at: &str) -> Result<bool, Fail> {
+    let stream = TcpStream::connect(rt, at)?;
+    stream.shutdown(Shutdown::Write)?;
+    let mut mute = patient(stream, 1)?;
+    let failed = is_mute(&mut mute);
+    net.close(mute);
+    Ok(failed)
 }
 
 #[test]
 fn bytes_go_both_ways_and_each_fault_is_counted(rt: HostRuntime) -> Result<(), Fail> {
     let mut net = TcpNet::new(&rt);
-    assert!(rt; net.accept().is_err(), "nothing listens yet");
+    assert!(rt; !accepts(&mut net), "nothing listens yet");
     assert!(rt; net.listen("no address").is_err(), "a text without a port");
-    assert!(rt; net.dial("127.0.0.1").is_err(), "a text without a port");
-    assert_eq!(rt; (net.faults(), net.doors), (3, 2));
-    assert_eq!(rt; net.listen("127.0.0.1:0"), Ok(()));
-    let Some(listener) = &net.listener else {
-        return Ok(());
-    };
-    let at = format!(in rt.alloc(); "{}", listener.local_addr()?)?;
-    let (Ok(mut near), Ok(far)) = (net.dial(at.as_str()), net.accept()) else {
-        panic!(rt; "no connection over loopback");
-    };
-    talk(&rt, &mut net, &mut near, far);
-    net.close(near);
-    assert_eq!(rt; (net.faults(), net.doors), (3, 2));
-    let stream = TcpStream::connect(&rt, at.as_str())?;
-    stream.shutdown(Shutdown::Write)?;
-    let mut mute = patient(stream, 1)?;
-    fails(&rt, &mut mute);
-    net.close(mute);
-    assert_eq!(rt; (net.faults(), net.doors), (4, 2));
+    assert!(rt; !dials(&mut net, "127.0.0.1"), "a text without a port");
+    assert!(rt; has_counted(&net, 3, 2));
+    let at = listening(&rt, &mut net)?;
+    assert!(rt; talks(&mut net, at.as_str()));
+    assert!(rt; has_counted(&net, 3, 2));
+    assert!(rt; fails(&rt, &mut net, at.as_str())?);
+    assert!(rt; has_counted(&net, 4, 2));
     Ok(())
 }

@@ -1,5 +1,6 @@
 //! Batches of closings. The worked outputs are an independent program's.
-use super::ran;
+use super::{is_end, ran};
+use std::alloc::Global;
 use std::test::Fail;
 
 const HEADER: &[u8] = b"batch 1 0000000000000000000000000000000000000000000000000000000000000000\n";
@@ -10,9 +11,18 @@ const GOOD: &[u8] = b"pair 00000000000000000000000000000000 00000000000000000000
 const BAD: &[u8] = b"pair 00000000000000000000000000000001 00000000000000000000000000000000 \
 00000000000000000000000000000000 00000000000000000000000000000000\n";
 
+// Whether a batch of these lines has this status and writes this.
+fn judges(alloc: Global, lines: &[&[u8]], status: u8, written: &[u8]) -> Result<bool, Fail> {
+    let mut input = Vec::new(alloc);
+    for line in lines {
+        input.extend_from_slice(line)?;
+    }
+    let end = ran(alloc, &["batch"], &input, &[], &[])?;
+    Ok(is_end(&end, status, written))
+}
+
 #[test]
 fn judges_pairs(rt: HostRuntime) -> Result<(), Fail> {
-    let alloc = rt.alloc();
     let cases: [(&[&[u8]], u8, &[u8]); 4] = [
         (&[HEADER], 0, b"accepted 0\njudged 0\nend\n"),
         (
@@ -23,14 +33,8 @@ fn judges_pairs(rt: HostRuntime) -> Result<(), Fail> {
         (&[], 3, b"bad line 1\n"),
         (&[HEADER, GOOD, HEADER], 3, b"bad line 3\n"),
     ];
-    for (lines, wanted, text) in &cases {
-        let mut input = Vec::new(alloc);
-        for line in *lines {
-            input.extend_from_slice(line)?;
-        }
-        let (status, written) = ran(alloc, &["batch"], &input, &[], &[])?;
-        assert_eq!(rt; status, *wanted);
-        assert_eq!(rt; written.as_slice(), *text);
+    for (lines, status, written) in cases {
+        assert!(rt; judges(rt.alloc(), lines, status, written)?);
     }
     Ok(())
 }

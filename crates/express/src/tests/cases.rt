@@ -14,12 +14,15 @@ const USAGE: &[u8] = b"usage: express replay, serve, client, cloak, carry, batch
 const HELPER: &[u8] =
     b"role = \"helper\"\nlisten = \"127.0.0.1:7000\"\nwidth = 16\nboxes = 4\nlanes = 1\nwindow = 1\nconnections = 1\n";
 
+pub const SMALLEST: &[u8] =
+    b"express 1 16 4 1 1 0000000000000000000000000000000000000000000000000000000000000000\n";
+
 // Outputs of replays are those of an independent program written from the protocol's description.
 pub const CASES: [Case; 34] = [
     Case {
         name: "smallest",
         words: &["replay"],
-        input: b"express 1 16 4 1 1 0000000000000000000000000000000000000000000000000000000000000000\n",
+        input: SMALLEST,
         status: 0,
         written: b"end\n",
     },

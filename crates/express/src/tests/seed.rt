@@ -14,26 +14,43 @@ fn taken(
     Ok(seed_of(&mut source))
 }
 
+fn gives_seed(rt: &HostRuntime) -> Result<bool, Fail> {
+    match taken(rt, 40, &[])? {
+        Ok(seed) => Ok(seed == [7; 32]),
+        Err(_) => Ok(false),
+    }
+}
+
+fn ends_early(rt: &HostRuntime) -> Result<bool, Fail> {
+    let taken = taken(rt, 31, &[])?;
+    Ok(matches!(taken, Err(SeedFault::Early(31))))
+}
+
+fn fails_at(rt: &HostRuntime, length: usize, call: u64) -> Result<bool, Fail> {
+    let taken = taken(rt, length, &[call])?;
+    Ok(matches!(taken, Err(SeedFault::Failed(1))))
+}
+
 #[test]
 fn a_seed_is_taken_or_its_fault_told(rt: HostRuntime) -> Result<(), Fail> {
-    assert_eq!(rt; taken(&rt, 40, &[])?, Ok([7; 32]));
-    assert_eq!(rt; taken(&rt, 31, &[])?, Err(SeedFault::Early(31)));
-    assert_eq!(rt; taken(&rt, 40, &[1])?, Err(SeedFault::Failed(1)));
-    assert_eq!(rt; taken(&rt, 31, &[2])?, Err(SeedFault::Failed(1)));
+    assert!(rt; gives_seed(&rt)?);
+    assert!(rt; ends_early(&rt)?);
+    assert!(rt; fails_at(&rt, 40, 1)?);
+    assert!(rt; fails_at(&rt, 31, 2)?);
     Ok(())
+}
+
+// Whether a fault is told so.
+fn tells(rt: &HostRuntime, fault: SeedFault, wanted: &str) -> Result<bool, Fail> {
+    let text = format!(in rt.alloc(); "{fault}")?;
+    Ok(text.as_str() == wanted)
 }
 
 #[test]
 fn each_fault_has_its_text(rt: HostRuntime) -> Result<(), Fail> {
-    let early = format!(in rt.alloc(); "{}", SeedFault::Early(31))?;
-    assert_eq!(rt;
-        early.as_str(),
-        "the source of random bytes ended after 31 bytes"
-    );
-    let failed = format!(in rt.alloc(); "{}", SeedFault::Failed(1))?;
-    assert_eq!(rt;
-        failed.as_str(),
-        "the source of random bytes failed (faults: 1)"
-    );
+    let early = "the source of random bytes ended after 31 bytes";
+    assert!(rt; tells(&rt, SeedFault::Early(31), early)?);
+    let failed = "the source of random bytes failed (faults: 1)";
+    assert!(rt; tells(&rt, SeedFault::Failed(1), failed)?);
     Ok(())
 }
