@@ -417,6 +417,7 @@ fn shares_at(addresses: &[u128; 3], ckey: &[u8; 32], sum: u128) -> (ProofShare, 
     prove(sum, r, s, &ROWS[0].choices)
 }
 
+// Whether both servers accept, at the point 77, leaves that differ at the second address alone.
 fn both_accept(
     addresses: &[u128; 3],
     ckey: &[u8; 32],

@@ -116,6 +116,7 @@ fn drawn_level(index: u64) -> (u128, u128) {
     (read_number(&draw[..16]), read_number(&draw[16..]))
 }
 
+// A pair for each level of the tree, from draw 1 on.
 fn drawn_levels(alloc: Global) -> Result<List<(u128, u128)>, NoMemory> {
     let mut levels = Vec::new(alloc);
     for index in 1..129u64 {

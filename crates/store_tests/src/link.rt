@@ -20,6 +20,7 @@ fn acknowledges(link: &mut Outgoing, number: u64) -> bool
     link.acknowledge(number)
 }
 
+// Whether this command is the oldest that is outstanding.
 fn is_oldest(link: &Outgoing, number: u64, frame: &[u8]) -> bool {
     match link.oldest() {
         Some((oldest, bytes)) => oldest == number && *bytes == *frame,
