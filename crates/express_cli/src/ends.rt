@@ -1,6 +1,8 @@
 //! How a run ends.
-ghost use Rattle.std.specs.Prelude.{◌≡◌};
-ghost use Rattle.express_cli.specs.Ends.{status_of};
+ghost use Rattle.std.specs.Prelude.{◌≡◌, Some};
+ghost use Rattle.express_cli.specs.Ends.{end_text, status_of};
+
+use std::fmt;
 
 /// How a run ends.
 #[derive(Clone, Copy, Debug, PartialEq, Eq)]
@@ -20,6 +22,24 @@ pub enum End {
     OutOfMemory,
     /// The input has more than 67,108,864 bytes.
     TooLong,
+}
+
+impl fmt::Display for End {
+    ghost output = { λ end. Some (end_text end) };
+
+    fn fmt<W: fmt::Write>(&self, f: &mut fmt::Formatter<W>) -> fmt::Result {
+        match *self {
+            End::Done => f.write_str("done"),
+            End::Usage => f.write_str("bad usage"),
+            End::BadLine(line) => write!(f, "bad line {line}"),
+            End::BadKey => f.write_str("bad settings"),
+            End::ReadFault => f.write_str("read fault"),
+            End::WriteFault => f.write_str("write fault"),
+            End::NetFault => f.write_str("net fault"),
+            End::OutOfMemory => f.write_str("out of memory"),
+            End::TooLong => f.write_str("input too long"),
+        }
+    }
 }
 
 /// The status that the program ends with.
