@@ -67,6 +67,7 @@ impl<'a, R: net::Net> TcpNet<'a, R> {
         )
     }
 
+    // A dial failed, or a connection that is closed had faults.
     fn count_fault(&mut self)
         ensures faults { self.new.faults ≡ next self.old.faults }
         ensures later { self.old.faults ≤ self.new.faults }
@@ -75,6 +76,7 @@ impl<'a, R: net::Net> TcpNet<'a, R> {
         self.faults = self.faults.saturating_add(1);
     }
 
+    // A listen or an accept failed, which both counts count.
     fn count_door_fault(&mut self)
         ensures faults { self.new.faults ≡ next self.old.faults }
         ensures later { self.old.faults ≤ self.new.faults }

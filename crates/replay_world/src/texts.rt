@@ -15,6 +15,7 @@ use express_words::{Closing, Openings};
 use outcome_text::{no_box_text, outcome_text};
 use std::alloc::{AllocError, Global};
 
+// A number as 32 hexadecimal digits, the highest first.
 fn number_text(alloc: Global, number: u128) -> Result<String, AllocError>
     ensures { IfOk result (λ text. string_bytes text ≡ number_text number) }
 {

@@ -73,6 +73,7 @@ fn carry(link: &mut Incoming, reply: &[u8])
     link.carry(reply);
 }
 
+// What this end answers a command of this number: its kept reply, or a word of why there is none.
 fn arrives(link: &Incoming, number: u64) -> &[u8] {
     match link.arrival(number) {
         Arrival::Next => b"next",
@@ -81,6 +82,7 @@ fn arrives(link: &Incoming, number: u64) -> &[u8] {
     }
 }
 
+// Whether a command of this number is answered by this reply, or word.
 fn is_answered(link: &Incoming, number: u64, reply: &[u8]) -> bool {
     *arrives(link, number) == *reply
 }
