@@ -1,6 +1,6 @@
 -- A client read from what holds it.
 use Rattle.std.specs.Prelude.{◌≡◌, ◌+◌, ◌^◌, ◌<◌, ◌≤◌, length, map, option_map, IfSome, vec_capacity}
-use Rattle.express_words.specs.Limits.{IsWidth}
+use Rattle.express_words.specs.Limits.{IsWidth, levels_len}
 use Rattle.dpf_rules.specs.Expansion.{choice}
 use Rattle.step_rules.specs.Client.{Client, Owned}
 use Rattle.client_core.specs.declared.state.OwnBox.{OwnBox}
@@ -41,7 +41,7 @@ pub record IsCurrent (s : State) (stage : Stage) : Type 0 where
 pub record IsState (s : State) : Type 0 where
   pub width : IsWidth s.width
   pub message : length s.message.items ≡ s.width
-  pub part : length s.part.items ≡ 2064 + s.width
+  pub part : length s.part.items ≡ levels_len + s.width
   pub within : length s.owned.items ≤ s.capacity
   pub room : s.capacity ≤ vec_capacity s.owned
   pub first : 1 ≤ s.serial

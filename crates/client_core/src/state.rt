@@ -8,6 +8,7 @@ ghost use Rattle.client_core.specs.States.{client_in, IsState};
 use crate::stage::Stage;
 use chacha_expand::owner_keys;
 use express_words::NoMemory;
+use express_words::limits::LEVELS_LEN;
 use std::alloc::Global;
 
 /// A box of the client's own: its number, and its keys at server 0 and server 1.
@@ -66,7 +67,7 @@ impl State {
             return Err(NoMemory);
         };
         let message = zeros(alloc, width as usize)?;
-        let part = zeros(alloc, 2064 + width as usize)?;
+        let part = zeros(alloc, LEVELS_LEN + width as usize)?;
         Ok(State {
             lane,
             seed: *seed,

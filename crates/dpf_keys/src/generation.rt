@@ -5,15 +5,16 @@ ghost use Rattle.dpf_rules.specs.Bytes.{bytes_of, words_bytes, bits_number};
 ghost use Rattle.dpf_rules.specs.Expansion.{block};
 ghost use Rattle.dpf_rules.specs.Walk.{leaf_of, write_bytes, state_at};
 ghost use Rattle.dpf_rules.specs.Keys.{path_at, path_word, path_right, keys, honest, honest_keys};
-ghost use Rattle.express_words.specs.Limits.{IsWidth};
+ghost use Rattle.express_words.specs.Limits.{IsWidth, levels_len};
 
 use crate::levels::{level_right, level_word, side_at, step, with_bit};
 use chacha_expand::{block_into, children};
 use dpf_rules::{write_number, xor_into};
+use express_words::limits::LEVELS_LEN;
 
 // Writes the words and right bits of the path to a target, and gives both servers' states at its end.
 fn levels_into(target: u128, root0: u128, root1: u128, out: &mut [u8]) -> (u128, u128)
-    requires { length out.old ≡ 2064 }
+    requires { length out.old ≡ levels_len }
     ensures ends { result ≡ path_at target root0 root1 128 }
     ensures bytes { out.new ≡ words_bytes (path_word target root0 root1) 128
         ++ bytes_of 16 (bits_number (path_right target root0 root1) 128) }
@@ -33,7 +34,7 @@ fn levels_into(target: u128, root0: u128, root1: u128, out: &mut [u8]) -> (u128,
         state0 = step(word, right, side, state0, pair0);
         state1 = step(word, right, side, state1, pair1);
     }
-    write_number(&mut out[2048..2064], rights);
+    write_number(&mut out[2048..LEVELS_LEN], rights);
     (state0, state1)
 }
 
@@ -54,11 +55,11 @@ fn last_into(end0: u128, end1: u128, message: &[u8], out: &mut [u8])
 // Writes the keys of honest expansions.
 fn keys_into(target: u128, message: &[u8], root0: u128, root1: u128, out: &mut [u8])
     requires width { IsWidth (length message.now) }
-    requires room { length out.old ≡ 2064 + length message.now }
+    requires room { length out.old ≡ levels_len + length message.now }
     ensures { out.new ≡ honest_keys target message.now root0 root1 }
 {
-    let (end0, end1) = levels_into(target, root0, root1, &mut out[..2064]);
-    last_into(end0, end1, message, &mut out[2064..]);
+    let (end0, end1) = levels_into(target, root0, root1, &mut out[..LEVELS_LEN]);
+    last_into(end0, end1, message, &mut out[LEVELS_LEN..]);
 }
 
 /// Writes the public part of the point function that is the message at the target and zeros elsewhere: 128 words of 16
@@ -66,7 +67,7 @@ fn keys_into(target: u128, message: &[u8], root0: u128, root1: u128, out: &mut [
 /// roots is not read.
 pub fn generate(target: u128, message: &[u8], root0: u128, root1: u128, out: &mut [u8])
     requires width { IsWidth (length message.now) }
-    requires room { length out.old ≡ 2064 + length message.now }
+    requires room { length out.old ≡ levels_len + length message.now }
     // The keys of honest expansions ..
     ensures keys { out.new ≡ honest_keys target message.now root0 root1 }
     // .. which are those at the states of both servers' walks to the target.

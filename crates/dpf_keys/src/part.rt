@@ -2,9 +2,10 @@
 ghost use Rattle.std.specs.Prelude.{◌≡◌, ◌+◌, ◌<◌, ◌↔◌, IsSome, IfSome, List, ℕ, length};
 ghost use Rattle.std.specs.Int.{from_bool};
 ghost use Rattle.dpf_rules.specs.Walk.{word_of, right_of, last_of};
-ghost use Rattle.express_words.specs.Limits.{IsPart, IsWidth};
+ghost use Rattle.express_words.specs.Limits.{IsPart, IsWidth, levels_len};
 
 use dpf_rules::read_number;
+use express_words::limits::LEVELS_LEN;
 use std::marker::Model;
 
 /// The public part of a point function, a view of its bytes.
@@ -22,12 +23,15 @@ impl<'a> Model for PublicPart<'a> {
 }
 
 impl<'a> PublicPart<'a> {
-    /// Bytes as a public part, if they have the length of one: 2064 and a multiple of 16 from 16 to 4,096.
+    /// Bytes as a public part, if they have the length of one: 2,064 and a multiple of 16 from 16 to 4,096.
     pub fn of(bytes: &'a [u8]) -> Option<PublicPart<'a>>
         ensures variant { IsSome result ↔ IsPart bytes.now }
         ensures value { IfSome result (λ p. p ≡ bytes.now) }
     {
-        if bytes.len() < 2064 + 16 || bytes.len() > 2064 + 4096 || bytes.len() % 16 != 0 {
+        if bytes.len() < LEVELS_LEN + 16
+            || bytes.len() > LEVELS_LEN + 4096
+            || bytes.len() % 16 != 0
+        {
             return None;
         }
         Some(PublicPart { bytes })
@@ -47,7 +51,7 @@ impl<'a> PublicPart<'a> {
         requires { level < 128 }
         ensures { right_of self.now level ≡ from_bool result }
     {
-        let rights = read_number(&self.bytes[2048..2064]);
+        let rights = read_number(&self.bytes[2048..LEVELS_LEN]);
         (rights >> level) % 2 == 1
     }
 
@@ -55,8 +59,8 @@ impl<'a> PublicPart<'a> {
     pub fn last(&self) -> &[u8]
         ensures value { result.now ≡ last_of self.now }
         ensures width { IsWidth (length (last_of self.now)) }
-        ensures rest { 2064 + length (last_of self.now) ≡ length self.now }
+        ensures rest { levels_len + length (last_of self.now) ≡ length self.now }
     {
-        &self.bytes[2064..]
+        &self.bytes[LEVELS_LEN..]
     }
 }

@@ -1,6 +1,7 @@
 -- What holds of walks and keys whatever the other server's expansions are, and what equal leaves write.
 use Rattle.std.specs.Prelude.{◌≡◌, ℕ, ◌+◌, ◌^◌, ◌<◌, ◌≤◌, List, length}
 use Rattle.express_words.specs.Bytes.{xor_bytes}
+use Rattle.express_words.specs.Limits.{levels_len}
 use Rattle.dpf_rules.specs.Bytes.{AreBytes}
 use Rattle.dpf_rules.specs.Walk.{word_of, last_of, state_at, leaf_of, write_bytes}
 use Rattle.dpf_rules.specs.Keys.{Expansions, honest, path_at, honest_keys}
@@ -55,7 +56,7 @@ KeysInRange =
     (target : ℕ) (message : List ℕ) (viewer root : ℕ) (other : Expansions) →
     IsExpansions (length message) other → AreBytes message →
     let part = ideal_keys target message viewer root other in
-    AreBytes part × (length part ≡ 2064 + length message)
+    AreBytes part × (length part ≡ levels_len + length message)
 
 abbrev pub WordsInRange : Type 0
 WordsInRange = (part : List ℕ) (i : ℕ) → AreBytes part → word_of part i < 2 ^ 128

@@ -6,6 +6,7 @@ use Rattle.std.specs.Prelude.{ℕ, zero, suc, ◌+◌, ◌-◌, ◌*◌, ◌%◌
 use Rattle.std.specs.Prelude.{bit_xor, if◌then◌else◌}
 use Rattle.std.specs.Int.{bit_at}
 use Rattle.express_words.specs.Bytes.{xor_bytes}
+use Rattle.express_words.specs.Limits.{levels_len}
 use Rattle.dpf_rules.specs.Bytes.{number_of}
 use Rattle.dpf_rules.specs.Expansion.{with_bit, child, block}
 
@@ -17,11 +18,11 @@ word_of part i = number_of (slice_range part (16 * i) (16 * i + 16))
 
 -- the right bit of level i
 unfoldable pub right_of : List ℕ → ℕ → ℕ
-right_of part i = bit_at (number_of (slice_range part 2048 2064)) i
+right_of part i = bit_at (number_of (slice_range part 2048 levels_len)) i
 
 -- the last correction
 unfoldable pub last_of : List ℕ → List ℕ
-last_of part = drop 2064 part
+last_of part = drop levels_len part
 
 -- ---- the walk
 

@@ -4,9 +4,6 @@ use express_words::{Closing, Openings, ProofShare, Refusal};
 /// The most bytes that a frame has: a message of the greatest width, as both shares.
 pub const FRAME_MAX: usize = 8213;
 
-/// The bytes of a public part before its last block, which has a message's width.
-pub const LEVELS_LEN: usize = 2064;
-
 /// One frame. Its slices lie in the bytes that it was read from.
 #[derive(Clone, Copy, Debug, PartialEq, Eq)]
 pub struct Frame<'a> {

@@ -7,5 +7,5 @@ mod kind;
 pub mod laws;
 
 pub use fault::FrameFault;
-pub use frame::{Body, DepositBody, FRAME_MAX, Frame, LEVELS_LEN, ReplyBody};
+pub use frame::{Body, DepositBody, FRAME_MAX, Frame, ReplyBody};
 pub use kind::Kind;

@@ -1,5 +1,6 @@
 -- The rows of the helper, read from the slots that hold them.
 use Rattle.std.specs.Prelude.{◌≡◌, ℕ, ◌+◌, ◌≤◌, List, length, map, take, Option, Some, None}
+use Rattle.express_words.specs.Limits.{levels_len}
 use Rattle.dpf_rules.specs.Walk.{leaf_of}
 use Rattle.frame_rules.specs.declared.frame.DepositBody.{DepositBody}
 use Rattle.frame_rules.specs.Frames as frame
@@ -43,7 +44,7 @@ IsStage addresses part leaves other = Unit {0}
 
 -- a slot has room for a public part of this width and for as many leaves as boxes
 pub record IsSlot (width limit : ℕ) (addresses : List ℕ) (s : Slot) : Type 0 where
-  pub part : length s.room.part.items ≡ 2064 + width
+  pub part : length s.room.part.items ≡ levels_len + width
   pub leaves : length s.room.leaves.items ≡ limit
   pub stage : IsStage addresses s.room.part.items s.room.leaves.items s.stage
 

@@ -2,7 +2,7 @@
 ghost use Rattle.std.specs.Prelude.{true, ◌≡◌, ◌+◌, ◌^◌, ◌<◌, ◌≤◌, ℕ, List, length, slice_get};
 ghost use Rattle.frame_rules.specs.Frames.{plain, plain_body};
 ghost use Rattle.frame_rules.specs.Spelling.{IsBody};
-ghost use Rattle.express_words.specs.Limits.{IsWidth};
+ghost use Rattle.express_words.specs.Limits.{IsWidth, levels_len};
 ghost use Rattle.frame_rules.specs.Whole.{has_width};
 ghost use Rattle.server_boxes.specs.Held.{HasSameAddresses};
 ghost use Rattle.audit_rules.specs.Values.{ckey_of};
@@ -46,7 +46,7 @@ impl Server {
     /// A command to begin a write.
     fn begin(&mut self, frame: &Frame<'_>, leaders: &[u8; 32], part: &[u8]) -> Said
         requires lane { frame.now.lane < self.old.settings.lanes }
-        requires part { length part.now ≡ 2064 + self.old.settings.width }
+        requires part { length part.now ≡ levels_len + self.old.settings.width }
         requires draws { self.old.draws + 1 < 2 ^ 64 }
         ensures effect { (masked : List ℕ) → begin self.old (plain frame.now) leaders.now part.now (held_root (stage_for (row_at self.old frame.now.lane) frame.now.serial)) ≡ effect_in self.new result masked }
         ensures right { (masked : List ℕ) → IsBody (said_in result masked) }

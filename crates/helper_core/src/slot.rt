@@ -2,6 +2,7 @@
 ghost use Rattle.std.specs.Prelude.{◌≡◌, ◌+◌, ◌≤◌, ℕ, List, length, take, map, option_map, IfSome, [], All, IfOk, replicate};
 ghost use Rattle.frame_rules.specs.Frames.{plain_body, Refused};
 ghost use Rattle.frame_rules.specs.Whole.{IsAnswer};
+ghost use Rattle.express_words.specs.Limits.{levels_len};
 ghost use Rattle.dpf_rules.specs.Walk.{leaf_of};
 ghost use Rattle.server_boxes.specs.Held.{write_in};
 ghost use Rattle.step_rules.specs.Helper.{door, phase_of, want_of, idle, row, Done, Begun as Begins, Audited as Audits};
@@ -179,7 +180,7 @@ impl Slot {
     /// A write is audited: its leaves stand, and this is the helper's closing.
     pub(crate) fn audited(&mut self, serial: u32, begun: Begun, own: Closing)
         ensures row { row_in self.new ≡ row serial (Audits (write_in begun self.old.room.part.items) own) }
-        ensures is_slot { (width limit : ℕ) (addresses : List ℕ) → length self.old.room.part.items ≡ 2064 + width → length self.old.room.leaves.items ≡ limit → begun.count ≤ length addresses → take begun.count self.old.room.leaves.items ≡ map (leaf_of self.old.room.part.items 1 begun.root) (take begun.count addresses) → IsSlot width limit addresses self.new }
+        ensures is_slot { (width limit : ℕ) (addresses : List ℕ) → length self.old.room.part.items ≡ levels_len + width → length self.old.room.leaves.items ≡ limit → begun.count ≤ length addresses → take begun.count self.old.room.leaves.items ≡ map (leaf_of self.old.room.part.items 1 begun.root) (take begun.count addresses) → IsSlot width limit addresses self.new }
     {
         self.serial = serial;
         self.stage = Stage::Audited(begun, own);

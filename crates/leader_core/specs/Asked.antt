@@ -1,5 +1,6 @@
 -- What a request's first command is issued for, with the public part that lies elsewhere.
 use Rattle.std.specs.Prelude.{◌≡◌, ℕ, ◌+◌, List, length, Option, option_map}
+use Rattle.express_words.specs.Limits.{levels_len}
 use Rattle.lane_table.specs.declared.row.Want.{Want}
 use Rattle.frame_rules.specs.Frames as frame
 use Rattle.frame_rules.specs.Frames.{PlainBody}
@@ -31,7 +32,7 @@ draws_for other = 0
 
 -- a write has a public part for messages of this width
 abbrev pub IsAsked : ℕ → Asked → List ℕ → Type 0
-IsAsked width (asked.Writing root draw) part = length part ≡ 2064 + width
+IsAsked width (asked.Writing root draw) part = length part ≡ levels_len + width
 IsAsked width other part = Unit {0}
 
 abbrev pub named_in : Option Named → Option clients.Named

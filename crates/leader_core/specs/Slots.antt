@@ -1,5 +1,6 @@
 -- The rows of the leader, read from the slots that hold them.
 use Rattle.std.specs.Prelude.{◌≡◌, ℕ, ◌+◌, ◌≤◌, List, length, map, take, Option, Some, None, Result, Ok, Err}
+use Rattle.express_words.specs.Limits.{levels_len}
 use Rattle.dpf_rules.specs.Walk.{leaf_of}
 use Rattle.express_words.specs.declared.audit.ProofShare.{ProofShare}
 use Rattle.frame_rules.specs.Frames as frame
@@ -68,7 +69,7 @@ IsStage addresses part leaves own other stage = Unit {0}
 
 -- a slot has room for a public part and both shares of a message of this width, and a leaf for each box
 pub record IsSlot (width limit : ℕ) (addresses : List ℕ) (s : Slot) : Type 0 where
-  pub part : length s.room.part.items ≡ 2064 + width
+  pub part : length s.room.part.items ≡ levels_len + width
   pub leaves : length s.room.leaves.items ≡ limit
   pub own : length s.own.items ≡ width
   pub other : length s.other.items ≡ width

@@ -14,7 +14,8 @@ use crate::writing::reply;
 use chacha_expand::draw32;
 use dpf_eval::Steps;
 use express_words::Refusal;
-use frame_rules::{Body, Frame, LEVELS_LEN};
+use express_words::limits::LEVELS_LEN;
+use frame_rules::{Body, Frame};
 use std::sync::ledger::Ledger;
 use wire_frames::{refused_bytes, whole};
 

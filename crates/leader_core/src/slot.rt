@@ -9,7 +9,7 @@ ghost use Rattle.step_rules.specs.Leader.{Leader, Asked as Asks, Row as Place, r
 ghost use Rattle.step_rules.specs.LeaderClients.{Named as Names, again_at, new_at, submission_at, proof_at, proof_in, if_named, if_room, issued_for};
 ghost use Rattle.step_rules.specs.Boxes.{addresses_of};
 ghost use Rattle.audit_rules.specs.Values.{opens};
-ghost use Rattle.express_words.specs.Limits.{IsPart};
+ghost use Rattle.express_words.specs.Limits.{IsPart, levels_len};
 ghost use Rattle.dpf_rules.specs.Evaluation.{prefix_count};
 ghost use Rattle.leader_core.specs.Asked.{asked_with, IsAsked};
 ghost use Rattle.leader_core.specs.Replies.{key_at, writing_at, auditing_at, settling_at};
@@ -206,7 +206,7 @@ impl Slot {
     /// A request of this serial begins: its first command has this number.
     pub(crate) fn wait(&mut self, serial: u32, number: u64, asked: Asked, part: &[u8])
         requires part { IsAsked (length self.old.own.items) asked part.now }
-        requires room { length self.old.room.part.items ≡ 2064 + length self.old.own.items }
+        requires room { length self.old.room.part.items ≡ levels_len + length self.old.own.items }
         ensures row { row_in self.new ≡ row serial (Waiting number (asked_with asked part.now)) }
         ensures is_slot { (width limit : ℕ) (addresses : List ℕ) → IsSlot width limit addresses self.old → IsSlot width limit addresses self.new }
     {
@@ -332,7 +332,7 @@ impl Slot {
     /// The request of this serial is done, with a reply that is kept.
     pub(crate) fn finish(&mut self, serial: u32, want: Want, kept: Kept)
         ensures row { row_in self.new ≡ row serial (Done want (kept_in kept self.old.own.items self.old.other.items)) }
-        ensures is_slot { (width limit : ℕ) (addresses : List ℕ) → length self.old.room.part.items ≡ 2064 + width → length self.old.room.leaves.items ≡ limit → length self.old.own.items ≡ width → length self.old.other.items ≡ width → IsAnswer (kept_in kept self.old.own.items self.old.other.items) → IsSlot width limit addresses self.new }
+        ensures is_slot { (width limit : ℕ) (addresses : List ℕ) → length self.old.room.part.items ≡ levels_len + width → length self.old.room.leaves.items ≡ limit → length self.old.own.items ≡ width → length self.old.other.items ≡ width → IsAnswer (kept_in kept self.old.own.items self.old.other.items) → IsSlot width limit addresses self.new }
     {
         self.serial = serial;
         self.stage = Stage::Done(want, kept);

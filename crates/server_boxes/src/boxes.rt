@@ -1,7 +1,7 @@
 //! The boxes over the registry and the shares.
 ghost use Rattle.std.specs.Prelude.{◌≡◌, ◌+◌, ◌<◌, ◌≤◌, ℕ, IfOk, OnOk, OnErr, IfSome, Some, [], length, map, take, option_map, replicate, slice_get};
 ghost use Rattle.express_words.specs.Bytes.{xor_bytes};
-ghost use Rattle.express_words.specs.Limits.{IsPart, IsWidth};
+ghost use Rattle.express_words.specs.Limits.{IsPart, IsWidth, levels_len};
 ghost use Rattle.dpf_rules.specs.Evaluation.{prefix_count};
 ghost use Rattle.dpf_rules.specs.Expansion.{mask};
 ghost use Rattle.dpf_rules.specs.Walk.{leaf_of};
@@ -135,7 +135,7 @@ impl ServerBoxes {
     /// Adds the write bytes of the leaves in `room` to the boxes that the write counts; a retired box gets nothing.
     pub fn add_write(&mut self, begun: &Begun, room: &Room)
         requires width { IsWidth self.old.width }
-        requires part { length room.now.part.items ≡ 2064 + self.old.width }
+        requires part { length room.now.part.items ≡ levels_len + self.old.width }
         requires there { begun.now.count ≤ length self.old.boxes }
         requires leaves { begun.now.count ≤ length room.now.leaves.items }
         ensures added { (server : ℕ) → take begun.now.count room.now.leaves.items ≡ map (leaf_of room.now.part.items server begun.now.root) (take begun.now.count (addresses_of self.old.boxes)) → self.new ≡ with_boxes self.old (with_write room.now.part.items server begun.now.root begun.now.count self.old.boxes) }

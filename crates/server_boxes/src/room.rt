@@ -1,6 +1,8 @@
 //! A write that has begun, and a lane's room for it.
 ghost use Rattle.std.specs.Prelude.{◌≡◌, ◌+◌, IfOk, length};
+ghost use Rattle.express_words.specs.Limits.{levels_len};
 
+use express_words::limits::LEVELS_LEN;
 use express_words::{NoMemory, ProofShare};
 use std::alloc::Global;
 
@@ -37,10 +39,10 @@ pub struct Room {
 impl Room {
     /// Room for messages of `width` bytes and for as many leaves as boxes.
     pub fn open(alloc: Global, width: u32, boxes: u32) -> Result<Room, NoMemory>
-        ensures part { IfOk result (λ room. length room.part.items ≡ 2064 + width) }
+        ensures part { IfOk result (λ room. length room.part.items ≡ levels_len + width) }
         ensures leaves { IfOk result (λ room. length room.leaves.items ≡ boxes) }
     {
-        let Ok(part) = vec![in alloc; 0u8; 2064 + width as usize] else {
+        let Ok(part) = vec![in alloc; 0u8; LEVELS_LEN + width as usize] else {
             return Err(NoMemory);
         };
         let Ok(leaves) = vec![in alloc; 0u128; boxes as usize] else {

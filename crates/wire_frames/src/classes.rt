@@ -3,7 +3,8 @@ ghost use Rattle.std.specs.Prelude.{◌≡◌};
 ghost use Rattle.frame_rules.specs.Frames.{plain_body};
 ghost use Rattle.frame_rules.specs.Whole.{is_from_client, is_command, is_reply, has_width};
 
-use frame_rules::{Body, LEVELS_LEN, ReplyBody};
+use express_words::limits::LEVELS_LEN;
+use frame_rules::{Body, ReplyBody};
 
 /// Whether a client sends it to a server: kinds 1 to 5 and 16.
 pub fn is_from_client(body: &Body<'_>) -> bool

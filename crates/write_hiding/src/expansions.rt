@@ -2,6 +2,7 @@
 ghost use Rattle.std.specs.Prelude.{◌≡◌, ◌+◌, ◌<◌, ◌≤◌, length, map, IfOk};
 ghost use Rattle.std.specs.List.{range_with_len};
 ghost use Rattle.express_words.specs.Bytes.{xor_bytes};
+ghost use Rattle.express_words.specs.Limits.{levels_len};
 ghost use Rattle.dpf_rules.specs.Expansion.{block};
 ghost use Rattle.dpf_rules.specs.Walk.{last_of, state_at};
 ghost use Rattle.write_hiding.specs.Choices.{plain_choice, plain_aim};
@@ -78,7 +79,7 @@ fn moved_block(
     end: u128,
     message: &[u8],
 ) -> Result<Vec<u8>, NoMemory>
-    requires { length part.now ≡ 2064 + length message.now }
+    requires { length part.now ≡ levels_len + length message.now }
     ensures block { IfOk result (λ bytes. bytes.items
         ≡ xor_bytes (xor_bytes (block (length message.now) end) (last_of part.now)) message.now) }
 {
@@ -98,7 +99,7 @@ pub fn walked(
     requires viewer { choice.now.viewer ≤ 1 }
     requires levels { length choice.now.levels ≡ 128 }
     requires part { part.now ≡ public_part choice.now.viewer (plain_choice choice.now) (plain_aim from.now) }
-    requires width { length part.now ≡ 2064 + length to.now.message.now }
+    requires width { length part.now ≡ levels_len + length to.now.message.now }
     ensures viewer { IfOk result (λ w. w.viewer ≡ choice.now.viewer) }
     ensures walked { IfOk result (λ w. plain_choice w
         ≡ walked choice.now.viewer (plain_choice choice.now) (plain_aim from.now) (plain_aim to.now)) }

@@ -4,7 +4,7 @@ ghost use Rattle.express_words.specs.Bytes.{xor_bytes};
 ghost use Rattle.dpf_rules.specs.Bytes.{bytes_of, words_bytes, bits_number};
 ghost use Rattle.dpf_rules.specs.Expansion.{block};
 ghost use Rattle.dpf_rules.specs.Ideal.{own_at};
-ghost use Rattle.express_words.specs.Limits.{IsWidth};
+ghost use Rattle.express_words.specs.Limits.{IsWidth, levels_len};
 ghost use Rattle.write_hiding.specs.Choices.{plain_choice, plain_aim};
 ghost use Rattle.write_hiding.specs.Levels.{own_word, own_right};
 ghost use Rattle.write_hiding.specs.Views.{public_part};
@@ -14,11 +14,12 @@ use chacha_expand::{block_into, children};
 use dpf_keys::levels::{level_right, level_word, side_at, step, with_bit};
 use dpf_rules::{write_number, xor_into};
 use express_words::NoMemory;
+use express_words::limits::LEVELS_LEN;
 use std::alloc::Global;
 
 // Writes the words and the right bits of all levels, and returns the end of the viewer's path.
 fn levels_into(choice: &IdealChoice, target: u128, out: &mut [u8]) -> u128
-    requires room { length out.old ≡ 2064 }
+    requires room { length out.old ≡ levels_len }
     requires levels { length choice.now.levels ≡ 128 }
     requires viewer { choice.now.viewer ≤ 1 }
     ensures end { let c = plain_choice choice.now in
@@ -41,7 +42,7 @@ fn levels_into(choice: &IdealChoice, target: u128, out: &mut [u8]) -> u128
         rights += right << level;
         state = step(word, right, side, state, own);
     }
-    write_number(&mut out[2048..2064], rights);
+    write_number(&mut out[2048..LEVELS_LEN], rights);
     state
 }
 
@@ -63,15 +64,15 @@ fn part_into(choice: &IdealChoice, aim: &Aim, out: &mut [u8])
     requires levels { length choice.now.levels ≡ 128 }
     requires block { length choice.now.last_block ≡ length aim.now.message.now }
     requires width { IsWidth (length aim.now.message.now) }
-    requires room { length out.old ≡ 2064 + length aim.now.message.now }
+    requires room { length out.old ≡ levels_len + length aim.now.message.now }
     ensures { out.new ≡ public_part choice.now.viewer (plain_choice choice.now) (plain_aim aim.now) }
 {
-    let end = levels_into(choice, aim.target, &mut out[..2064]);
+    let end = levels_into(choice, aim.target, &mut out[..LEVELS_LEN]);
     last_into(
         end,
         choice.last_block.as_slice(),
         aim.message,
-        &mut out[2064..],
+        &mut out[LEVELS_LEN..],
     );
 }
 
@@ -83,9 +84,9 @@ pub fn public_part(alloc: Global, choice: &IdealChoice, aim: &Aim) -> Result<Vec
     requires width { IsWidth (length aim.now.message.now) }
     ensures part { IfOk result (λ part.
         part.items ≡ public_part choice.now.viewer (plain_choice choice.now) (plain_aim aim.now)) }
-    ensures length { IfOk result (λ part. length part.items ≡ 2064 + length aim.now.message.now) }
+    ensures length { IfOk result (λ part. length part.items ≡ levels_len + length aim.now.message.now) }
 {
-    let mut part = vec![in alloc; 0u8; 2064 + aim.message.len()]?;
+    let mut part = vec![in alloc; 0u8; LEVELS_LEN + aim.message.len()]?;
     part_into(choice, aim, &mut part);
     Ok(part)
 }

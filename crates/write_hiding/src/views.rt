@@ -1,6 +1,6 @@
 //! The view of a choice.
 ghost use Rattle.std.specs.Prelude.{◌≡◌, ◌∷◌, ◌+◌, ◌-◌, ◌≤◌, length, IfOk};
-ghost use Rattle.express_words.specs.Limits.{IsWidth};
+ghost use Rattle.express_words.specs.Limits.{IsWidth, levels_len};
 ghost use Rattle.audit_rules.specs.Audit.{opening_of, opened_of, closing_of};
 ghost use Rattle.write_hiding.specs.Choices.{plain_choice, plain_aim, plain_game};
 ghost use Rattle.write_hiding.specs.Views.{value_of, share_of, view};
@@ -76,7 +76,7 @@ pub fn view(alloc: Global, choice: &IdealChoice, aim: &Aim, game: &Game) -> Resu
     requires width { IsWidth (length aim.now.message.now) }
     ensures view { IfOk result (λ v. v
         ≡ view choice.now.viewer (plain_choice choice.now) (plain_aim aim.now) (plain_game game.now)) }
-    ensures length { IfOk result (λ v. length v.public ≡ 2064 + length aim.now.message.now) }
+    ensures length { IfOk result (λ v. length v.public ≡ levels_len + length aim.now.message.now) }
 {
     let bytes = public_part(alloc, choice, aim)?;
     let part = PublicPart::of(&bytes).unwrap();
