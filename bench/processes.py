@@ -1,4 +1,4 @@
-"""Servers and clients of the built program as processes on loopback, for the scripts in bench/ and examples/carry."""
+"""Servers and clients of the built program as processes on loopback, for the scripts in bench/ and examples/."""
 
 import os
 import random
@@ -48,7 +48,7 @@ def lasting_ports(count):
 
 
 def digits(count):
-    """Random bytes as hexadecimal digits, the same in each run."""
+    """Random bytes as hexadecimal digits, the same in each run of a script that seeds `random`."""
     return random.getrandbits(8 * count).to_bytes(count, "big").hex()
 
 
