@@ -14,6 +14,12 @@ PIECES='644 share/man/man1/express.1 man/express.1
 644 lib/systemd/system/express-helper.service units/express-helper.service
 644 lib/systemd/system/express-leader.service units/express-leader.service
 644 share/doc/express/OPERATIONS.md docs/OPERATIONS.md
+644 share/doc/express/PRIVACY.md docs/PRIVACY.md
+644 share/doc/express/FRAMES.md docs/FRAMES.md
+644 share/doc/express/examples/README.md examples/README.md
+644 share/doc/express/examples/owner.toml examples/owner.toml
+644 share/doc/express/examples/writer.toml examples/writer.toml
+644 share/doc/express/examples/reader.toml examples/reader.toml
 644 share/doc/express/deploy/README.md deploy/README.md
 755 share/doc/express/deploy/keys deploy/keys
 644 share/doc/express/deploy/helper.toml deploy/helper.toml
@@ -31,8 +37,8 @@ is_built() {
 }
 
 explain_unproved() {
-    echo "no proved program of these sources stands here: .ci/run proves them (from nothing that takes more than an hour on"
-    echo "four processors) and leaves it, with a stamp by .ci/sources-hash"
+    echo "no proved program of these sources stands here: .ci/run proves them (README.md says how long that takes) and leaves"
+    echo "it, with a stamp by .ci/sources-hash"
 }
 
 # The program of a crate for a target, where it stands once it is built.
