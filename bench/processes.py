@@ -27,6 +27,13 @@ def program(words):
     return path
 
 
+def number(word, least, most):
+    """The number that a word spells, or the end of the script where it spells none between these two."""
+    if not (word.isascii() and word.isdecimal() and least <= int(word) <= most):
+        sys.exit(f"{word} is no number from {least} to {most}")
+    return int(word)
+
+
 def free_port():
     with socket.socket() as door:
         door.bind(("127.0.0.1", 0))
