@@ -1,11 +1,8 @@
 //! A journal's bytes, and the records of bytes.
-use node_journal::{Journal, MemoryDisk};
+use node_journal::{Journal, MemoryDisk, RECORD_MAX};
 use recordings::{Fault, front_of};
 use std::alloc::Global;
 use std::marker::Model;
-
-/// A record has at most so many bytes.
-const RECORD_MAX: usize = 8214;
 
 /// The bytes of the disk may be so many.
 const LIMIT: u64 = 65536;

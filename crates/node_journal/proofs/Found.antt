@@ -5,6 +5,7 @@ use Rattle.std.proofs.lemmas.Bool.Decides.{nat_tests}
 use Rattle.std.specs.Int.{w32, from_be_bytes}
 use Rattle.node_journal.specs.Next.{found, judged}
 use Rattle.node_journal.specs.declared.fault.JournalFault.TheVariants.{Damaged}
+use Rattle.node_journal.specs.Records.{record_max}
 
 abbrev pub zeros : List ℕ
 zeros = 0 ∷ 0 ∷ 0 ∷ 0 ∷ 0 ∷ []
@@ -46,10 +47,10 @@ has_head end limit n (g ∷ a ∷ b ∷ c ∷ d ∷ rest) is long open_gate =
     let s : g ≡ 1 = subst (λ (k : ℕ). get_or (front k (g ∷ a ∷ b ∷ c ∷ d ∷ rest)) 0 0 ≡ 1) one open_gate in
     ap (λ (x : ℕ). found end limit (x ∷ a ∷ b ∷ c ∷ d ∷ rest)) s ∙ ap (λ (k : ℕ). judged end limit (length_in (front k (g ∷ a ∷ b ∷ c ∷ d ∷ rest))) rest) (sym one)
 
-pub out_of_range : (end limit len : ℕ) (rest : List ℕ) → (len < 1) ⊎ (8214 < len) ⊎ (limit < end + 5 + len + 1) ⊎ (length rest < len + 1) → judged end limit len rest ≡ Err (Damaged end)
+pub out_of_range : (end limit len : ℕ) (rest : List ℕ) → (len < 1) ⊎ (record_max < len) ⊎ (limit < end + 5 + len + 1) ⊎ (length rest < len + 1) → judged end limit len rest ≡ Err (Damaged end)
 out_of_range end limit len rest out = grind (arith, nat_tests, out)
 
-pub in_range : (end limit len : ℕ) (rest : List ℕ) → 1 ≤ len → len ≤ 8214 → end + 5 + len + 1 ≤ limit → len + 1 ≤ length rest → judged end limit len rest ≡ Ok (Some (take len rest))
+pub in_range : (end limit len : ℕ) (rest : List ℕ) → 1 ≤ len → len ≤ record_max → end + 5 + len + 1 ≤ limit → len + 1 ≤ length rest → judged end limit len rest ≡ Ok (Some (take len rest))
 in_range end limit len rest some few below there = grind (arith, nat_tests, some, few, below, there)
 
 -- what a read of so many bytes gave, at the front of a longer buffer

@@ -1,15 +1,15 @@
 -- A journal's place on its disk, before and after a call.
-use Rattle.std.proofs.Common.{◌≡◌, ◌≢◌, ◌⊎◌, inl, inr, ℕ, suc, ◌+◌, ◌≤◌, List, [], ◌∷◌, ◌++◌, length, take, drop, refl, sym, ◌∙◌, ap, subst, arith, length-append, length-take, append_assoc, Bool, true, Ok, Err, Some, None}
-use Rattle.std.proofs.lemmas.List.{append-nil, take_at, drop_at}
+use Rattle.std.proofs.Common.{◌≡◌, ◌≢◌, ◌⊎◌, inl, inr, ℕ, ◌+◌, ◌≤◌, List, [], ◌∷◌, ◌++◌, length, take, drop, refl, sym, ◌∙◌, ap, subst, arith, length-append, length-take, append_assoc, Ok, Err, Some, None}
+use Rattle.std.proofs.lemmas.List.{drop_at}
 use Rattle.std.specs.Int.{w32, to_be_bytes}
-use Rattle.node_journal.specs.Records.{content, records_from, opened, body, IsSized, AllSized, IsBehind, EndsAt, IsUndamaged, IsBeforeOrAfter, RestsBeforeOrAfter, LeavesBeforeOrAfter}
+use Rattle.node_journal.specs.Records.{content, records_from, opened, body, AllSized, IsBehind, EndsAt, IsUndamaged, IsBeforeOrAfter, RestsBeforeOrAfter, LeavesBeforeOrAfter}
 use Rattle.node_journal.specs.Disk.{Within, IsUntouched}
 use Rattle.node_journal.specs.Journal.{JournalState, IsInPlace}
 use Rattle.node_journal.specs.Next.{found}
 use Rattle.node_journal.specs.declared.fault.JournalFault.TheVariants.{Damaged}
 use Rattle.node_journal.proofs.Contents.{opened_push, opened_length, sized_push, content_closed}
 use Rattle.node_journal.proofs.Found.{drop_both}
-use Rattle.node_journal.proofs.Walks.{IsFirst, first_found, none_found, shut_found, whole_found}
+use Rattle.node_journal.proofs.Walks.{first_found, none_found, shut_found, whole_found}
 
 pub behind_start : (c : List ℕ) → IsBehind 0 c
 behind_start c = record { records = []; sized = tt; rest = c; split = refl; place = refl; there = λ some. absurd (omega arith) }

@@ -1,12 +1,12 @@
 -- What a journal finds at its place is the first of the records from there on.
 use Rattle.std.specs.Prelude.{nat_le}
-use Rattle.std.proofs.Common.{Bool, ◌&&◌, ◌≡◌, ◌≢◌, ◌⊎◌, inl, inr, ℕ, zero, suc, ◌+◌, ◌≤◌, ◌<◌, List, [], ◌∷◌, ◌++◌, length, take, drop, if◌then◌else◌, refl, sym, ◌∙◌, ap, subst, arith, length-append, length-drop, length-take, take-append-drop, append_assoc, Ok, Err, Some, None}
+use Rattle.std.proofs.Common.{Bool, ◌&&◌, ◌≡◌, ◌≢◌, ◌⊎◌, inl, inr, ℕ, zero, suc, ◌+◌, ◌≤◌, ◌<◌, List, [], ◌∷◌, ◌++◌, length, take, drop, if◌then◌else◌, refl, sym, ◌∙◌, ap, subst, arith, length-append, length-drop, length-take, take-append-drop, Ok, Err, Some, None}
 use Rattle.std.proofs.lemmas.List.{take_at}
 use Rattle.std.proofs.lemmas.Bool.{cases_eq, cases_lt, cases_Bool}
 use Rattle.std.proofs.lemmas.Bool.Decides.{nat_tests}
 use Rattle.std.proofs.lemmas.Nat.{from_be_bytes-to_be_bytes_4}
 use Rattle.std.specs.Int.{w32, to_be_bytes, from_be_bytes}
-use Rattle.node_journal.specs.Records.{first_records, content, body, is_whole, IsSized}
+use Rattle.node_journal.specs.Records.{record_max, first_records, content, body, is_whole, IsSized}
 use Rattle.node_journal.specs.Next.{found, judged}
 use Rattle.node_journal.specs.declared.fault.JournalFault.TheVariants.{Damaged}
 use Rattle.node_journal.proofs.Found.{in_range, out_of_range}
@@ -22,7 +22,7 @@ shut_found end limit gate (a ∷ b ∷ c ∷ d ∷ rest) shut = grind (arith, na
 -- what is known of a length that was judged good
 pub record IsGood (end limit len : ℕ) (rest r : List ℕ) : Type 0 where
   pub some : 1 ≤ len
-  pub few : len ≤ 8214
+  pub few : len ≤ record_max
   pub fits : end + 5 + len + 1 ≤ limit
   pub there : len + 1 ≤ length rest
   pub is : r ≡ take len rest
@@ -30,7 +30,7 @@ pub record IsGood (end limit len : ℕ) (rest r : List ℕ) : Type 0 where
 pub good : (end limit len : ℕ) (rest r : List ℕ) → judged end limit len rest ≡ Ok (Some r) → IsGood end limit len rest r
 good end limit len rest r is = elim (cases_lt len 1) [
   | inl low ↦ absurd (refuse (inl low))
-  | inr some ↦ elim (cases_lt 8214 len) [
+  | inr some ↦ elim (cases_lt record_max len) [
     | inl high ↦ absurd (refuse (inr (inl high)))
     | inr few ↦ elim (cases_lt limit (end + 5 + len + 1)) [
       | inl past ↦ absurd (refuse (inr (inr (inl past))))
@@ -42,7 +42,7 @@ good end limit len rest r is = elim (cases_lt len 1) [
   ]
 ]
   where
-    refuse : (len < 1) ⊎ (8214 < len) ⊎ (limit < end + 5 + len + 1) ⊎ (length rest < len + 1) → ⊥
+    refuse : (len < 1) ⊎ (record_max < len) ⊎ (limit < end + 5 + len + 1) ⊎ (length rest < len + 1) → ⊥
     refuse out = let no = out_of_range end limit len rest out in cc
 
     same : judged end limit len rest ≡ Ok (Some (take len rest)) → r ≡ take len rest
@@ -73,7 +73,7 @@ pub record IsFirst (end limit : ℕ) (rest r : List ℕ) : Type 0 where
   pub split : rest ≡ 1 ∷ (take 4 (drop 1 rest) ++ (r ++ drop (length r) (drop 5 rest)))
   pub records : content rest ≡ r ∷ content (drop (length r) (drop 5 rest))
 
-chosen : (g len : ℕ) (rest : List ℕ) (x : List (List ℕ)) → g ≡ 1 → 1 ≤ len → len ≤ 8214 → len + 1 ≤ length rest → (if is_whole g len rest then x else []) ≡ x
+chosen : (g len : ℕ) (rest : List ℕ) (x : List (List ℕ)) → g ≡ 1 → 1 ≤ len → len ≤ record_max → len + 1 ≤ length rest → (if is_whole g len rest then x else []) ≡ x
 chosen g len rest x one some few there = grind (arith, nat_tests)
 
 first_made : (end limit g a b c d : ℕ) (rest r : List ℕ) → g ≡ 1 → IsGood end limit (from_be_bytes w32 (a ∷ b ∷ c ∷ d ∷ [])) rest r → IsFirst end limit (g ∷ a ∷ b ∷ c ∷ d ∷ rest) r

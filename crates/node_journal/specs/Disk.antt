@@ -1,6 +1,5 @@
 -- What the calls of a disk do to its bytes, and what a crash may do between two syncs.
-use Rattle.std.specs.Prelude.{◌≡◌, ◌⊎◌, ℕ, ◌+◌, ◌-◌, ◌^◌, ◌≤◌, max, min, List, ◌++◌, length, take, drop}
-use Rattle.std.specs.Prelude.{Result, OnOk, OnErr}
+use Rattle.std.specs.Prelude.{◌≡◌, ◌⊎◌, ℕ, ◌+◌, ◌-◌, ◌≤◌, max, min, List, ◌++◌, length, take, drop}
 pub use Rattle.express_words.specs.Causes.{CountsFault}
 
 -- new is old with these bytes at this offset

@@ -1,6 +1,6 @@
 -- A disk in memory.
 use Rattle.std.specs.Prelude.{ℕ, ◌+◌, ◌-◌, ◌<◌, ◌⊎◌, List, [], ◌∷◌, length, take, drop}
-use Rattle.express_words.specs.Memory.{Tally, passed, failed}
+use Rattle.express_words.specs.Memory.{Tally}
 use Rattle.node_journal.specs.History.{History, wrote, synced}
 use Rattle.node_journal.specs.declared.disk_log.Step.{Step}
 use Rattle.node_journal.specs.declared.disk_log.Step.TheVariants.{Write, Sync}

@@ -3,13 +3,17 @@ use Rattle.std.specs.Prelude.{◌≡◌, ◌≢◌, ◌⊎◌, ℕ, zero, suc, �
 use Rattle.std.specs.Prelude.{◌++◌, length, take, drop, if◌then◌else◌}
 use Rattle.std.specs.Int.{w32, to_be_bytes, from_be_bytes}
 
+-- a record's most bytes: those of a frame of the greatest width, behind the byte of its sender
+abbrev pub record_max : ℕ
+record_max = 8214
+
 -- a record has from 1 to 8,214 bytes
 abbrev pub IsSized : List ℕ → Type 0
-IsSized bytes = (1 ≤ length bytes) × (length bytes ≤ 8214)
+IsSized bytes = (1 ≤ length bytes) × (length bytes ≤ record_max)
 
 -- The gate is open, the length is in its range, and the disk has a byte after the record.
 abbrev pub is_whole : ℕ → ℕ → List ℕ → Bool
-is_whole gate len rest = (gate == 1) && nat_le 1 len && nat_le len 8214 && nat_le (len + 1) (length rest)
+is_whole gate len rest = (gate == 1) && nat_le 1 len && nat_le len record_max && nat_le (len + 1) (length rest)
 
 -- at most so many of the records that begin here, each at the byte after the one before it
 abbrev pub first_records : ℕ → List ℕ → List (List ℕ)

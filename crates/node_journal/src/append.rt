@@ -3,11 +3,11 @@ ghost use Rattle.std.specs.Prelude.{◌≡◌, ◌≤◌, ◌+◌, ◌^◌, ◌+
 ghost use Rattle.node_journal.specs.Disk.{CountsFault, Within, LeavesOnly};
 ghost use Rattle.node_journal.specs.Records.{body, content, IsSized, EndsAt, RestsBeforeOrAfter, Appended};
 
-use crate::Disk;
+use crate::{Disk, HEAD_LEN, RECORD_MAX};
 use express_words::outside::Failed;
 
 // Room for a length, the longest record and a gate.
-const ROOM: usize = 8219;
+const ROOM: usize = HEAD_LEN + RECORD_MAX;
 
 // The length, the bytes and a closed gate.
 fn stage<'a>(bytes: &[u8], room: &'a mut [u8; ROOM]) -> &'a [u8]
@@ -18,7 +18,7 @@ fn stage<'a>(bytes: &[u8], room: &'a mut [u8; ROOM]) -> &'a [u8]
     room[..4].copy_from_slice(&(len as u32).to_be_bytes());
     room[4..4 + len].copy_from_slice(bytes);
     room[4 + len] = 0;
-    &room[..5 + len]
+    &room[..HEAD_LEN + len]
 }
 
 pub(crate) fn put_record<D: Disk>(disk: &mut D, end: u64, bytes: &[u8]) -> Result<(), Failed>

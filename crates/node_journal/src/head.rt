@@ -4,8 +4,9 @@ ghost use Rattle.std.specs.Int.{w32, from_be_bytes, to_be_bytes};
 ghost use Rattle.node_journal.specs.Disk.{IsUntouched};
 ghost use Rattle.node_journal.specs.Journal.{CountsDisk, IsOkDiskOrDamaged};
 ghost use Rattle.node_journal.specs.Next.{found, judged};
+ghost use Rattle.node_journal.specs.Records.{record_max};
 
-use crate::{Disk, JournalFault};
+use crate::{Disk, HEAD_LEN, JournalFault, RECORD_MAX};
 
 // The number in a length field of these bytes.
 fn length_in(first: u8, second: u8, third: u8, fourth: u8) -> u32
@@ -32,13 +33,13 @@ fn read_head<D: Disk>(disk: &mut D, end: u64) -> Result<Option<u32>, JournalFaul
     ensures untouched { IsUntouched (D.reads disk.old) (D.reads disk.new) (D.may_leave disk.old)
         (D.may_leave disk.new) }
 {
-    let mut head = [0; 5];
+    let mut head = [0; HEAD_LEN];
     match disk.read(end, &mut head) {
         Ok(read) => {
             if head[0] != 1 {
                 return Ok(None);
             }
-            if read < 5 {
+            if read < HEAD_LEN {
                 return Err(JournalFault::Damaged(end));
             }
             Ok(Some(length_in(head[1], head[2], head[3], head[4])))
@@ -56,11 +57,11 @@ fn read_record<D: Disk>(
     out: &mut [u8],
 ) -> Result<(), JournalFault>
     requires limits { (end ≤ limit) × (limit ≤ 2 ^ 62) }
-    requires room { 8214 ≤ length out.old }
+    requires room { record_max ≤ length out.old }
     ensures some { OnOk result ((c : List ℕ) → D.reads disk.old c
         → judged end limit len (drop (end + 5) c) ≡ Ok (Some (take len out.new))) }
     ensures fits { OnOk result (end + 5 + len + 1 ≤ limit) }
-    ensures sized { OnOk result ((1 ≤ len) × (len ≤ 8214)) }
+    ensures sized { OnOk result ((1 ≤ len) × (len ≤ record_max)) }
     ensures length { length out.new ≡ length out.old }
     ensures damaged { (n : ℕ) → IsErrOf result (JournalFault.Damaged n) → (n ≡ end)
         × ((c : List ℕ) → D.reads disk.old c
@@ -70,11 +71,11 @@ fn read_record<D: Disk>(
     ensures untouched { IsUntouched (D.reads disk.old) (D.reads disk.new) (D.may_leave disk.old)
         (D.may_leave disk.new) }
 {
-    if len < 1 || len > 8214 || limit - end < 6 + len as u64 {
+    if len < 1 || len as usize > RECORD_MAX || limit - end < HEAD_LEN as u64 + len as u64 + 1 {
         return Err(JournalFault::Damaged(end));
     }
     let size = len as usize;
-    match disk.read(end + 5, &mut out[..size]) {
+    match disk.read(end + HEAD_LEN as u64, &mut out[..size]) {
         Ok(read) => {
             if read < size {
                 return Err(JournalFault::Damaged(end));
@@ -83,7 +84,7 @@ fn read_record<D: Disk>(
         Err(_) => return Err(JournalFault::Disk(disk.faults())),
     }
     let mut probe = [0; 1];
-    match disk.read(end + 5 + len as u64, &mut probe) {
+    match disk.read(end + HEAD_LEN as u64 + len as u64, &mut probe) {
         Ok(0) => Err(JournalFault::Damaged(end)),
         Ok(_) => Ok(()),
         Err(_) => Err(JournalFault::Disk(disk.faults())),
@@ -99,7 +100,7 @@ pub(crate) fn find<D: Disk>(
     out: &mut [u8],
 ) -> Result<Option<u32>, JournalFault>
     requires limits { (end ≤ limit) × (limit ≤ 2 ^ 62) }
-    requires room { 8214 ≤ length out.old }
+    requires room { record_max ≤ length out.old }
     ensures none { result ≡ Ok None → (c : List ℕ) → D.reads disk.old c
         → found end limit (drop end c) ≡ Ok None }
     ensures some { (n : ℕ) → result ≡ Ok (Some n) → (c : List ℕ) → D.reads disk.old c
@@ -107,7 +108,7 @@ pub(crate) fn find<D: Disk>(
     ensures spelled { (n : ℕ) → result ≡ Ok (Some n) → (c : List ℕ) → D.reads disk.old c
         → take 4 (drop 1 (drop end c)) ≡ to_be_bytes w32 n }
     ensures fits { (n : ℕ) → result ≡ Ok (Some n) → end + 5 + n + 1 ≤ limit }
-    ensures sized { (n : ℕ) → result ≡ Ok (Some n) → (1 ≤ n) × (n ≤ 8214) }
+    ensures sized { (n : ℕ) → result ≡ Ok (Some n) → (1 ≤ n) × (n ≤ record_max) }
     ensures length { length out.new ≡ length out.old }
     ensures damaged { (n : ℕ) → IsErrOf result (JournalFault.Damaged n) → (n ≡ end)
         × ((c : List ℕ) → D.reads disk.old c

@@ -1,13 +1,13 @@
 //! A journal of records, each of them on the disk before its append answers Ok.
 ghost use Rattle.std.specs.Prelude.{◌≡◌, ◌≢◌, ◌≤◌, ◌+◌, ◌^◌, ◌++◌, ◌∷◌, [], true, false, List, ℕ, length, OnOk, OnErr, IsErrOf, Err, Ok, Some, None, take, drop, IfOk};
 ghost use Rattle.node_journal.specs.Disk.{IsUntouched, LeavesOnly};
-ghost use Rattle.node_journal.specs.Records.{IsSized, IsUndamaged, LeavesBeforeOrAfter, Appended, content, records_from};
+ghost use Rattle.node_journal.specs.Records.{record_max, IsSized, IsUndamaged, LeavesBeforeOrAfter, Appended, content, records_from};
 ghost use Rattle.node_journal.specs.Next.{found};
 ghost use Rattle.node_journal.specs.Journal.{JournalState, IsInPlace, CountsDisk, IsOkOrDisk, IsOkDiskOrDamaged, longer, at_end, broken, Passes};
 
 use crate::append::{put_first, put_record};
 use crate::head::find;
-use crate::{Disk, JournalFault};
+use crate::{Disk, HEAD_LEN, JournalFault};
 use std::marker::Model;
 
 /// A place on a disk, behind whole records. After a call that answers `Disk` each further call answers
@@ -64,7 +64,7 @@ impl Journal {
             Ok(_) => return Err(JournalFault::NotEmpty),
             Err(_) => return Err(JournalFault::Disk(disk.faults())),
         }
-        let size = 5 + first.len() as u64;
+        let size = (HEAD_LEN + first.len()) as u64;
         if limit <= size {
             return Err(JournalFault::Full(0));
         }
@@ -108,7 +108,7 @@ impl Journal {
         disk: &mut D,
         out: &mut [u8],
     ) -> Result<Option<usize>, JournalFault>
-        requires room { 8214 ≤ length out.old }
+        requires room { record_max ≤ length out.old }
         requires in_place { self.old.closed ≡ false
             → IsInPlace self.old (D.reads disk.old) (D.may_leave disk.old) }
         ensures closed { self.old.closed ≡ true → (result ≡ Err JournalFault.Closed)
@@ -118,7 +118,7 @@ impl Journal {
         ensures untouched { IsUntouched (D.reads disk.old) (D.reads disk.new) (D.may_leave disk.old)
             (D.may_leave disk.new) }
         ensures length { length out.new ≡ length out.old }
-        ensures sized { (n : ℕ) → result ≡ Ok (Some n) → (1 ≤ n) × (n ≤ 8214) }
+        ensures sized { (n : ℕ) → result ≡ Ok (Some n) → (1 ≤ n) × (n ≤ record_max) }
 
         // What stands at the journal's end, which is the first of the records from there on.
         ensures none { result ≡ Ok None → (c : List ℕ) → D.reads disk.old c
@@ -153,7 +153,7 @@ impl Journal {
         }
         match find(disk, self.end, self.limit, out) {
             Ok(Some(len)) => {
-                self.end += 5 + len as u64;
+                self.end += HEAD_LEN as u64 + len as u64;
                 Ok(Some(len as usize))
             }
             Ok(None) => {
@@ -203,7 +203,7 @@ impl Journal {
         if self.closed {
             return Err(JournalFault::Closed);
         }
-        let size = 5 + bytes.len() as u64;
+        let size = (HEAD_LEN + bytes.len()) as u64;
         if self.limit - self.end <= size {
             return Err(JournalFault::Full(self.end));
         }

@@ -11,6 +11,12 @@ pub mod laws;
 mod memory_disk;
 mod overwrite;
 
+/// A record has at most so many bytes.
+pub const RECORD_MAX: usize = 8214;
+
+// The bytes before a record's own: its gate and its length.
+const HEAD_LEN: usize = 5;
+
 pub use disk::Disk;
 pub use fault::JournalFault;
 pub use journal::Journal;

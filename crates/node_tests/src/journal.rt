@@ -1,7 +1,7 @@
 //! The bytes on a disk, damage, each fault of a disk, and a crash at every call and every byte that isn't
 //! synced.
 use express_words::outside::Counted;
-use node_journal::{Journal, JournalFault, MemoryDisk};
+use node_journal::{Journal, JournalFault, MemoryDisk, RECORD_MAX};
 use std::test::Fail;
 
 const LIMIT: u64 = 14;
@@ -41,7 +41,7 @@ fn walk(rt: &HostRuntime, bytes: &[u8]) -> Result<(Vec<u8>, Option<JournalFault>
     let mut disk = disk(rt, bytes, &[], &none)?;
     let mut journal = Journal::open(&mut disk, LIMIT)?;
     let mut records = Vec::new(rt.alloc());
-    let mut out = [0; 8214];
+    let mut out = [0; RECORD_MAX];
     let first = journal.next(&mut disk, &mut out);
     note(&mut records, &out, first)?;
     let second = journal.next(&mut disk, &mut out);
@@ -114,7 +114,7 @@ fn records_and_damage(rt: HostRuntime) -> Result<(), Fail> {
 // Opens a disk with one record, reads it, appends another and says how the append ended.
 fn append(disk: &mut MemoryDisk) -> Result<(), JournalFault> {
     let mut journal = Journal::open(disk, LIMIT)?;
-    let mut out = [0; 8214];
+    let mut out = [0; RECORD_MAX];
     match journal.next(disk, &mut out)? {
         Some(_) => {}
         None => return Err(JournalFault::NotEmpty),

@@ -18,5 +18,5 @@ returns-in-Ok-read-clause-some g c f read =
     let src = drop (c.args.end + 5) f in
     let there : c.args.len + 1 ≤ length src = omega (arith, b.0, c.in-Ok-read.field-0-is, c.in-Ok-read.field-0-test, length-drop (c.args.end + 5) f) in
     let all : c.in-Ok.read ≡ c.args.len = omega (arith, a.0, c.if-read-size.false, length-take c.args.len c.args.out.now) in
-    in_range c.args.end c.args.limit c.args.len src (omega (arith, c.if-len-lt1.false)) (omega (arith, c.if-len-gt8214.false)) (omega (arith, c.if-limit-end.false, c.requires.limits)) there
+    in_range c.args.end c.args.limit c.args.len src (omega (arith, c.if-len-lt1.false)) (omega (arith, c.if-len-gt-RECORD_MAX.false)) (omega (arith, c.if-limit-end.false, c.requires.limits)) there
     ∙ ap (λ (l : List ℕ). Ok (Some l)) (read_front c.args.len c.in-Ok.read src _ c.read.new.out (drop c.args.len c.args.out.now) all (omega (arith, there)) a.1)

@@ -1,4 +1,4 @@
-use Rattle.std.proofs.Common.{◌≡◌, ◌≤◌, ◌+◌, ◌∷◌, ℕ, List, length, drop, take, Ok, Err, Some, refl, sym, ◌∙◌, ap, subst, arith, rules}
+use Rattle.std.proofs.Common.{◌≡◌, ◌≤◌, ◌+◌, ◌∷◌, ℕ, length, take, refl, sym, ◌∙◌, ap, subst, arith, rules}
 use Rattle.node_journal.specs.Records.{records_from, IsUndamaged}
 use Rattle.node_journal.specs.Journal.{JournalState, IsInPlace}
 use Rattle.node_journal.proofs.Places.{records_read, undamaged_read, never_damaged, read_in_place}
