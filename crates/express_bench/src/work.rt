@@ -89,7 +89,7 @@ impl Work {
         }
     }
 
-    /// The work of this name, as `node` or `writes_64`; None where there is none.
+    /// The work of this name, as `children` or `writes_64`; None where there is none.
     pub fn named(name: &str) -> Option<Work> {
         match Work::plain(name) {
             Some(work) => Some(work),

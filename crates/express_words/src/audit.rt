@@ -20,7 +20,9 @@ pub struct ProofShare {
 /// What a server opens to the other: its factors, masked by the triple.
 #[derive(Clone, Copy, Debug, PartialEq, Eq)]
 pub struct Openings {
+    /// The share of the first factor, f at the proof point and a.
     pub d: u128,
+    /// The share of the second factor, the point times g there and b.
     pub e: u128,
 }
 

@@ -45,6 +45,7 @@ pub trait Counted {
     /// The bytes that it took, if it tells.
     ghost written: { Self → Option (List ℕ) } = { λ _. None };
 
+    /// How many faults it counted, up to the greatest number.
     fn faults(&self) -> u64
         ensures { result ≡ count self.now };
 }
@@ -78,6 +79,7 @@ pub trait Conn: Source + Sink {}
 
 /// Connections to and from other programs.
 pub trait Net: Counted {
+    /// What an accept or a dial gives.
     type Conn: Conn;
 
     /// The calls so far, if it tells.

@@ -10,6 +10,7 @@ use server_steps::carry_command;
 use std::alloc::Global;
 use std::marker::Model;
 
+/// The helper of a recording.
 #[derive(Drop)]
 pub struct AtHelper {
     helper: Helper,

@@ -10,6 +10,7 @@ use server_steps::take_request;
 use std::alloc::Global;
 use std::marker::Model;
 
+/// The leader of a recording.
 #[derive(Drop)]
 pub struct AtLeader {
     leader: Leader,

@@ -10,6 +10,7 @@ use recordings::{
 };
 use std::alloc::Global;
 
+/// Both servers, and the clients that were told of.
 #[derive(Drop)]
 pub struct Scene {
     settings: Settings,

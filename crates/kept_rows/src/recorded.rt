@@ -14,6 +14,7 @@ pub struct Step {
     pub answer: String,
 }
 
+/// A server's opening, the room on its disk, what the disk holds now, and its frames so far.
 #[derive(Drop)]
 pub struct Recorded {
     opening: Opening,

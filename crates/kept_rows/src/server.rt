@@ -10,11 +10,13 @@ use recordings::{Fault, bytes_text, front_text};
 use std::alloc::Global;
 use std::marker::Model;
 
-/// So many writes and syncs have room on a disk, and so many bytes of the writes.
+/// So many writes and syncs have room on a disk.
 const CALLS: usize = 64;
 
+/// The bytes of the writes have so much room.
 const ROOM: usize = 16384;
 
+/// A server with its journal on a disk in memory.
 pub struct Server {
     kept: Kept<MemoryDisk>,
 }

@@ -19,11 +19,13 @@ pub struct Failure {
 }
 
 impl Failure {
+    /// No call fails.
     pub const NONE: Failure = Failure {
         place: Place::Nowhere,
         numbers: [0],
     };
 
+    /// The call of this number fails.
     pub fn new(place: Place, number: u64) -> Failure {
         Failure {
             place,

@@ -19,6 +19,7 @@ const SETTINGS: Settings = Settings {
     window: 1,
 };
 
+/// A server of these settings, with the room for one frame.
 pub struct Server {
     node: Node,
     gather: Gather,
