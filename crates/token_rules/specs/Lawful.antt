@@ -1,6 +1,6 @@
 -- What is known of every world inside a run, also in the middle of a finish, as one record; and the moves
 -- that keep it.
-use Rattle.std.specs.Prelude.{◌≡◌, ◌<◌, ℕ, Bool, false, Option, Some, slice_get}
+use Rattle.std.specs.Prelude.{◌≡◌, ◌<◌, ◌≤◌, ℕ, Bool, false, length, Option, Some, slice_get}
 use Rattle.mailbox_rules.specs.Requests.{Request}
 use Rattle.token_rules.specs.Tokens.{Answer, Challenge, HeldDeposit, HeldProof, Injected, Oracle, Token}
 use Rattle.token_rules.specs.Tokens.{World, start}
@@ -79,6 +79,12 @@ pub record MovesKeep (P : World → Type 0) : Type 0 where
   pub drain : (o : Oracle) (w : World) → P w → P (drained o w)
   pub serve : (o : Oracle) (w : World) (c : ℕ) → P w → P (sent_and_drained o w c)
   pub attempt : (o : Oracle) (w : World) (c : ℕ) → P w → P (finish_round o w c)
+
+-- A drain leaves no command outstanding, where each reply to a foreign command that came in it fitted: its
+-- bound on rounds is enough.
+abbrev pub DrainsEnd : Type 0
+DrainsEnd = (o : Oracle) (w : World) → Lawful w → (drained o w).misfits ≤ w.misfits
+    → length (drained o w).commands ≡ (drained o w).acknowledged
 
 abbrev pub StartIsLawful : Type 0
 StartIsLawful = (width limit window : ℕ) (foreign : ℕ → Bool) → 0 < window

@@ -37,7 +37,7 @@ ghost use Rattle.token_rules.specs.Laws.{
 };
 ghost use Rattle.token_rules.specs.Since.{EndedOwns, MovesLeadOn, OwnedStays, SinceItself};
 ghost use Rattle.token_rules.specs.Worked.{BoxBetween, FullWindow, LostReply, NeverGot, OutOfOrder, RepeatedFrames};
-ghost use Rattle.token_rules.specs.Lawful.{Lawful, MovesKeep, StartIsLawful};
+ghost use Rattle.token_rules.specs.Lawful.{DrainsEnd, Lawful, MovesKeep, StartIsLawful};
 ghost use Rattle.token_rules.specs.Clients.{ClientsOwn, CommandsInOrder, CommandsOnce, GotIsFew, OpeningsAreSent, OwnBoxesAreFirst, RequestsWereAsked, StepsAreNumbered};
 
 /// What is acknowledged was carried out, what is carried out was issued, and no more is outstanding than the window.
@@ -78,9 +78,11 @@ pub fn outcomes_stand()
 {}
 
 /// A `finish` leaves its client with no current request and none that waits, and each request that it was asked
-/// has its outcome. For this the helper's replies to foreign commands that come in it have to fit at the leader.
+/// has its outcome. A drain, also one within a `finish`, leaves no command outstanding.
+/// For this the helper's replies to foreign commands that come in it have to fit at the leader.
 pub fn finish_rests()
     ensures rests { FinishRests }
+    ensures drains { DrainsEnd }
 {}
 
 /// What honest clients never meet: a command of theirs never finds its row at the helper not ready, and while a
