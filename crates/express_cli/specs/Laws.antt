@@ -3,7 +3,7 @@
 use Rattle.run_rules.specs.Follows.{Follows}
 use Rattle.run_rules.specs.Plain.{BoxesArePlain, JournalInOrder, JournalIsPlain, JournalIsTold}
 use Rattle.run_rules.specs.Plain.{OutcomesArePlain, SharesAreFolds}
-use Rattle.run_rules.specs.Soundness.{AcceptedPass, BadWritesAreCaught}
+use Rattle.run_rules.specs.Soundness.{BadWritesAreCaught, SettledAsTheyPass}
 use Rattle.replay_world.specs.Laws.{OfSchedules, RequestsAreTold}
 use Rattle.replay_world.specs.Strangers.{FinishesAnswer, OfEverySchedule, OthersAreTold, SchedulesFit}
 use Rattle.replay_world.specs.Strangers.{StrangersAreForeign}
@@ -39,9 +39,9 @@ pub record Laws : Type 0 where
   pub all_requests_are_told : OthersAreTold
   -- At the end each request that a client was asked before a `finish` of it has its outcome.
   pub finishes_answer : FinishesAnswer
-  -- Each accepted write's proof passes at its point; a foreign one that changes two boxes has a bad
-  -- challenge, or its proof passes at five points at most.
-  pub accepted_writes_pass : OfEverySchedule AcceptedPass
+  -- Each settle is printed as accepted exactly where the write's proof passes at its point; a foreign write
+  -- that changes two boxes has a bad challenge, or its proof passes at five points at most.
+  pub accepted_writes_pass : OfEverySchedule SettledAsTheyPass
   pub bad_writes_are_caught : OfEverySchedule BadWritesAreCaught
   -- Where the parts of a file are written to boxes that are live and clear, and read with nothing else done
   -- there, the answers join to the file; of one that wasn't written its part is named.

@@ -2,7 +2,7 @@
 ghost use Rattle.run_rules.specs.Follows.{Follows};
 ghost use Rattle.run_rules.specs.EveryEnd.{HistoryIsSo};
 ghost use Rattle.run_rules.specs.Plain.{BoxesArePlain, JournalInOrder, JournalIsPlain, JournalIsTold, OutcomesArePlain, SharesAreFolds};
-ghost use Rattle.run_rules.specs.Soundness.{AcceptedPass, BadWritesAreCaught};
+ghost use Rattle.run_rules.specs.Soundness.{BadWritesAreCaught, SettledAsTheyPass};
 ghost use Rattle.replay_world.specs.Laws.{OfSchedules, RequestsAreTold};
 ghost use Rattle.replay_world.specs.Strangers.{FinishesAnswer, OfEverySchedule, OthersAreTold, SchedulesFit, StrangersAreForeign};
 
@@ -46,13 +46,13 @@ pub fn strangers_hold()
     ensures boxes { OfEverySchedule BoxesArePlain }
 {}
 
-/// Each line of a replay that is printed as accepted, of a client or a foreign lane, is of a write whose
+/// Each line of a settle, a client's or a foreign lane's, is printed as accepted exactly where the write's
 /// proof passes at its point for its own difference vector and proof words. A foreign lane's write that
 /// changes two boxes of the plain table or more has two places or more in its vector that aren't zero; it
 /// passes at its point, and one of its challenges is the one bad value, or its proof passes at five points at
 /// most.
 pub fn accepted_writes_pass()
-    ensures passes { OfEverySchedule AcceptedPass }
+    ensures passes { OfEverySchedule SettledAsTheyPass }
     ensures caught { OfEverySchedule BadWritesAreCaught }
 {}
 

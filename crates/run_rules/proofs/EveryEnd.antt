@@ -15,12 +15,12 @@ use Rattle.run_rules.specs.Follows.{Follows, IsLineOf}
 use Rattle.run_rules.specs.History.{frame_run, token_events, token_run}
 use Rattle.run_rules.specs.Acts.{AreFitting, Both, ended_of, history_of}
 use Rattle.run_rules.specs.Plain.{BoxesArePlain, IsHistory, IsStrange, JournalInOrder, JournalIsTold, OutcomesArePlain, SharesAreFolds}
-use Rattle.run_rules.specs.Soundness.{AcceptedPass, BadWritesAreCaught}
+use Rattle.run_rules.specs.Soundness.{BadWritesAreCaught, SettledAsTheyPass}
 use Rattle.run_rules.specs.EveryEnd.{AtEveryEnd, HistoryIsSo}
 use Rattle.run_rules.proofs.ForeignFollows.{foreign_runs_agree}
 use Rattle.run_rules.proofs.WholeForeign.{room, sound, whole, within, world_is}
 use Rattle.run_rules.proofs.PlainStrangers.{is_strange}
-use Rattle.run_rules.proofs.SoundEnds.{accepted_pass, bad_writes_are_caught}
+use Rattle.run_rules.proofs.SoundEnds.{bad_writes_are_caught, settled_as_they_pass}
 use Rattle.run_rules.proofs.PlainEnds.{boxes_are_plain, entry_there, is_answer, journal_is_told, line_at, outcomes_are_plain, shares_are_folds}
 
 -- ---- a foreign lane is asked nothing
@@ -128,10 +128,10 @@ order_at_every_end settings seed foreign events limits fit few =
     subst (JournalInOrder b (frame_run settings seed events)) (same settings seed foreign events limits fit few)
     (record { entries = refl; once = w.lawful.once; order = w.lawful.order })
 
-pub accepted_pass_at_every_end : AtEveryEnd AcceptedPass
-accepted_pass_at_every_end settings seed foreign events limits fit few =
+pub settled_at_every_end : AtEveryEnd SettledAsTheyPass
+settled_at_every_end settings seed foreign events limits fit few =
     let s = ended_of settings seed foreign events in
-    accepted_pass (history_of settings seed foreign s) (history settings seed foreign events limits fit few)
+    settled_as_they_pass (history_of settings seed foreign s) (history settings seed foreign events limits fit few)
     (frame_run settings seed events) (token_run (oracle_of s.acts) settings foreign events)
     (journal_at_every_end settings seed foreign events limits fit few)
 

@@ -1,5 +1,5 @@
--- An accepted write's proof passes for its own vector and words, and a vector with two places is caught.
-use Rattle.std.proofs.Common.{◌≡◌, ◌≢◌, ◌<◌, ◌≤◌, ◌^◌, ◌⊎◌, ℕ, true, All, AllPairs, List, length, slice_index, sym, ap, ◌∙◌, subst, inl, inr, lit<, lit≤}
+-- A write is accepted where its proof passes for its own vector and words, and a vector with two places is caught.
+use Rattle.std.proofs.Common.{◌≡◌, ◌≢◌, ◌<◌, ◌≤◌, ◌^◌, ◌⊎◌, ◌↔◌, ℕ, true, All, AllPairs, List, length, slice_index, sym, ap, ◌∙◌, subst, inl, inr, lit<, lit≤}
 use Rattle.std.proofs.lemmas.Bool.{cases_eq}
 use Rattle.std.proofs.lemmas.List.{length-map}
 use Rattle.std.proofs.lemmas.Nat.{xor_lt}
@@ -47,18 +47,17 @@ own_words b c s w =
     (λ q. state_small k w.target w.message server (root_at b server c s) q 128 (lit≤ tt) low (root_of b c s w server)) (counted_at b c s)) in
     record { zero = leaves_are 0 (lit< tt); one = leaves_are 1 (lit< tt); share = share_of_is b c s w }
 
--- ---- an accepted write passes
+-- ---- a write is accepted exactly where its proof passes
 
-servers_accept : (b : Book) (c s : ℕ) → accepted_at b c s ≡ true
-    → ServersAccept (sums_under (ckey_at b c s) (counted_at b c s) (leaves (part_at b c s) 0 (root_at b 0 c s) (counted_at b c s)))
+servers_accept : (b : Book) (c s : ℕ) → (accepted_at b c s ≡ true)
+    ↔ ServersAccept (sums_under (ckey_at b c s) (counted_at b c s) (leaves (part_at b c s) 0 (root_at b 0 c s) (counted_at b c s)))
     (sums_under (ckey_at b c s) (counted_at b c s) (leaves (part_at b c s) 1 (root_at b 1 c s) (counted_at b c s)))
     (share_at b 0 c s) (share_at b 1 c s) (sigma_at b c s)
 unfolding closing_at opened_at opens sums_at write_at ServersAccept
-servers_accept b c s h = (accepted_tells (closing_at b 0 c s) (closing_at b 1 c s)).0 h
+servers_accept b c s = accepted_tells (closing_at b 0 c s) (closing_at b 1 c s)
 
-pub accepted_passes : (b : Book) (c s : ℕ) → IsOfWords b c s → accepted_at b c s ≡ true
-    → PassesThere b c s (sigma_at b c s)
-accepted_passes b c s words h =
+pub accepted_passes : (b : Book) (c s : ℕ) → IsOfWords b c s → (accepted_at b c s ≡ true) ↔ PassesThere b c s (sigma_at b c s)
+accepted_passes b c s words =
     let ckey = ckey_at b c s in
     let places = counted_at b c s in
     let part = part_at b c s in
@@ -70,10 +69,12 @@ accepted_passes b c s words h =
     let ss_are = ss-in_range ckey places in
     let size : length v ≡ length w = length-map places (leaf_of part 0 (root_at b 0 c s)) ∙ sym (length-map places (leaf_of part 1 (root_at b 1 c s))) in
     let whole = whole_is v w rs ss words.zero words.one rs_are ss_are size ∙ ap (sums_under ckey places) (difference-leaves part (root_at b 0 c s) (root_at b 1 c s) places) in
-    subst (λ t. PassesAt t (whole_proof (share_at b 0 c s) (share_at b 1 c s)) (sigma_at b c s)) whole
-    ((servers_pass (sums_under ckey places v) (sums_under ckey places w) (share_at b 0 c s) (share_at b 1 c s) (sigma_at b c s)
+    let servers = servers_accept b c s in
+    let passes = servers_pass (sums_under ckey places v) (sums_under ckey places w) (share_at b 0 c s) (share_at b 1 c s) (sigma_at b c s)
     (sums-in_range v rs ss words.zero rs_are ss_are) (sums-in_range w rs ss words.one rs_are ss_are)
-    (words.share 0) (words.share 1) (sigma_is_small b c s)).0 (servers_accept b c s h))
+    (words.share 0) (words.share 1) (sigma_is_small b c s) in
+    subst (λ t. (accepted_at b c s ≡ true) ↔ PassesAt t (whole_proof (share_at b 0 c s) (share_at b 1 c s)) (sigma_at b c s)) whole
+    (λ h. passes.0 (servers.0 h), λ h. servers.1 (passes.1 h))
 
 -- ---- a bad write is caught
 

@@ -1,6 +1,6 @@
--- What each accepted write passed, and what a foreign lane's write needs that changes two boxes or more.
-use Rattle.std.specs.Prelude.{◌≡◌, ◌≢◌, ◌<◌, ◌≤◌, ◌^◌, ◌⊎◌, ℕ, suc, true, All, AllPairs, List, length, Some}
-use Rattle.std.specs.Prelude.{slice_get}
+-- Where a settled write is accepted, and what a foreign lane's write needs that changes two boxes or more.
+use Rattle.std.specs.Prelude.{◌≡◌, ◌≢◌, ◌<◌, ◌≤◌, ◌^◌, ◌⊎◌, ◌↔◌, ℕ, suc, Bool, true, All, AllPairs, List}
+use Rattle.std.specs.Prelude.{length, Some, slice_get}
 use Rattle.express_words.specs.declared.audit.Closing.{Closing}
 use Rattle.dpf_rules.specs.Evaluation.{difference_vector}
 use Rattle.audit_rules.specs.Audit.{PassesAt, whole_proof}
@@ -26,11 +26,11 @@ PassesThere b c serial sigma =
     PassesAt (sums_under (ckey_at b c serial) (counted_at b c serial) (vector_at b c serial))
     (whole_proof (share_at b 0 c serial) (share_at b 1 c serial)) sigma
 
--- each line that is printed as accepted is of a write whose proof passes at its point
-abbrev pub AcceptedPass : Book → FrameWorld → World → Type 0
-AcceptedPass b f w = (i : ℕ) (line : JournalLine) (closing : Closing) → slice_get f.journal i ≡ Some line
-    → line.value ≡ Settled true closing
-    → PassesThere b line.lane line.serial (sigma_at b line.lane line.serial)
+-- each line of a settle is printed as accepted exactly where the write's proof passes at its point
+abbrev pub SettledAsTheyPass : Book → FrameWorld → World → Type 0
+SettledAsTheyPass b f w = (i : ℕ) (line : JournalLine) (accepted : Bool) (closing : Closing)
+    → slice_get f.journal i ≡ Some line → line.value ≡ Settled accepted closing
+    → (accepted ≡ true) ↔ PassesThere b line.lane line.serial (sigma_at b line.lane line.serial)
 
 -- two boxes or more differ
 pub record DifferTwice (xs ys : List Mailbox) : Type 0 where

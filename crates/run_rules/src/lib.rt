@@ -10,7 +10,7 @@ ghost use Rattle.run_rules.specs.EveryEnd.{AtEveryEnd, FinishAlwaysEnds, FinishA
 ghost use Rattle.run_rules.specs.Follows.{Follows};
 ghost use Rattle.run_rules.specs.History.{AtEnd};
 ghost use Rattle.run_rules.specs.Plain.{BoxesArePlain, HistoryIsClients, JournalInOrder, JournalIsPlain, JournalIsTold, OutcomesArePlain, RegisteredAreAccepted, ResultsArePlain, SharesAreFolds, SharesArePlain};
-ghost use Rattle.run_rules.specs.Soundness.{AcceptedPass, BadWritesAreCaught};
+ghost use Rattle.run_rules.specs.Soundness.{BadWritesAreCaught, SettledAsTheyPass};
 
 /// At the end of every schedule of clients, whatever frames are lost, repeated or reordered, the run over bytes is the
 /// token run with the content that follows from its history: each frame is that of its token, and each actor holds
@@ -51,12 +51,13 @@ pub fn strangers_are_counted()
     ensures boxes { AtEveryEnd BoxesArePlain }
 {}
 
-/// So too: each line that is printed as accepted, of a client or a foreign lane, is of a write whose proof
-/// passes at its point for its own difference vector and proof words. A foreign lane's write that changes two
-/// boxes of the plain table or more has two places or more in its vector that aren't zero; it passes at its
-/// point, and one of its challenges is the one bad value, or its proof passes at five points at most.
+/// So too: each line of a settle, a client's or a foreign lane's, is printed as accepted exactly where the
+/// write's proof passes at its point for its own difference vector and proof words. A foreign lane's write that
+/// changes two boxes of the plain table or more has two places or more in its vector that aren't zero; it
+/// passes at its point, and one of its challenges is the one bad value, or its proof passes at five points at
+/// most.
 pub fn accepted_writes_pass()
-    ensures passes { AtEveryEnd AcceptedPass }
+    ensures passes { AtEveryEnd SettledAsTheyPass }
     ensures caught { AtEveryEnd BadWritesAreCaught }
 {}
 
