@@ -18,9 +18,7 @@ mod texts;
 mod world;
 
 pub use client_core::Outcome;
-pub use express_words::outside::{
-    Conn, Counted, Failed, MemoryConn, MemoryNet, MemorySink, MemorySource, Net, Sink, Source,
-};
+pub use express_words::outside;
 pub use laws::{
     accepted_writes_pass, requests_are_told, schedules_fit, schedules_hold, strangers_hold,
 };
