@@ -438,7 +438,9 @@ abbrev pub SettlesBegun : Book → ℕ → Line → Operation → Type 0
 SettlesBegun b i x SettleWrite = BegunAt b i x.lane x.serial
 SettlesBegun b i x does = Unit {0}
 
--- the helper, as it stands after the first entries, carries a command out with this reply
+-- Some helper that has the history's boxes, draws and kept replies after the first i entries carries the
+-- command out with this reply. Its rows may be at any serials and stages, with what the history has for them:
+-- which row of the lane the command met isn't said.
 pub record HelperAnswers (b : Book) (i : ℕ) (x : Line) (command reply : PlainBody) : Type 0 where
   pub helper : Helper
   pub lanes : ℕ → Lane

@@ -190,8 +190,8 @@ pub record JournalIsPlain (b : Book) (f : FrameWorld) (w : World) : Type 0 where
         value = printed_of b e.line (plain_result b i e);
       })
 
--- A printed line tells the plain table's result, or the refusal that the helper's step gives of a foreign
--- command, which did nothing.
+-- A printed line tells the plain table's result; or, of a foreign command that did nothing, a refusal that
+-- the helper's step gives at the boxes there and some row of the lane.
 abbrev pub IsPlainLine : Book → ℕ → Entry → JournalLine → Type 0
 IsPlainLine b i e line =
     line ≡ record {
