@@ -1,3 +1,5 @@
+mod AwaitLemmas
+mod ClientAwaits
 mod ClientLemmas
 mod DoesLemmas
 mod FitLemmas
@@ -6,4 +8,5 @@ mod KeepLemmas
 mod LinkLemmas
 mod OpenLemmas
 mod OrderLemmas
+mod ReplyAwaits
 mod SlotLemmas

@@ -1,4 +1,5 @@
 pub mod Asked
+pub mod Awaited
 pub mod Replies
 pub mod Slots
 pub mod State

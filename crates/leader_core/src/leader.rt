@@ -6,6 +6,7 @@ ghost use Rattle.step_rules.specs.Refusals.{TurnLeaves, AckLeaves};
 ghost use Rattle.step_rules.specs.Leader.{opened_leader, written};
 ghost use Rattle.step_rules.specs.LeaderClients.{on_client};
 ghost use Rattle.step_rules.specs.LeaderReplies.{on_reply_bytes, resent};
+ghost use Rattle.leader_core.specs.Awaited.{RowsAwait, TellsAwaited};
 ghost use Rattle.leader_core.specs.State.{share_in};
 ghost use Rattle.leader_core.specs.Told.{acked, acked_bytes, sent_length, turned, turn_steps};
 
@@ -30,13 +31,14 @@ pub struct Leader {
 
 impl Model for Leader {
     ghost use Rattle.step_rules.specs.Leader.{Leader as Steps};
-    ghost use Rattle.leader_core.specs.State.{leader_in, IsCore};
+    ghost use Rattle.leader_core.specs.Awaited.{IsLeader};
+    ghost use Rattle.leader_core.specs.State.{leader_in};
 
     ghost Value = { Steps };
 
     ghost view = { λ a. leader_in a.core };
 
-    ghost invariant = { λ a. IsCore a.core };
+    ghost invariant = { λ a. IsLeader a.core };
 }
 
 impl Leader {
@@ -76,6 +78,9 @@ impl Leader {
         ensures written { take (length (written (on_client self.old frame.now).answer)) out.new ≡ written (on_client self.old frame.now).answer }
         ensures rest { drop (length (written (on_client self.old frame.now).answer)) out.new ≡ drop (length (written (on_client self.old frame.now).answer)) out.old }
         ensures steps { steps.new ≡ steps.old + turn_steps self.old (on_client self.old frame.now).answer }
+        // The command that a client is told to wait for is outstanding.
+        ensures awaits { TellsAwaited self.old frame.now result }
+        ensures rows { RowsAwait self.new }
         ensures settings { self.new.settings ≡ self.old.settings }
     {
         self.core.on_client(frame, out, steps)
@@ -90,6 +95,7 @@ impl Leader {
         ensures answer { result ≡ acked (on_reply_bytes self.old frame.now).ack }
         ensures written { take (length (acked_bytes (on_reply_bytes self.old frame.now).ack)) out.new ≡ acked_bytes (on_reply_bytes self.old frame.now).ack }
         ensures rest { drop (length (acked_bytes (on_reply_bytes self.old frame.now).ack)) out.new ≡ drop (length (acked_bytes (on_reply_bytes self.old frame.now).ack)) out.old }
+        ensures rows { RowsAwait self.new }
         ensures settings { self.new.settings ≡ self.old.settings }
     {
         self.core.on_reply(frame, out)

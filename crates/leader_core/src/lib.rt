@@ -7,6 +7,7 @@ mod asked;
 mod clients;
 mod frames;
 mod issued;
+mod laws;
 mod leader;
 mod link;
 mod replies;
@@ -16,5 +17,6 @@ mod stores;
 mod turn;
 mod writing;
 
+pub use laws::rows_await;
 pub use leader::Leader;
 pub use turn::{Ack, Turn};

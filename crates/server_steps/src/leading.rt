@@ -2,6 +2,7 @@
 ghost use Rattle.std.specs.Prelude.{◌≡◌, ◌<◌, ◌≤◌, length, take, drop};
 ghost use Rattle.step_rules.specs.Leader.{written};
 ghost use Rattle.step_rules.specs.LeaderClients.{on_client};
+ghost use Rattle.leader_core.specs.Awaited.{RowsAwait, TellsAwaited};
 ghost use Rattle.leader_core.specs.Told.{turned};
 
 use dpf_eval::Steps;
@@ -20,6 +21,8 @@ fn take_counted<L: Ledger>(blank: Blank, leader: &mut Leader, frame: &[u8], out:
     ensures written { take (length (written (on_client leader.old frame.now).answer)) out.new ≡ written (on_client leader.old frame.now).answer }
     ensures rest { drop (length (written (on_client leader.old frame.now).answer)) out.new ≡ drop (length (written (on_client leader.old frame.now).answer)) out.old }
     ensures settings { leader.new.settings ≡ leader.old.settings }
+    ensures awaits { TellsAwaited leader.old frame.now result }
+    ensures rows { RowsAwait leader.new }
 {
     let mut steps = Steps::<L>::new(blank);
     leader.on_client(frame, out, &mut steps)
@@ -34,6 +37,9 @@ pub fn take_request(leader: &mut Leader, frame: &[u8], out: &mut [u8]) -> Turn
     ensures written { take (length (written (on_client leader.old frame.now).answer)) out.new ≡ written (on_client leader.old frame.now).answer }
     ensures rest { drop (length (written (on_client leader.old frame.now).answer)) out.new ≡ drop (length (written (on_client leader.old frame.now).answer)) out.old }
     ensures settings { leader.new.settings ≡ leader.old.settings }
+    // The command that a client is told to wait for is outstanding.
+    ensures awaits { TellsAwaited leader.old frame.now result }
+    ensures rows { RowsAwait leader.new }
 {
     take_counted::<Brand>(Blank::new(1), leader, frame, out)
 }

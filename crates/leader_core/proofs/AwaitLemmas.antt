@@ -1,0 +1,96 @@
+-- What is outstanding and the rows that wait for it, where a command is issued and where one is answered.
+use Rattle.std.proofs.Common.{◌≡◌, ◌≢◌, ◌<◌, ℕ, Bool, cond, nat_eq, List, [], ◌∷◌, ◌++◌, append-nil, length, filter, replicate, slice_set, slice_index_or, inl, inr, refl, sym, ap, subst, ◌∙◌, arith}
+use Rattle.std.proofs.lemmas.Bool.{cases_eq, cases_lt, eq-eqb, ne_eqb}
+use Rattle.std.proofs.lemmas.List.{get_or-set_same, get_or-set_other, get_or_past, get_or-replicate, length-set, length-replicate}
+use Rattle.std.proofs.lemmas.List.Elements.{filter-append}
+use Rattle.express_words.specs.declared.settings.Settings.{Settings}
+use Rattle.frame_rules.specs.Frames.{PlainFrame}
+use Rattle.step_rules.specs.Leader.{Stage, Idle, Waiting, Challenged, Auditing, Settling, Done, Row, row, idle, opened_leader}
+use Rattle.leader_core.specs.Awaited.{commands_of, awaited_at, awaited, AreAwaited, RowsAwait}
+
+-- ---- the commands of a lane
+
+of_both : (lane : ℕ) (xs ys : List PlainFrame) → commands_of lane (xs ++ ys) ≡ commands_of lane xs ++ commands_of lane ys
+of_both lane xs ys = filter-append (λ (c : PlainFrame). nat_eq c.lane lane) xs ys
+
+of_own : (c : PlainFrame) (xs : List PlainFrame) → commands_of c.lane (c ∷ xs) ≡ c ∷ commands_of c.lane xs
+of_own c xs = ap (λ (b : Bool). cond b (c ∷ commands_of c.lane xs) (commands_of c.lane xs)) (eq-eqb c.lane c.lane refl)
+
+of_other : (lane : ℕ) (c : PlainFrame) (xs : List PlainFrame) → lane ≢ c.lane → commands_of lane (c ∷ xs) ≡ commands_of lane xs
+of_other lane c xs apart = ap (λ (b : Bool). cond b (c ∷ commands_of lane xs) (commands_of lane xs)) (ne_eqb c.lane lane (λ same. apart (sym same)))
+
+-- ---- one row changes
+
+-- the row of one lane and that lane's commands
+changed : (lanes : ℕ) (rows : List Row) (before after : List PlainFrame) (lane : ℕ) (r : Row) → AreAwaited lanes rows before → lane < length rows →
+    ((other : ℕ) → other ≢ lane → commands_of other after ≡ commands_of other before) → commands_of lane after ≡ awaited lane r → AreAwaited lanes (slice_set rows lane r) after
+changed lanes rows before after lane r is there others own = record {
+  count = length-set rows lane r ∙ is.count;
+  commands = λ k. elim (cases_eq k lane) [
+    | inl same ↦ subst (λ (n : ℕ). commands_of n after ≡ awaited n (slice_index_or (slice_set rows lane r) n idle)) (sym same)
+        (own ∙ ap (awaited lane) (sym (get_or-set_same rows lane r idle there)))
+    | inr apart ↦ others k apart ∙ (is.commands k ∙ ap (awaited k) (sym (get_or-set_other rows lane k r idle apart)))
+  ];
+}
+
+-- a command is issued for a row that waits for none
+pub issued_awaits : (lanes : ℕ) (rows : List Row) (commands : List PlainFrame) (c : PlainFrame) (r : Row) → AreAwaited lanes rows commands → c.lane < lanes →
+    awaited c.lane (slice_index_or rows c.lane idle) ≡ [] → awaited c.lane r ≡ c ∷ [] → AreAwaited lanes (slice_set rows c.lane r) (commands ++ c ∷ [])
+issued_awaits lanes rows commands c r is below free waits =
+    changed lanes rows commands (commands ++ c ∷ []) c.lane r is (omega (arith, is.count))
+    (λ other apart. of_both other commands (c ∷ []) ∙ (ap (λ xs. commands_of other commands ++ xs) (of_other other c [] apart) ∙ append-nil (commands_of other commands)))
+    (of_both c.lane commands (c ∷ []) ∙ (ap (λ xs. xs ++ commands_of c.lane (c ∷ [])) (is.commands c.lane ∙ free) ∙ (of_own c [] ∙ sym waits)))
+
+-- a stage waits for one command at most
+none_more : (lane serial : ℕ) (stage : Stage) (c : PlainFrame) (xs : List PlainFrame) → c ∷ xs ≡ awaited_at lane serial stage → xs ≡ []
+none_more lane serial (Waiting number asked) c xs e = cc e
+none_more lane serial (Auditing number write share sigma opened) c xs e = cc e
+none_more lane serial (Settling number write own other) c xs e = cc e
+none_more lane serial Idle c xs e = absurd (cc e)
+none_more lane serial (Challenged write kept) c xs e = absurd (cc e)
+none_more lane serial (Done want kept) c xs e = absurd (cc e)
+
+-- the oldest command is its lane's only one
+alone : (lanes : ℕ) (rows : List Row) (c : PlainFrame) (rest : List PlainFrame) → AreAwaited lanes rows (c ∷ rest) → commands_of c.lane rest ≡ []
+alone lanes rows c rest is =
+    let r = slice_index_or rows c.lane idle in
+    none_more c.lane r.serial r.stage c (commands_of c.lane rest) (sym (of_own c rest) ∙ is.commands c.lane)
+
+-- and its lane has a row
+there_is : (lanes : ℕ) (rows : List Row) (c : PlainFrame) (rest : List PlainFrame) → AreAwaited lanes rows (c ∷ rest) → c.lane < length rows
+there_is lanes rows c rest is = elim (cases_lt c.lane (length rows)) [
+  | inl there ↦ there
+  | inr past ↦ absurd (none (sym (of_own c rest) ∙ (is.commands c.lane ∙ ap (awaited c.lane) (get_or_past rows c.lane idle past))))
+]
+  where
+    none : c ∷ commands_of c.lane rest ≡ [] → ⊥
+    none e = cc e
+
+-- the oldest command is answered, and its row waits for nothing
+pub answered_awaits : (lanes : ℕ) (rows : List Row) (c : PlainFrame) (rest : List PlainFrame) (r : Row) → AreAwaited lanes rows (c ∷ rest) → awaited c.lane r ≡ [] →
+    AreAwaited lanes (slice_set rows c.lane r) rest
+answered_awaits lanes rows c rest r is free =
+    changed lanes rows (c ∷ rest) rest c.lane r is (there_is lanes rows c rest is) (λ other apart. sym (of_other other c rest apart)) (alone lanes rows c rest is ∙ sym free)
+
+-- or another command is issued for its row
+pub followed_awaits : (lanes : ℕ) (rows : List Row) (c next : PlainFrame) (rest : List PlainFrame) (r : Row) → AreAwaited lanes rows (c ∷ rest) → next.lane ≡ c.lane →
+    awaited c.lane r ≡ next ∷ [] → AreAwaited lanes (slice_set rows c.lane r) (rest ++ next ∷ [])
+followed_awaits lanes rows c next rest r is same waits =
+    changed lanes rows (c ∷ rest) (rest ++ next ∷ []) c.lane r is (there_is lanes rows c rest is)
+    (λ other apart. of_both other rest (next ∷ []) ∙ (ap (λ xs. commands_of other rest ++ xs) (of_other other next [] (λ e. apart (e ∙ same))) ∙ (append-nil (commands_of other rest) ∙ sym (of_other other c rest apart))))
+    (of_both c.lane rest (next ∷ []) ∙ (ap (λ xs. xs ++ commands_of c.lane (next ∷ [])) (alone lanes rows c rest is) ∙ (subst (λ (n : ℕ). commands_of n (next ∷ []) ≡ next ∷ []) same (of_own next []) ∙ sym waits)))
+
+-- ---- a leader that was opened
+
+pub opened_rows : (settings : Settings) → AreAwaited settings.lanes (replicate settings.lanes idle) []
+opened_rows settings = record {
+  count = length-replicate settings.lanes idle;
+  commands = λ lane. elim (cases_lt lane settings.lanes) [
+    | inl there ↦ ap (awaited lane) (sym (get_or-replicate settings.lanes lane idle idle there))
+    | inr past ↦ ap (awaited lane) (sym (get_or_past (replicate settings.lanes idle) lane idle (omega (arith, length-replicate settings.lanes idle))))
+  ];
+}
+
+pub opened_awaits : (settings : Settings) (seed : List ℕ) → RowsAwait (opened_leader settings seed)
+unfolding opened_leader
+opened_awaits settings seed = opened_rows settings
