@@ -1,5 +1,5 @@
 -- At a frame of a client: what goes on to be outstanding, and that what a client waits for is.
-use Rattle.std.proofs.Common.{◌≡◌, ◌<◌, ◌^◌, ◌-◌, ℕ, Bool, true, false, cond, nat_le, nat_lt, nat_eq, List, [], ◌∷◌, length, Option, Some, None, Ok, Err, slice_get, slice_set, ◌++◌, refl, sym, ap, ◌∙◌}
+use Rattle.std.proofs.Common.{◌≡◌, ◌<◌, ◌^◌, ◌-◌, ◌+◌, ℕ, Bool, true, false, cond, nat_le, nat_lt, nat_eq, List, [], ◌∷◌, length, Option, Some, None, Ok, Err, slice_get, slice_set, ◌++◌, refl, sym, ap, ◌∙◌}
 use Rattle.std.specs.Prelude.{Result}
 use Rattle.std.proofs.lemmas.Bool.{eqb-true, leb-false}
 use Rattle.express_words.specs.declared.audit.ProofShare.{ProofShare}
@@ -54,9 +54,9 @@ abbrev Free : Leader → PlainFrame → Type 0
 Free a f = awaited f.lane (row_at a f.lane) ≡ []
 
 more : (a : Leader) (f : PlainFrame) (body : PlainBody) (stage : Stage) → RowsAwait a → f.lane < a.settings.lanes → Free a f →
-    awaited_at f.lane f.serial stage ≡ on_link f a.next body ∷ [] → RowsAwait (record a { rows = slice_set a.rows f.lane (row f.serial stage); outstanding = a.outstanding ++ on_link f a.next body ∷ [] })
+    awaited_at f.lane f.serial stage ≡ on_link f a.next body ∷ [] → RowsAwait (record a { rows = slice_set a.rows f.lane (row f.serial stage); outstanding = a.outstanding ++ on_link f a.next body ∷ []; next = a.next + 1 })
 more a f body stage is below free waits =
-    issued_awaits a.settings.lanes a.rows a.outstanding (on_link f a.next body) (row f.serial stage) is below free waits
+    issued_awaits a.settings.lanes a.rows a.outstanding (on_link f a.next body) a.next (row f.serial stage) is refl below free waits
 
 issued : (a : Leader) (f : PlainFrame) (asked : Asked) → RowsAwait a → f.lane < a.settings.lanes → Free a f → Keeps a f (issued_for a f asked)
 unfolding issued_for

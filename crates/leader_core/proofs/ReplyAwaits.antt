@@ -1,5 +1,5 @@
 -- At a reply of the helper: what goes on to be outstanding.
-use Rattle.std.proofs.Common.{◌≡◌, ℕ, Bool, true, false, cond, nat_eq, nat_le, List, [], ◌∷◌, ◌++◌, length, drop, Option, Some, None, slice_get, slice_set, refl, ap, subst}
+use Rattle.std.proofs.Common.{◌≡◌, ◌+◌, ℕ, Bool, true, false, cond, nat_eq, nat_le, List, [], ◌∷◌, ◌++◌, length, drop, Option, Some, None, slice_get, slice_set, refl, ap, subst}
 use Rattle.std.specs.Prelude.{◌&&◌, not, is_none}
 use Rattle.express_words.specs.declared.audit.Openings.{Openings}
 use Rattle.express_words.specs.declared.audit.Closing.{Closing}
@@ -34,17 +34,17 @@ awaits_either false x y p q = q
 
 -- ---- the oldest command is answered
 
-as_first : (a : Leader) (c : PlainFrame) → Oldest a c → AreAwaited a.settings.lanes a.rows (c ∷ drop 1 a.outstanding)
-as_first a c is = subst (AreAwaited a.settings.lanes a.rows) is.first is.rows
+as_first : (a : Leader) (c : PlainFrame) → Oldest a c → AreAwaited a.settings.lanes a.rows (c ∷ drop 1 a.outstanding) a.next
+as_first a c is = subst (λ (xs : List PlainFrame). AreAwaited a.settings.lanes a.rows xs a.next) is.first is.rows
 
 -- its row keeps a reply
 kept : (a : Leader) (c : PlainFrame) (stage : Stage) → Oldest a c → awaited_at c.lane c.serial stage ≡ [] → RowsAwait (record a { rows = slice_set a.rows c.lane (row c.serial stage); outstanding = drop 1 a.outstanding })
-kept a c stage is free = answered_awaits a.settings.lanes a.rows c (drop 1 a.outstanding) (row c.serial stage) (as_first a c is) free
+kept a c stage is free = answered_awaits a.settings.lanes a.rows c (drop 1 a.outstanding) a.next (row c.serial stage) (as_first a c is) free
 
 -- or its settle is issued
 settling : (a : Leader) (c : PlainFrame) (body : PlainBody) (stage : Stage) → Oldest a c → awaited_at c.lane c.serial stage ≡ on_link c a.next body ∷ [] →
-    RowsAwait (record a { rows = slice_set a.rows c.lane (row c.serial stage); outstanding = drop 1 a.outstanding ++ on_link c a.next body ∷ [] })
-settling a c body stage is waits = followed_awaits a.settings.lanes a.rows c (on_link c a.next body) (drop 1 a.outstanding) (row c.serial stage) (as_first a c is) refl waits
+    RowsAwait (record a { rows = slice_set a.rows c.lane (row c.serial stage); outstanding = drop 1 a.outstanding ++ on_link c a.next body ∷ []; next = a.next + 1 })
+settling a c body stage is waits = followed_awaits a.settings.lanes a.rows c (on_link c a.next body) (drop 1 a.outstanding) a.next (row c.serial stage) (as_first a c is) refl refl waits
 
 -- ---- by the command
 

@@ -1,5 +1,5 @@
 -- The commands that wait for replies are those that busy rows wait for.
-use Rattle.std.specs.Prelude.{◌≡◌, ℕ, ◌==◌, List, [], ◌∷◌, length, filter, slice_index_or, Ok}
+use Rattle.std.specs.Prelude.{◌≡◌, ℕ, ◌==◌, ◌+◌, List, [], ◌∷◌, length, filter, slice_get, slice_index_or, Some, Ok}
 use Rattle.express_words.specs.declared.settings.Settings.{Settings}
 use Rattle.frame_rules.specs.Frames as frame
 use Rattle.frame_rules.specs.Frames.{PlainFrame, PlainBody}
@@ -40,13 +40,17 @@ awaited_at lane serial stage = []
 abbrev pub awaited : ℕ → Row → List PlainFrame
 awaited lane r = awaited_at lane r.serial r.stage
 
--- of each lane the command that its row waits for is outstanding, and nothing else
-pub record AreAwaited (lanes : ℕ) (rows : List Row) (outstanding : List PlainFrame) : Type 0 where
+-- of each lane the command that its row waits for is outstanding, and nothing else; their numbers are the last
+-- before the next one, in order
+pub record AreAwaited (lanes : ℕ) (rows : List Row) (outstanding : List PlainFrame) (next : ℕ)
+    : Type 0 where
   pub count : length rows ≡ lanes
   pub commands : (lane : ℕ) → commands_of lane outstanding ≡ awaited lane (slice_index_or rows lane idle)
+  pub numbers : (place : ℕ) (c : PlainFrame) → slice_get outstanding place ≡ Some c
+      → c.link + length outstanding ≡ next + place
 
 abbrev pub RowsAwait : Leader → Type 0
-RowsAwait a = AreAwaited a.settings.lanes a.rows a.outstanding
+RowsAwait a = AreAwaited a.settings.lanes a.rows a.outstanding a.next
 
 -- what holds of the stores between two calls
 pub record IsLeader (c : Core) : Type 0 where

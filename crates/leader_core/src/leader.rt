@@ -107,6 +107,7 @@ impl Leader {
         requires room { 8213 ≤ length out.old }
         ensures none { IsNone result ↔ (resent self.now ≡ None) }
         ensures number { IfSome result (λ x. x.0 + length self.now.outstanding ≡ self.now.next) }
+        ensures link { IfSome result (λ x. option_map (λ c. c.link) (resent self.now) ≡ Some x.0) }
         ensures length { IfSome result (λ x. option_map (λ c. length (spelling c)) (resent self.now) ≡ Some x.1) }
         ensures written { IfSome result (λ x. option_map spelling (resent self.now) ≡ Some (take x.1 out.new)) }
         ensures rest { drop (sent_length result) out.new ≡ drop (sent_length result) out.old }
