@@ -5,7 +5,6 @@ ghost use Rattle.frame_rules.specs.Spelling.{IsBody};
 ghost use Rattle.express_words.specs.Limits.{IsWidth, levels_len};
 ghost use Rattle.frame_rules.specs.Whole.{has_width};
 ghost use Rattle.server_boxes.specs.Held.{HasSameAddresses};
-ghost use Rattle.audit_rules.specs.Values.{ckey_of};
 ghost use Rattle.step_rules.specs.Helper.{Server as Holder, row_at};
 ghost use Rattle.step_rules.specs.HelperCommands.{stage_for, held_key, held_root, held_proof, held_closing, held_token, carries_out, carry_steps, read, read_at, register, begin, audit, audit_steps, settle};
 ghost use Rattle.helper_core.specs.Said.{added_in, effect_in, said_in, reading_in};
@@ -15,11 +14,10 @@ use crate::server::Server;
 use box_registry::RegFault;
 use chacha_expand::{draw32, token};
 use dpf_eval::Steps;
-use dpf_rules::xor_into;
 use express_words::{Closing, Openings, Refusal};
 use frame_rules::{Body, Frame};
 use lane_table::Want;
-use server_boxes::{Begun, Proof, ServerBoxes, close};
+use server_boxes::{Begun, Proof, ServerBoxes, challenge_key, close};
 use snip_proof::judge;
 use std::sync::ledger::Ledger;
 
@@ -59,7 +57,7 @@ impl Server {
             Some(root) => {
                 let draw = draw32(&self.seed, self.draws);
                 let count = self.boxes.count();
-                let ckey = joined(leaders, &draw);
+                let ckey = challenge_key(leaders, &draw);
                 slot.begin(frame.serial, Begun { root, count, ckey }, part);
                 self.draws += 1;
                 Said::Begun(count, draw)
@@ -218,13 +216,4 @@ fn said_of(added: Result<u32, RegFault>) -> Said
         Err(RegFault::Taken(n)) => Said::Refused(Refusal::Taken(n)),
         Err(RegFault::Full(limit)) => Said::Refused(Refusal::Full(limit)),
     }
-}
-
-/// The key of the challenges, from both servers' draws.
-fn joined(leaders: &[u8; 32], own: &[u8; 32]) -> [u8; 32]
-    ensures { result ≡ ckey_of leaders.now own.now }
-{
-    let mut key = *leaders;
-    xor_into(&mut key, own);
-    key
 }

@@ -1,7 +1,6 @@
 //! Replies of the helper: what each order leaves of the stores, where its reply fits.
 ghost use Rattle.std.specs.Prelude.{true, ◌≡◌, ◌<◌, Some, None, length, slice_get};
 ghost use Rattle.std.specs.Bool.{OnFalse};
-ghost use Rattle.audit_rules.specs.Values.{ckey_of};
 ghost use Rattle.frame_rules.specs.Frames.{PlainFrame, Refused};
 ghost use Rattle.frame_rules.specs.Whole.{IsAnswer};
 ghost use Rattle.step_rules.specs.Leader.{row_at};
@@ -12,10 +11,9 @@ ghost use Rattle.leader_core.specs.State.{leader_in, IsCore};
 use crate::issued::{Issued, want_of_order};
 use crate::slot::Kept;
 use crate::stores::Core;
-use dpf_rules::xor_into;
 use express_words::{Closing, Openings, Refusal};
 use lane_table::Want;
-use server_boxes::{Begun, close};
+use server_boxes::{Begun, challenge_key, close};
 use snip_proof::judge;
 
 impl Core {
@@ -77,7 +75,7 @@ impl Core {
         if count != self.boxes.count() {
             return false;
         }
-        let ckey = joined(&draw, helpers);
+        let ckey = challenge_key(&draw, helpers);
         let slot = &mut self.slots[usize::from(command.lane)];
         slot.challenge(command.serial, Begun { root, count, ckey });
         true
@@ -176,15 +174,6 @@ impl Core {
         slot.settle(command.serial, number, begun, (closed, *closing));
         Some(closed)
     }
-}
-
-/// The key of the challenges, from both servers' draws.
-fn joined(own: &[u8; 32], helpers: &[u8; 32]) -> [u8; 32]
-    ensures { result ≡ ckey_of own.now helpers.now }
-{
-    let mut key = *own;
-    xor_into(&mut key, helpers);
-    key
 }
 
 /// Why a write is rejected: both servers' closings, the leader's first.

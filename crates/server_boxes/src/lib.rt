@@ -7,5 +7,5 @@ mod closing;
 mod room;
 
 pub use boxes::ServerBoxes;
-pub use closing::close;
+pub use closing::{challenge_key, close};
 pub use room::{Begun, Proof, Room};

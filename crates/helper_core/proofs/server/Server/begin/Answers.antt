@@ -39,8 +39,8 @@ returns-in-Some-clause-effect c masked =
     (is_of h i.settings i.boxes i.slots.items i.slots.items i.draws i.seed c.self.view_is refl) inside c.from.ensures c.index_mut-slot.ensures.value c.root_for.ensures in
     ap (begin h (plain c.args.frame.now) c.args.leaders.now c.args.part.now) (key ∙ c.in-Some.is)
     ∙ (ap (λ (s : steps.Server). begin s (plain c.args.frame.now) c.args.leaders.now c.args.part.now (Some c.in-Some.root)) (sym c.self.view_is)
-    ∙ begin_is i.settings i.boxes i.slots.items i.draws i.seed (plain c.args.frame.now) c.args.leaders.now c.args.part.now c.in-Some.root c.count-count.result c.joined-ckey.result c.draw32-draw.result
-    c.from.result c.begin.new.self masked c.from.ensures c.count-count.ensures.count c.draw32-draw.ensures c.joined-ckey.ensures c.begin.ensures.row)
+    ∙ begin_is i.settings i.boxes i.slots.items i.draws i.seed (plain c.args.frame.now) c.args.leaders.now c.args.part.now c.in-Some.root c.count-count.result c.challenge_key-ckey.result c.draw32-draw.result
+    c.from.result c.begin.new.self masked c.from.ensures c.count-count.ensures.count c.draw32-draw.ensures c.challenge_key-ckey.ensures c.begin.ensures.row)
 
 pub invariant_of-self-in-Some : goal.invariant_of-self-in-Some
 invariant_of-self-in-Some c =

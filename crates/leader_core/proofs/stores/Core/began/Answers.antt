@@ -33,11 +33,11 @@ returns-clause-fits c f issued =
     let cur = c.index_mut-slot.result.now in
     let inside : c.from-2.result < length s.slots.items = omega (arith, c.requires.is.server.lanes, c.from-2.ensures, c.requires.lane) in
     let same = same_slot s.slots.items c.from-2.result c.from.result cur c.index.result.now (c.from-2.ensures ∙ sym c.from.ensures) inside c.index_mut-slot.ensures.value c.index.ensures in
-    let key = c.joined-ckey.result in
+    let key = c.challenge_key-ckey.result in
     let stage = steps.Challenged (replies.begun c.in-Some.begins.0 cur.room.part.items key c.args.count) (frame.Challenge key) in
     ap (λ (st : steps.Stage). replies.began (leader_in s) f st c.args.count c.args.helpers.now) (stage_there s.slots.items c.from-2.result f.lane cur inside (c.from-2.ensures ∙ sym issued.lane) c.index_mut-slot.ensures.value)
     ∙ (begins_here (leader_in s) f cur.room.part.items cur.own.items cur.other.items c.args.count c.args.helpers.now c.in-Some.begins.0 c.in-Some.begins.1 key cur.stage
-    (ap (λ (x : Slot). writing_at x.stage) same ∙ (sym c.writing.ensures ∙ c.in-Some.is)) (omega (arith, c.if-count.false, c.count.ensures.count)) c.joined-ckey.ensures
+    (ap (λ (x : Slot). writing_at x.stage) same ∙ (sym c.writing.ensures ∙ c.in-Some.is)) (omega (arith, c.if-count.false, c.count.ensures.count)) c.challenge_key-ckey.ensures
     ∙ keeps_is s s.boxes s.boxes.boxes c.from-2.result c.challenge.new.self f stage (frame.Challenge key) refl (c.from-2.ensures ∙ sym issued.lane) inside
     (c.challenge.ensures.row ∙ ap (λ k. steps.row k stage) (sym issued.serial)) refl)
 
