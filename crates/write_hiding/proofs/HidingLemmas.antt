@@ -2,7 +2,7 @@
 use Rattle.std.proofs.Common.{◌≡◌, ◌<◌, length, zero, suc, ◌∙◌, sym, ap, get_or, arith}
 use Rattle.std.proofs.lemmas.List.{length-map, get_or-map}
 use Rattle.std.proofs.lemmas.List.Elements.{All-map}
-use Rattle.write_hiding.specs.Choices.{PlainChoice}
+use Rattle.write_hiding.specs.Choices.{PlainChoice, IsChoice}
 use Rattle.write_hiding.specs.Views.{view}
 use Rattle.write_hiding.specs.Moved.{moved}
 use Rattle.write_hiding.specs.Laws.{ChoicesStay, ViewsStay, MovesReturn, DistinctStay}
@@ -29,6 +29,8 @@ pub distinct_stay : DistinctStay
 distinct_stay width viewer choices from to game seen h fair good aimed aimed' views distinct =
     let move = λ (c : PlainChoice). moved viewer c from to game in (
       length-map choices move,
+      All-map (IsChoice width) move choices
+          (λ i d l. choices_stay width viewer (get_or choices i d) from to game h fair (good i d l) aimed aimed'),
       All-map (λ c. view viewer c to game ≡ seen) move choices
           (λ i d l. views_stay width viewer (get_or choices i d) from to game h fair (good i d l) aimed aimed' ∙ views i d l),
       λ i j d l k same.

@@ -75,6 +75,7 @@ DistinctStay =
     All (λ c. view viewer c from game ≡ seen) choices → AllPairs (λ c d. c ≢ d) choices →
     let gone = map (λ c. moved viewer c from to game) choices in
     (length gone ≡ length choices)
+    × All (IsChoice width) gone
     × All (λ c. view viewer c to game ≡ seen) gone
     × AllPairs (λ c d. c ≢ d) gone
 
