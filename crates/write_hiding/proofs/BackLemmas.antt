@@ -8,7 +8,7 @@ use Rattle.audit_rules.specs.declared.sums.Sums.{Sums}
 use Rattle.audit_rules.specs.Audit.{product, value, through_three, zero_share, one_share, opening_of, honest_f, honest_g}
 use Rattle.poly_roots.specs.Polynomials.{plus_of, times_of}
 use Rattle.write_hiding.specs.Choices.{PlainChoice, PlainAim, PlainGame, IsChoice, IsAim, IsGame}
-use Rattle.write_hiding.specs.Views.{public_part, other_sums, drawn, value_of, share_of, other_opening}
+use Rattle.write_hiding.specs.Views.{public_part, other_sums, drawn, difference_of, share_of, other_opening}
 use Rattle.write_hiding.specs.Moved.{moved_list, walked, moved_a, moved_b, moved_h, moved_words, moved}
 use Rattle.write_hiding.proofs.PartLemmas.{public_part_stays}
 use Rattle.write_hiding.proofs.ReturnLemmas.{map_is, returns}
@@ -59,9 +59,9 @@ module _ (width viewer : ℕ) (choice : PlainChoice) (from to : PlainAim) (game 
   unfolding moved
   sums_back = ap (λ e. other_sums viewer (record gone { other = e }) from game) list_back
 
-  value_back : value_of viewer (walked viewer gone to from) from ≡ value_of viewer choice from
+  difference_back : difference_of viewer (walked viewer gone to from) from ≡ difference_of viewer choice from
   unfolding moved
-  value_back = ap (λ e. value_of viewer (record gone { other = e }) from) list_back
+  difference_back = ap (λ e. difference_of viewer (record gone { other = e }) from) list_back
 
   choice_back : moved_words viewer gone to from game ≡ choice.words → moved viewer gone to from game ≡ choice
   unfolding moved
@@ -129,24 +129,24 @@ module _ (width : ℕ) (choice : PlainChoice) (from to : PlainAim) (game : Plain
   abbrev own : ProofShare
   own = share_of 1 1 choice from game
 
-  one_h_made : moved_h gone1 to from game ≡ plus_of bit_xor (share_of 1 1 gone1 to game).h (by (value_of 1 (walked 1 gone1 to from) from))
+  one_h_made : moved_h gone1 to from game ≡ plus_of bit_xor (share_of 1 1 gone1 to game).h (by (difference_of 1 (walked 1 gone1 to from) from))
   unfolding moved moved_words
   one_h_made = refl
 
-  own_h : own.h ≡ plus_of bit_xor (by (value_of 1 choice from)) (zero_share (drawn choice)).h
+  own_h : own.h ≡ plus_of bit_xor (by (difference_of 1 choice from)) (zero_share (drawn choice)).h
   unfolding one_share
   own_h = refl
 
-  forth_h : plus_of bit_xor (plus_of bit_xor (by (value_of 1 choice from)) (zero_share (drawn choice)).h) (by (value_of 1 choice from)) ≡ (zero_share (drawn choice)).h
+  forth_h : plus_of bit_xor (plus_of bit_xor (by (difference_of 1 choice from)) (zero_share (drawn choice)).h) (by (difference_of 1 choice from)) ≡ (zero_share (drawn choice)).h
   unfolding zero_share
-  forth_h = plus_forth (by (value_of 1 choice from)) (zero_share (drawn choice)).h refl
+  forth_h = plus_forth (by (difference_of 1 choice from)) (zero_share (drawn choice)).h refl
 
   one_h : moved_h gone1 to from game ≡ (zero_share (drawn choice)).h
   one_h =
       one_h_made
-      ∙ ap (λ p. plus_of bit_xor p.h (by (value_of 1 (walked 1 gone1 to from) from))) (one_proof width choice from to game good aimed aimed' fair)
-      ∙ ap (λ m. plus_of bit_xor own.h (by m)) (value_back width 1 choice from to game good aimed aimed')
-      ∙ ap (λ h. plus_of bit_xor h (by (value_of 1 choice from))) own_h ∙ forth_h
+      ∙ ap (λ p. plus_of bit_xor p.h (by (difference_of 1 (walked 1 gone1 to from) from))) (one_proof width choice from to game good aimed aimed' fair)
+      ∙ ap (λ m. plus_of bit_xor own.h (by m)) (difference_back width 1 choice from to game good aimed aimed')
+      ∙ ap (λ h. plus_of bit_xor h (by (difference_of 1 choice from))) own_h ∙ forth_h
 
   abbrev one_list : List ℕ → ℕ → ℕ → ℕ → List ℕ
   one_list h a b c = word 0 ∷ (word 1 ∷ (word 2 ∷ (word 3 ∷ (h ++ (a ∷ (word 10 ∷ (b ∷ (word 12 ∷ (c ∷ [])))))))))

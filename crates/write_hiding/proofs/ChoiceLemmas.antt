@@ -20,7 +20,7 @@ use Rattle.audit_rules.specs.Challenges.{challenge_rs, challenge_ss}
 use Rattle.audit_rules.proofs.ChallengeLemmas.{all_map, rs-in_range, ss-in_range}
 use Rattle.audit_rules.proofs.LeafLemmas.{leaves-in_range}
 use Rattle.write_hiding.specs.Choices.{PlainChoice, PlainAim, PlainGame, IsChoice, IsAim, IsGame}
-use Rattle.write_hiding.specs.Views.{public_part, own_leaf, other_end, other_leaf, own_sums, other_sums, drawn, value_of, share_of, other_opening}
+use Rattle.write_hiding.specs.Views.{public_part, own_leaf, other_end, other_leaf, own_sums, other_sums, drawn, difference_of, share_of, other_opening}
 use Rattle.write_hiding.specs.Moved.{walked, moved_a, moved_b, moved_h, moved_words, moved}
 use Rattle.write_hiding.proofs.PartLemmas.{size-last}
 use Rattle.dpf_rules.specs.Bytes.{AreBytes}
@@ -49,7 +49,7 @@ module _ (width viewer : ℕ) (hv : viewer < 2) (choice : PlainChoice) (aim : Pl
       All-cons (λ n. n < 2 ^ 128) choice.own_root (choice.other_root ∷ choice.words) good.own_root
       (All-cons (λ n. n < 2 ^ 128) choice.other_root choice.words good.other_root good.words)
 
-  pub differ_lt : value_of viewer choice aim < 2 ^ 128
+  pub differ_lt : difference_of viewer choice aim < 2 ^ 128
   differ_lt = xor_lt 128 (own_leaf viewer choice aim aim.target) (other_end viewer choice aim) (leaf_lt aim.target) end_lt
 
   pub r_lt : challenge_r game.ckey aim.target < 2 ^ 128
@@ -66,20 +66,20 @@ module _ (width viewer : ℕ) (hv : viewer < 2) (choice : PlainChoice) (aim : Pl
 
   pub share_in : (server : ℕ) → IsProofShare (share_of server viewer choice aim game)
   share_in server =
-      cond_both (eqb server 0) (zero_share (drawn choice)) (one_share (value_of viewer choice aim) (challenge_r game.ckey aim.target) (challenge_s game.ckey aim.target) (drawn choice))
+      cond_both (eqb server 0) (zero_share (drawn choice)) (one_share (difference_of viewer choice aim) (challenge_r game.ckey aim.target) (challenge_s game.ckey aim.target) (drawn choice))
       IsProofShare (λ e. zero-in_range (drawn choice) drawn_lt)
-      (λ e. one-in_range (value_of viewer choice aim) (challenge_r game.ckey aim.target) (challenge_s game.ckey aim.target) (drawn choice) differ_lt r_lt s_lt drawn_lt)
+      (λ e. one-in_range (difference_of viewer choice aim) (challenge_r game.ckey aim.target) (challenge_s game.ckey aim.target) (drawn choice) differ_lt r_lt s_lt drawn_lt)
 
   pub opened_in : IsOpenings (other_opening viewer choice aim game)
   opened_in = opening-in_range (other_sums viewer choice aim game) (share_of (1 - viewer) viewer choice aim game) game.sigma sums_in (share_in (1 - viewer)) fair.sigma
 
   -- both servers accept, where the viewer is server 0, and where it is server 1
   pub accept_own : ServersAccept (own_sums viewer choice aim game) (other_sums viewer choice aim game) (zero_share (drawn choice))
-      (one_share (value_of viewer choice aim) (challenge_r game.ckey aim.target) (challenge_s game.ckey aim.target) (drawn choice)) game.sigma
+      (one_share (difference_of viewer choice aim) (challenge_r game.ckey aim.target) (challenge_s game.ckey aim.target) (drawn choice)) game.sigma
   accept_own = own_first game.ckey game.addresses (drawn choice) game.sigma aim.target (other_end viewer choice aim) (own_leaf viewer choice aim) leaf_lt end_lt drawn_lt fair.sigma aimed.registered fair.distinct
 
   pub accept_other : ServersAccept (other_sums viewer choice aim game) (own_sums viewer choice aim game) (zero_share (drawn choice))
-      (one_share (value_of viewer choice aim) (challenge_r game.ckey aim.target) (challenge_s game.ckey aim.target) (drawn choice)) game.sigma
+      (one_share (difference_of viewer choice aim) (challenge_r game.ckey aim.target) (challenge_s game.ckey aim.target) (drawn choice)) game.sigma
   accept_other = other_first game.ckey game.addresses (drawn choice) game.sigma aim.target (other_end viewer choice aim) (own_leaf viewer choice aim) leaf_lt end_lt drawn_lt fair.sigma aimed.registered fair.distinct
 
 -- ---- the moved choice
@@ -144,7 +144,7 @@ module _ (width : ℕ) (choice : PlainChoice) (from to : PlainAim) (game : Plain
   walk_good = walked_good width 1 (lit< tt) choice from to game good aimed aimed' fair
 
   abbrev m : ℕ
-  m = value_of 1 walk to
+  m = difference_of 1 walk to
 
   abbrev t : List ℕ
   t = times_of 0 bit_xor product (honest_f m (challenge_r game.ckey to.target) (drawn choice)) (honest_g m (challenge_r game.ckey to.target) (challenge_s game.ckey to.target) (drawn choice))

@@ -18,7 +18,7 @@ use Rattle.audit_rules.specs.Audit.{zero_share, one_share, opening_of, opened_of
 use Rattle.audit_rules.specs.Challenges.{sums_under}
 use Rattle.dpf_rules.specs.Evaluation.{leaves}
 use Rattle.write_hiding.specs.Choices.{PlainChoice, PlainAim, PlainGame, IsChoice, IsAim}
-use Rattle.write_hiding.specs.Views.{other_leaf, other_end, own_leaf, own_sums, other_sums, value_of, share_of, own_opening, other_opening, other_closing, view}
+use Rattle.write_hiding.specs.Views.{other_leaf, other_end, own_leaf, own_sums, other_sums, difference_of, share_of, own_opening, other_opening, other_closing, view}
 use Rattle.write_hiding.specs.Writes.{Drawn, IsDrawn, choice_of, write_view}
 use Rattle.dpf_rules.proofs.RangeLemmas.{honest-form}
 use Rattle.audit_rules.specs.Values.{values, opens, sums_at}
@@ -125,9 +125,9 @@ module _ (width : ℕ) (d : Drawn) (aim : PlainAim) (game : PlainGame) (is_drawn
   other_sums0 : other_sums 0 c0 aim game ≡ sums1
   other_sums0 = ap (sums_under game.ckey game.addresses) (map_same (other_leaf 0 c0 aim) (leaf_of part 1 root1) (2 ^ 128) game.addresses places leaf0)
 
-  value0 : value_of 0 c0 aim ≡ m
+  difference0 : difference_of 0 c0 aim ≡ m
   unfolding difference_at
-  value0 = ap (λ x. bit_xor x (other_end 0 c0 aim)) (own0 q) ∙ ap (bit_xor (leaf_of part 0 root0 q)) end0
+  difference0 = ap (λ x. bit_xor x (other_end 0 c0 aim)) (own0 q) ∙ ap (bit_xor (leaf_of part 0 root0 q)) end0
 
   proof0 : share_of 0 0 c0 aim game ≡ zero_share (root0 ∷ (root1 ∷ words))
   unfolding choice_of
@@ -135,7 +135,7 @@ module _ (width : ℕ) (d : Drawn) (aim : PlainAim) (game : PlainGame) (is_drawn
 
   share0 : share_of 1 0 c0 aim game ≡ made m
   unfolding choice_of
-  share0 = ap made value0
+  share0 = ap made difference0
 
   opened0 : other_opening 0 c0 aim game ≡ opening_of sums1 (made m) game.sigma
   opened0 = ap (λ s. opening_of s (share_of 1 0 c0 aim game) game.sigma) other_sums0 ∙ ap (λ p. opening_of sums1 p game.sigma) share0
@@ -187,15 +187,15 @@ module _ (width : ℕ) (d : Drawn) (aim : PlainAim) (game : PlainGame) (is_drawn
   other_sums1 : other_sums 1 c1 aim game ≡ sums0
   other_sums1 = ap (sums_under game.ckey game.addresses) (map_same (other_leaf 1 c1 aim) (leaf_of part 0 root0) (2 ^ 128) game.addresses places leaf1)
 
-  value1 : value_of 1 c1 aim ≡ m
+  difference1 : difference_of 1 c1 aim ≡ m
   unfolding difference_at
-  value1 =
+  difference1 =
       ap (λ x. bit_xor x (other_end 1 c1 aim)) (own1 q) ∙ ap (bit_xor (leaf_of part 1 root1 q)) end1
       ∙ xor_comm (leaf_of part 1 root1 q) (leaf_of part 0 root0 q)
 
   proof1 : share_of 1 1 c1 aim game ≡ made m
   unfolding choice_of one_share zero_share
-  proof1 = ap made value1
+  proof1 = ap made difference1
 
   share1 : share_of 0 1 c1 aim game ≡ zero_share (root0 ∷ (root1 ∷ words))
   unfolding choice_of zero_share

@@ -12,7 +12,7 @@ use Rattle.audit_rules.specs.declared.sums.Sums.{Sums}
 use Rattle.audit_rules.specs.Audit.{product, value, through_three, honest_f, honest_g}
 use Rattle.write_hiding.specs.declared.choice.View.{View}
 use Rattle.write_hiding.specs.Choices.{PlainChoice, PlainAim, PlainGame}
-use Rattle.write_hiding.specs.Views.{public_part, value_of, other_sums, drawn, view}
+use Rattle.write_hiding.specs.Views.{public_part, difference_of, other_sums, drawn, view}
 use Rattle.write_hiding.specs.Moved.{moved_pair, moved_at, moved_list, walked, moved_words, moved}
 
 -- one level
@@ -54,7 +54,7 @@ module _ (choice : PlainChoice) (from to : PlainAim) (game : PlainGame) (seen : 
   unfolding view moved_words
   words_of_zero seen_is sums_are a_is b_is = rw (a_is, b_is, seen_is, sums_are) refl
 
-  pub words_of_one : seen ≡ view 1 choice from game → sums ≡ other_sums 1 (walked 1 choice from to) to game → m ≡ value_of 1 (walked 1 choice from to) to →
+  pub words_of_one : seen ≡ view 1 choice from game → sums ≡ other_sums 1 (walked 1 choice from to) to game → m ≡ difference_of 1 (walked 1 choice from to) to →
       a ≡ bit_xor seen.opened.d (value (through_three (word 0) sums.x sums.m) game.sigma) →
       b ≡ bit_xor seen.opened.e (product game.sigma (value (through_three (word 2) sums.y sums.z) game.sigma)) →
       let r = challenge_r game.ckey to.target in
@@ -75,8 +75,8 @@ module _ (viewer viewer' : ℕ) (choice : PlainChoice) (from to : PlainAim) (gam
   pub sums_of_walked : (sums : Sums) → sums ≡ other_sums viewer' gone to game → sums ≡ other_sums viewer (walked viewer choice from to) to game
   sums_of_walked sums h = h ∙ rw (viewer_is, gone_is) refl
 
-  pub value_of_walked : (m : ℕ) → m ≡ value_of viewer' gone to → m ≡ value_of viewer (walked viewer choice from to) to
-  value_of_walked m h = h ∙ rw (viewer_is, gone_is) refl
+  pub difference_of_walked : (m : ℕ) → m ≡ difference_of viewer' gone to → m ≡ difference_of viewer (walked viewer choice from to) to
+  difference_of_walked m h = h ∙ rw (viewer_is, gone_is) refl
 
   pub moved_is : (words : List ℕ) → words ≡ moved_words viewer choice from to game → record gone { words = words } ≡ moved viewer choice from to game
   unfolding moved

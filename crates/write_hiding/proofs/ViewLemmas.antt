@@ -10,7 +10,7 @@ use Rattle.poly_roots.specs.Polynomials.{times_of}
 use Rattle.audit_rules.specs.Challenges.{sums_under}
 use Rattle.write_hiding.specs.declared.choice.View.{View}
 use Rattle.write_hiding.specs.Choices.{PlainChoice, PlainAim, PlainGame, IsChoice, IsAim, IsGame}
-use Rattle.write_hiding.specs.Views.{public_part, own_sums, other_sums, drawn, value_of, share_of, other_opening, other_closing, view}
+use Rattle.write_hiding.specs.Views.{public_part, own_sums, other_sums, drawn, difference_of, share_of, other_opening, other_closing, view}
 use Rattle.write_hiding.specs.Moved.{walked, moved_words, moved}
 use Rattle.write_hiding.proofs.PartLemmas.{public_part_stays}
 use Rattle.audit_rules.proofs.AloneLaws.{plus_back, number_back}
@@ -86,7 +86,7 @@ module _ (width : ℕ) (choice : PlainChoice) (from to : PlainAim) (game : Plain
   one_sums = ap (λ part. sums_under game.ckey game.addresses (map (leaf_of part 1 choice.own_root) game.addresses)) one_part
 
   abbrev m : ℕ
-  m = value_of 1 (walked 1 choice from to) to
+  m = difference_of 1 (walked 1 choice from to) to
 
   abbrev t : List ℕ
   t = times_of 0 bit_xor product (honest_f m (challenge_r game.ckey to.target) (drawn choice)) (honest_g m (challenge_r game.ckey to.target) (challenge_s game.ckey to.target) (drawn choice))

@@ -9,7 +9,7 @@ use Rattle.dpf_rules.specs.Keys.{Expansions, pair_at, on_side, raw_pair}
 use Rattle.audit_rules.specs.Audit.{product, value, through_three, honest_f, honest_g}
 use Rattle.poly_roots.specs.Polynomials.{plus_of, times_of}
 use Rattle.write_hiding.specs.Choices.{PlainChoice, PlainAim, PlainGame}
-use Rattle.write_hiding.specs.Views.{public_part, value_of, other_sums, drawn, share_of, other_opening}
+use Rattle.write_hiding.specs.Views.{public_part, difference_of, other_sums, drawn, share_of, other_opening}
 
 -- ---- the expansions
 
@@ -65,7 +65,7 @@ moved_b viewer choice from to game =
 -- server 0's h, where the viewer is server 1: the viewer's, and f·g
 abbrev pub moved_h : PlainChoice → PlainAim → PlainAim → PlainGame → List ℕ
 moved_h choice from to game =
-    let m = value_of 1 (walked 1 choice from to) to in
+    let m = difference_of 1 (walked 1 choice from to) to in
     let r = challenge_r game.ckey to.target in
     let s = challenge_s game.ckey to.target in
     plus_of bit_xor (share_of 1 1 choice from game).h

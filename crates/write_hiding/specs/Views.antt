@@ -34,9 +34,9 @@ abbrev pub other_leaf : ℕ → PlainChoice → PlainAim → ℕ → ℕ
 other_leaf viewer choice aim address =
     if address == aim.target then other_end viewer choice aim else own_leaf viewer choice aim address
 
--- the sum of both leaves at the target
-abbrev pub value_of : ℕ → PlainChoice → PlainAim → ℕ
-value_of viewer choice aim = bit_xor (own_leaf viewer choice aim aim.target) (other_end viewer choice aim)
+-- the difference of both leaves at the target, which is their sum
+abbrev pub difference_of : ℕ → PlainChoice → PlainAim → ℕ
+difference_of viewer choice aim = bit_xor (own_leaf viewer choice aim aim.target) (other_end viewer choice aim)
 
 -- ---- the audit
 
@@ -58,7 +58,7 @@ share_of server viewer choice aim game =
     let r = challenge_r game.ckey aim.target in
     let s = challenge_s game.ckey aim.target in
     if server == 0 then zero_share (drawn choice)
-    else one_share (value_of viewer choice aim) r s (drawn choice)
+    else one_share (difference_of viewer choice aim) r s (drawn choice)
 
 abbrev pub own_opening : ℕ → PlainChoice → PlainAim → PlainGame → Openings
 own_opening viewer choice aim game =

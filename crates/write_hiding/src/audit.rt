@@ -5,7 +5,7 @@ ghost use Rattle.std.specs.List.{zip};
 ghost use Rattle.dpf_rules.specs.Walk.{leaf_of};
 ghost use Rattle.dpf_rules.specs.Ideal.{given_at};
 ghost use Rattle.write_hiding.specs.Choices.{plain_choice, plain_aim, plain_game};
-ghost use Rattle.write_hiding.specs.Views.{public_part, own_sums, other_sums, value_of};
+ghost use Rattle.write_hiding.specs.Views.{public_part, own_sums, other_sums, difference_of};
 
 use crate::choice::{Aim, Game, IdealChoice};
 use dpf_keys::levels::{corrected, on_side, side_at, with_bit};
@@ -21,8 +21,8 @@ pub struct Audited {
     pub own: Sums,
     /// The sums of the other server's leaves.
     pub other: Sums,
-    /// The sum of both leaves at the target.
-    pub value: u128,
+    /// The difference of both leaves at the target, which is their sum.
+    pub difference: u128,
 }
 
 // The end of the other server's path to the target.
@@ -94,8 +94,8 @@ pub fn audit(
         ≡ own_sums choice.now.viewer (plain_choice choice.now) (plain_aim aim.now) (plain_game game.now)) }
     ensures other { IfOk result (λ audited. audited.other
         ≡ other_sums choice.now.viewer (plain_choice choice.now) (plain_aim aim.now) (plain_game game.now)) }
-    ensures value { IfOk result (λ audited. audited.value
-        ≡ value_of choice.now.viewer (plain_choice choice.now) (plain_aim aim.now)) }
+    ensures difference { IfOk result (λ audited. audited.difference
+        ≡ difference_of choice.now.viewer (plain_choice choice.now) (plain_aim aim.now)) }
 {
     let end = other_end(part, choice, aim.target);
     let own = own_leaves(alloc, part, choice, game.addresses)?;
@@ -103,6 +103,6 @@ pub fn audit(
     Ok(Audited {
         own: sums(&own, game.addresses, &game.ckey),
         other: sums(&other, game.addresses, &game.ckey),
-        value: walk(part, choice.viewer, choice.own_root, aim.target) ^ end,
+        difference: walk(part, choice.viewer, choice.own_root, aim.target) ^ end,
     })
 }

@@ -3,7 +3,7 @@ ghost use Rattle.std.specs.Prelude.{◌≡◌, ◌∷◌, ◌+◌, ◌-◌, ◌�
 ghost use Rattle.express_words.specs.Limits.{IsWidth, levels_len};
 ghost use Rattle.audit_rules.specs.Audit.{opening_of, opened_of, closing_of};
 ghost use Rattle.write_hiding.specs.Choices.{plain_choice, plain_aim, plain_game};
-ghost use Rattle.write_hiding.specs.Views.{value_of, share_of, view};
+ghost use Rattle.write_hiding.specs.Views.{difference_of, share_of, view};
 
 use crate::audit::{Audited, audit};
 use crate::choice::{Aim, Game, IdealChoice, View};
@@ -24,10 +24,15 @@ pub fn drawn(own_root: u128, other_root: u128, words: &[u128; 14]) -> [u128; 16]
     ]
 }
 
-// The viewer's share of the proof, and the other server's, where both leaves differ by `value` at the target.
-fn shares(choice: &IdealChoice, value: u128, aim: &Aim, game: &Game) -> (ProofShare, ProofShare)
+// The viewer's share of the proof, and the other server's, where both leaves differ by `difference` at the target.
+fn shares(
+    choice: &IdealChoice,
+    difference: u128,
+    aim: &Aim,
+    game: &Game,
+) -> (ProofShare, ProofShare)
     requires viewer { choice.now.viewer ≤ 1 }
-    requires value { value ≡ value_of choice.now.viewer (plain_choice choice.now) (plain_aim aim.now) }
+    requires difference { difference ≡ difference_of choice.now.viewer (plain_choice choice.now) (plain_aim aim.now) }
     ensures own { let viewer = choice.now.viewer in
         result.0 ≡ share_of viewer viewer (plain_choice choice.now) (plain_aim aim.now) (plain_game game.now) }
     ensures other { let viewer = choice.now.viewer in
@@ -35,7 +40,7 @@ fn shares(choice: &IdealChoice, value: u128, aim: &Aim, game: &Game) -> (ProofSh
 {
     let (r, s) = challenge(&game.ckey, aim.target);
     let words = drawn(choice.own_root, choice.other_root, &choice.words);
-    let (zero, one) = prove(value, r, s, &words);
+    let (zero, one) = prove(difference, r, s, &words);
     if choice.viewer == 0 {
         (zero, one)
     } else {
@@ -81,7 +86,7 @@ pub fn view(alloc: Global, choice: &IdealChoice, aim: &Aim, game: &Game) -> Resu
     let bytes = public_part(alloc, choice, aim)?;
     let part = PublicPart::of(&bytes).unwrap();
     let audited = audit(alloc, &part, choice, aim, game)?;
-    let (own, other) = shares(choice, audited.value, aim, game);
+    let (own, other) = shares(choice, audited.difference, aim, game);
     let (opened, closed) = exchanged(choice.viewer, &audited, &own, &other, game.sigma);
     Ok(View {
         own_root: choice.own_root,

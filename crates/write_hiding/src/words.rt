@@ -3,7 +3,7 @@ ghost use Rattle.std.specs.Prelude.{◌≡◌, ◌+◌, ◌-◌, ◌≤◌, [], 
 ghost use Rattle.poly_roots.specs.Polynomials.{plus_of, times_of};
 ghost use Rattle.audit_rules.specs.Audit.{product, value, through_three, honest_f, honest_g};
 ghost use Rattle.write_hiding.specs.Choices.{PlainAim, plain_choice, plain_aim, plain_game};
-ghost use Rattle.write_hiding.specs.Views.{value_of, other_sums, drawn, view};
+ghost use Rattle.write_hiding.specs.Views.{difference_of, other_sums, drawn, view};
 ghost use Rattle.write_hiding.specs.Moved.{walked, moved_words};
 
 use crate::audit::Audited;
@@ -15,7 +15,7 @@ use snip_proof::{open_share, prove};
 use write_sketch::Sums;
 
 // The other server's a and b, by which it opens what it opened.
-fn moved_masks(choice: &IdealChoice, opened: &Openings, sums: &Sums, sigma: u128) -> (u128, u128)
+fn moved_factors(choice: &IdealChoice, opened: &Openings, sums: &Sums, sigma: u128) -> (u128, u128)
     requires viewer { choice.now.viewer ≤ 1 }
     ensures a { let f = through_three (slice_index choice.now.words (1 - choice.now.viewer)) sums.now.x sums.now.m in
         result.0 ≡ bit_xor opened.now.d (value f sigma) }
@@ -59,19 +59,25 @@ fn with_zero(words: &[u128; 14], h: &[u128; 5], a: u128, b: u128, c: u128) -> [u
 
 // The words by which server 0's share and f·g and a·b make up server 1's share, where server 0 has these a and b, and server 1
 // these h and c.
-fn zero_words(choice: &IdealChoice, own: &ProofShare, value: u128, r: u128, s: u128) -> [u128; 14]
+fn zero_words(
+    choice: &IdealChoice,
+    own: &ProofShare,
+    difference: u128,
+    r: u128,
+    s: u128,
+) -> [u128; 14]
     requires size { length own.now.h ≡ 5 }
     ensures { let words = drawn (plain_choice choice.now) in
         let word = slice_index choice.now.words in
         let masks = word 0 ∷ (word 1 ∷ (word 2 ∷ (word 3 ∷ []))) in
-        let fg = times_of 0 bit_xor product (honest_f value r words) (honest_g value r s words) in
+        let fg = times_of 0 bit_xor product (honest_f difference r words) (honest_g difference r s words) in
         let ab = product (bit_xor own.now.a (word 10)) (bit_xor own.now.b (word 12)) in
         result ≡ masks ++ (plus_of bit_xor own.now.h fg
         ++ (own.now.a ∷ (word 10 ∷ (own.now.b ∷ (word 12 ∷ (bit_xor own.now.c ab ∷ [])))))) }
 {
     let words = with_zero(&choice.words, &own.h, own.a, own.b, own.c);
     let (_, one) = prove(
-        value,
+        difference,
         r,
         s,
         &drawn(choice.own_root, choice.other_root, &words),
@@ -96,15 +102,15 @@ pub fn moved_words(
         let gone = walked viewer c from (plain_aim to.now) in
         seen.now ≡ view viewer c from g →
         audited.now.other ≡ other_sums viewer gone (plain_aim to.now) g →
-        audited.now.value ≡ value_of viewer gone (plain_aim to.now) →
+        audited.now.difference ≡ difference_of viewer gone (plain_aim to.now) →
         result ≡ moved_words viewer c from (plain_aim to.now) g }
 {
-    let (a, b) = moved_masks(choice, &seen.opened, &audited.other, game.sigma);
+    let (a, b) = moved_factors(choice, &seen.opened, &audited.other, game.sigma);
     if choice.viewer == 0 {
         with_one(&choice.words, a, b)
     } else {
         let (r, s) = challenge(&game.ckey, to.target);
         let own = ProofShare { a, b, ..seen.proof };
-        zero_words(choice, &own, audited.value, r, s)
+        zero_words(choice, &own, audited.difference, r, s)
     }
 }

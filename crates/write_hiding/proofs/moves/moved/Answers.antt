@@ -5,7 +5,7 @@ use Rattle.write_hiding.specs.Moved.{moved}
 use Rattle.write_hiding.proofs.PartLemmas.{stays}
 use Rattle.write_hiding.proofs.ChoiceLemmas.{share_in}
 use Rattle.write_hiding.proofs.HidingLemmas.{choices_stay, views_stay, moves_return}
-use Rattle.write_hiding.proofs.MoveLemmas.{part_of_walked, sums_of_walked, value_of_walked, moved_is}
+use Rattle.write_hiding.proofs.MoveLemmas.{part_of_walked, sums_of_walked, difference_of_walked, moved_is}
 use Rattle.write_hiding.proofs.moves.moved.Goals as goal
 
 pub walked-requires-clause-part : goal.walked-requires-clause-part
@@ -58,7 +58,7 @@ returns-clause-moved c =
     moved_is viewer _ choice from to game gone walk.viewer walk.walked c.moved_words-words.result
     (c.moved_words-words.ensures from c.in_ok-seen.ensures.view
     (sums_of_walked viewer _ choice from to game gone walk.viewer walk.walked _ seen.other)
-    (value_of_walked viewer _ choice from to game gone walk.viewer walk.walked _ seen.value))
+    (difference_of_walked viewer _ choice from to game gone walk.viewer walk.walked _ seen.difference))
 
 pub returns-clause-choice : goal.returns-clause-choice
 returns-clause-choice c =
@@ -78,7 +78,7 @@ returns-clause-choice c =
     (moved_is viewer _ choice from to game gone walk.viewer walk.walked c.moved_words-words.result
     (c.moved_words-words.ensures from c.in_ok-seen.ensures.view
     (sums_of_walked viewer _ choice from to game gone walk.viewer walk.walked _ seen.other)
-    (value_of_walked viewer _ choice from to game gone walk.viewer walk.walked _ seen.value))))
+    (difference_of_walked viewer _ choice from to game gone walk.viewer walk.walked _ seen.difference))))
     (choices_stay (length from.message) viewer choice from to game small c.read_game.ensures.form good c.read_aim.ensures.form aimed)
 
 pub returns-clause-same_view : goal.returns-clause-same_view
@@ -98,7 +98,7 @@ returns-clause-same_view c =
     (moved_is viewer _ choice from to game gone walk.viewer walk.walked c.moved_words-words.result
     (c.moved_words-words.ensures from c.in_ok-seen.ensures.view
     (sums_of_walked viewer _ choice from to game gone walk.viewer walk.walked _ seen.other)
-    (value_of_walked viewer _ choice from to game gone walk.viewer walk.walked _ seen.value)))
+    (difference_of_walked viewer _ choice from to game gone walk.viewer walk.walked _ seen.difference)))
     ∙ views_stay (length from.message) viewer choice from to game small c.read_game.ensures.form good c.read_aim.ensures.form aimed
 
 pub returns-clause-moves_back : goal.returns-clause-moves_back
@@ -118,5 +118,5 @@ returns-clause-moves_back c =
     (moved_is viewer _ choice from to game gone walk.viewer walk.walked c.moved_words-words.result
     (c.moved_words-words.ensures from c.in_ok-seen.ensures.view
     (sums_of_walked viewer _ choice from to game gone walk.viewer walk.walked _ seen.other)
-    (value_of_walked viewer _ choice from to game gone walk.viewer walk.walked _ seen.value)))
+    (difference_of_walked viewer _ choice from to game gone walk.viewer walk.walked _ seen.difference)))
     ∙ moves_return (length from.message) viewer choice from to game small c.read_game.ensures.form good c.read_aim.ensures.form aimed

@@ -7,4 +7,4 @@ returns c =
     let choice = c.args.choice.now in
     let own = c.args.own.now in
     c.with_zero.ensures ∙ rw (c.prove.ensures.one, c.drawn.ensures, c.with_zero-words.ensures)
-    (zero_words_are choice.own_root choice.other_root choice.words c.args.value c.args.r c.args.s own.a own.b own.c own.h c.requires.size)
+    (zero_words_are choice.own_root choice.other_root choice.words c.args.difference c.args.r c.args.s own.a own.b own.c own.h c.requires.size)

@@ -2,7 +2,7 @@ use Rattle.std.proofs.Common.{◌∙◌, ◌+◌, ap, bit_xor, ℕ}
 use Rattle.std.specs.Prelude.{slice_index}
 use Rattle.std.specs.Int.Bits.{xor_zero_r}
 use Rattle.audit_rules.specs.Audit.{product, value, through_three, opening_of}
-use Rattle.write_hiding.proofs.words.moved_masks.Goals as goal
+use Rattle.write_hiding.proofs.words.moved_factors.Goals as goal
 
 pub returns-clause-a : goal.returns-clause-a
 unfolding opening_of
