@@ -1,10 +1,15 @@
-//! That words are numbers of the field, which a proof learns where they are read.
+//! That bytes and words are in range, which a proof learns where they are read.
 ghost use Rattle.std.specs.Prelude.{ℕ, ◌<◌, ◌^◌, All};
 ghost use Rattle.express_words.specs.Ranges.{IsProofShare};
 ghost use Rattle.audit_rules.specs.Ranges.{IsSums};
 
 use crate::sums::Sums;
 use express_words::ProofShare;
+
+/// Every byte is below 256.
+pub fn read_bytes(bytes: &[u8])
+    ensures in_range { All (λ b. b < 256) bytes.now }
+{}
 
 /// Every word is a number of the field.
 pub fn read_words(words: &[u128])

@@ -9,7 +9,7 @@ ghost use Rattle.audit_rules.specs.BadWrites.{HasTwo, IsBadChallenge};
 ghost use Rattle.audit_rules.specs.Challenges.{challenge_rs, challenge_ss, sums_under};
 
 use crate::both::{ProofShares, WriteKeys};
-use audit_rules::{read_share, read_words};
+use audit_rules::{read_bytes, read_share, read_words};
 
 /// The soundness law for any public part and any two roots. Where the difference vector has two places or
 /// more that aren't zero, a proof is accepted at five points at most, unless r at the first of them or s at
@@ -67,8 +67,3 @@ pub fn honest_keys_are_accepted(
     read_words(addresses);
     read_words(choices);
 }
-
-// Every byte is below 256.
-fn read_bytes(bytes: &[u8])
-    ensures in_range { All (λ b. b < 256) bytes.now }
-{}

@@ -3,12 +3,7 @@ ghost use Rattle.std.specs.Prelude.{◌≡◌, ◌≢◌, ℕ, ◌^◌, ◌<◌,
 ghost use Rattle.write_hiding.specs.Choices.{IsChoice, IsAim, IsGame, plain_choice, plain_aim, plain_game};
 
 use crate::choice::{Aim, Game, IdealChoice};
-use audit_rules::read_words;
-
-// Every byte is below 256.
-fn read_bytes(bytes: &[u8])
-    ensures in_range { All (λ b. b < 256) bytes.now }
-{}
+use audit_rules::{read_bytes, read_words};
 
 // Both members of a pair are numbers of the field.
 fn read_pair(_left: u128, _right: u128)
