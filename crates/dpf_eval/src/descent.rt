@@ -12,6 +12,7 @@ use crate::key::ServerKey;
 use crate::levels::{correction_at, descend, gather, start};
 use crate::steps::Steps;
 use dpf_keys::PublicPart;
+use dpf_keys::levels::with_bit;
 use std::alloc::{AllocError, Global};
 use std::marker::Model;
 use std::sync::ledger::Ledger;
@@ -111,7 +112,7 @@ impl Descent {
         ensures room { length self.new ≡ length self.old }
         ensures steps { steps.new ≡ steps.old + prefix_count entries.now.addresses.items }
     {
-        let root = key.root / 2 * 2 + u128::from(key.server);
+        let root = with_bit(key.root, u128::from(key.server));
         start(&mut self.states, entries.addresses.len(), root);
         for level in 0..128u8 {
             self.descend_level(key.part, entries, level, steps);

@@ -9,6 +9,7 @@ ghost use Rattle.dpf_rules.specs.Walk.{word_of, right_of, side_at};
 ghost use Rattle.dpf_eval.specs.Groups.{groups_of, stepped};
 
 use dpf_keys::PublicPart;
+use dpf_keys::levels::{side_at, with_bit};
 
 /// Puts the first `count` entries at one state.
 pub(crate) fn start(states: &mut [u128], count: usize, state: u128)
@@ -60,7 +61,7 @@ pub(crate) fn correction_at(part: &PublicPart, level: u8) -> Correction
     let word = part.word(level);
     Correction {
         left: word,
-        right: word / 2 * 2 + u128::from(part.right(level)),
+        right: with_bit(word, u128::from(part.right(level))),
     }
 }
 
@@ -78,7 +79,7 @@ fn step(address: u128, level: u8, pair: (u128, u128), correction: &Correction, s
     requires pair { pair ≡ raw_pair state }
     ensures { result ≡ stepped correction.now.left correction.now.right (side_at address level) state }
 {
-    let (raw, added) = if (address >> (127 - level)) % 2 == 0 {
+    let (raw, added) = if side_at(address, level) == 0 {
         (pair.0, correction.left)
     } else {
         (pair.1, correction.right)

@@ -1,4 +1,5 @@
-use Rattle.std.proofs.Common.{◌≡◌, ◌+◌, ◌++◌, ◌∙◌, sym, refl, slice_index, length, take, drop, arith, add-one, suc}
+use Rattle.std.proofs.Common.{◌≡◌, ◌+◌, ◌++◌, ◌∙◌, sym, ap, refl, slice_index, length, take, drop, arith, add-one, suc}
+use Rattle.dpf_rules.specs.Expansion.{with_bit}
 use Rattle.dpf_rules.specs.Walk.{state_at}
 use Rattle.dpf_rules.specs.Evaluation.{prefixes_below}
 use Rattle.dpf_eval.proofs.OrderLemmas.{read_whole}
@@ -11,8 +12,10 @@ loop-level-init g c =
     let states = c.start.new.states in
     let states_are : take c.self.inside.states.len (states ++ drop (length states) c.self.inside.states.items) ≡ states =
     read_whole c.self.inside.states.len states (drop (length states) c.self.inside.states.items) (omega arith) in
+    let root_is : c.with_bit-root.result ≡ with_bit c.args.key.root c.args.key.server =
+    c.with_bit-root.ensures ∙ ap (with_bit c.args.key.root) c.from.ensures in
     record {
-      states = λ k inside. rw states_are (rw c.from.ensures at (c.start.ensures k (omega arith)));
+      states = λ k inside. rw states_are (c.start.ensures k (omega arith) ∙ root_is);
       room = refl;
       steps = omega arith;
     }
