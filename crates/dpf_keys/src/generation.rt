@@ -63,8 +63,8 @@ fn keys_into(target: u128, message: &[u8], root0: u128, root1: u128, out: &mut [
 }
 
 /// Writes the public part of the point function that is the message at the target and zeros elsewhere: 128 words of 16
-/// bytes and 16 bytes of right bits, each with the lowest byte first, then as many bytes as the message has. Bit 0 of the
-/// roots is not read.
+/// bytes and 16 bytes of right bits, each with the lowest byte first, then as many bytes as the message has. Bit i of
+/// the right bits, counted from the lowest, is level i's. Bit 0 of the roots is not read.
 pub fn generate(target: u128, message: &[u8], root0: u128, root1: u128, out: &mut [u8])
     requires width { IsWidth (length message.now) }
     requires room { length out.old ≡ levels_len + length message.now }

@@ -37,7 +37,7 @@ impl<'a> PublicPart<'a> {
         Some(PublicPart { bytes })
     }
 
-    /// The word of a level, 0 to 127.
+    /// The word of a level, 0 to 127: its 16 bytes as a number, the lowest byte first.
     pub fn word(&self, level: u8) -> u128
         requires { level < 128 }
         ensures { result ≡ word_of self.now level }
@@ -46,7 +46,8 @@ impl<'a> PublicPart<'a> {
         read_number(&self.bytes[at..at + 16])
     }
 
-    /// The right bit of a level, 0 to 127.
+    /// The right bit of a level, 0 to 127: that bit, counted from the lowest, of the 16 bytes of right bits, read as a
+    /// word is.
     pub fn right(&self, level: u8) -> bool
         requires { level < 128 }
         ensures { right_of self.now level ≡ from_bool result }

@@ -24,7 +24,8 @@ fn put_scaled<F: Field>(c: F, q: &[F], out: &mut [F])
     }
 }
 
-/// Writes the coefficients of the product of `p` and `q`, whatever `out` held.
+/// Writes the coefficients of the product of `p` and `q`, whatever `out` held. Neither list is empty, and `out` is one
+/// shorter than both together.
 pub fn times<F: Field>(p: &[F], q: &[F], out: &mut [F])
     requires p { 0 < length p.now }
     requires q { 0 < length q.now }

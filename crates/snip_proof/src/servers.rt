@@ -1,5 +1,5 @@
-//! What two servers work out of a proof at a point. Neither learns more than its own share, and the other's openings
-//! and closing.
+//! What two servers work out of a proof at a point. Each is handed its own share, and of the other's values the
+//! openings and the closing alone.
 ghost use Rattle.std.specs.Prelude.{◌≡◌, ◌≤◌, ◌↔◌, IsTrue};
 ghost use Rattle.audit_rules.specs.Audit.{opening_of, closing_of, accepts, IsAccepted};
 
@@ -8,7 +8,8 @@ use express_words::{Closing, Openings, ProofShare};
 use field_tables::{Tables, mul_fast};
 use write_sketch::Sums;
 
-/// What a server opens of its sums and its share at the point `sigma`.
+/// What a server opens of its sums and its share at the point `sigma`: of its f, g and triple, d = f(sigma) + a and
+/// e = sigma·g(sigma) + b.
 pub fn open_share(sums: &Sums, share: &ProofShare, sigma: u128) -> Openings
     ensures openings { result ≡ opening_of sums.now share.now sigma }
 {

@@ -15,18 +15,23 @@ pub trait Field: Copy + Eq {
     /// Of zero it is any value: no call gives it.
     ghost inverse: { Self → Self };
 
+    /// The value that adds nothing.
     fn zero() -> Self
         ensures { result ≡ neutral };
 
+    /// The value whose product with any other is that other.
     fn one() -> Self
         ensures { result ≡ unit };
 
+    /// The sum, which is the difference too.
     fn add(self, other: Self) -> Self
         ensures { result ≡ sum self other };
 
+    /// The product.
     fn mul(self, other: Self) -> Self
         ensures { result ≡ product self other };
 
+    /// The product with itself.
     fn square(self) -> Self
         ensures { result ≡ product self self };
 
