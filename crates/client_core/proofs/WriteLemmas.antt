@@ -1,5 +1,5 @@
 -- What a client's write is made of.
-use Rattle.std.proofs.Common.{◌≡◌, ◌^◌, ℕ, List, length, bit_xor, slice_index, take, Option, Some, None, refl, ap, ◌∙◌}
+use Rattle.std.proofs.Common.{◌≡◌, ◌≢◌, ◌^◌, ℕ, List, length, bit_xor, slice_index, take, Option, Some, None, option_map, refl, sym, ap, ◌∙◌}
 use Rattle.std.specs.List.{range_with_len}
 use Rattle.dpf_rules.specs.Expansion.{choice}
 use Rattle.dpf_rules.specs.Keys.{honest_keys}
@@ -10,7 +10,11 @@ use Rattle.audit_rules.proofs.ChallengeLemmas.{all_map}
 use Rattle.mailbox_rules.specs.Requests.{Write}
 use Rattle.step_rules.specs.Client.{Client, Step, Deposits, Submits, ProvesToHelper, ProvesToLeader}
 use Rattle.step_rules.specs.ClientAsks.{words, root, difference, public_part, share_for, deposit_of, submission_of, proof_of, sends, sent_at, Sent}
+use Rattle.client_core.specs.declared.stage.Stage.{Stage}
+use Rattle.client_core.specs.declared.state.State.{State}
 use Rattle.client_core.specs.Answers.{bytes_of}
+use Rattle.client_core.specs.Stages.{current_in}
+use Rattle.client_core.specs.States.{client_in}
 use Rattle.client_core.specs.Writes.{write_body, write_sent, AreWords}
 
 pub difference_is : (c : Client) (target : ℕ) (message part drawn : List ℕ) (w0 w1 : ℕ) → part ≡ honest_keys target message (root c 0) (root c 1) → drawn ≡ words c →
@@ -23,6 +27,15 @@ difference_is c target message part drawn w0 w1 keyed e h0 h1 =
 
 pub are_words : (c : Client) → AreWords (words c)
 are_words c = record { count = refl; size = all_map (choice c.seed c.serial) (2 ^ 128) (λ k. stream_word_lt c.seed c.serial _) (range_with_len 0 16) }
+
+-- a client has a request exactly where it has a stage
+pub nothing_current : (s : State) (c : Client) → client_in s ≡ c → s.stage ≡ None → c.current ≡ None
+nothing_current s c view e = ap (λ (x : Client). x.current) (sym view) ∙ ap (option_map (λ (stage : Stage). current_in stage s.message.items)) e
+
+pub something_current : (s : State) (c : Client) (stage : Stage) → client_in s ≡ c → s.stage ≡ Some stage → c.current ≢ None
+something_current s c stage view e none =
+    let some = ap (λ (x : Client). x.current) (sym view) ∙ ap (option_map (λ (stage : Stage). current_in stage s.message.items)) e in
+    cc
 
 pub nothing_sent : (c : Client) → c.current ≡ None → sends c ≡ None
 unfolding sends

@@ -1,5 +1,5 @@
 //! A client over its state.
-ghost use Rattle.std.specs.Prelude.{◌≡◌, ◌≤◌, ℕ, List, length, take, drop, IfOk, IfErr, OnErr, Ok, Err, Some, None, option_map, is_none, if◌then◌else◌, false};
+ghost use Rattle.std.specs.Prelude.{◌≡◌, ◌≤◌, ◌↔◌, ℕ, List, length, take, drop, IfOk, IfErr, OnErr, Ok, Err, Some, None, option_map, is_none, if◌then◌else◌, false};
 ghost use Rattle.express_words.specs.Limits.{IsWidth};
 ghost use Rattle.mailbox_rules.specs.Requests.{Write};
 ghost use Rattle.step_rules.specs.Client.{opened_client, Step};
@@ -96,6 +96,7 @@ impl Client {
     /// the helper 1, and its length in bytes. None exactly where no request is current. The frame is the same each time.
     pub fn send(&self, out: &mut [u8]) -> Option<(u8, usize)>
         requires room { 8213 ≤ length out.old }
+        ensures none { (result ≡ None) ↔ (self.now.current ≡ None) }
         ensures sent { result ≡ option_map addressed (sends self.now) }
         ensures written { take (length (bytes_of (sends self.now))) out.new ≡ bytes_of (sends self.now) }
         ensures rest { let count = length (bytes_of (sends self.now)) in drop count out.new ≡ drop count out.old }
