@@ -27,7 +27,7 @@ pub enum AskFault {
     Spent,
     /// The client owns no box of this number.
     NoBox(u32),
-    /// A message has this many bytes.
+    /// The message hasn't the client's width, which is this many bytes.
     Width(u32),
     /// The client owns as many boxes as this, and has room for no more.
     OwnFull(u32),
