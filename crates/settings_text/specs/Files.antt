@@ -2,21 +2,14 @@
 use Rattle.std.specs.Prelude.{ℕ, ◌-◌, nat_le, ◌==◌, not, Bool, if◌then◌else◌, List, [], ◌∷◌, ◌++◌, length}
 use Rattle.std.specs.Prelude.{Option, Some, None}
 use Rattle.std.specs.List.{list_any}
-use Rattle.std.specs.Result.{result_ok}
-use Rattle.text_fields.specs.Fields.{◌>>=◌}
-use Rattle.text_fields.specs.Fields.{wanted}
+use Rattle.text_fields.specs.Fields.{◌>>=◌, any_bytes_of, wanted}
 use Rattle.file_carry.specs.Parts.{count_of}
-use Rattle.hex.specs.Hex.{decode_of}
 use Rattle.toml.specs.Data.{Data, as_str}
 use Rattle.settings_text.specs.Values.{number_in, address_in, list_within}
 
 -- a number below 2^63
 unfoldable pub id_in : Data → Option ℕ
 id_in = number_in 0 9223372036854775807
-
--- the bytes that twice as many digits spell
-unfoldable pub bytes_of : List ℕ → Option (List ℕ)
-bytes_of digits = result_ok (decode_of digits)
 
 -- how many messages of a width a file takes, if those are at most 4,096
 unfoldable pub few_parts : ℕ → List ℕ → Option ℕ
@@ -27,7 +20,7 @@ few_parts width file =
 unfoldable pub file_in : ℕ → Data → Option (List ℕ × ℕ)
 file_in width value = do
   digits ← as_str value
-  file ← bytes_of digits
+  file ← any_bytes_of digits
   count ← few_parts width file
   Some (file, count)
 

@@ -1,9 +1,8 @@
 //! Values in hexadecimal digits, of either case.
-ghost use Rattle.std.specs.Prelude.{◌≡◌, length, IfOk, IfSome};
-ghost use Rattle.text_fields.specs.Fields.{spelled_word, seed_of, message_of};
+ghost use Rattle.std.specs.Prelude.{◌≡◌, length, option_map, IfOk, IfSome};
+ghost use Rattle.text_fields.specs.Fields.{spelled_word, seed_of, any_bytes_of, message_of};
 
 use express_words::{List, NoMemory};
-use hex::FromHexError;
 use std::alloc::Global;
 
 /// An address in 32 digits, the most significant first.
@@ -20,18 +19,29 @@ pub fn seed_of(digits: &str) -> Option<[u8; 32]>
     text_fields::seed_of(digits.as_bytes())
 }
 
+// The bytes that were found, as a list.
+fn listed(found: Option<Vec<u8>>) -> Option<List<u8>>
+    ensures { result ≡ option_map (λ bytes. bytes.items) found }
+{
+    match found {
+        Some(bytes) => Some(List::from_vec(bytes)),
+        None => None,
+    }
+}
+
+/// Any bytes, in twice as many digits.
+pub fn any_bytes_of(alloc: Global, digits: &str) -> Result<Option<List<u8>>, NoMemory>
+    ensures { IfOk result (λ bytes. bytes ≡ any_bytes_of digits.now) }
+{
+    let found = text_fields::any_bytes_of(alloc, digits.as_bytes())?;
+    Ok(listed(found))
+}
+
 /// A message of a width, in twice as many digits.
-#[tactic(auto, using(crate::proofs::DigitLaws::decoded_length), unfolding(text_fields::specs::Fields::message_of))]
 pub fn message_of(alloc: Global, width: u32, digits: &str) -> Result<Option<List<u8>>, NoMemory>
     ensures value { IfOk result (λ message. message ≡ message_of width digits.now) }
     ensures width { IfOk result (λ message. IfSome message (λ bytes. length bytes ≡ width)) }
 {
-    if digits.len() != 2 * width as usize {
-        return Ok(None);
-    }
-    match hex::decode(alloc, digits) {
-        Ok(message) => Ok(Some(List::from_vec(message))),
-        Err(FromHexError::OutOfMemory) => Err(NoMemory),
-        Err(_) => Ok(None),
-    }
+    let found = text_fields::message_of(alloc, width, digits.as_bytes())?;
+    Ok(listed(found))
 }

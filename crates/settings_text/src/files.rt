@@ -3,16 +3,16 @@ ghost use Rattle.std.specs.Prelude.{◌≡◌, ◌≢◌, ◌<◌, ◌≤◌, �
 ghost use Rattle.std.specs.Prelude.{IfOk, IfSome};
 ghost use Rattle.file_carry.specs.Parts.{IsPartWidth, count_of};
 ghost use Rattle.toml.specs.View.{view, table_view};
-ghost use Rattle.settings_text.specs.Files.{id_in, bytes_of, few_parts, file_in, addresses_on, addresses_in};
+ghost use Rattle.settings_text.specs.Files.{id_in, few_parts, file_in, addresses_on, addresses_in};
 ghost use Rattle.settings_text.specs.Judging.{Gives};
 ghost use Rattle.settings_text.specs.Keys.{needed};
 
+use crate::digits::any_bytes_of;
 use crate::faults::wrong_key;
 use crate::values::{address_in, list_within, value_at};
 use express_texts::TextFault;
 use express_words::{List, NoMemory};
 use file_carry::parts;
-use hex::FromHexError;
 use indexmap::IndexSet;
 use std::alloc::Global;
 use toml::{Table, Value};
@@ -45,18 +45,6 @@ pub fn id(alloc: Global, table: &Table) -> Result<u64, TextFault>
     }
 }
 
-// The bytes that twice as many digits spell.
-#[tactic(auto, unfolding(crate::specs::Files::bytes_of))]
-fn bytes_of(alloc: Global, digits: &str) -> Result<Option<List<u8>>, NoMemory>
-    ensures { IfOk result (λ bytes. bytes ≡ bytes_of digits.now) }
-{
-    match hex::decode(alloc, digits) {
-        Ok(bytes) => Ok(Some(List::from_vec(bytes))),
-        Err(FromHexError::OutOfMemory) => Err(NoMemory),
-        Err(_) => Ok(None),
-    }
-}
-
 // How many messages of this width a file takes, if those aren't too many.
 fn count_in(width: u32, file: &[u8]) -> Option<u32>
     requires { IsPartWidth width }
@@ -81,7 +69,7 @@ fn file_in(alloc: Global, width: u32, value: &Value) -> Result<Option<(List<u8>,
     let Some(digits) = value.as_str() else {
         return Ok(None);
     };
-    let Some(file) = bytes_of(alloc, digits)? else {
+    let Some(file) = any_bytes_of(alloc, digits)? else {
         return Ok(None);
     };
     match count_in(width, file.as_slice()) {
