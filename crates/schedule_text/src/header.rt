@@ -4,6 +4,7 @@ ghost use Rattle.schedule_text.specs.Grammar.{header_of};
 
 use crate::schedule::Header;
 use express_words::Settings;
+use express_words::limits::{LEAST_WIDTH, MOST_BOXES, MOST_LANES, MOST_WIDTH, MOST_WINDOW};
 use text_fields::{after, number_at, seed_of};
 
 /// The header that a line spells.
@@ -12,16 +13,16 @@ pub fn header_of(line: &[u8]) -> Option<Header>
     ensures { result ≡ header_of line.now }
 {
     let rest = after(b"express 1 ", line)?;
-    let (width, rest) = number_at(16, 4096, rest)?;
+    let (width, rest) = number_at(u64::from(LEAST_WIDTH), u64::from(MOST_WIDTH), rest)?;
     if width % 16 != 0 {
         return None;
     }
     let rest = after(b" ", rest)?;
-    let (boxes, rest) = number_at(1, 4096, rest)?;
+    let (boxes, rest) = number_at(1, u64::from(MOST_BOXES), rest)?;
     let rest = after(b" ", rest)?;
-    let (lanes, rest) = number_at(1, 256, rest)?;
+    let (lanes, rest) = number_at(1, u64::from(MOST_LANES), rest)?;
     let rest = after(b" ", rest)?;
-    let (window, rest) = number_at(1, 32, rest)?;
+    let (window, rest) = number_at(1, u64::from(MOST_WINDOW), rest)?;
     let rest = after(b" ", rest)?;
     let seed = seed_of(rest)?;
     let settings = Settings {

@@ -5,16 +5,17 @@ ghost use Rattle.schedule_text.specs.Lanes.{lane_in, client_of, foreign_by, is_l
 ghost use Rattle.schedule_text.specs.Grammar.{is_apart, may_follow};
 
 use crate::schedule::Event;
+use express_words::limits::MOST_LANES;
 use wire_frames::{is_from_client, whole};
 
 // A client's lane is below this.
-const MOST_LANES: usize = 256;
+const LANES: usize = MOST_LANES as usize;
 
 /// A mark for each lane that a client may have.
 #[derive(Drop)]
 pub struct Lanes {
-    pub used: [bool; MOST_LANES],
-    pub foreign: [bool; MOST_LANES],
+    pub used: [bool; LANES],
+    pub foreign: [bool; LANES],
 }
 
 // The lane of the one frame of a client that the bytes exactly are.
@@ -99,8 +100,8 @@ impl Lanes {
         ensures { IsTableOf result [] }
     {
         Lanes {
-            used: [false; MOST_LANES],
-            foreign: [false; MOST_LANES],
+            used: [false; LANES],
+            foreign: [false; LANES],
         }
     }
 

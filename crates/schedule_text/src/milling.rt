@@ -18,8 +18,8 @@ const COPIES: usize = 32;
 
 const SETTINGS: Settings = Settings {
     width: 1024,
-    boxes: 64,
-    lanes: 20,
+    boxes: BOXES as u32,
+    lanes: CLIENTS,
     window: 1,
 };
 
