@@ -15,6 +15,7 @@ ghost use Rattle.text_fields.specs.Lines.{lines_of};
 use crate::fault::TextFault;
 use crate::fields::{key_line, value_line};
 use crate::lines::next_line;
+use express_words::limits::{LEAST_WIDTH, MOST_WIDTH};
 use express_words::{List, NoMemory};
 use std::alloc::Global;
 use text_fields::{after, first_line, message_of, number_at, seed_of, word_at};
@@ -66,7 +67,7 @@ fn game_header_of(line: &[u8]) -> Option<GameHeader>
     let rest = after(b"cloak 1 ", line)?;
     let (viewer, rest) = number_at(0, 1, rest)?;
     let rest = after(b" ", rest)?;
-    let (width, rest) = number_at(16, 4096, rest)?;
+    let (width, rest) = number_at(u64::from(LEAST_WIDTH), u64::from(MOST_WIDTH), rest)?;
     if width % 16 != 0 {
         return None;
     }
