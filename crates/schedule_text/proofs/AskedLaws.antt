@@ -7,7 +7,7 @@ use Rattle.hex.proofs.HexLemmas.{decode_sized-ok}
 use Rattle.express_words.specs.declared.settings.Settings.{Settings}
 use Rattle.schedule_text.specs.declared.schedule.Asked.{Asked}
 use Rattle.schedule_text.specs.declared.schedule.Asked.TheVariants.{Register, Write, Read, Retire}
-use Rattle.schedule_text.specs.declared.schedule.TheConstants.{MOST_OWN}
+use Rattle.text_fields.specs.declared.limits.TheConstants.{MOST_OWN}
 use Rattle.text_fields.specs.Fields.{◌>>=◌, after, spelled_word, word_at, message_of}
 use Rattle.text_fields.specs.Numbers.{last_number}
 use Rattle.text_fields.specs.Spelling.{SpellsWord}

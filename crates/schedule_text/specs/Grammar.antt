@@ -9,7 +9,8 @@ use Rattle.schedule_text.specs.declared.schedule.Event.{Event}
 use Rattle.schedule_text.specs.declared.schedule.Event.TheVariants.{Ask, Send, Tick, Deliver, Show, Finish}
 use Rattle.schedule_text.specs.declared.schedule.Event.TheVariants.{Inject}
 use Rattle.schedule_text.specs.declared.schedule.Schedule.{Schedule}
-use Rattle.schedule_text.specs.declared.schedule.TheConstants.{MOST_EVENTS, MOST_OWN}
+use Rattle.schedule_text.specs.declared.schedule.TheConstants.{MOST_EVENTS}
+use Rattle.text_fields.specs.declared.limits.TheConstants.{MOST_OWN}
 use Rattle.text_fields.specs.Fields.{◌>>=◌, after, end, wanted, spelled_word, word_at, message_of, seed_of}
 use Rattle.text_fields.specs.Numbers.{number_at, last_number}
 use Rattle.text_fields.specs.Lines.{lines_of}

@@ -11,7 +11,8 @@ use Rattle.schedule_text.specs.declared.schedule.Event.{Event}
 use Rattle.schedule_text.specs.declared.schedule.Event.TheVariants.{Ask, Send, Tick, Deliver, Show, Finish}
 use Rattle.schedule_text.specs.declared.schedule.Event.TheVariants.{Inject}
 use Rattle.schedule_text.specs.declared.schedule.Schedule.{Schedule}
-use Rattle.schedule_text.specs.declared.schedule.TheConstants.{MOST_EVENTS, MOST_OWN}
+use Rattle.schedule_text.specs.declared.schedule.TheConstants.{MOST_EVENTS}
+use Rattle.text_fields.specs.declared.limits.TheConstants.{MOST_OWN}
 
 -- An address is a number of 128 bits, and a message has the width of the settings.
 abbrev pub IsAskable : ℕ → Asked → Type 0

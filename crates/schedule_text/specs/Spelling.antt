@@ -13,7 +13,8 @@ use Rattle.schedule_text.specs.declared.schedule.Event.TheVariants.{Ask, Send, T
 use Rattle.schedule_text.specs.declared.schedule.Event.TheVariants.{Inject}
 use Rattle.schedule_text.specs.declared.schedule.Header.{Header}
 use Rattle.schedule_text.specs.declared.schedule.Schedule.{Schedule}
-use Rattle.schedule_text.specs.declared.schedule.TheConstants.{MOST_EVENTS, MOST_OWN}
+use Rattle.schedule_text.specs.declared.schedule.TheConstants.{MOST_EVENTS}
+use Rattle.text_fields.specs.declared.limits.TheConstants.{MOST_OWN}
 use Rattle.schedule_text.specs.Lanes.{MayFollow}
 use Rattle.text_fields.specs.Spelling.{SpellsWord}
 use Rattle.text_fields.specs.Lines.{AreLines}

@@ -18,4 +18,4 @@ pub use laws::{foreign_as_spelled, lanes_are_apart, read_exactly};
 pub use milling::mill;
 pub use printing::print;
 pub use reader::read;
-pub use schedule::{Asked, Event, Header, MOST_EVENTS, MOST_OWN, Schedule};
+pub use schedule::{Asked, Event, Header, MOST_EVENTS, Schedule};

@@ -7,9 +7,6 @@ use std::alloc::Global;
 /// A schedule has at most so many events.
 pub const MOST_EVENTS: usize = 20_000;
 
-/// A read or a retire names one of the boxes that its client got, up to this one, counted from 0.
-pub const MOST_OWN: u32 = 4_095;
-
 /// The settings of all, and the seed from which servers and clients draw.
 #[derive(Clone, Copy, Debug, PartialEq, Eq)]
 pub struct Header {

@@ -13,7 +13,7 @@ use express_words::{List, NoMemory};
 use std::alloc::Global;
 use toml::{Table, Value};
 
-/// A box's number is at most this, and so is the place of an own box.
+/// A box's number is at most this.
 pub const LAST_BOX: u32 = 4095;
 
 /// A box of an earlier run, and the serial of the request by which it was registered.

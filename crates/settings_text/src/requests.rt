@@ -9,11 +9,11 @@ ghost use Rattle.settings_text.specs.Values.{at_key, message_in, every};
 
 use crate::digits::message_of;
 use crate::faults::wrong_key;
-use crate::owned::LAST_BOX;
 use crate::values::{address_at, list_within, number_at, text_at, value_at};
 use express_texts::TextFault;
 use express_words::{List, NoMemory};
 use std::alloc::Global;
+use text_fields::MOST_OWN;
 use toml::{Table, Value};
 
 /// A client makes at most so many requests.
@@ -103,8 +103,8 @@ fn asking_of(
     match kind {
         Kind::Register => Ok(address_at(table, "address").map(Asking::Register)),
         Kind::Write => write_of(alloc, width, table),
-        Kind::Read => Ok(number_at(table, "own", 0, LAST_BOX).map(Asking::Read)),
-        Kind::Retire => Ok(number_at(table, "own", 0, LAST_BOX).map(Asking::Retire)),
+        Kind::Read => Ok(number_at(table, "own", 0, MOST_OWN).map(Asking::Read)),
+        Kind::Retire => Ok(number_at(table, "own", 0, MOST_OWN).map(Asking::Retire)),
     }
 }
 
