@@ -8,7 +8,7 @@ ghost use Rattle.settings_text.specs.Keys.{needed};
 ghost use Rattle.settings_text.specs.Owned.{IsOwned};
 ghost use Rattle.settings_text.specs.Tables.{judged};
 
-use crate::account::{Account, account_of};
+use crate::account::{Account, LAST_LANE, account_of};
 use crate::faults::wrong_key;
 use crate::files::{addresses, file, id};
 use crate::owned::OwnedBox;
@@ -154,7 +154,7 @@ fn carry_with(account: Account, job: CarryJob) -> CarrySettings
 #[tactic(auto, unfolding(crate::specs::Carry::carry_of))]
 fn carry_of(alloc: Global, table: &Table) -> Result<CarrySettings, TextFault>
     ensures value { Gives (λ s. s) result (carry_of (table_view table.now)) }
-    ensures lane { IfOk result (λ s. s.lane ≤ 255) }
+    ensures lane { IfOk result (λ s. s.lane ≤ LAST_LANE) }
     ensures width { IfOk result (λ s. IsPartWidth s.width) }
     ensures some { IfOk result (λ s. 1 ≤ s.boxes) }
     ensures few { IfOk result (λ s. s.boxes ≤ 4096) }
@@ -175,7 +175,7 @@ fn carry_of(alloc: Global, table: &Table) -> Result<CarrySettings, TextFault>
 /// fetch has none. Other keys aren't looked at. The key is `toml` where the text isn't TOML.
 pub fn read_carry(alloc: Global, text: &[u8]) -> Result<CarrySettings, TextFault>
     ensures judges { Gives (λ s. s) result (judged carry_of text.now) }
-    ensures lane { IfOk result (λ s. s.lane ≤ 255) }
+    ensures lane { IfOk result (λ s. s.lane ≤ LAST_LANE) }
     ensures width { IfOk result (λ s. IsPartWidth s.width) }
     ensures some { IfOk result (λ s. 1 ≤ s.boxes) }
     ensures few { IfOk result (λ s. s.boxes ≤ 4096) }

@@ -8,7 +8,7 @@ ghost use Rattle.settings_text.specs.Owned.{IsOwned};
 ghost use Rattle.settings_text.specs.Requests.{IsAsking};
 ghost use Rattle.settings_text.specs.Tables.{judged};
 
-use crate::account::{Account, account_of};
+use crate::account::{Account, LAST_LANE, account_of};
 use crate::owned::OwnedBox;
 use crate::requests::{Asking, MOST_REQUESTS, requests};
 use crate::tables::table_of;
@@ -70,7 +70,7 @@ fn client_with(account: Account, requests: List<Asking>) -> ClientSettings
 #[tactic(auto, unfolding(crate::specs::Client::client_of))]
 fn client_of(alloc: Global, table: &Table) -> Result<ClientSettings, TextFault>
     ensures value { Gives (λ s. s) result (client_of (table_view table.now)) }
-    ensures lane { IfOk result (λ s. s.lane ≤ 255) }
+    ensures lane { IfOk result (λ s. s.lane ≤ LAST_LANE) }
     ensures width { IfOk result (λ s. IsWidth s.width) }
     ensures some { IfOk result (λ s. 1 ≤ s.boxes) }
     ensures few { IfOk result (λ s. s.boxes ≤ 4096) }
@@ -92,7 +92,7 @@ fn client_of(alloc: Global, table: &Table) -> Result<ClientSettings, TextFault>
 /// where the text isn't TOML.
 pub fn read_client(alloc: Global, text: &[u8]) -> Result<ClientSettings, TextFault>
     ensures judges { Gives (λ s. s) result (judged client_of text.now) }
-    ensures lane { IfOk result (λ s. s.lane ≤ 255) }
+    ensures lane { IfOk result (λ s. s.lane ≤ LAST_LANE) }
     ensures width { IfOk result (λ s. IsWidth s.width) }
     ensures some { IfOk result (λ s. 1 ≤ s.boxes) }
     ensures few { IfOk result (λ s. s.boxes ≤ 4096) }
