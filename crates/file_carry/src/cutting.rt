@@ -7,6 +7,9 @@ use express_words::limits::{MOST_BOXES, MOST_WIDTH};
 /// A part begins with so many bytes that aren't the file's.
 pub const HEADER: usize = 16;
 
+/// A message that carries a part of a file has at least so many bytes.
+pub const LEAST_PART: u32 = 32;
+
 /// How many parts a file of `length` bytes has in messages of `width` bytes: None where the width isn't a
 /// multiple of 16 from 32 to 4,096, or where there are more than 4,096 parts.
 #[tactic(auto, unfolding(crate::specs::Parts::count_of))]
@@ -15,10 +18,10 @@ pub fn parts(length: u32, width: u32) -> Option<u32>
     ensures count { IfSome result (λ count. count ≡ count_of length (width - 16)) }
     ensures least { IfSome result (λ count. 1 ≤ count) }
 {
-    if !((32..=MOST_WIDTH).contains(&width) && width % 16 == 0) {
+    if !((LEAST_PART..=MOST_WIDTH).contains(&width) && width % 16 == 0) {
         return None;
     }
-    let count = length.div_ceil(width - 16).max(1);
+    let count = length.div_ceil(width - HEADER as u32).max(1);
     if count <= MOST_BOXES {
         Some(count)
     } else {

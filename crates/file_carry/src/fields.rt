@@ -2,6 +2,8 @@
 ghost use Rattle.std.specs.Prelude.{◌≡◌, ◌+◌, ◌-◌, ◌<◌, ◌≤◌, length, drop, IsTrue};
 ghost use Rattle.file_carry.specs.Boxes.{id_in, index_in, count_in, used_in, is_zeros, is_use, is_part};
 
+use crate::cutting::HEADER;
+
 /// The id of the file whose part this is: bytes 0 to 7, big-endian.
 pub fn id_in(bytes: &[u8]) -> u64
     requires { 16 ≤ length bytes.now }
@@ -63,8 +65,8 @@ pub fn is_part(id: u64, count: u16, index: u32, bytes: &[u8]) -> bool
         && id_in(bytes) == id
         && u32::from(index_in(bytes)) == index
         && count_in(bytes) == count
-        && is_use(bytes.len() - 16, index, count, used_in(bytes))
-        && is_zeros(&bytes[14..16])
+        && is_use(bytes.len() - HEADER, index, count, used_in(bytes))
+        && is_zeros(&bytes[14..HEADER])
         && is_rest_zero(bytes)
 }
 
@@ -74,7 +76,7 @@ fn is_rest_zero(bytes: &[u8]) -> bool
     requires { 16 ≤ length bytes.now }
     ensures { result ≡ is_zeros (drop (used_in bytes.now) (drop 16 bytes.now)) }
 {
-    let rest = &bytes[16..];
+    let rest = &bytes[HEADER..];
     let used = usize::from(used_in(bytes)).min(rest.len());
     is_zeros(&rest[used..])
 }

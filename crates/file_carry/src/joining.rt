@@ -3,6 +3,7 @@ ghost use Rattle.std.specs.Prelude.{◌≡◌, ◌+◌, ◌-◌, ◌*◌, ◌<�
 ghost use Rattle.file_carry.specs.Boxes.{used_in, content_in, joined, join};
 ghost use Rattle.file_carry.specs.Joining.{rows};
 
+use crate::cutting::HEADER;
 use crate::fields::{count_in, id_in, is_part, used_in};
 
 /// Joins the first `taken` boxes into `file`, or names the first one that is missing.
@@ -79,7 +80,7 @@ fn append_content(part: &[u8], file: &mut Vec<u8>)
     ensures len { vec_len file.new ≤ vec_len file.old + length part.now }
     ensures capacity { vec_capacity file.old ≤ vec_capacity file.new }
 {
-    let content = &part[16..];
+    let content = &part[HEADER..];
     let used = usize::from(used_in(part));
     let Ok(()) = file.extend_from_slice(&content[..used]) else {
         unreachable!()

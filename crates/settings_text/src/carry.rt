@@ -16,11 +16,9 @@ use crate::tables::table_of;
 use crate::values::text_at;
 use express_texts::TextFault;
 use express_words::{List, Text};
+use file_carry::LEAST_PART;
 use std::alloc::Global;
 use toml::Table;
-
-/// A message that carries a part of a file has at least so many bytes.
-pub const LEAST_PART: u32 = 32;
 
 /// What a carrier does.
 #[derive(Drop)]

@@ -16,7 +16,7 @@ mod tables;
 mod values;
 
 pub use account::LAST_LANE;
-pub use carry::{CarryJob, CarrySettings, LEAST_PART, read_carry};
+pub use carry::{CarryJob, CarrySettings, read_carry};
 pub use client::{ClientSettings, read_client};
 pub use express_texts::TextFault;
 pub use owned::OwnedBox;
