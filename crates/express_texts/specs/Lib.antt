@@ -1,4 +1,5 @@
 pub mod Batch
+pub mod FaultText
 pub mod Fields
 pub mod GameJudging
 pub mod GameLines

@@ -1,5 +1,6 @@
 //! Why a text isn't read.
-ghost use Rattle.std.specs.Prelude.{◌≡◌};
+ghost use Rattle.std.specs.Prelude.{◌≡◌, Some};
+ghost use Rattle.express_texts.specs.FaultText.{fault_text};
 ghost use Rattle.express_texts.specs.declared.fault.TextFault.TheVariants.{NoMemory};
 
 use express_words::NoMemory as WantOfMemory;
@@ -16,7 +17,10 @@ pub enum TextFault {
     NoMemory,
 }
 
+/// The words that are printed of it.
 impl fmt::Display for TextFault {
+    ghost output = { λ fault. Some (fault_text fault) };
+
     fn fmt<W: fmt::Write>(&self, f: &mut fmt::Formatter<W>) -> fmt::Result {
         match self {
             TextFault::Wrong(line) => write!(f, "bad line {line}"),

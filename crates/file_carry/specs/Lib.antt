@@ -1,4 +1,5 @@
 pub mod Boxes
+pub mod FaultText
 pub mod Joining
 pub mod Laws
 pub mod Parts

@@ -1,8 +1,9 @@
 //! Boxes that are taken one after the other, and then joined.
-ghost use Rattle.std.specs.Prelude.{◌≡◌, ◌<◌, ◌≤◌, ◌++◌, [], ◌∷◌, length, slice_index_or, Ok, Err, IfOk, IfErr};
+ghost use Rattle.std.specs.Prelude.{◌≡◌, ◌<◌, ◌≤◌, ◌++◌, [], ◌∷◌, length, slice_index_or, Some, Ok, Err, IfOk, IfErr};
 ghost use Rattle.std.specs.Borrow.{sem};
 ghost use Rattle.file_carry.specs.Parts.{IsPartWidth};
 ghost use Rattle.file_carry.specs.Boxes.{join};
+ghost use Rattle.file_carry.specs.FaultText.{fault_text};
 
 use crate::joining::{join_into, row};
 use express_words::NoMemory;
@@ -14,7 +15,10 @@ use std::marker::Model;
 #[derive(Clone, Copy, Debug, PartialEq, Eq)]
 pub struct Missing(pub u32);
 
+/// The words that are printed of it.
 impl fmt::Display for Missing {
+    ghost output = { λ missing. Some (fault_text missing) };
+
     fn fmt<W: fmt::Write>(&self, f: &mut fmt::Formatter<W>) -> fmt::Result {
         write!(f, "box {} has no part of the file", self.0)
     }
