@@ -16,6 +16,7 @@ pub const MOST_PAIRS: usize = 20_000;
 /// The closings of both servers, write by write, and the seed by which they are judged.
 #[derive(Drop)]
 pub struct BatchPairs {
+    /// What their judging is drawn from.
     pub seed: [u8; 32],
     /// Server 0's closings.
     pub zero: Vec<Closing>,

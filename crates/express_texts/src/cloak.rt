@@ -26,15 +26,20 @@ pub const MOST_ADDRESSES: usize = 4096;
 /// Where a write goes, and what it puts there.
 #[derive(Drop)]
 pub struct AimText {
+    /// One of the registered addresses.
     pub address: u128,
+    /// As many bytes as the game's width.
     pub message: List<u8>,
 }
 
 /// What the first line of a game says.
 #[derive(Clone, Copy, Debug, PartialEq, Eq)]
 pub struct GameHeader {
+    /// The server that looks: 0 or 1.
     pub viewer: u8,
+    /// The bytes of a message.
     pub width: u32,
+    /// What the choices of the first write are drawn from.
     pub seed: [u8; 32],
 }
 

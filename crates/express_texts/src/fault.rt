@@ -14,6 +14,7 @@ pub enum TextFault {
     Wrong(u32),
     /// The first key of a text of settings that is missing or breaks a rule.
     WrongKey(String),
+    /// No memory was found for what is read, or for a key's name.
     NoMemory,
 }
 

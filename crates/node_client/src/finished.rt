@@ -9,6 +9,7 @@ use std::alloc::Global;
 /// What a client is told of a request.
 #[derive(Clone, Copy, Debug, PartialEq, Eq)]
 pub enum Told {
+    /// It came to an end at the servers, with this outcome.
     Done(Outcome),
     /// The client owns no box of this number, and sent nothing.
     NoOwnBox(u32),

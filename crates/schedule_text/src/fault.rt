@@ -11,6 +11,7 @@ use std::fmt;
 pub enum ReadFault {
     /// The first line that isn't of the grammar, counted from 1.
     BadLine(u32),
+    /// No memory was found for what is read.
     NoMemory,
 }
 

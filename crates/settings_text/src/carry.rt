@@ -25,7 +25,9 @@ use toml::Table;
 pub enum CarryJob {
     /// Sends the parts of a file, one to each address.
     Send {
+        /// The file's id, below 2^63.
         id: u64,
+        /// The file's bytes, of at most 4,096 parts.
         file: List<u8>,
         /// As many as the file has parts, all different.
         addresses: List<u128>,
@@ -53,6 +55,7 @@ pub struct CarrySettings {
     pub seed: Option<[u8; 32]>,
     /// The boxes that it got in earlier runs.
     pub owned: List<OwnedBox>,
+    /// Whether it sends a file or fetches one.
     pub job: CarryJob,
 }
 

@@ -19,7 +19,9 @@ pub const LAST_BOX: u32 = 4095;
 /// A box of an earlier run, and the serial of the request by which it was registered.
 #[derive(Clone, Copy, Debug, PartialEq, Eq)]
 pub struct OwnedBox {
+    /// At most 4,095.
     pub box_number: u32,
+    /// At least 1.
     pub serial: u32,
 }
 

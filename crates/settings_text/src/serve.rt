@@ -35,6 +35,7 @@ pub struct ServeSettings {
     pub listen: Text,
     /// Where a leader's helper listens; empty for a helper.
     pub peer: Text,
+    /// What both servers and all clients share.
     pub settings: Settings,
     /// How many connections it takes before it ends.
     pub connections: u32,
