@@ -11,4 +11,5 @@ pub mod Serving
 pub mod BatchText
 pub mod CloakLemmas
 pub mod MillText
+pub mod MillEvents
 pub mod Seeding

@@ -1,10 +1,15 @@
 -- The laws that stand on the top call whatever its words are: what holds of every schedule, batch, game and
 -- file.
+use Rattle.std.specs.Prelude.{ℕ, ◌≤◌, List}
+use Rattle.schedule_text.specs.Mill.{mill_schedule}
+use Rattle.schedule_text.specs.Rules.{KeepsRules}
+use Rattle.schedule_text.specs.Spelling.{SpellsSchedule}
+use Rattle.schedule_text.specs.declared.schedule.Schedule.{Schedule}
 use Rattle.run_rules.specs.Follows.{Follows}
 use Rattle.run_rules.specs.Plain.{BoxesArePlain, JournalInOrder, JournalIsPlain, JournalIsTold}
 use Rattle.run_rules.specs.Plain.{OutcomesArePlain, SharesAreFolds}
 use Rattle.run_rules.specs.Soundness.{BadWritesAreCaught, SettledAsTheyPass}
-use Rattle.replay_world.specs.Laws.{OfSchedules, RequestsAreTold}
+use Rattle.replay_world.specs.Laws.{AreFromClients, OfSchedules, RequestsAreTold}
 use Rattle.replay_world.specs.Strangers.{FinishesAnswer, OfEverySchedule, OthersAreTold, SchedulesFit}
 use Rattle.replay_world.specs.Strangers.{StrangersAreForeign}
 use Rattle.file_table.specs.Laws.{AnswersJoin, UnwrittenIsMissing}
@@ -14,6 +19,12 @@ use Rattle.write_hiding.specs.Laws.{ChoicesStay, ViewsStay, MovesReturn, Distinc
 use Rattle.write_hiding.specs.Laws.{WritesAreChoices, WritesAreSeen}
 
 pub record Laws : Type 0 where
+  -- A schedule that a text spells keeps the rules: so each law of schedules, below, speaks of what a replay
+  -- prints.
+  pub spelled_keep_rules : (text : List ℕ) (s : Schedule) → SpellsSchedule s text → KeepsRules s
+  -- So does a mill's schedule, in which no bytes come from outside.
+  pub mills_keep_rules : (n : ℕ) → n ≤ 5000
+      → KeepsRules (mill_schedule n) × AreFromClients (mill_schedule n).events
   -- Whatever frames of a schedule of clients are lost, repeated or reordered: its run is the protocol's
   -- machine with content; each outcome is what the plain table of mailboxes gives at its request's place in
   -- the journal, so a message that an owner decodes is the one that stands in the table there.

@@ -1,7 +1,12 @@
+use Rattle.schedule_text.proofs.MillLaws.{mill_keeps}
+use Rattle.schedule_text.proofs.RuleLaws.{keeps_rules}
+use Rattle.express_cli.proofs.MillEvents.{mill_from_clients}
 use Rattle.express_cli.proofs.promises.laws.Goals as goal
 
 pub returns : goal.returns
 returns c = record {
+  spelled_keep_rules = λ text s spells. keeps_rules s text spells;
+  mills_keep_rules = λ n low. (mill_keeps n low, mill_from_clients n);
   follows_protocol = c.schedules_hold.ensures.follows;
   outcomes_are_plain = c.schedules_hold.ensures.outcomes;
   journal_is_plain = c.schedules_hold.ensures.journal;
