@@ -11,7 +11,7 @@ use std::alloc::{AllocError, Global};
 pub const USAGE: &str =
     "usage: express replay, serve, client, cloak, carry, batch or mill NUMBER\n";
 
-/// The source failed before the input's end. Status 5.
+/// The source failed before the input's end. Status 4.
 pub const READ_FAULT: &str = "read fault\n";
 
 /// An allocation failed. Status 7.
