@@ -1,6 +1,7 @@
 -- What a run that went well comes to, where its source tells its bytes.
-use Rattle.std.proofs.Common.{◌≡◌, ℕ, ◌<◌, ◌≤◌, Bool, List, length, Option, Some, None, IfSome, inl, inr, arith, refl, ◌∙◌, ap, subst}
+use Rattle.std.proofs.Common.{◌≡◌, ◌≢◌, ℕ, ◌<◌, ◌≤◌, Bool, List, length, Option, Some, None, IfSome, inl, inr, arith, refl, ◌∙◌, ap, subst}
 use Rattle.clap.specs.Words.{Text}
+use Rattle.express_words.specs.Causes.{Rose}
 use Rattle.express_words.specs.Streams.{Stream, Took}
 use Rattle.schedule_text.specs.Spelling.{SpellsSchedule}
 use Rattle.schedule_text.specs.declared.schedule.Schedule.{Schedule}
@@ -53,20 +54,20 @@ mill_done words from to net text n asks (inl work) = absurd (no_mill words work.
 mill_done words from to net text n asks (inr (inl talk)) = absurd (no_net_mill words talk.0 n talk.1 asks)
 mill_done words from to net text n asks (inr (inr mill)) = (mill.2, mill.3 ∙ ap mill_text (same_mill words mill.0 n mill.1 asks))
 
--- what a mill that ran well wrote
+-- what a mill wrote whose sink didn't fail and that found memory
 pub mills : (words : List Text) (from to : Option Stream) (c d : ℕ) (net : Around) (old new : Option (List ℕ)) (before now : ℕ) (end : End) (n : ℕ)
-    → Prints (RunMay words from to c d net) old new before now end → AsksMill words n → RanWell c d before now (status_of end)
+    → Prints (RunMay words from to c d net) old new before now end → AsksMill words n → ¬ Rose before now → status_of end ≢ 7
     → (status_of end ≡ 0) × (to ≡ from) × Took old new (mill_text n)
-mills words from to c d net old new before now ends.Done n h asks well =
+mills words from to c d net old new before now ends.Done n h asks sink memory =
     let did = mill_done words from to net h.0 n asks h.1 in (refl, did.0, took_as old new _ _ did.1 h.2)
-mills words from to c d net old new before now ends.Usage n h asks well = absurd (h.1.0.mill n asks)
-mills words from to c d net old new before now (ends.BadLine m) n h asks well = absurd (no_mill words h.1.0 n h.1.1 asks)
-mills words from to c d net old new before now ends.ReadFault n h asks well = absurd (well.source h.1.1)
-mills words from to c d net old new before now ends.WriteFault n h asks well = absurd (well.sink h.0)
-mills words from to c d net old new before now ends.OutOfMemory n h asks well = absurd (well.memory refl)
-mills words from to c d net old new before now ends.BadKey n h asks well = absurd (no_net_mill words h.1.0 n h.1.1 asks)
-mills words from to c d net old new before now ends.NetFault n h asks well = absurd (no_net_mill words h.1.0 n h.1.1 asks)
-mills words from to c d net old new before now ends.TooLong n h asks well = absurd (some_no_mill words n h.1.0 asks)
+mills words from to c d net old new before now ends.Usage n h asks sink memory = absurd (h.1.0.mill n asks)
+mills words from to c d net old new before now (ends.BadLine m) n h asks sink memory = absurd (no_mill words h.1.0 n h.1.1 asks)
+mills words from to c d net old new before now ends.ReadFault n h asks sink memory = absurd (some_no_mill words n h.1.0 asks)
+mills words from to c d net old new before now ends.WriteFault n h asks sink memory = absurd (sink h.0)
+mills words from to c d net old new before now ends.OutOfMemory n h asks sink memory = absurd (memory refl)
+mills words from to c d net old new before now ends.BadKey n h asks sink memory = absurd (no_net_mill words h.1.0 n h.1.1 asks)
+mills words from to c d net old new before now ends.NetFault n h asks sink memory = absurd (no_net_mill words h.1.0 n h.1.1 asks)
+mills words from to c d net old new before now ends.TooLong n h asks sink memory = absurd (some_no_mill words n h.1.0 asks)
 
 -- what a command that ran well wrote of bytes that aren't bad
 writes : Reads → (words : List Text) (s : Stream) (to : Option Stream) (c d : ℕ) (net : Around) (old new : Option (List ℕ)) (before now : ℕ) (end : End) (command : Command)

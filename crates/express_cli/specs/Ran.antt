@@ -68,8 +68,9 @@ pub record Ran (words : List Text) (old new : Outside) (net : Around) (status : 
       → (status ≡ 3) × Wrote old new (bad_line n))
   pub refuses_too_long : AskSome words → Well old new status
       → IfSome old.content (λ s. most_bytes < length s.left → (status ≡ 8) × Wrote old new too_long_text)
-  -- Where the mill of a number is asked for, the text of its run is written, and the input isn't read.
-  pub mill : (n : ℕ) → AsksMill words n → Well old new status
+  -- Where the mill of a number is asked for, the sink doesn't fail and memory is found, the text of its run is
+  -- written, whatever the input is, which isn't read.
+  pub mill : (n : ℕ) → AsksMill words n → ¬ Rose old.output_faults new.output_faults → status ≢ 7
       → (status ≡ 0) × (new.content ≡ old.content) × Wrote old new (mill_text n)
   -- Likewise a server of the settings listens, and serves as many connections as they say with one core; the
   -- text tells how many had each answer. Status 6 comes where the listen or an accept failed, which ends the
