@@ -1,6 +1,6 @@
 //! The top call.
 ghost use Rattle.std.specs.Prelude.{◌≡◌, ◌≢◌, ◌≤◌, ◌∷◌, [], Contains, map, string_bytes};
-ghost use Rattle.express_cli.specs.CommandLine.{AskTalk};
+ghost use Rattle.express_cli.specs.CommandLine.{AskSome, AskTalk};
 ghost use Rattle.express_cli.specs.Around.{around, outside, seen};
 ghost use Rattle.express_cli.specs.Ends.{Prints};
 ghost use Rattle.express_cli.specs.Runs.{RunMay, WaitsForNet};
@@ -36,6 +36,8 @@ fn finish<S: Source, K: Sink, N: Net>(
     // A fault of the input or of the sink is told as that, and as nothing else.
     ensures source { result ≢ End.ReadFault → result ≢ End.WriteFault → S.count input.new ≡ S.count input.old }
     ensures sink { result ≢ End.WriteFault → K.count out.new ≡ K.count out.old }
+    // The input is taken from only where the words ask for a command that works on it.
+    ensures input_rests { (AskSome (map string_bytes words.now.items) → ⊥) → input.new ≡ input.old }
     // A call on the net is made only where the words ask for work over it.
     ensures net_rests { (AskTalk (map string_bytes words.now.items) → ⊥) → net.new ≡ net.old }
     ensures net_waits { WaitsForNet result → net.new ≡ net.old }
@@ -75,6 +77,8 @@ pub fn run<S: Source, K: Sink, N: Net>(
         (outside (S.content input.new) (S.count input.new) (K.written out.new) (K.count out.new))
         (around seed.now (seen (N.calls net.old) (N.count net.old) (N.doors net.old)) (seen (N.calls net.new) (N.count net.new) (N.doors net.new))) result }
     ensures laws { Laws }
+    // The input is taken from only where the words ask for a command that works on it.
+    ensures input_rests { (AskSome (map string_bytes words.now.items) → ⊥) → input.new ≡ input.old }
     // A call on the net is made only where the words ask for work over it, and after the settings were read.
     ensures net_rests { (AskTalk (map string_bytes words.now.items) → ⊥) → net.new ≡ net.old }
     ensures net_waits { Contains (2 ∷ 3 ∷ 4 ∷ 8 ∷ []) result → net.new ≡ net.old }

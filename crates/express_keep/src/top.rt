@@ -2,7 +2,7 @@
 ghost use Rattle.std.specs.Prelude.{◌≡◌, ◌≢◌, ◌≤◌, [], ◌∷◌, Contains, map, string_bytes};
 ghost use Rattle.express_words.specs.Causes.{Rose};
 ghost use Rattle.express_cli.specs.Around.{around, outside, seen};
-ghost use Rattle.express_cli.specs.CommandLine.{AskTalk};
+ghost use Rattle.express_cli.specs.CommandLine.{AskSome, AskTalk};
 ghost use Rattle.express_cli.specs.Laws.{Laws};
 ghost use Rattle.express_cli.specs.Ran.{Ran};
 ghost use Rattle.express_keep.specs.Keeping.{KeepRan};
@@ -37,6 +37,7 @@ pub fn run_kept<S: Source, K: Sink, N: Net, D: Disk>(
         (outside (S.content input.new) (S.count input.new) (K.written out.new) (K.count out.new))
         (around seed.now (seen (N.calls net.old) (N.count net.old) (N.doors net.old)) (seen (N.calls net.new) (N.count net.new) (N.doors net.new))) result.0 }
     ensures disk_rests { (AsksKeep (map string_bytes words.now.items) → ⊥) → result.1 ≡ disk }
+    ensures input_rests { (AsksKeep (map string_bytes words.now.items) → ⊥) → (AskSome (map string_bytes words.now.items) → ⊥) → input.new ≡ input.old }
     ensures net_rests { (AsksKeep (map string_bytes words.now.items) → ⊥) → (AskTalk (map string_bytes words.now.items) → ⊥) → net.new ≡ net.old }
     ensures net_waits { (AsksKeep (map string_bytes words.now.items) → ⊥) → Contains (2 ∷ 3 ∷ 4 ∷ 8 ∷ []) result.0 → net.new ≡ net.old }
     ensures laws { Laws }

@@ -36,3 +36,23 @@ pub returns-in-Err-input_of-2-clause-ends : goal.returns-in-Err-input_of-2-claus
 returns-in-Err-input_of-2-clause-ends g c =
     let asks = asks_net _ _ _ c.in-Ok-Some-Net.command c.in-Ok-Some-Net.field-0-is c.in-Ok-Some-Net.field-0-0-is c.in-Ok-Some-Net.ensures in
     unread _ _ _ _ _ _ _ _ _ _ _ (inr (c.in-Ok-Some-Net.command, asks)) c.in-Err-input_of-2.ensures.unread
+
+pub returns-in-Ok-clause-input_rests : goal.returns-in-Ok-clause-input_rests
+returns-in-Ok-clause-input_rests g c none =
+    let asks = asks_it _ _ _ c.in-Ok-Some-Work.command c.in-Ok-Some-Work.field-0-is c.in-Ok-Some-Work.field-0-0-is c.in-Ok-Some-Work.ensures in
+    absurd (none (inl (c.in-Ok-Some-Work.command, asks)))
+
+pub returns-in-Err-input_of-clause-input_rests : goal.returns-in-Err-input_of-clause-input_rests
+returns-in-Err-input_of-clause-input_rests g c none =
+    let asks = asks_it _ _ _ c.in-Ok-Some-Work.command c.in-Ok-Some-Work.field-0-is c.in-Ok-Some-Work.field-0-0-is c.in-Ok-Some-Work.ensures in
+    absurd (none (inl (c.in-Ok-Some-Work.command, asks)))
+
+pub returns-in-Ok-input_of-clause-input_rests : goal.returns-in-Ok-input_of-clause-input_rests
+returns-in-Ok-input_of-clause-input_rests g c none =
+    let asks = asks_net _ _ _ c.in-Ok-Some-Net.command c.in-Ok-Some-Net.field-0-is c.in-Ok-Some-Net.field-0-0-is c.in-Ok-Some-Net.ensures in
+    absurd (none (inr (c.in-Ok-Some-Net.command, asks)))
+
+pub returns-in-Err-input_of-2-clause-input_rests : goal.returns-in-Err-input_of-2-clause-input_rests
+returns-in-Err-input_of-2-clause-input_rests g c none =
+    let asks = asks_net _ _ _ c.in-Ok-Some-Net.command c.in-Ok-Some-Net.field-0-is c.in-Ok-Some-Net.field-0-0-is c.in-Ok-Some-Net.ensures in
+    absurd (none (inr (c.in-Ok-Some-Net.command, asks)))

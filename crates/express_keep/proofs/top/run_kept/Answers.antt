@@ -19,6 +19,9 @@ returns-then-asks_keep-clause-ran g c other = absurd (other (asked _ _ c.if-asks
 pub returns-then-asks_keep-clause-disk_rests : goal.returns-then-asks_keep-clause-disk_rests
 returns-then-asks_keep-clause-disk_rests g c other = absurd (other (asked _ _ c.if-asks_keep.true c.asks_keep.ensures))
 
+pub returns-then-asks_keep-clause-input_rests : goal.returns-then-asks_keep-clause-input_rests
+returns-then-asks_keep-clause-input_rests g c other = absurd (other (asked _ _ c.if-asks_keep.true c.asks_keep.ensures))
+
 pub returns-then-asks_keep-clause-net_rests : goal.returns-then-asks_keep-clause-net_rests
 returns-then-asks_keep-clause-net_rests g c other = absurd (other (asked _ _ c.if-asks_keep.true c.asks_keep.ensures))
 
