@@ -511,7 +511,7 @@ end\n",
         written: USAGE,
     },
     Case {
-        name: "no command yet",
+        name: "keep is another call's",
         words: &["keep"],
         input: b"",
         status: 2,
