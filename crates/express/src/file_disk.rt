@@ -167,3 +167,6 @@ impl<'a> Disk for FileDisk<'a> {
 
     ghost only_now = { λ d c left. left };
 }
+
+#[cfg(test)]
+mod tests;
