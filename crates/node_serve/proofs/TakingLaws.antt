@@ -1,6 +1,8 @@
 -- Bytes that are taken as they are wanted.
-use Rattle.std.proofs.Common.{◌≡◌, ℕ, ◌+◌, ◌≤◌, List, ◌++◌, length, drop, Result, Ok, Err, refl, ap, ◌∙◌, arith, inl, inr}
+use Rattle.std.proofs.Common.{◌≡◌, ℕ, ◌+◌, ◌≤◌, true, leb, List, ◌++◌, length, drop, Result, Ok, Err, refl, ap, ◌∙◌, arith, inl, inr}
+use Rattle.std.specs.Prelude.{◌&&◌}
 use Rattle.std.specs.Int.{w32}
+use Rattle.std.proofs.lemmas.Bool.Decides.{nat_tests}
 use Rattle.std.proofs.lemmas.List.{length-append}
 use Rattle.frame_rules.specs.declared.fault.FrameFault.{FrameFault}
 use Rattle.frame_rules.specs.declared.fault.FrameFault.TheVariants.{Short}
@@ -8,7 +10,7 @@ use Rattle.frame_rules.specs.Forms.{number_at}
 use Rattle.frame_rules.specs.Bodies.{body_in}
 use Rattle.frame_rules.specs.Frames.{PlainFrame}
 use Rattle.frame_rules.specs.Gathering.{is_short, missing, missing_from}
-use Rattle.frame_rules.specs.Reading.{header_in, decoded}
+use Rattle.frame_rules.specs.Reading.{length_in, header_in, decoded}
 use Rattle.frame_rules.proofs.FormLaws.{bind_ok}
 use Rattle.frame_rules.proofs.GatheringLaws.{missing_is, length_missing}
 use Rattle.frame_rules.proofs.GrammarLaws.{decoded_whole}
@@ -17,7 +19,7 @@ use Rattle.frame_rules.proofs.Waiting.{decoded_short, header_length, length_limi
 use Rattle.node_serve.specs.Taking.{most_by, most, IsWanted, IsOneFrame}
 
 -- a frame has as many bytes as its length says
-pub frame_length : (bytes : List ℕ) (f : PlainFrame) (len : ℕ) → decoded bytes ≡ Ok (f, len) → (n : ℕ) × (number_at w32 0 bytes ≡ Ok n) × (len ≡ 4 + n)
+pub frame_length : (bytes : List ℕ) (f : PlainFrame) (len : ℕ) → decoded bytes ≡ Ok (f, len) → (n : ℕ) × (length_in bytes ≡ Ok n) × (len ≡ 4 + n)
 unfolding decoded
 frame_length bytes f len e =
     let h = bind_ok (header_in bytes) _ (f, len) e in
@@ -25,7 +27,7 @@ frame_length bytes f len e =
     let l = header_length bytes h.0 h.1 in
     let limits = length_limits bytes l.0 l.1 in
     let is : 20 + h.0.left ≡ len = length_is _ _ b.2 in
-    (l.0, limits.0, omega (arith, l.2, limits.1))
+    (l.0, l.1, omega (arith, l.2, limits.1))
   where
     length_is : (x y : PlainFrame × ℕ) → (let r : Result (PlainFrame × ℕ) FrameFault = Ok x in r) ≡ Ok y → x.1 ≡ y.1
     length_is x y e = ap (λ (p : PlainFrame × ℕ). p.1) (same x y e) where
@@ -48,6 +50,13 @@ number_stays bytes more n e = pick (number_grows w32 0 bytes more) where
   pick (inl s) = absurd cc
   pick (inr s) = s ∙ e
 
+-- a number of a right length is the length
+right_length : (bytes : List ℕ) (n : ℕ) → number_at w32 0 bytes ≡ Ok n → 17 ≤ n → n ≤ 8209 → length_in bytes ≡ Ok n
+unfolding length_in
+right_length bytes n e low high = rw (e, right n low high) refl where
+  right : (n : ℕ) → 17 ≤ n → n ≤ 8209 → leb 17 n && leb n 8209 ≡ true
+  right n low high = grind (arith, nat_tests)
+
 four : (r : Result ℕ FrameFault) → 4 ≤ most_by r
 four (Ok n) = omega arith
 four (Err d) = omega arith
@@ -60,8 +69,8 @@ more_wanted bytes more short few = by (number_at w32 0 bytes) refl where
 
   by : (r : Result ℕ FrameFault) → number_at w32 0 bytes ≡ r → length (bytes ++ more) ≤ most (bytes ++ more)
   by (Ok n) e =
-      let is : most (bytes ++ more) ≡ 4 + n = ap most_by (number_stays bytes more n e) in
       let open' = (decoded_short bytes short).length_right n e in
+      let is : most (bytes ++ more) ≡ 4 + n = ap most_by (right_length (bytes ++ more) n (number_stays bytes more n e) open'.0 open'.1) in
       omega (arith, length-append bytes more, few, lacks ∙ ap (λ r. missing_from r (length bytes)) e, is, open')
   by (Err d) e =
-      omega (arith, length-append bytes more, few, lacks ∙ ap (λ r. missing_from r (length bytes)) e, length_missing bytes d e, four (number_at w32 0 (bytes ++ more)))
+      omega (arith, length-append bytes more, few, lacks ∙ ap (λ r. missing_from r (length bytes)) e, length_missing bytes d e, four (length_in (bytes ++ more)))

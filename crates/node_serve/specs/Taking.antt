@@ -1,24 +1,22 @@
 -- Reading one frame from a source.
 use Rattle.std.specs.Prelude.{◌≡◌, ◌≢◌, ℕ, ◌+◌, ◌<◌, ◌≤◌, List, length, Result, Ok, Err}
-use Rattle.std.specs.Int.{w32}
 use Rattle.frame_rules.specs.declared.fault.FrameFault.{FrameFault}
 use Rattle.frame_rules.specs.declared.fault.FrameFault.TheVariants.{Short}
-use Rattle.frame_rules.specs.Forms.{number_at}
 use Rattle.frame_rules.specs.Frames.{PlainFrame}
 use Rattle.frame_rules.specs.Gathering.{missing}
-use Rattle.frame_rules.specs.Reading.{decoded}
+use Rattle.frame_rules.specs.Reading.{length_in, decoded}
 use Rattle.node_serve.specs.declared.reading.Reading.{Reading}
 use Rattle.node_serve.specs.declared.reading.Reading.TheVariants as reading
 use Rattle.node_serve.specs.declared.wanting.Judged.{Judged}
 use Rattle.node_serve.specs.declared.wanting.Judged.TheVariants as judged
 
--- so many bytes of a frame are taken at most: its length's four, and from then on those that it says
+-- so many bytes of a frame are taken at most: its length's four, and behind a right length those that it says
 abbrev pub most_by : Result ℕ FrameFault → ℕ
 most_by (Err fault) = 4
 most_by (Ok count) = 4 + count
 
 abbrev pub most : List ℕ → ℕ
-most taken = most_by (number_at w32 0 taken)
+most taken = most_by (length_in taken)
 
 -- never more than that was taken
 abbrev pub IsWanted : List ℕ → Type 0
