@@ -39,7 +39,7 @@ pub fn gather_frame<S: Source>(source: &mut S, gather: &mut Gather) -> Reading
     reading
 }
 
-/// WritesReply a reply, if there is one.
+/// Writes a reply, if there is one. ConnFault has the connection's count of faults where that failed.
 pub fn send<C: Conn>(conn: &mut C, reply: &[u8]) -> Served
     ensures writes { WritesReply result (C.written conn.old) (C.written conn.new) (C.count conn.old) (C.count conn.new) reply.now }
     ensures sent { IsSent result }
