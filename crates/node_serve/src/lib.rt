@@ -11,6 +11,7 @@ mod serving;
 mod wanting;
 
 pub use exchanging::{Broken, exchange};
+pub use express_words::outside;
 pub use helping::is_from_leader;
 pub use leading::{say_link_down, taken_in};
 pub use node::{Node, Served};
