@@ -4,5 +4,6 @@ pub mod DrainLaws
 pub mod StandLaws
 pub mod LeadLaws
 pub mod HeldLaws
+pub mod EarlyLaws
 pub mod DownLaws
 pub mod CompleteLaws

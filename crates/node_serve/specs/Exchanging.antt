@@ -57,3 +57,15 @@ CountBy other before now = now ≡ before
 abbrev pub ClosedAtEnd : Option (List Call) → Option Stream → Option (List ℕ) → ℕ → Type 0
 ClosedAtEnd calls content written count =
     IsAtEnd content × ((before : Option (List Call)) × AddsClose before calls content written count)
+
+-- the last call closed a whole connection whose bytes are only the front of a frame
+abbrev pub EndsShort : Option (List Call) → Type 0
+EndsShort None = ⊥
+EndsShort (Some calls) = (before : List Call) × (given : List ℕ) × (taken : List ℕ)
+    × (calls ≡ before ++ Closed given taken true ∷ []) × (decoded given ≡ Err Short)
+
+-- if so, that connection was at its end
+abbrev pub EarlyAtEnd : {C : Type 0} → Option (List Call) → (content : C → Option Stream) →
+    (written : C → Option (List ℕ)) → (count : C → ℕ) → Type 0
+EarlyAtEnd {C} calls content written count =
+    EndsShort calls → (conn : C) × ClosedAtEnd calls (content conn) (written conn) (count conn)

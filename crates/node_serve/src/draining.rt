@@ -4,7 +4,7 @@ ghost use Rattle.frame_rules.specs.Spelling.{spelling};
 ghost use Rattle.step_rules.specs.Leader.{Ignored};
 ghost use Rattle.step_rules.specs.LeaderReplies.{on_reply_bytes, resent};
 ghost use Rattle.node_serve.specs.Draining.{Drained, BreaksOff, ExchangesOn, Stand, stand, IsOldest, Replied, Unanswered, rounds_left, FaultBy};
-ghost use Rattle.node_serve.specs.Exchanging.{Exchange};
+ghost use Rattle.node_serve.specs.Exchanging.{Exchange, EarlyAtEnd};
 
 use crate::exchanging::{Broken, exchange};
 use crate::node::Served;
@@ -29,6 +29,7 @@ fn exchange_one<N: Net>(
     ensures within { IfOk result (λ n. n ≤ length out.new) }
     ensures nearer { IfOk result (λ n. rounds_left leader.new.outstanding < rounds_left leader.old.outstanding) }
     ensures unanswered { IfErr result (Unanswered peer.now leader.old leader.new (take size out.old) (N.calls net.old) (N.calls net.new)) }
+    ensures early { IfErr result (λ why. why ≡ Served.LinkBad → EarlyAtEnd (N.calls net.new) N.Conn.content N.Conn.written N.Conn.count) }
     ensures fault { FaultBy result (N.count net.old) (N.count net.new) }
     ensures door { N.doors net.new ≡ N.doors net.old }
 {
@@ -61,6 +62,7 @@ pub fn drain<N: Net>(
     ensures drained { IfOk result (λ n. (end : Stand) × Drained (stand leader.old (take told out.old)) end × (leader.new ≡ end.leader) × (take n out.new ≡ end.reply) × ExchangesOn peer.now end.made (N.calls net.old) (N.calls net.new)) }
     ensures within { IfOk result (λ n. n ≤ length out.new) }
     ensures broken { IfErr result (λ why. (made : List Exchange) × BreaksOff (stand leader.old (take told out.old)) leader.new made why × ExchangesOn peer.now made (N.calls net.old) (N.calls net.new)) }
+    ensures early { IfErr result (λ why. why ≡ Served.LinkBad → EarlyAtEnd (N.calls net.new) N.Conn.content N.Conn.written N.Conn.count) }
     ensures fault { FaultBy result (N.count net.old) (N.count net.new) }
     ensures door { N.doors net.new ≡ N.doors net.old }
 {

@@ -5,7 +5,7 @@ ghost use Rattle.frame_rules.specs.Spelling.{spelling, IsFrame};
 ghost use Rattle.frame_rules.specs.Whole.{whole as whole_bytes, is_from_client};
 ghost use Rattle.step_rules.specs.LeaderClients.{on_client};
 ghost use Rattle.node_serve.specs.Draining.{ExchangesOn, FaultBy};
-ghost use Rattle.node_serve.specs.Exchanging.{Exchange};
+ghost use Rattle.node_serve.specs.Exchanging.{Exchange, EarlyAtEnd};
 ghost use Rattle.node_serve.specs.Leading.{is_taken, taken_in, reply_to, link_down, Handles, BreaksDown};
 
 use crate::draining::drain;
@@ -78,6 +78,7 @@ pub fn handle<N: Net>(
     ensures handled { IfOk result (λ n. (made : List Exchange) × Handles leader.old frame.now leader.new (take n out.new) made × ExchangesOn peer.now made (N.calls net.old) (N.calls net.new)) }
     ensures within { IfOk result (λ n. n ≤ length out.new) }
     ensures broken { IfErr result (λ why. (made : List Exchange) × BreaksDown leader.old frame.now leader.new made why × ExchangesOn peer.now made (N.calls net.old) (N.calls net.new)) }
+    ensures early { IfErr result (λ why. why ≡ Served.LinkBad → EarlyAtEnd (N.calls net.new) N.Conn.content N.Conn.written N.Conn.count) }
     ensures fault { FaultBy result (N.count net.old) (N.count net.new) }
     ensures door { N.doors net.new ≡ N.doors net.old }
 {

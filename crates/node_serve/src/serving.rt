@@ -6,7 +6,7 @@ ghost use Rattle.frame_rules.specs.Whole.{whole};
 ghost use Rattle.frame_rules.specs.Reading.{decoded};
 ghost use Rattle.frame_rules.specs.declared.fault.FrameFault.TheVariants.{Short};
 ghost use Rattle.node_serve.specs.Draining.{ExchangesOn, FaultIn};
-ghost use Rattle.node_serve.specs.Exchanging.{Exchange};
+ghost use Rattle.node_serve.specs.Exchanging.{Exchange, EarlyAtEnd};
 ghost use Rattle.node_serve.specs.Helping.{helper_step};
 ghost use Rattle.node_serve.specs.Leading.{taken_in, IsSent, Leads};
 ghost use Rattle.node_serve.specs.Serving.{Brings, IsComplete, IsCut, IsHelper, NoneFailed, Serves, WritesReply};
@@ -73,6 +73,7 @@ fn serve_leader<C: Conn, N: Net>(
     net: &mut N,
 ) -> Served
     ensures leads { (made : List Exchange) × ExchangesOn peer.now made (N.calls net.old) (N.calls net.new) × ((reply : List ℕ) × Leads (taken_in (whole frame.now)) leader.old frame.now leader.new made (N.count net.new) result reply × WritesReply result (C.written conn.old) (C.written conn.new) (C.count conn.old) (C.count conn.new) reply) }
+    ensures early { result ≡ Served.LinkBad → EarlyAtEnd (N.calls net.new) N.Conn.content N.Conn.written N.Conn.count }
     ensures fault { FaultIn result (N.count net.old) (N.count net.new) }
     ensures door { N.doors net.new ≡ N.doors net.old }
     ensures content { C.content conn.new ≡ C.content conn.old }
@@ -99,6 +100,7 @@ fn serve_leader<C: Conn, N: Net>(
 #[tactic(auto, using(crate::proofs::CompleteLaws::completed))]
 fn answer<C: Conn, N: Net>(node: &mut Node, frame: &[u8], conn: &mut C, net: &mut N) -> Served
     ensures serves { (reply : List ℕ) × Serves node.old frame.now node.new (N.calls net.old) (N.calls net.new) (N.count net.new) result reply × WritesReply result (C.written conn.old) (C.written conn.new) (C.count conn.old) (C.count conn.new) reply }
+    ensures early { result ≡ Served.LinkBad → EarlyAtEnd (N.calls net.new) N.Conn.content N.Conn.written N.Conn.count }
     ensures fault { FaultIn result (N.count net.old) (N.count net.new) }
     ensures door { N.doors net.new ≡ N.doors net.old }
     ensures content { C.content conn.new ≡ C.content conn.old }
@@ -128,6 +130,8 @@ pub fn serve_one<C: Conn, N: Net>(
     ensures writes_nothing { decoded gather.new ≡ Err Short → C.written conn.new ≡ C.written conn.old }
     // Else the server takes its step, and its reply is written.
     ensures serves { decoded gather.new ≢ Err Short → (reply : List ℕ) × Serves node.old gather.new node.new (N.calls net.old) (N.calls net.new) (N.count net.new) result reply × WritesReply result (C.written conn.old) (C.written conn.new) (C.count conn.old) (C.count conn.new) reply }
+    // LinkBad for an answer that ended early comes only where its connection has nothing left.
+    ensures early { result ≡ Served.LinkBad → EarlyAtEnd (N.calls net.new) N.Conn.content N.Conn.written N.Conn.count }
     ensures helper_rests { IsHelper node.old → net.new ≡ net.old }
     // Where no call of the connection or the net failed, its frame is answered, unless a helper answered its leader
     // with what is no reply that fits.
