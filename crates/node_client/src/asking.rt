@@ -1,6 +1,7 @@
 //! One request.
-ghost use Rattle.std.specs.Prelude.{◌≡◌, None, length, OnOk};
+ghost use Rattle.std.specs.Prelude.{◌≡◌, None, length, OnOk, IfErr};
 ghost use Rattle.client_core.specs.Requests.{plain_request};
+ghost use Rattle.node_serve.specs.Exchanging.{EarlyAtEnd};
 ghost use Rattle.node_client.specs.Steps.{FaultBy};
 ghost use Rattle.node_client.specs.Work.{Came, Fits};
 
@@ -26,6 +27,8 @@ pub fn one_request<N: Net>(
         (N.calls net.old) (N.calls net.new) }
     ensures idle { OnOk result (client.new.current ≡ None) }
     ensures width { client.new.width ≡ client.old.width }
+    ensures early { IfErr result (λ why. why ≡ Stop.Answer
+        → EarlyAtEnd (N.calls net.new) N.Conn.content N.Conn.written N.Conn.count) }
     ensures fault { FaultBy result (N.count net.old) (N.count net.new) }
     ensures door { N.doors net.new ≡ N.doors net.old }
 {

@@ -1,6 +1,7 @@
 //! The steps of a request, each by one exchange.
-ghost use Rattle.std.specs.Prelude.{◌≡◌, ◌≢◌, None, length};
+ghost use Rattle.std.specs.Prelude.{◌≡◌, ◌≢◌, None, length, IfErr};
 ghost use Rattle.step_rules.specs.ClientAsks.{sends};
+ghost use Rattle.node_serve.specs.Exchanging.{EarlyAtEnd};
 ghost use Rattle.node_client.specs.Steps.{Stepped, Walked, FaultBy};
 
 use crate::finished::Told;
@@ -24,6 +25,8 @@ fn one_step<N: Net>(
     ensures step { Stepped peers.now client.old client.new message.old message.new result
         (N.calls net.old) (N.calls net.new) }
     ensures width { client.new.width ≡ client.old.width }
+    ensures early { IfErr result (λ why. why ≡ Stop.Answer
+        → EarlyAtEnd (N.calls net.new) N.Conn.content N.Conn.written N.Conn.count) }
     ensures fault { FaultBy result (N.count net.old) (N.count net.new) }
     ensures door { N.doors net.new ≡ N.doors net.old }
 {
@@ -53,6 +56,8 @@ pub fn walk<N: Net>(
     ensures walked { Walked peers.now client.old client.new message.new result
         (N.calls net.old) (N.calls net.new) }
     ensures width { client.new.width ≡ client.old.width }
+    ensures early { IfErr result (λ why. why ≡ Stop.Answer
+        → EarlyAtEnd (N.calls net.new) N.Conn.content N.Conn.written N.Conn.count) }
     ensures fault { FaultBy result (N.count net.old) (N.count net.new) }
     ensures door { N.doors net.new ≡ N.doors net.old }
 {

@@ -1,6 +1,7 @@
 //! All requests of a client.
-ghost use Rattle.std.specs.Prelude.{◌≡◌, List, None, length, map, All, IfOk};
+ghost use Rattle.std.specs.Prelude.{◌≡◌, List, None, length, map, All, IfOk, Err};
 ghost use Rattle.client_core.specs.Requests.{plain_request};
+ghost use Rattle.node_serve.specs.Exchanging.{EarlyAtEnd};
 ghost use Rattle.node_client.specs.Talks.{Talk, TalksOn};
 ghost use Rattle.node_client.specs.Work.{Fits, WorksOff, WorkFault};
 
@@ -40,6 +41,8 @@ pub fn work_off<N: Net>(
         (record { client = client.new; finished = w.finished.items; made = made }) w.end
         × TalksOn peers.now made (N.calls net.old) (N.calls net.new)) }
     ensures width { client.new.width ≡ client.old.width }
+    ensures early { IfOk result (λ w. w.end ≡ Err Stop.Answer
+        → EarlyAtEnd (N.calls net.new) N.Conn.content N.Conn.written N.Conn.count) }
     ensures fault { WorkFault result (N.count net.old) (N.count net.new) }
     ensures door { N.doors net.new ≡ N.doors net.old }
 {
