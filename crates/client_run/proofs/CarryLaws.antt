@@ -8,7 +8,7 @@ use Rattle.step_rules.specs.Client.{Client}
 use Rattle.client_core.specs.declared.progress.Outcome.TheVariants.{Registered, Accepted, Message, Refused}
 use Rattle.node_client.specs.declared.finished.Finished.{Finished}
 use Rattle.node_client.specs.declared.finished.Told.{Told}
-use Rattle.node_client.specs.declared.finished.Told.TheVariants.{Done, NoOwnBox}
+use Rattle.node_client.specs.declared.finished.Told.TheVariants.{Done, NoOwn}
 use Rattle.node_client.specs.declared.peers.Peers.{Peers}
 use Rattle.node_client.specs.Talks.{Talk, TalksOn}
 use Rattle.node_client.specs.Work.{line}
@@ -38,7 +38,7 @@ line_whole width number message (Done Message) size = λ is. size
 line_whole width number message (Done (Registered n)) size = λ is. absurd (cc is)
 line_whole width number message (Done Accepted) size = λ is. absurd (cc is)
 line_whole width number message (Done (Refused refusal)) size = λ is. absurd (cc is)
-line_whole width number message (NoOwnBox own) size = λ is. absurd (cc is)
+line_whole width number message (NoOwn own) size = λ is. absurd (cc is)
 
 pub one_whole : (width : ℕ) (before after : List Finished) (f : Finished) (number : ℕ) (message : List ℕ) (told : Told) → f ≡ line number message told
     → length message ≡ width → after ≡ before ++ f ∷ [] → AreWhole width before → AreWhole width after

@@ -4,7 +4,7 @@ use Rattle.std.specs.Fmt.{decimal}
 use Rattle.outcome_text.specs.Outcomes.{with_message, outcome_text, no_box_text}
 use Rattle.node_client.specs.declared.finished.Finished.{Finished}
 use Rattle.node_client.specs.declared.finished.Told.{Told}
-use Rattle.node_client.specs.declared.finished.Told.TheVariants.{Done, NoOwnBox}
+use Rattle.node_client.specs.declared.finished.Told.TheVariants.{Done, NoOwn}
 use Rattle.node_client.specs.declared.stop.Stop.{Stop}
 use Rattle.node_client.specs.declared.stop.Stop.TheVariants.{Fault}
 use Rattle.node_client.specs.Texts.{stop_text}
@@ -12,7 +12,7 @@ use Rattle.node_client.specs.Texts.{stop_text}
 -- where these are the bytes of a message that was read
 abbrev pub told_text : Told → List ℕ → List ℕ
 told_text (Done outcome) message = outcome_text (with_message outcome message)
-told_text (NoOwnBox own) message = no_box_text own
+told_text (NoOwn own) message = no_box_text own
 
 unfoldable pub outcome_line : Finished → List ℕ
 outcome_line f =

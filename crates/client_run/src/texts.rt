@@ -11,7 +11,7 @@ fn told_text(alloc: Global, told: Told, message: &[u8]) -> Result<String, AllocE
 {
     match told {
         Told::Done(outcome) => outcome_text(alloc, outcome, message),
-        Told::NoOwnBox(own) => no_box_text(alloc, own),
+        Told::NoOwn(own) => no_box_text(alloc, own),
     }
 }
 

@@ -12,7 +12,7 @@ use Rattle.node_client.specs.declared.finished.Told.{Told}
 use Rattle.node_client.specs.declared.peers.Peers.{Peers}
 use Rattle.node_client.specs.declared.stop.Stop.{Stop}
 use Rattle.node_client.specs.Talks.{Talk, TalksOn}
-use Rattle.node_client.specs.Steps.{Ending, Done, NoOwnBox, told_in, IsMessage, told_as, MessageBy}
+use Rattle.node_client.specs.Steps.{Ending, Done, NoOwn, told_in, IsMessage, told_as, MessageBy}
 use Rattle.node_client.specs.Work.{Comes, Came, line_of, line, Works, none, then, StopsAt}
 use Rattle.node_client.proofs.TalkLaws.{talks_both}
 
@@ -43,7 +43,7 @@ read_line number (Refused refusal) message is = refl
 
 line_is : (number : ℕ) (end : Ending) (message : List ℕ) → IsMessage end message → line number message (told_in end) ≡ line_of number end
 line_is number (Done outcome) message is = read_line number outcome message is
-line_is number (NoOwnBox own) message is = refl
+line_is number (NoOwn own) message is = refl
 
 -- what was told is what the definition says
 end_told : (end : Result Ending Stop) (told : Told) → Ok told ≡ told_as end → (e : Ending) × (end ≡ Ok e) × (told ≡ told_in e)

@@ -21,11 +21,11 @@ use Rattle.node_client.specs.Talks.{Talk, TalkOn, TalksOn}
 -- how a request ends: with an outcome, or unsent, since the client owns no box of this number
 pub data Ending : Type 0 where
   Done : (outcome : Outcome) → Ending
-  NoOwnBox : (own : ℕ) → Ending
+  NoOwn : (own : ℕ) → Ending
 
 abbrev pub told_in : Ending → Told
 told_in (Done outcome) = told.Done (outcome_in outcome)
-told_in (NoOwnBox own) = told.NoOwnBox own
+told_in (NoOwn own) = told.NoOwn own
 
 -- the bytes of a message; else none
 abbrev pub message_in : Ending → List ℕ

@@ -15,7 +15,7 @@ use Rattle.node_client.specs.declared.stop.Stop.{Stop}
 use Rattle.node_client.specs.declared.stop.Stop.TheVariants as stop
 use Rattle.node_client.specs.declared.working.Work.{Work}
 use Rattle.node_client.specs.Talks.{Talk, TalksOn}
-use Rattle.node_client.specs.Steps.{Ending, NoOwnBox, told_in, message_in, Walks, told_as, MessageBy, FaultBy}
+use Rattle.node_client.specs.Steps.{Ending, NoOwn, told_in, message_in, Walks, told_as, MessageBy, FaultBy}
 
 -- a message to be written has the width
 abbrev pub Fits : ℕ → Request → Type 0
@@ -26,7 +26,7 @@ Fits width other = Unit {0}
 
 -- what comes of a request that the client doesn't take; a busy client is asked nothing, and a message fits
 abbrev pub refused : Fault → Option (Result Ending Stop)
-refused (steps.NoBox own) = Some (Ok (NoOwnBox own))
+refused (steps.NoBox own) = Some (Ok (NoOwn own))
 refused steps.Spent = Some (Err stop.Spent)
 refused (steps.OwnFull capacity) = Some (Err stop.Full)
 refused steps.Busy = None

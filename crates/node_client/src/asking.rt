@@ -34,7 +34,7 @@ pub fn one_request<N: Net>(
 {
     match client.ask(request) {
         Ok(()) => walk(client, peers, net, message),
-        Err(AskFault::NoBox(own)) => Ok(Told::NoOwnBox(own)),
+        Err(AskFault::NoBox(own)) => Ok(Told::NoOwn(own)),
         Err(AskFault::Spent) => Err(Stop::Spent),
         Err(AskFault::OwnFull(_)) => Err(Stop::Full),
         Err(AskFault::Busy) => unreachable!(),

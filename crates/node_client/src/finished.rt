@@ -12,7 +12,7 @@ pub enum Told {
     /// It came to an end at the servers, with this outcome.
     Done(Outcome),
     /// The client owns no box of this number, and sent nothing.
-    NoOwnBox(u32),
+    NoOwn(u32),
 }
 
 /// What became of a request, by its number among those to be worked off, counted from 0.
