@@ -110,8 +110,8 @@ impl Registry {
         self.frontier.first(count)
     }
 
-    /// Writes the leaf of the walk of server 0 or 1 at the address of each of the first `count` boxes. `steps` counts every
-    /// expansion of a node: one for each different proper prefix of these addresses.
+    /// Writes the leaf of the walk of server 0 or 1 at the address of each of the first `count` boxes. `steps` counts
+    /// every expansion of a node: one for each different proper prefix of these addresses.
     pub fn leaves<L: Ledger>(
         &mut self,
         part: &PublicPart,

@@ -35,8 +35,8 @@ pub fn owner_keys(seed: &[u8; 32], serial: u32) -> ([u8; 32], [u8; 32])
     (key_at(&bytes, 0), key_at(&bytes, 32))
 }
 
-/// The sixteen words that a client's write of a serial is made of: the first 256 bytes of that stream, 16 a word with the
-/// lowest byte first.
+/// The sixteen words that a client's write of a serial is made of: the first 256 bytes of that stream, 16 a word with
+/// the lowest byte first.
 pub fn choices(seed: &[u8; 32], serial: u32) -> [u128; 16]
     ensures { (k : ℕ) → k < 16 → slice_index result k ≡ choice seed.now serial k }
 {
@@ -49,8 +49,8 @@ pub fn choices(seed: &[u8; 32], serial: u32) -> [u128; 16]
     words
 }
 
-/// The challenge at an address, r and s: the first 32 bytes of a block. The address's low 64 bits are the stream, its high
-/// 64 bits the block's counter.
+/// The challenge at an address, r and s: the first 32 bytes of a block. The address's low 64 bits are the stream, its
+/// high 64 bits the block's counter.
 pub fn challenge(ckey: &[u8; 32], address: u128) -> (u128, u128)
     ensures r { result.0 ≡ challenge_r ckey.now address }
     ensures s { result.1 ≡ challenge_s ckey.now address }

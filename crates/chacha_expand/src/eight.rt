@@ -1,5 +1,5 @@
-//! The children of eight states at once, each in a lane of its own. Words go in and out by halves of 64 bits: fewer moves
-//! between lanes and numbers, which saves a tenth of the time.
+//! The children of eight states at once, each in a lane of its own. Words go in and out by halves of 64 bits: fewer
+//! moves between lanes and numbers, which saves a tenth of the time.
 ghost use Rattle.std.specs.Prelude.{◌≡◌, ℕ, ◌+◌, ◌*◌, ◌/◌, ◌%◌, ◌^◌, ◌<◌, [], ◌∷◌, map, slice_index};
 ghost use Rattle.rand_chacha.specs.Lanes.{lane_at};
 ghost use Rattle.dpf_rules.specs.Bytes.{value_in};

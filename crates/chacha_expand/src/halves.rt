@@ -1,5 +1,5 @@
-//! Words of 32 bits by halves of 64 and numbers of 128, in eight lanes. Words go in and out by halves: fewer moves between
-//! lanes and numbers, which saves a tenth of the time.
+//! Words of 32 bits by halves of 64 and numbers of 128, in eight lanes. Words go in and out by halves: fewer moves
+//! between lanes and numbers, which saves a tenth of the time.
 ghost use Rattle.std.specs.Prelude.{◌≡◌, ℕ, ◌+◌, ◌*◌, ◌/◌, ◌%◌, ◌^◌, ◌<◌, [], ◌∷◌, slice_index};
 ghost use Rattle.rand_chacha.specs.Lanes.{lane_at};
 ghost use Rattle.dpf_rules.specs.Bytes.{value_in};

@@ -1,5 +1,5 @@
-//! ChaCha20's block function (RFC 8439, section 2.3) on eight states at once. Each word of the state is a vector with one
-//! lane a block. The shape is for speed; lane by lane it is `rand_chacha`'s specification of the block.
+//! ChaCha20's block function (RFC 8439, section 2.3) on eight states at once. Each word of the state is a vector with
+//! one lane a block. The shape is for speed; lane by lane it is `rand_chacha`'s specification of the block.
 ghost use Rattle.std.specs.Prelude.{◌≡◌, ℕ, ◌<◌, slice_index};
 ghost use Rattle.rand_chacha.specs.Block.{add32, xor_rotate, quarter_round, column_round, diagonal_round, initial_state};
 ghost use Rattle.rand_chacha.specs.Lanes.{lane, lane_at};

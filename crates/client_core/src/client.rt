@@ -35,9 +35,9 @@ impl Model for Client {
 }
 
 impl Client {
-    /// A client that owns no box and has no request. What it draws comes from `seed`, under the serials of its requests,
-    /// of which the first is `first_serial`. It has room for `capacity` boxes, at most 4,097, and its messages have
-    /// `width` bytes.
+    /// A client that owns no box and has no request. What it draws comes from `seed`, under the serials of its
+    /// requests, of which the first is `first_serial`. It has room for `capacity` boxes, at most 4,097, and its
+    /// messages have `width` bytes.
     pub fn open(
         alloc: Global,
         lane: u16,
@@ -80,8 +80,9 @@ impl Client {
         self.state.stage.is_none()
     }
 
-    /// Takes a request, which is then current. The first of these that applies is the fault: another request is current,
-    /// the last serial was used, the own box isn't there, the message has another width, no further box has room.
+    /// Takes a request, which is then current. The first of these that applies is the fault: another request is
+    /// current, the last serial was used, the own box isn't there, the message has another width, no further box has
+    /// room.
     pub fn ask(&mut self, request: &Request<'_>) -> Result<(), AskFault>
         ensures asked { IfOk result (λ _. asked self.old (plain_request request.now) ≡ Ok self.new) }
         ensures refused { IfErr result (λ fault.
@@ -92,16 +93,17 @@ impl Client {
         self.state.ask(request)
     }
 
-    /// Writes the frame of the present step to the front of `out`, and gives the server that it goes to, the leader 0 or
-    /// the helper 1, and its length in bytes. None exactly where no request is current. The frame is the same each time.
+    /// Writes the frame of the present step to the front of `out`, and gives the server that it goes to, the leader 0
+    /// or the helper 1, and its length in bytes. None exactly where no request is current. The frame is the same each
+    /// time.
     pub fn send(&self, out: &mut [u8]) -> Option<(u8, usize)>
         requires room { 8213 ≤ length out.old }
         ensures none { (result ≡ None) ↔ (self.now.current ≡ None) }
         ensures sent { result ≡ option_map addressed (sends self.now) }
         ensures written { take (length (bytes_of (sends self.now))) out.new ≡ bytes_of (sends self.now) }
         ensures rest { let count = length (bytes_of (sends self.now)) in drop count out.new ≡ drop count out.old }
-        // The frames of a write are the honest keys and the proof of the sixteen words that were drawn for its serial, with
-        // lane and serial, and nothing else.
+        // The frames of a write are the honest keys and the proof of the sixteen words that were drawn for its serial,
+        // with lane and serial, and nothing else.
         ensures write { (target : ℕ) (message : List ℕ) (step : Step) →
             self.now.current ≡ Some (record { request = Write target message; step = step }) →
             sends self.now ≡ Some (write_sent self.now.lane self.now.serial (words self.now) target message step) }

@@ -2,8 +2,8 @@
 ghost use Rattle.std.specs.Prelude.{◌≡◌, ◌^◌, ℕ, [], ◌∷◌};
 ghost use Rattle.dpf_rules.specs.Evaluation.{prefix_count};
 
-/// How many steps `Frontier::run` takes at no address, at one, at two that part at the last bit, and at two that part at
-/// the first.
+/// How many steps `Frontier::run` takes at no address, at one, at two that part at the last bit, and at two that part
+/// at the first.
 pub fn worked_counts()
     ensures none { prefix_count [] ≡ 0 }
     ensures one { (address : ℕ) → prefix_count (address ∷ []) ≡ 128 }

@@ -13,8 +13,8 @@ use std::alloc::{AllocError, Global};
 use std::marker::Model;
 use std::sync::ledger::Ledger;
 
-/// The addresses of a server's boxes by number, kept in rising order beside it, so that one pass down the tree meets each
-/// node on the paths to them once. All its memory is taken at opening.
+/// The addresses of a server's boxes by number, kept in rising order beside it, so that one pass down the tree meets
+/// each node on the paths to them once. All its memory is taken at opening.
 #[derive(Drop)]
 pub struct Frontier {
     limit: u32,
@@ -100,8 +100,8 @@ impl Frontier {
         &self.addresses[..count as usize]
     }
 
-    /// Writes the leaf of the walk of server 0 or 1 at each of the first `count` addresses, by box. `steps` counts every
-    /// expansion of a node: one for each different proper prefix of these addresses.
+    /// Writes the leaf of the walk of server 0 or 1 at each of the first `count` addresses, by box. `steps` counts
+    /// every expansion of a node: one for each different proper prefix of these addresses.
     pub fn run<L: Ledger>(
         &mut self,
         part: &PublicPart,

@@ -62,8 +62,8 @@ pub fn step(word: u128, right: u128, side: u128, state: u128, pair: (u128, u128)
     corrected(word, right, side, on_side(pair, side), state)
 }
 
-/// The word of a level of the keys, from both servers' raw pairs: the sum of the seeds on the side that is lost, with the
-/// control bit that makes both servers' bits equal there.
+/// The word of a level of the keys, from both servers' raw pairs: the sum of the seeds on the side that is lost, with
+/// the control bit that makes both servers' bits equal there.
 pub fn level_word(p: (u128, u128), q: (u128, u128), side: u128) -> u128
     requires { side < 2 }
     ensures { result ≡ level_word p q side }

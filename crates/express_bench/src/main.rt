@@ -1,5 +1,5 @@
-//! Does pieces of work and prints a checksum of each, so that a script can time them from outside. The words are pairs of
-//! a piece's name and how often it is done.
+//! Does pieces of work and prints a checksum of each, so that a script can time them from outside. The words are pairs
+//! of a piece's name and how often it is done.
 #![tactic(auto)]
 
 mod closings;

@@ -1,5 +1,5 @@
-//! The parts of a server's work at a write of 1,024 bytes beside the tree's pass, each alone: the sums under challenges,
-//! and the write bytes. And what the client does for a write.
+//! The parts of a server's work at a write of 1,024 bytes beside the tree's pass, each alone: the sums under
+//! challenges, and the write bytes. And what the client does for a write.
 ghost use Rattle.std.specs.Prelude.{◌≡◌, ◌≤◌, length};
 ghost use Rattle.dpf_rules.specs.Walk.{last_of};
 

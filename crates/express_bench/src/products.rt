@@ -1,4 +1,5 @@
-//! Products of the field of 2^128 elements in a chain, so that each one waits for the one before, and the tables that make them fast.
+//! Products of the field of 2^128 elements in a chain, so that each one waits for the one before, and the tables that
+//! make them fast.
 use field_tables::{Tables, mul_fast};
 use tower_field::{Field, Gf128};
 

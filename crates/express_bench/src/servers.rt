@@ -26,8 +26,8 @@ fn front(bytes: &[u8], count: usize) -> &[u8] {
 }
 
 impl Servers {
-    // Hands a command, which stands in `out`, to the helper and its reply to the leader, and so on until the leader has a
-    // reply for the client, whose length is given.
+    // Hands a command, which stands in `out`, to the helper and its reply to the leader, and so on until the leader has
+    // a reply for the client, whose length is given.
     fn relay<L: Ledger>(
         &mut self,
         command: usize,

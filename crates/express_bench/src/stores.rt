@@ -1,4 +1,5 @@
-//! What a server keeps at the largest settings, with every byte of it written, so that its memory can be seen from outside.
+//! What a server keeps at the largest settings, with every byte of it written, so that its memory can be seen from
+//! outside.
 use express_words::NoMemory;
 use lane_table::Lanes;
 use share_store::ShareStore;

@@ -61,9 +61,9 @@ fn finish<S: Source, K: Sink, N: Net>(
 ///
 /// The words are judged first. Then the input is read to its end, its first fault or byte 67,108,865, then judged,
 /// then worked on; `mill` reads no input. The status is 0 where all is done, 2 for wrong words, 3 for a bad line, 4
-/// for a fault of the input, 5 for a fault of the sink, 6 for a fault of the net, 7 for want of memory and 8 for an input
-/// that is too long. `serve`, `client` and `carry` work over the net, and take `seed` for a server's draws and for a
-/// client whose settings have none; the other commands use neither.
+/// for a fault of the input, 5 for a fault of the sink, 6 for a fault of the net, 7 for want of memory and 8 for an
+/// input that is too long. `serve`, `client` and `carry` work over the net, and take `seed` for a server's draws and
+/// for a client whose settings have none; the other commands use neither.
 pub fn run<S: Source, K: Sink, N: Net>(
     alloc: Global,
     words: &Vec<String>,

@@ -1,4 +1,5 @@
-//! What a writer and the two servers exchange to audit a write. All numbers are elements of the field of 2^128 elements.
+//! What a writer and the two servers exchange to audit a write. All numbers are elements of the field of 2^128
+//! elements.
 
 /// One server's share of a writer's proof.
 #[derive(Clone, Copy, Debug, PartialEq, Eq)]

@@ -14,7 +14,8 @@ pub enum Want {
     Read,
 }
 
-/// Where a lane stands: the serial of its newest request, how far that has come (a value of `phase`) and what it asks for.
+/// Where a lane stands: the serial of its newest request, how far that has come (a value of `phase`) and what it asks
+/// for.
 #[derive(Clone, Copy, Debug, PartialEq, Eq)]
 pub struct Row {
     pub serial: u32,

@@ -8,7 +8,7 @@ use Rattle.frame_rules.specs.Frames.{PlainFrame}
 use Rattle.frame_rules.specs.Spelling.{spelling}
 use Rattle.step_rules.specs.LeaderReplies.{resent}
 use Rattle.step_rules.specs.Leader.{Leader, Stage, Idle, Waiting, Challenged, Auditing, Settling, Done, Row, row, idle, opened_leader}
-use Rattle.leader_core.specs.Awaited.{commands_of, awaited_at, awaited, AreAwaited, RowsAwait}
+use Rattle.leader_core.specs.Awaited.{commands_of, awaited_at, awaited, AreThoseAwaited, RowsAwait}
 
 -- ---- the commands of a lane
 
@@ -48,8 +48,8 @@ numbers_less next c rest is place x e = omega (arith, is (suc place) x e)
 -- ---- one row changes
 
 -- the row of one lane and that lane's commands
-changed : (lanes : ℕ) (rows : List Row) (before after : List PlainFrame) (old next lane : ℕ) (r : Row) → AreAwaited lanes rows before old → Numbered next after → lane < length rows →
-    ((other : ℕ) → other ≢ lane → commands_of other after ≡ commands_of other before) → commands_of lane after ≡ awaited lane r → AreAwaited lanes (slice_set rows lane r) after next
+changed : (lanes : ℕ) (rows : List Row) (before after : List PlainFrame) (old next lane : ℕ) (r : Row) → AreThoseAwaited lanes rows before old → Numbered next after → lane < length rows →
+    ((other : ℕ) → other ≢ lane → commands_of other after ≡ commands_of other before) → commands_of lane after ≡ awaited lane r → AreThoseAwaited lanes (slice_set rows lane r) after next
 changed lanes rows before after old next lane r is numbers there others own = record {
   count = length-set rows lane r ∙ is.count;
   numbers = numbers;
@@ -61,8 +61,8 @@ changed lanes rows before after old next lane r is numbers there others own = re
 }
 
 -- a command is issued for a row that waits for none
-pub issued_awaits : (lanes : ℕ) (rows : List Row) (commands : List PlainFrame) (c : PlainFrame) (next : ℕ) (r : Row) → AreAwaited lanes rows commands next → c.link ≡ next → c.lane < lanes →
-    awaited c.lane (slice_index_or rows c.lane idle) ≡ [] → awaited c.lane r ≡ c ∷ [] → AreAwaited lanes (slice_set rows c.lane r) (commands ++ c ∷ []) (next + 1)
+pub issued_awaits : (lanes : ℕ) (rows : List Row) (commands : List PlainFrame) (c : PlainFrame) (next : ℕ) (r : Row) → AreThoseAwaited lanes rows commands next → c.link ≡ next → c.lane < lanes →
+    awaited c.lane (slice_index_or rows c.lane idle) ≡ [] → awaited c.lane r ≡ c ∷ [] → AreThoseAwaited lanes (slice_set rows c.lane r) (commands ++ c ∷ []) (next + 1)
 issued_awaits lanes rows commands c next r is number below free waits =
     changed lanes rows commands (commands ++ c ∷ []) next (next + 1) c.lane r is (numbers_more next commands c is.numbers number) (omega (arith, is.count))
     (λ other apart. of_both other commands (c ∷ []) ∙ (ap (λ xs. commands_of other commands ++ xs) (of_other other c [] apart) ∙ append-nil (commands_of other commands)))
@@ -78,13 +78,13 @@ none_more lane serial (Challenged write kept) c xs e = absurd (cc e)
 none_more lane serial (Done want kept) c xs e = absurd (cc e)
 
 -- the oldest command is its lane's only one
-alone : (lanes : ℕ) (rows : List Row) (c : PlainFrame) (rest : List PlainFrame) (next : ℕ) → AreAwaited lanes rows (c ∷ rest) next → commands_of c.lane rest ≡ []
+alone : (lanes : ℕ) (rows : List Row) (c : PlainFrame) (rest : List PlainFrame) (next : ℕ) → AreThoseAwaited lanes rows (c ∷ rest) next → commands_of c.lane rest ≡ []
 alone lanes rows c rest next is =
     let r = slice_index_or rows c.lane idle in
     none_more c.lane r.serial r.stage c (commands_of c.lane rest) (sym (of_own c rest) ∙ is.commands c.lane)
 
 -- and its lane has a row
-there_is : (lanes : ℕ) (rows : List Row) (c : PlainFrame) (rest : List PlainFrame) (next : ℕ) → AreAwaited lanes rows (c ∷ rest) next → c.lane < length rows
+there_is : (lanes : ℕ) (rows : List Row) (c : PlainFrame) (rest : List PlainFrame) (next : ℕ) → AreThoseAwaited lanes rows (c ∷ rest) next → c.lane < length rows
 there_is lanes rows c rest next is = elim (cases_lt c.lane (length rows)) [
   | inl there ↦ there
   | inr past ↦ absurd (none (sym (of_own c rest) ∙ (is.commands c.lane ∙ ap (awaited c.lane) (get_or_past rows c.lane idle past))))
@@ -94,14 +94,14 @@ there_is lanes rows c rest next is = elim (cases_lt c.lane (length rows)) [
     none e = cc e
 
 -- the oldest command is answered, and its row waits for nothing
-pub answered_awaits : (lanes : ℕ) (rows : List Row) (c : PlainFrame) (rest : List PlainFrame) (next : ℕ) (r : Row) → AreAwaited lanes rows (c ∷ rest) next → awaited c.lane r ≡ [] →
-    AreAwaited lanes (slice_set rows c.lane r) rest next
+pub answered_awaits : (lanes : ℕ) (rows : List Row) (c : PlainFrame) (rest : List PlainFrame) (next : ℕ) (r : Row) → AreThoseAwaited lanes rows (c ∷ rest) next → awaited c.lane r ≡ [] →
+    AreThoseAwaited lanes (slice_set rows c.lane r) rest next
 answered_awaits lanes rows c rest next r is free =
     changed lanes rows (c ∷ rest) rest next next c.lane r is (numbers_less next c rest is.numbers) (there_is lanes rows c rest next is) (λ other apart. sym (of_other other c rest apart)) (alone lanes rows c rest next is ∙ sym free)
 
 -- or another command is issued for its row
-pub followed_awaits : (lanes : ℕ) (rows : List Row) (c next : PlainFrame) (rest : List PlainFrame) (number : ℕ) (r : Row) → AreAwaited lanes rows (c ∷ rest) number → next.link ≡ number → next.lane ≡ c.lane →
-    awaited c.lane r ≡ next ∷ [] → AreAwaited lanes (slice_set rows c.lane r) (rest ++ next ∷ []) (number + 1)
+pub followed_awaits : (lanes : ℕ) (rows : List Row) (c next : PlainFrame) (rest : List PlainFrame) (number : ℕ) (r : Row) → AreThoseAwaited lanes rows (c ∷ rest) number → next.link ≡ number → next.lane ≡ c.lane →
+    awaited c.lane r ≡ next ∷ [] → AreThoseAwaited lanes (slice_set rows c.lane r) (rest ++ next ∷ []) (number + 1)
 followed_awaits lanes rows c next rest number r is numbered same waits =
     changed lanes rows (c ∷ rest) (rest ++ next ∷ []) number (number + 1) c.lane r is (numbers_more number rest next (numbers_less number c rest is.numbers) numbered) (there_is lanes rows c rest number is)
     (λ other apart. of_both other rest (next ∷ []) ∙ (ap (λ xs. commands_of other rest ++ xs) (of_other other next [] (λ e. apart (e ∙ same))) ∙ (append-nil (commands_of other rest) ∙ sym (of_other other c rest apart))))
@@ -112,7 +112,7 @@ followed_awaits lanes rows c next rest number r is numbered same waits =
 no_command : (place : ℕ) (c : PlainFrame) → (let none : List PlainFrame = [] in slice_get none place) ≡ Some c → ⊥
 no_command place c e = cc e
 
-pub opened_rows : (settings : Settings) → AreAwaited settings.lanes (replicate settings.lanes idle) [] 1
+pub opened_rows : (settings : Settings) → AreThoseAwaited settings.lanes (replicate settings.lanes idle) [] 1
 opened_rows settings = record {
   numbers = λ place c e. absurd (no_command place c e);
   count = length-replicate settings.lanes idle;

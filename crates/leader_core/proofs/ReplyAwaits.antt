@@ -11,7 +11,7 @@ use Rattle.audit_rules.specs.Audit.{accepts}
 use Rattle.step_rules.specs.Boxes.{Box, place_of}
 use Rattle.step_rules.specs.Leader.{Leader, Registering, Writing, Stage, Waiting, Challenged, Auditing, Settling, Done, row, row_at, AckTurn}
 use Rattle.step_rules.specs.LeaderReplies.{own_closing, registered, began, audited, accepted, rejected, read, by_command, registered_in, if_registered, if_begun, if_audited, if_settled, if_read, fits, refusal_in, want_for, if_fits, answers, if_reply, on_reply_bytes}
-use Rattle.leader_core.specs.Awaited.{awaited_at, RowsAwait, AreAwaited}
+use Rattle.leader_core.specs.Awaited.{awaited_at, RowsAwait, AreThoseAwaited}
 use Rattle.leader_core.proofs.AwaitLemmas.{answered_awaits, followed_awaits}
 
 -- the command that is answered is the oldest
@@ -34,8 +34,8 @@ awaits_either false x y p q = q
 
 -- ---- the oldest command is answered
 
-as_first : (a : Leader) (c : PlainFrame) → Oldest a c → AreAwaited a.settings.lanes a.rows (c ∷ drop 1 a.outstanding) a.next
-as_first a c is = subst (λ (xs : List PlainFrame). AreAwaited a.settings.lanes a.rows xs a.next) is.first is.rows
+as_first : (a : Leader) (c : PlainFrame) → Oldest a c → AreThoseAwaited a.settings.lanes a.rows (c ∷ drop 1 a.outstanding) a.next
+as_first a c is = subst (λ (xs : List PlainFrame). AreThoseAwaited a.settings.lanes a.rows xs a.next) is.first is.rows
 
 -- its row keeps a reply
 kept : (a : Leader) (c : PlainFrame) (stage : Stage) → Oldest a c → awaited_at c.lane c.serial stage ≡ [] → RowsAwait (record a { rows = slice_set a.rows c.lane (row c.serial stage); outstanding = drop 1 a.outstanding })

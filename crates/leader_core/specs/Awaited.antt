@@ -42,7 +42,7 @@ awaited lane r = awaited_at lane r.serial r.stage
 
 -- of each lane the command that its row waits for is outstanding, and nothing else; their numbers are the last
 -- before the next one, in order
-pub record AreAwaited (lanes : ℕ) (rows : List Row) (outstanding : List PlainFrame) (next : ℕ)
+pub record AreThoseAwaited (lanes : ℕ) (rows : List Row) (outstanding : List PlainFrame) (next : ℕ)
     : Type 0 where
   pub count : length rows ≡ lanes
   pub commands : (lane : ℕ) → commands_of lane outstanding ≡ awaited lane (slice_index_or rows lane idle)
@@ -50,7 +50,7 @@ pub record AreAwaited (lanes : ℕ) (rows : List Row) (outstanding : List PlainF
       → c.link + length outstanding ≡ next + place
 
 abbrev pub RowsAwait : Leader → Type 0
-RowsAwait a = AreAwaited a.settings.lanes a.rows a.outstanding a.next
+RowsAwait a = AreThoseAwaited a.settings.lanes a.rows a.outstanding a.next
 
 -- what holds of the stores between two calls
 pub record IsLeader (c : Core) : Type 0 where

@@ -149,8 +149,8 @@ impl Core {
         true
     }
 
-    /// The helper has opened its part and closed: the leader's own closing, under which its row waits for the settle. None
-    /// where that doesn't fit.
+    /// The helper has opened its part and closed: the leader's own closing, under which its row waits for the settle.
+    /// None where that doesn't fit.
     pub(crate) fn audited(
         &mut self,
         command: &Issued,

@@ -86,8 +86,8 @@ impl Leader {
         self.core.on_client(frame, out, steps)
     }
 
-    /// Bytes of the helper: where they are one reply that has the oldest outstanding number and fits its command, what it
-    /// says is done, and a reply for the lane's client, or the settle of an audit, is written to the front of `out`.
+    /// Bytes of the helper: where they are one reply that has the oldest outstanding number and fits its command, what
+    /// it says is done, and a reply for the lane's client, or the settle of an audit, is written to the front of `out`.
     pub fn on_link_reply(&mut self, frame: &[u8], out: &mut [u8]) -> Ack
         requires room { 8213 ≤ length out.old }
         ensures leader { self.new ≡ (on_reply_bytes self.old frame.now).leader }

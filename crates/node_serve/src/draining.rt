@@ -47,7 +47,8 @@ fn exchange_one<N: Net>(
 }
 
 /// Exchanges the oldest outstanding command until none is outstanding. Gives the length of the last reply for the
-/// client, which stands at the front of `out`: the one of `told` bytes that stands there now where there is no exchange.
+/// client, which stands at the front of `out`: the one of `told` bytes that stands there now where there is no
+/// exchange.
 pub fn drain<N: Net>(
     leader: &mut Leader,
     peer: &str,

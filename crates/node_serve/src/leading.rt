@@ -91,8 +91,8 @@ pub fn handle<N: Net>(
     drain(leader, peer, net, out, told, &mut answer)
 }
 
-/// Tells the client of a frame that the link failed, with the net's count of faults. Gives the length of what is written
-/// to the front of `out`.
+/// Tells the client of a frame that the link failed, with the net's count of faults. Gives the length of what is
+/// written to the front of `out`.
 #[tactic(auto, using(frame_rules::proofs::GrammarLaws::spelling_limit))]
 pub fn say_link_down(frame: &Frame<'_>, count: u64, out: &mut [u8]) -> usize
     requires room { 8213 ≤ length out.old }

@@ -21,7 +21,8 @@ impl State {
         self.deliver(alloc, number + 1)
     }
 
-    // Until no command is outstanding. An audit takes two rounds, with the settle that follows it, any other command one.
+    // Until no command is outstanding. An audit takes two rounds, with the settle that follows it, any other command
+    // one.
     fn drain(&mut self, alloc: Global) -> Result<(), NoMemory>
         ensures moved { OnOk result (Moves (drained_by frame_moves) self.old self.new) }
         ensures keeps { Keeps self.old self.new }

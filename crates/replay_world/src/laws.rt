@@ -6,13 +6,13 @@ ghost use Rattle.run_rules.specs.Soundness.{BadWritesAreCaught, SettledAsTheyPas
 ghost use Rattle.replay_world.specs.Laws.{OfSchedules, RequestsAreTold};
 ghost use Rattle.replay_world.specs.Strangers.{FinishesAnswer, OfEverySchedule, OthersAreTold, SchedulesFit, StrangersAreForeign};
 
-/// Whatever frames of a schedule of clients are lost, repeated or reordered: its run over bytes is the protocol's machine
-/// with content. Each outcome tells what the plain table of mailboxes gives at the place of its request's last entry in
-/// the journal, so a message that an owner decodes is the one that stands in the plain table there; a finished request
-/// that was sent has all its lines, and only refusals come that the plain table has cause for. Each line of the journal
-/// is printed with the plain table's result, stands once, and in its client's order. The helper's boxes are the fold of
-/// its shares over the whole journal, the leader's that over the entries that it has acknowledged; they add up to the
-/// plain table, and a write whose target stood among the boxes when it began is accepted.
+/// Whatever frames of a schedule of clients are lost, repeated or reordered: its run over bytes is the protocol's
+/// machine with content. Each outcome tells what the plain table of mailboxes gives at the place of its request's last
+/// entry in the journal, so a message that an owner decodes is the one that stands in the plain table there; a finished
+/// request that was sent has all its lines, and only refusals come that the plain table has cause for. Each line of the
+/// journal is printed with the plain table's result, stands once, and in its client's order. The helper's boxes are the
+/// fold of its shares over the whole journal, the leader's that over the entries that it has acknowledged; they add up
+/// to the plain table, and a write whose target stood among the boxes when it began is accepted.
 pub fn schedules_hold()
     ensures follows { OfSchedules Follows }
     ensures outcomes { OfSchedules OutcomesArePlain }

@@ -104,7 +104,8 @@ impl World {
         Ok(text_of(alloc, &self.state)?)
     }
 
-    /// Writes the text of the run. Where the sink fails a prefix of it was written; where memory is wanting nothing was.
+    /// Writes the text of the run. Where the sink fails a prefix of it was written; where memory is wanting nothing
+    /// was.
     pub fn put<K: Sink>(&self, alloc: Global, out: &mut K) -> Result<(), PutFault>
         requires { IsWhole self.now }
         ensures ok { OnOk result (Took (K.written out.old) (K.written out.new) (output_of (played self.now))) }

@@ -104,8 +104,8 @@ impl ServerBoxes {
         self.registry.add(address, key)
     }
 
-    /// Evaluates the write in `room` at the addresses of the boxes that it counts, one step a node, keeps their leaves in
-    /// `room`, and gives what server 0 or 1 opens of its proof.
+    /// Evaluates the write in `room` at the addresses of the boxes that it counts, one step a node, keeps their leaves
+    /// in `room`, and gives what server 0 or 1 opens of its proof.
     pub fn open_write<L: Ledger>(
         &mut self,
         server: u8,

@@ -1,5 +1,5 @@
-//! The boxes of a server, leader or helper: their addresses, keys and shares, and what registers, writes and reads do to
-//! them. All memory is taken at opening.
+//! The boxes of a server, leader or helper: their addresses, keys and shares, and what registers, writes and reads do
+//! to them. All memory is taken at opening.
 #![tactic(auto)]
 
 mod boxes;

@@ -43,7 +43,8 @@ impl ShareStore {
         }
     }
 
-    /// XORs the write bytes of each leaf into the share of its box, for the first `count` boxes. A retired box keeps its share.
+    /// XORs the write bytes of each leaf into the share of its box, for the first `count` boxes. A retired box keeps
+    /// its share.
     pub fn add_write(&mut self, count: u32, part: &PublicPart, leaves: &[u128])
         requires width { length (last_of part.now) ≡ self.old.width }
         requires boxes { count ≤ length self.old.boxes }

@@ -1,4 +1,5 @@
-//! Tests of public calls. Words, frames and texts: limits, the outside in memory, each kind of frame, and what the readers take and refuse.
+//! Tests of public calls. Words, frames and texts: limits, the outside in memory, each kind of frame, and what the
+//! readers take and refuse.
 #![tactic(auto)]
 
 #[cfg(test)]

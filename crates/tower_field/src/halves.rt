@@ -1,4 +1,5 @@
-//! Sums, products and inverses of numbers of a level, by halves. A number of level k has 2^k bits, and its high bits are its high half.
+//! Sums, products and inverses of numbers of a level, by halves. A number of level k has 2^k bits, and its high bits
+//! are its high half.
 ghost use Rattle.std.specs.Prelude.{◌≡◌, ◌≢◌, ◌+◌, ◌-◌, ◌*◌, ◌/◌, ◌%◌, ◌^◌, ◌<◌, ◌≤◌, bit_xor};
 ghost use Rattle.tower_numbers.specs.Levels.{twist_at, product_at, inverse_at};
 

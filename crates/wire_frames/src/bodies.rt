@@ -1,4 +1,5 @@
-//! The bodies that have no tag. Each function is given the `left` bytes that the length leaves, and the bytes behind the header.
+//! The bodies that have no tag. Each function is given the `left` bytes that the length leaves, and the bytes behind
+//! the header.
 ghost use Rattle.std.specs.Prelude.{◌≡◌, ◌+◌, ◌≤◌, length};
 ghost use Rattle.std.specs.Int.{w32};
 ghost use Rattle.frame_rules.specs.Frames.{Read, Retire, Challenge, LinkRead, LinkRetire, plain_body};

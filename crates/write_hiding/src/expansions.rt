@@ -17,8 +17,8 @@ use dpf_keys::levels::{on_side, side_at, step, with_bit};
 use express_words::{List, NoMemory};
 use std::alloc::Global;
 
-// The pair of the other server that makes a level's word and right bit with the viewer's raw pair. The seed that was kept on
-// the side `from` is kept on the side `to`.
+// The pair of the other server that makes a level's word and right bit with the viewer's raw pair. The seed that was
+// kept on the side `from` is kept on the side `to`.
 fn moved_pair(
     word: u128,
     right: u128,

@@ -16,8 +16,8 @@ use express_words::NoMemory;
 use std::alloc::Global;
 
 /// The choice that gives the viewer, of the write to `to`, the view that `choice` gives it of the write to `from`. The
-/// opposite move gives `choice` back. `NoMemory` comes where there is none for that view, for the moved pairs and block, or
-/// for their leaves.
+/// opposite move gives `choice` back. `NoMemory` comes where there is none for that view, for the moved pairs and
+/// block, or for their leaves.
 pub fn moved(
     alloc: Global,
     choice: &IdealChoice,

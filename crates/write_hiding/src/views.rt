@@ -73,8 +73,8 @@ fn exchanged(
     )
 }
 
-/// What the viewer has of a choice with this aim, under a game. `NoMemory` comes where there is none for the bytes of the
-/// public part or for a list of leaves, one an address.
+/// What the viewer has of a choice with this aim, under a game. `NoMemory` comes where there is none for the bytes of
+/// the public part or for a list of leaves, one an address.
 pub fn view(alloc: Global, choice: &IdealChoice, aim: &Aim, game: &Game) -> Result<View, NoMemory>
     requires viewer { choice.now.viewer ≤ 1 }
     requires levels { length choice.now.levels ≡ 128 }

@@ -57,8 +57,8 @@ fn with_zero(words: &[u128; 14], h: &[u128; 5], a: u128, b: u128, c: u128) -> [u
     [u0, u1, v0, v1, h0, h1, h2, h3, h4, a, a1, b, b1, c]
 }
 
-// The words by which server 0's share and f·g and a·b make up server 1's share, where server 0 has these a and b, and server 1
-// these h and c.
+// The words by which server 0's share and f·g and a·b make up server 1's share, where server 0 has these a and b, and
+// server 1 these h and c.
 fn zero_words(
     choice: &IdealChoice,
     own: &ProofShare,
