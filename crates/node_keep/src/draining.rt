@@ -1,6 +1,7 @@
 //! The leader exchanges its outstanding commands with the helper, and each answer is kept before its step.
 ghost use Rattle.std.specs.Prelude.{◌≡◌, ◌<◌, ◌≤◌, List, ℕ, length, take, option_map, Some, IfOk, IfErr};
 ghost use Rattle.frame_rules.specs.Spelling.{spelling};
+ghost use Rattle.node_serve.specs.Exchanging.{EarlyAtEnd};
 ghost use Rattle.node_restart.specs.Frames.{Handed};
 ghost use Rattle.node_restart.specs.Steps.{resent_by};
 ghost use Rattle.node_keep.specs.Handing.{OnLink, OnKeep, NetFault, DiskFault};
@@ -41,6 +42,8 @@ fn exchange_one<N: Net, D: Disk>(
     ensures unkept { IfErr result (λ why. OnKeep why (λ fault. (refused : Handed) × Unkept peer.now
         kept.old.core kept.new.core (take size out.old) refused (N.calls net.old) (N.calls net.new)
         × Refuses D.reads D.moment D.left_since kept.old kept.new refused fault)) }
+    ensures early { IfErr result (λ why. OnLink why (λ link. link ≡ Served.LinkBad
+        → EarlyAtEnd (N.calls net.new) N.Conn.content N.Conn.written N.Conn.count)) }
     ensures fault { NetFault result (N.count net.old) (N.count net.new) }
     ensures counts { DiskFault result (D.Counted.count kept.old.disk) (D.Counted.count kept.new.disk) }
     ensures door { N.doors net.new ≡ N.doors net.old }
@@ -89,6 +92,8 @@ pub(crate) fn drain<N: Net, D: Disk>(
         × DrainStops peer.now kept.old.core (take told out.old) kept.new.core frames refused (N.calls net.old)
         (N.calls net.new) × KeepsUpTo D.reads D.may_leave D.moment D.left_since kept.old kept.new frames
         refused fault))) }
+    ensures early { IfErr result (λ why. OnLink why (λ link. link ≡ Served.LinkBad
+        → EarlyAtEnd (N.calls net.new) N.Conn.content N.Conn.written N.Conn.count)) }
     ensures fault { NetFault result (N.count net.old) (N.count net.new) }
     ensures counts { DiskFault result (D.Counted.count kept.old.disk) (D.Counted.count kept.new.disk) }
     ensures door { N.doors net.new ≡ N.doors net.old }

@@ -1,5 +1,6 @@
 //! The leader takes its step, between two drains.
 ghost use Rattle.std.specs.Prelude.{◌≡◌, ◌≤◌, List, ℕ, [], ◌∷◌, length, take, IfOk, IfErr, OnOk};
+ghost use Rattle.node_serve.specs.Exchanging.{EarlyAtEnd};
 ghost use Rattle.node_restart.specs.Faults.{Counts};
 ghost use Rattle.node_restart.specs.Frames.{Handed, handed};
 ghost use Rattle.node_restart.specs.declared.frames.Sender.TheVariants.{Client};
@@ -15,6 +16,7 @@ use express_words::outside::Net;
 use frame_rules::FRAME_MAX;
 use node_journal::Disk;
 use node_restart::{KeepFault, Kept, Sender};
+use node_serve::Served;
 
 /// Steps the leader with what a connection brought. A reply that it gives at once stands at the front of
 /// `out`; its length is given, 0 where there is none yet.
@@ -61,6 +63,8 @@ pub(crate) fn handle<N: Net, D: Disk>(
         × HandleStops peer.now kept.old.core frame.now kept.new.core frames refused (N.calls net.old)
         (N.calls net.new) × KeepsUpTo D.reads D.may_leave D.moment D.left_since kept.old kept.new frames
         refused fault))) }
+    ensures early { IfErr result (λ why. OnLink why (λ link. link ≡ Served.LinkBad
+        → EarlyAtEnd (N.calls net.new) N.Conn.content N.Conn.written N.Conn.count)) }
     ensures fault { NetFault result (N.count net.old) (N.count net.new) }
     ensures counts { DiskFault result (D.Counted.count kept.old.disk) (D.Counted.count kept.new.disk) }
     ensures door { N.doors net.new ≡ N.doors net.old }

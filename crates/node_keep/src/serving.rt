@@ -6,6 +6,7 @@ ghost use Rattle.node_serve.specs.Leading.{taken_in, IsSent};
 ghost use Rattle.frame_rules.specs.Reading.{decoded};
 ghost use Rattle.frame_rules.specs.declared.fault.FrameFault.TheVariants.{Short};
 ghost use Rattle.node_serve.specs.Draining.{FaultIn};
+ghost use Rattle.node_serve.specs.Exchanging.{EarlyAtEnd};
 ghost use Rattle.node_serve.specs.Serving.{Brings, IsCut, WritesReply};
 ghost use Rattle.node_restart.specs.Faults.{Counts};
 ghost use Rattle.node_restart.specs.Frames.{Handed};
@@ -97,6 +98,8 @@ fn serve_leader<C: Conn, N: Net, D: Disk>(
         × Stops peer.now kept.old.core frame.now kept.new.core frames refused (N.calls net.old)
         (N.calls net.new)
         × KeepsUpTo D.reads D.may_leave D.moment D.left_since kept.old kept.new frames refused fault)) }
+    ensures early { IfOk result (λ why. why ≡ Served.LinkBad
+        → EarlyAtEnd (N.calls net.new) N.Conn.content N.Conn.written N.Conn.count) }
     ensures fault { IfOk result (λ why. FaultIn why (N.count net.old) (N.count net.new)) }
     ensures unfailed { OnErr result (N.count net.new ≡ N.count net.old) }
     ensures door { N.doors net.new ≡ N.doors net.old }
@@ -137,6 +140,8 @@ fn answer<C: Conn, N: Net, D: Disk>(
         × Stops peer.now kept.old.core frame.now kept.new.core frames refused (N.calls net.old)
         (N.calls net.new)
         × KeepsUpTo D.reads D.may_leave D.moment D.left_since kept.old kept.new frames refused fault)) }
+    ensures early { IfOk result (λ why. why ≡ Served.LinkBad
+        → EarlyAtEnd (N.calls net.new) N.Conn.content N.Conn.written N.Conn.count) }
     ensures fault { IfOk result (λ why. FaultIn why (N.count net.old) (N.count net.new)) }
     ensures unfailed { OnErr result (N.count net.new ≡ N.count net.old) }
     ensures door { N.doors net.new ≡ N.doors net.old }
@@ -193,6 +198,9 @@ pub fn serve_kept<C: Conn, N: Net, D: Disk>(
     ensures unanswered { OnErr result ((C.written conn.new ≡ C.written conn.old)
         × (C.count conn.new ≡ C.count conn.old)) }
 
+    // LinkBad for an answer that ended early comes only where its connection has nothing left.
+    ensures early { IfOk result (λ why. why ≡ Served.LinkBad
+        → EarlyAtEnd (N.calls net.new) N.Conn.content N.Conn.written N.Conn.count) }
     ensures helper_rests { IsHelp kept.old.core → net.new ≡ net.old }
     // The net's count rose exactly where its fault is told, and the disk's where its own is.
     ensures fault { IfOk result (λ why. FaultIn why (N.count net.old) (N.count net.new)) }
