@@ -7,12 +7,13 @@ pub const FRAME_MAX: usize = 8213;
 /// One frame. Its slices lie in the bytes that it was read from.
 #[derive(Clone, Copy, Debug, PartialEq, Eq)]
 pub struct Frame<'a> {
-    /// The client's lane; 0 in a refusal of bytes that are no frame.
+    /// The client's lane; 0 in a refusal of bytes that aren't one frame, or one of a kind or a width that isn't taken.
     pub lane: u16,
-    /// The number of the client's request, from 1; 0 in a refusal of bytes that are no frame.
+    /// The number of the client's request, from 1; 0 in such a refusal.
     pub serial: u32,
     /// The number of the leader's command, from 1; 0 between clients and servers.
     pub link: u64,
+    /// What the frame says.
     pub body: Body<'a>,
 }
 
@@ -45,9 +46,9 @@ pub enum Body<'a> {
     LinkRegister { address: u128 },
     /// The helper is to begin a write: the leader's draw, and the public part.
     LinkBegin { ckey: [u8; 32], part: &'a [u8] },
-    /// The helper is to audit at this point.
+    /// The helper is to audit at this point; the leader's openings.
     LinkAudit { sigma: u128, opened: Openings },
-    /// The helper is to settle.
+    /// The helper is to settle; the leader's closing.
     LinkSettle(Closing),
     /// The helper is to read this box.
     LinkRead { box_number: u32 },
@@ -81,12 +82,12 @@ pub enum ReplyBody<'a> {
     Begun(u32),
     /// 3: the helper's openings and closing.
     Audited(Openings, Closing),
-    /// 4
+    /// 4: the helper's judge accepts the write.
     Accepted,
-    /// 5
+    /// 5: the helper's judge rejects the write.
     Rejected,
     /// 6: the helper's masked share of a message.
     Masked(&'a [u8]),
-    /// 7
+    /// 7: the command is refused.
     Refused(Refusal),
 }
