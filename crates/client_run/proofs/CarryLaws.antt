@@ -1,5 +1,5 @@
 -- Requests that carry, one after another, and the one that breaks off.
-use Rattle.std.proofs.Common.{◌≡◌, ℕ, ◌+◌, ◌≤◌, true, false, List, [], ◌∷◌, ◌++◌, take, drop, length, Option, sym, ap, ◌∙◌, subst, arith}
+use Rattle.std.proofs.Common.{◌≡◌, ℕ, ◌+◌, ◌≤◌, true, false, List, [], ◌∷◌, ◌++◌, take, drop, length, Option, Err, refl, sym, ap, ◌∙◌, subst, arith}
 use Rattle.std.proofs.lemmas.List.{take-append-drop, length-append}
 use Rattle.std.proofs.lemmas.List.Elements.{All-nil, All-same, All-push}
 use Rattle.express_words.specs.Calls.{Call}
@@ -13,7 +13,9 @@ use Rattle.node_client.specs.declared.peers.Peers.{Peers}
 use Rattle.node_client.specs.Talks.{Talk, TalksOn}
 use Rattle.node_client.specs.Work.{line}
 use Rattle.node_client.proofs.WorkLaws.{Working}
-use Rattle.client_run.specs.Carrying.{carries, AllCarry, BreaksAt}
+use Rattle.client_run.specs.declared.carrying.Halt.TheVariants.{Broken}
+use Rattle.client_run.specs.Carrying.{AllCarry, CarriesOff}
+use Rattle.client_run.specs.Telling.{carries, IsLast}
 use Rattle.client_run.specs.Carries.{is_message, AreWhole}
 
 abbrev Carries : Finished → Type 0
@@ -51,13 +53,13 @@ one_more_told before after f number more few = omega (arith, ap length more, len
 
 pub breaks : (peers : Peers) (start new : Client) (requests : List Request) (number place : ℕ) (finished : List Finished) (f : Finished) (message : List ℕ) (told : Told) (a b : Option (List Call))
     → Working peers start requests number new (finished ++ f ∷ []) a b → f ≡ line place message told → carries told ≡ false
-    → (made : List Talk) × BreaksAt start requests new finished f made × TalksOn peers made a b
+    → (made : List Talk) × CarriesOff start requests new finished made (Err (Broken f)) × TalksOn peers made a b
 breaks peers start new requests number place finished f message told a b w of broken =
-    let at : BreaksAt start requests new finished f w.made = record {
+    let last : IsLast start requests (record { client = new; finished = finished ++ f ∷ []; made = w.made }) finished f = record {
       asked = take number requests;
       behind = drop number requests;
       all = sym (take-append-drop number requests);
       works = w.works;
-      breaks = ap (λ (x : Finished). carries x.told) of ∙ broken;
+      finished = refl;
     } in
-    (w.made, at, w.calls)
+    (w.made, (last, ap (λ (x : Finished). carries x.told) of ∙ broken), w.calls)

@@ -1,96 +1,182 @@
--- The runs of a client and of a carrier, put together.
-use Rattle.std.proofs.Common.{◌≡◌, ℕ, List, map, Option, Result, Ok, Err, subst}
-use Rattle.std.specs.Prelude.{IfOk}
+-- What a run came to, by its work and what is said of its end.
+use Rattle.std.specs.Prelude.{IsErrAnd}
+use Rattle.std.proofs.Common.{◌≡◌, ℕ, true, false, List, [], ◌∷◌, ◌++◌, length, map, Option, Some, None, Result, Ok, Err, refl, sym, ap, ◌∙◌, subst}
 use Rattle.express_words.specs.Calls.{Call}
-use Rattle.express_words.specs.declared.memory.NoMemory.{NoMemory}
 use Rattle.mailbox_rules.specs.Requests.{Request}
 use Rattle.step_rules.specs.Client.{Client}
 use Rattle.node_client.specs.declared.finished.Finished.{Finished}
 use Rattle.node_client.specs.declared.peers.Peers.{Peers}
-use Rattle.node_client.specs.declared.stop.Stop.{Stop}
 use Rattle.node_client.specs.Talks.{Talk, TalksOn}
-use Rattle.node_client.specs.Work.{Stand, WorksOff}
+use Rattle.node_client.specs.Work.{Stand, stand, Works, none}
+use Rattle.settings_text.specs.declared.carry.CarryJob.{CarryJob}
+use Rattle.settings_text.specs.declared.carry.CarryJob.TheVariants.{Send, Fetch}
 use Rattle.settings_text.specs.declared.carry.CarrySettings.{CarrySettings}
 use Rattle.settings_text.specs.declared.client.ClientSettings.{ClientSettings}
 use Rattle.client_run.specs.declared.carrying.Halt.{Halt}
+use Rattle.client_run.specs.declared.carrying.Halt.TheVariants as halt
+use Rattle.client_run.specs.declared.cut.Cut.{Cut}
+use Rattle.client_run.specs.declared.cut.Cut.TheVariants as cuts
+use Rattle.client_run.specs.declared.cut.Untold.{Untold}
+use Rattle.client_run.specs.declared.cut.Untold.TheVariants as untold
 use Rattle.client_run.specs.declared.ran.Ran.{Ran}
 use Rattle.client_run.specs.declared.ran.RunEnd.{RunEnd}
-use Rattle.client_run.specs.Accounts.{client_account, opened, request_of, AreAt}
-use Rattle.client_run.specs.Carrying.{carry_account, askings_of, AllCarry, CarriesOff, carry_end}
-use Rattle.client_run.specs.Carries.{CarryRuns, carry_text}
-use Rattle.client_run.specs.Runs.{ClientRuns, client_text, end_of}
+use Rattle.client_run.specs.declared.ran.RunEnd.TheVariants.{Done}
+use Rattle.client_run.specs.declared.telling.Until.{Until}
+use Rattle.client_run.specs.declared.telling.Until.TheVariants as until
+use Rattle.client_run.specs.Accounts.{AreAt}
+use Rattle.client_run.specs.Carrying.{CarriesOff, AllCarry}
+use Rattle.client_run.specs.Carries.{CarryRuns, CarryComes, ComesBy, Fetches, FetchComes, SendComes, carry_plan, carry_text, send_end}
+use Rattle.client_run.specs.Runs.{Plan, IsNext, between, outcome, ended, CameTo, EndsWith, BreaksOff, Comes, ClientEnded, ClientComes, client_plan, plan_at, end_of}
+use Rattle.client_run.specs.Saying.{said, whole_text, SaidSo}
+use Rattle.client_run.specs.Telling.{Moment, Passed, PassedPart, TellsOff, IsLast, lines_of}
+use Rattle.client_run.specs.Texts.{outcome_line, end_line}
+use Rattle.client_run.proofs.PassedLaws.{took_nothing}
 
--- work that was told so
-abbrev pub Worked : Peers → Client → List Request → Client → List Finished → Result Unit Stop → Option (List Call) → Option (List Call) → Type 0
-Worked peers start requests new finished worked before now =
-    (made : List Talk) × WorksOff start requests (record { client = new; finished = finished; made = made }) worked
-    × TalksOn peers made before now
+-- ---- a text that wasn't told
 
-client_runs : (settings : ClientSettings) (seed : List ℕ) (peers : Peers) (start new : Client) (requests : List Request) (finished : List Finished) (worked : Result Unit Stop) (before now : Option (List Call)) (text : List ℕ) (end : RunEnd)
-    → start ≡ opened (client_account settings seed) → requests ≡ map request_of settings.requests → AreAt peers settings.leader settings.helper
-    → Worked peers start requests new finished worked before now → text ≡ client_text finished worked → end ≡ end_of worked
-    → ClientRuns settings seed before now text end
-client_runs settings seed peers start new requests finished worked before now text end is_start is_requests at w is_text is_end =
-    let stand : Stand = record { client = new; finished = finished; made = w.0 } in
-    let works : WorksOff (opened (client_account settings seed)) (map request_of settings.requests) stand worked
-    = subst (λ (c : Client). WorksOff c (map request_of settings.requests) stand worked) is_start
-    (subst (λ (rs : List Request). WorksOff start rs stand worked) is_requests w.1) in
+untold_comes : (plan : Plan) (Ended : Stand → List Finished → List ℕ → RunEnd → Type 0) (until : Until) (peers : Peers) (why : Untold) (result : Result Ran Untold) (a b : Moment)
+    → AreAt peers plan.leader plan.helper → TellsOff peers until plan.start plan.requests (Err (cuts.Untold why)) a b → result ≡ Err why → Comes plan Ended result a b
+untold_comes plan Ended until peers untold.NoMemory result a b at (s, others, last, is_last, goes, passed) is =
+    let came : CameTo plan Ended others (outcome_line last) a.calls b.calls = record { stand = s; is_next = outcome others last is_last; peers = peers; at = at; calls = passed.calls } in
+    subst (λ (r : Result Ran Untold). Comes plan Ended r a b) (sym is) (others, outcome_line last, came, passed.written)
+untold_comes plan Ended until peers untold.Unwritten result a b at (s, others, last, is_last, goes, passed) is =
+    let off : BreaksOff plan a b = record { stand = s; told = others; last = last; is_last = is_last; peers = peers; at = at; passed = passed } in
+    subst (λ (r : Result Ran Untold). Comes plan Ended r a b) (sym is) off
+
+-- what is said of the end, or memory is wanting for it
+ends_so : (plan : Plan) (Ended : Stand → List Finished → List ℕ → RunEnd → Type 0) (peers : Peers) (s : Stand) (told : List Finished) (text : List ℕ) (end : RunEnd) (result : Result Ran Untold) (a b : Moment)
+    → AreAt peers plan.leader plan.helper → Ended s told text end → Passed peers s.made (lines_of told) a b → SaidSo (Ok (text, end)) result → Comes plan Ended result a b
+ends_so plan Ended peers s told text end (Ok ran) a b at is passed so =
+    let with_text : Ended s told ran.text end = subst (λ (t : List ℕ). Ended s told t end) (sym so.0) is in
     record {
-      stand = stand;
-      worked = worked;
-      works = works;
+      stand = s;
+      told = told;
+      is_ended = subst (λ (e : RunEnd). Ended s told ran.text e) (sym so.1) with_text;
       peers = peers;
       at = at;
-      calls = w.2;
-      prints = is_text;
-      ends = is_end;
+      passed = passed;
     }
+ends_so plan Ended peers s told text end (Err untold.NoMemory) a b at is passed so =
+    (told, text, record { stand = s; is_next = ended told text end is; peers = peers; at = at; calls = passed.calls }, passed.written)
+ends_so plan Ended peers s told text end (Err untold.Unwritten) a b at is passed so = absurd (cc so)
 
--- where there is a text
-pub ran_so : (settings : ClientSettings) (seed : List ℕ) (peers : Peers) (start new : Client) (requests : List Request) (finished : List Finished) (worked : Result Unit Stop) (before now : Option (List Call)) (result : Result Ran NoMemory)
-    → start ≡ opened (client_account settings seed) → requests ≡ map request_of settings.requests → AreAt peers settings.leader settings.helper
-    → Worked peers start requests new finished worked before now
-    → IfOk result (λ ran. ran.text ≡ client_text finished worked) → IfOk result (λ ran. ran.end ≡ end_of worked)
-    → IfOk result (λ ran. ClientRuns settings seed before now ran.text ran.end)
-ran_so settings seed peers start new requests finished worked before now (Ok ran) is_start is_requests at w is_text is_end =
-    client_runs settings seed peers start new requests finished worked before now ran.text ran.end is_start is_requests at w is_text is_end
-ran_so settings seed peers start new requests finished worked before now (Err want) is_start is_requests at w is_text is_end = tt
+-- memory was wanting before anything was done
+wants_memory : {A : Type 0} (r : Result A Untold) → IsErrAnd r (λ why. why ≡ untold.NoMemory) → r ≡ Err untold.NoMemory
+wants_memory (Ok x) h = absurd h
+wants_memory (Err why) h = ap Err h
 
--- ---- a carrier
+first_wants : (plan : Plan) (Ended : Stand → List Finished → List ℕ → RunEnd → Type 0) (peers : Peers) (a : Moment)
+    → AreAt peers plan.leader plan.helper → Comes plan Ended (Err untold.NoMemory) a a
+first_wants plan Ended peers a at =
+    let came : CameTo plan Ended [] [] a.calls a.calls = record {
+      stand = stand plan.start;
+      is_next = between [] plan.requests refl none;
+      peers = peers;
+      at = at;
+      calls = refl;
+    } in
+    ([], [], came, took_nothing a.written)
 
--- work that was carried so
-abbrev pub CarriedSo : Peers → Client → List Request → Client → List Finished → Result Unit Halt → Option (List Call) → Option (List Call) → Type 0
-CarriedSo peers start requests new finished worked before now =
-    (made : List Talk) × CarriesOff start requests new finished made worked × TalksOn peers made before now
+-- ---- a client
 
-carry_runs : (settings : CarrySettings) (seed : List ℕ) (peers : Peers) (start new : Client) (requests : List Request) (finished : List Finished) (worked : Result Unit Halt) (before now : Option (List Call)) (text : List ℕ) (end : RunEnd)
-    → start ≡ opened (carry_account settings seed) → requests ≡ map request_of (askings_of settings.width settings.owned settings.job)
-    → AreAt peers settings.leader settings.helper → CarriedSo peers start requests new finished worked before now → AllCarry finished
-    → text ≡ carry_text settings.job finished worked → end ≡ carry_end worked → CarryRuns settings seed before now text end
-carry_runs settings seed peers start new requests finished worked before now text end is_start is_requests at w carried is_text is_end =
-    let asked = map request_of (askings_of settings.width settings.owned settings.job) in
-    let carries : CarriesOff (opened (carry_account settings seed)) asked new finished w.0 worked
-    = subst (λ (c : Client). CarriesOff c asked new finished w.0 worked) is_start
-    (subst (λ (rs : List Request). CarriesOff start rs new finished w.0 worked) is_requests w.1) in
-    record {
+pub client_wants : (settings : ClientSettings) (seed : List ℕ) (peers : Peers) (result : Result Ran Untold) (a : Moment)
+    → AreAt peers settings.leader settings.helper → IsErrAnd result (λ why. why ≡ untold.NoMemory) → ClientComes settings seed result a a
+client_wants settings seed peers result a at wants =
+    subst (λ (r : Result Ran Untold). ClientComes settings seed r a a) (sym (wants_memory result wants)) (first_wants (client_plan settings seed) _ peers a at)
+
+client_ends : (plan : Plan) (peers : Peers) (end : Result Unit Cut) (result : Result Ran Untold) (a b : Moment)
+    → AreAt peers plan.leader plan.helper → TellsOff peers until.Last plan.start plan.requests end a b → SaidSo (said None end) result
+    → Comes plan (ClientEnded plan) result a b
+client_ends plan peers (Ok done) result a b at (s, works, goes, passed) so =
+    ends_so plan (ClientEnded plan) peers s s.finished (whole_text None) Done result a b at (Ok tt, works, refl, refl, refl) passed so
+client_ends plan peers (Err cuts.Broken) result a b at (s, others, last, is_last, goes, never, passed) so = absurd (cc never)
+client_ends plan peers (Err (cuts.Stopped why)) result a b at (s, stops, goes, passed) so =
+    ends_so plan (ClientEnded plan) peers s s.finished (end_line (Err why)) (end_of (Err why)) result a b at (Err why, stops, refl, refl, refl) passed so
+client_ends plan peers (Err (cuts.Untold why)) result a b at tells so = untold_comes plan (ClientEnded plan) until.Last peers why result a b at tells so
+
+pub client_comes : (settings : ClientSettings) (seed : List ℕ) (peers : Peers) (start : Client) (requests : List Request) (end : Result Unit Cut) (result : Result Ran Untold) (a b : Moment)
+    → start ≡ (client_plan settings seed).start → requests ≡ (client_plan settings seed).requests → AreAt peers settings.leader settings.helper
+    → TellsOff peers until.Last start requests end a b → SaidSo (said None end) result → ClientComes settings seed result a b
+client_comes settings seed peers start requests end result a b is_start is_requests at tells so =
+    let plan = client_plan settings seed in
+    let here : TellsOff peers until.Last plan.start plan.requests end a b
+    = subst (λ (c : Client). TellsOff peers until.Last c plan.requests end a b) is_start
+    (subst (λ (rs : List Request). TellsOff peers until.Last start rs end a b) is_requests tells) in
+    client_ends plan peers end result a b at here so
+
+-- ---- a carrier that sends
+
+pub send_comes : (count : ℕ) (plan : Plan) (peers : Peers) (end : Result Unit Cut) (result : Result Ran Untold) (a b : Moment)
+    → AreAt peers plan.leader plan.helper → TellsOff peers until.Broken plan.start plan.requests end a b → SaidSo (said (Some count) end) result
+    → SendComes count plan result a b
+send_comes count plan peers (Ok done) result a b at (s, works, goes, passed) so =
+    ends_so plan _ peers s s.finished (whole_text (Some count)) Done result a b at (s.finished, Ok tt, works, goes, refl, refl, refl) passed so
+send_comes count plan peers (Err cuts.Broken) result a b at (s, others, last, is_last, goes, breaks, passed) so =
+    let stops : Result Unit Halt = Err (halt.Broken last) in
+    let last_is : IsLast plan.start plan.requests (record { client = s.client; finished = others ++ last ∷ []; made = s.made }) others last = record {
+      asked = is_last.asked;
+      behind = is_last.behind;
+      all = is_last.all;
+      works = subst (λ (x : List Finished). Works plan.start is_last.asked (record { client = s.client; finished = x; made = s.made })) is_last.finished is_last.works;
+      finished = refl;
+    } in
+    ends_so plan _ peers s s.finished (send_end count stops) Done result a b at (others, stops, (last_is, breaks), goes, is_last.finished, refl, refl) passed so
+send_comes count plan peers (Err (cuts.Stopped why)) result a b at (s, stops, goes, passed) so =
+    ends_so plan _ peers s s.finished (end_line (Err why)) (end_of (Err why)) result a b at (s.finished, Err (halt.Stopped why), stops, goes, refl, refl, refl) passed so
+send_comes count plan peers (Err (cuts.Untold why)) result a b at tells so = untold_comes plan _ until.Broken peers why result a b at tells so
+
+plan_same : (c d : Client) (rs qs : List Request) (l m h k : List ℕ) → c ≡ d → rs ≡ qs → l ≡ m → h ≡ k
+    → (let p : Plan = record { start = c; requests = rs; leader = l; helper = h } in let q : Plan = record { start = d; requests = qs; leader = m; helper = k } in p ≡ q)
+plan_same c d rs qs l m h k e f g i =
+    let P : Client → List Request → List ℕ → List ℕ → Plan = λ a b x y. record { start = a; requests = b; leader = x; helper = y } in
+    ap (λ (x : Client). P x rs l h) e ∙ ap (λ (x : List Request). P d x l h) f ∙ ap (λ (x : List ℕ). P d qs x h) g ∙ ap (λ (x : List ℕ). P d qs m x) i
+
+-- so of the settings
+pub sent : (settings : CarrySettings) (seed : List ℕ) (peers : Peers) (start : Client) (requests : List Request) (id count : ℕ) (file addresses : List ℕ) (result : Result Ran Untold) (a b : Moment)
+    → start ≡ (carry_plan settings seed).start → requests ≡ (carry_plan settings seed).requests → AreAt peers settings.leader settings.helper → settings.job ≡ Send id file addresses → count ≡ length addresses
+    → SendComes count (plan_at peers start requests) result a b → CarryComes settings seed result a b
+sent settings seed peers start requests id count file addresses result a b is_start is_requests at job many comes =
+    let plan : plan_at peers start requests ≡ carry_plan settings seed = plan_same _ _ _ _ _ _ _ _ is_start is_requests at.leads at.helps in
+    subst (λ (j : CarryJob). ComesBy j settings seed result a b) (sym job)
+    (subst (λ (p : Plan). SendComes (length addresses) p result a b) plan (subst (λ n. SendComes n (plan_at peers start requests) result a b) many comes))
+
+-- ---- a carrier that fetches
+
+pub fetched : (settings : CarrySettings) (seed : List ℕ) (peers : Peers) (start : Client) (requests : List Request) (ran : Ran) (a b : Moment)
+    → start ≡ (carry_plan settings seed).start → requests ≡ (carry_plan settings seed).requests → AreAt peers settings.leader settings.helper → settings.job ≡ Fetch
+    → Fetches (plan_at peers start requests) ran a.calls b.calls → b.written ≡ a.written → CarryComes settings seed (Ok ran) a b
+fetched settings seed peers start requests ran a b is_start is_requests at job fetches still =
+    let plan : plan_at peers start requests ≡ carry_plan settings seed = plan_same _ _ _ _ _ _ _ _ is_start is_requests at.leads at.helps in
+    let (new, finished, made, worked, carries, carried, (dialled, stands, calls), text, end) = subst (λ (p : Plan). Fetches p ran a.calls b.calls) plan fetches in
+    let runs : CarryRuns settings seed a.calls b.calls ran.text ran.end = record {
       client = new;
       finished = finished;
-      made = w.0;
+      made = made;
       worked = worked;
       carries = carries;
       carried = carried;
-      peers = peers;
-      at = at;
-      calls = w.2;
-      prints = is_text;
-      ends = is_end;
-    }
+      peers = dialled;
+      at = stands;
+      calls = calls;
+      prints = text ∙ sym (ap (λ (j : CarryJob). carry_text j finished worked) job);
+      ends = end;
+    } in
+    subst (λ (j : CarryJob). ComesBy j settings seed (Ok ran) a b) (sym job) (runs, still)
 
-pub carry_ran_so : (settings : CarrySettings) (seed : List ℕ) (peers : Peers) (start new : Client) (requests : List Request) (finished : List Finished) (worked : Result Unit Halt) (before now : Option (List Call)) (result : Result Ran NoMemory)
-    → start ≡ opened (carry_account settings seed) → requests ≡ map request_of (askings_of settings.width settings.owned settings.job)
-    → AreAt peers settings.leader settings.helper → CarriedSo peers start requests new finished worked before now → AllCarry finished
-    → IfOk result (λ ran. ran.text ≡ carry_text settings.job finished worked) → IfOk result (λ ran. ran.end ≡ carry_end worked)
-    → IfOk result (λ ran. CarryRuns settings seed before now ran.text ran.end)
-carry_ran_so settings seed peers start new requests finished worked before now (Ok ran) is_start is_requests at w carried is_text is_end =
-    carry_runs settings seed peers start new requests finished worked before now ran.text ran.end is_start is_requests at w carried is_text is_end
-carry_ran_so settings seed peers start new requests finished worked before now (Err want) is_start is_requests at w carried is_text is_end = tt
+-- ---- a carrier for which memory was wanting
+
+wants_by : (job : CarryJob) (settings : CarrySettings) (seed : List ℕ) (peers : Peers) (a : Moment) → AreAt peers settings.leader settings.helper
+    → ComesBy job settings seed (Err untold.NoMemory) a a
+wants_by (Send id file addresses) settings seed peers a at = first_wants (carry_plan settings seed) _ peers a at
+wants_by Fetch settings seed peers a at = refl
+
+pub carry_wants : (settings : CarrySettings) (seed : List ℕ) (peers : Peers) (result : Result Ran Untold) (a : Moment)
+    → AreAt peers settings.leader settings.helper → IsErrAnd result (λ why. why ≡ untold.NoMemory) → CarryComes settings seed result a a
+carry_wants settings seed peers result a at wants =
+    subst (λ (r : Result Ran Untold). CarryComes settings seed r a a) (sym (wants_memory result wants)) (wants_by settings.job settings seed peers a at)
+
+pub fetch_wants : (settings : CarrySettings) (seed : List ℕ) (result : Result Ran Untold) (a b : Moment)
+    → settings.job ≡ Fetch → b.written ≡ a.written → IsErrAnd result (λ why. why ≡ untold.NoMemory) → CarryComes settings seed result a b
+fetch_wants settings seed result a b job still wants =
+    subst (λ (r : Result Ran Untold). CarryComes settings seed r a b) (sym (wants_memory result wants))
+    (subst (λ (j : CarryJob). ComesBy j settings seed (Err untold.NoMemory) a b) (sym job) still)

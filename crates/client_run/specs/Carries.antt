@@ -1,5 +1,5 @@
 -- The run of a carrier over a net, and the text that it prints.
-use Rattle.std.specs.Prelude.{◌≡◌, ℕ, Bool, true, false, List, ◌++◌, codes, length, filter, map, flat_map}
+use Rattle.std.specs.Prelude.{◌≡◌, ℕ, Bool, true, false, List, [], ◌∷◌, ◌++◌, codes, length, filter, map, flat_map}
 use Rattle.std.specs.Prelude.{All, Option, Result, Ok, Err}
 use Rattle.std.specs.Fmt.{decimal}
 use Rattle.hex.specs.Hex.{encode_lower}
@@ -12,6 +12,7 @@ use Rattle.node_client.specs.declared.finished.Told.{Told}
 use Rattle.node_client.specs.declared.finished.Told.TheVariants as told
 use Rattle.node_client.specs.declared.peers.Peers.{Peers}
 use Rattle.node_client.specs.Talks.{Talk, TalksOn}
+use Rattle.node_client.specs.Work.{Stand}
 use Rattle.settings_text.specs.declared.carry.CarryJob.{CarryJob}
 use Rattle.settings_text.specs.declared.carry.CarryJob.TheVariants.{Send, Fetch}
 use Rattle.settings_text.specs.declared.carry.CarrySettings.{CarrySettings}
@@ -20,17 +21,28 @@ use Rattle.client_run.specs.declared.carrying.Halt.{Halt}
 use Rattle.client_run.specs.declared.carrying.Halt.TheVariants.{Broken, Stopped}
 use Rattle.client_run.specs.Accounts.{opened, request_of, AreAt}
 use Rattle.client_run.specs.Carrying.{carry_account, askings_of, AllCarry, CarriesOff, carry_end}
+use Rattle.client_run.specs.declared.cut.Untold.{Untold}
+use Rattle.client_run.specs.declared.cut.Untold.TheVariants as untold
+use Rattle.client_run.specs.declared.ran.Ran.{Ran}
+use Rattle.client_run.specs.Runs.{Plan, Comes}
+use Rattle.client_run.specs.Telling.{Moment, lines_of}
 use Rattle.client_run.specs.Texts.{outcome_line, end_line}
 
 -- ---- the text of a file that is sent
 
--- the outcomes of the parts, where there are so many; and how the work ended
-unfoldable pub send_text : ℕ → List Finished → Result Unit Halt → List ℕ
-send_text count finished (Ok done) =
-    flat_map outcome_line finished ++ (codes "sent " ++ (decimal count ++ codes "\nend\n"))
-send_text count finished (Err (Broken broken)) =
-    flat_map outcome_line finished ++ (outcome_line broken ++ codes "stopped outcome\n")
-send_text count finished (Err (Stopped why)) = flat_map outcome_line finished ++ end_line (Err why)
+-- the outcomes that are told, with that of the part with which a carrier doesn't go on
+abbrev pub told_by : List Finished → Result Unit Halt → List Finished
+told_by finished (Err (Broken broken)) = finished ++ broken ∷ []
+told_by finished other = finished
+
+-- what is said of how the work ended, where the file has so many parts
+abbrev pub send_end : ℕ → Result Unit Halt → List ℕ
+send_end count (Ok done) = codes "sent " ++ (decimal count ++ codes "\nend\n")
+send_end count (Err (Broken broken)) = codes "stopped outcome\n"
+send_end count (Err (Stopped why)) = end_line (Err why)
+
+abbrev pub send_text : ℕ → List Finished → Result Unit Halt → List ℕ
+send_text count finished end = lines_of (told_by finished end) ++ send_end count end
 
 -- ---- the text of a file that is fetched
 
@@ -89,3 +101,47 @@ pub record CarryRuns (settings : CarrySettings) (seed : List ℕ) (before now : 
   pub calls : TalksOn peers made before now
   pub prints : text ≡ carry_text settings.job finished worked
   pub ends : end ≡ carry_end worked
+
+-- ---- how far a carrier came
+
+abbrev pub carry_plan : CarrySettings → List ℕ → Plan
+carry_plan settings seed = record {
+  start = opened (carry_account settings seed);
+  requests = map request_of (askings_of settings.width settings.owned settings.job);
+  leader = settings.leader;
+  helper = settings.helper;
+}
+
+-- each part of so many that came to its end is told, and this is said of how the work ended
+abbrev pub SendEnded : ℕ → Plan → Stand → List Finished → List ℕ → RunEnd → Type 0
+SendEnded count plan s told text end =
+    (finished : List Finished) × (worked : Result Unit Halt)
+    × CarriesOff plan.start plan.requests s.client finished s.made worked × AllCarry finished
+    × (told ≡ told_by finished worked) × (text ≡ send_end count worked) × (end ≡ carry_end worked)
+
+abbrev pub SendComes : ℕ → Plan → Result Ran Untold → Moment → Moment → Type 0
+SendComes count plan result before now = Comes plan (SendEnded count plan) result before now
+
+-- A fetch tells nothing before its last text; where it found no memory, nothing is said of its work.
+abbrev pub FetchComes : CarrySettings → List ℕ → Result Ran Untold → Moment → Moment → Type 0
+FetchComes settings seed (Ok ran) before now =
+    CarryRuns settings seed before.calls now.calls ran.text ran.end × (now.written ≡ before.written)
+FetchComes settings seed (Err untold.NoMemory) before now = now.written ≡ before.written
+FetchComes settings seed (Err untold.Unwritten) before now = ⊥
+
+-- by the job
+abbrev pub ComesBy : CarryJob → CarrySettings → List ℕ → Result Ran Untold → Moment → Moment → Type 0
+ComesBy (Send id file addresses) settings seed result before now =
+    SendComes (length addresses) (carry_plan settings seed) result before now
+ComesBy Fetch settings seed result before now = FetchComes settings seed result before now
+
+abbrev pub CarryComes : CarrySettings → List ℕ → Result Ran Untold → Moment → Moment → Type 0
+CarryComes settings seed result before now = ComesBy settings.job settings seed result before now
+
+-- the boxes of a client at these servers were read so far, and this is what is printed of it
+abbrev pub Fetches : Plan → Ran → Option (List Call) → Option (List Call) → Type 0
+Fetches plan ran before now =
+    (new : Client) × (finished : List Finished) × (made : List Talk) × (worked : Result Unit Halt)
+    × CarriesOff plan.start plan.requests new finished made worked × AllCarry finished
+    × ((peers : Peers) × AreAt peers plan.leader plan.helper × TalksOn peers made before now)
+    × (ran.text ≡ fetch_text finished worked) × (ran.end ≡ carry_end worked)

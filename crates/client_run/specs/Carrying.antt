@@ -5,10 +5,7 @@ use Rattle.std.specs.List.{range_with_len, AllPass}
 use Rattle.file_carry.specs.Parts.{IsPartWidth, part_of}
 use Rattle.mailbox_rules.specs.Requests.{Request}
 use Rattle.step_rules.specs.Client.{Client}
-use Rattle.client_core.specs.declared.progress.Outcome.TheVariants.{Accepted, Message}
 use Rattle.node_client.specs.declared.finished.Finished.{Finished}
-use Rattle.node_client.specs.declared.finished.Told.{Told}
-use Rattle.node_client.specs.declared.finished.Told.TheVariants.{Done}
 use Rattle.node_client.specs.Talks.{Talk}
 use Rattle.node_client.specs.Work.{Works, StopsAt}
 use Rattle.settings_text.specs.declared.carry.CarryJob.{CarryJob}
@@ -22,6 +19,7 @@ use Rattle.client_run.specs.Accounts.{Account, seed_or}
 use Rattle.client_run.specs.declared.ran.RunEnd.{RunEnd}
 use Rattle.client_run.specs.declared.ran.RunEnd.TheVariants as run
 use Rattle.client_run.specs.Runs.{end_of}
+use Rattle.client_run.specs.Telling.{carries, IsLast}
 use Rattle.client_run.specs.declared.carrying.Halt.{Halt}
 use Rattle.client_run.specs.declared.carrying.Halt.TheVariants.{Broken, Stopped}
 
@@ -53,30 +51,16 @@ askings_of width owned Fetch = map Read (range_with_len 0 (length owned))
 
 -- ---- the work
 
--- an outcome with which a carrier goes on
-abbrev pub carries : Told → Bool
-carries (Done Accepted) = true
-carries (Done Message) = true
-carries other = false
-
 abbrev pub AllCarry : List Finished → Type 0
 AllCarry finished = AllPass (λ f. carries f.told) finished
-
--- one request came to an end with which a carrier doesn't go on, and none behind it was taken
-pub record BreaksAt (start : Client) (requests : List Request) (new : Client) (finished : List Finished)
-    (broken : Finished) (made : List Talk) : Type 0 where
-  pub asked : List Request
-  pub behind : List Request
-  pub all : requests ≡ asked ++ behind
-  pub works : Works start asked (record { client = new; finished = finished ++ broken ∷ []; made = made })
-  pub breaks : carries broken.told ≡ false
 
 -- by how the work ended, where these requests carried
 abbrev pub CarriesOff : Client → List Request → Client → List Finished → List Talk → Result Unit Halt → Type 0
 CarriesOff start requests new finished made (Ok done) =
     Works start requests (record { client = new; finished = finished; made = made })
 CarriesOff start requests new finished made (Err (Broken broken)) =
-    BreaksAt start requests new finished broken made
+    IsLast start requests (record { client = new; finished = finished ++ broken ∷ []; made = made }) finished broken
+    × (carries broken.told ≡ false)
 CarriesOff start requests new finished made (Err (Stopped why)) =
     StopsAt start requests (record { client = new; finished = finished; made = made }) why
 

@@ -8,6 +8,8 @@ use Rattle.node_client.specs.declared.finished.Told.TheVariants.{Done, NoOwn}
 use Rattle.node_client.specs.declared.stop.Stop.{Stop}
 use Rattle.node_client.specs.declared.stop.Stop.TheVariants.{Fault}
 use Rattle.node_client.specs.Texts.{stop_text}
+use Rattle.client_run.specs.declared.cut.Untold.{Untold}
+use Rattle.client_run.specs.declared.cut.Untold.TheVariants.{NoMemory, Unwritten}
 
 -- where these are the bytes of a message that was read
 abbrev pub told_text : Told → List ℕ → List ℕ
@@ -23,3 +25,8 @@ abbrev pub end_line : Result Unit Stop → List ℕ
 end_line (Ok done) = codes "end\n"
 end_line (Err (Fault count)) = codes "net fault\n"
 end_line (Err why) = codes "stopped " ++ (stop_text why ++ codes "\n")
+
+-- why a text isn't told
+abbrev pub untold_text : Untold → List ℕ
+untold_text NoMemory = codes "out of memory"
+untold_text Unwritten = codes "write fault"

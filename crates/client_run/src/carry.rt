@@ -1,18 +1,26 @@
 //! The run of a carrier.
-ghost use Rattle.std.specs.Prelude.{◌≡◌, ◌≤◌, length, IfOk, string_bytes};
-ghost use Rattle.client_run.specs.Carrying.{IsCarrier, askings_of, carry_end};
-ghost use Rattle.client_run.specs.Carries.{CarryRuns, AreWhole, carry_text};
-ghost use Rattle.client_run.specs.Runs.{RunFault};
+ghost use Rattle.std.specs.Prelude.{◌≡◌, ◌≤◌, length, map, All, IfOk};
+ghost use Rattle.client_core.specs.Requests.{plain_request};
+ghost use Rattle.node_client.specs.Work.{Fits};
+ghost use Rattle.settings_text.specs.declared.carry.CarryJob.TheVariants.{Fetch};
+ghost use Rattle.client_run.specs.Carrying.{IsCarrier, carry_end};
+ghost use Rattle.client_run.specs.Carries.{AreWhole, Fetches, SendComes, CarryComes, fetch_text};
+ghost use Rattle.client_run.specs.Runs.{RunFault, plan_at};
+ghost use Rattle.client_run.specs.Telling.{moment, IsReady, PutSink};
 
-use crate::account::{carry_account, open};
+use crate::account::carry_account;
 use crate::asking::requests_of;
 use crate::carrying::{Carried, Halt, carry_off};
 use crate::client::end_of;
+use crate::cut::Untold;
 use crate::fetched::fetch_text;
 use crate::parts::askings_of;
 use crate::ran::{Ran, RunEnd};
-use crate::sent::send_text;
-use express_words::outside::Net;
+use crate::said::said;
+use crate::telling::{Until, tell_off};
+use crate::worker::{Worker, start};
+use client_core::Request;
+use express_words::outside::{Net, Sink};
 use express_words::{NoMemory, Text};
 use node_client::Peers;
 use settings_text::{CarryJob, CarrySettings};
@@ -27,81 +35,109 @@ fn carry_end(end: &Result<(), Halt>) -> RunEnd
     }
 }
 
-fn carry_text(
-    alloc: Global,
-    settings: &CarrySettings,
-    carried: &Carried,
-) -> Result<String, NoMemory>
+// What a fetch that was carried so far prints, and how it ends.
+fn fetched(alloc: Global, settings: &CarrySettings, carried: &Carried) -> Result<Ran, NoMemory>
     requires settings { IsCarrier settings.now }
-    requires few { length carried.now.finished.items
-        ≤ length (askings_of settings.now.width settings.now.owned settings.now.job) }
+    requires job { settings.now.job ≡ Fetch }
+    requires few { length carried.now.finished.items ≤ length settings.now.owned }
     requires whole { AreWhole settings.now.width carried.now.finished.items }
-    ensures { IfOk result (λ text.
-        string_bytes text ≡ carry_text settings.now.job carried.now.finished.items carried.now.end) }
-{
-    match &settings.job {
-        CarryJob::Send { addresses, .. } => Ok(send_text(
-            alloc,
-            carried,
-            addresses.as_slice().len(),
-        )?),
-        CarryJob::Fetch => {
-            let boxes = settings.owned.as_slice().len() as u32;
-            fetch_text(alloc, carried, boxes, settings.width)
-        }
-    }
-}
-
-fn carry_ran(alloc: Global, settings: &CarrySettings, carried: &Carried) -> Result<Ran, NoMemory>
-    requires settings { IsCarrier settings.now }
-    requires few { length carried.now.finished.items
-        ≤ length (askings_of settings.now.width settings.now.owned settings.now.job) }
-    requires whole { AreWhole settings.now.width carried.now.finished.items }
-    ensures text { IfOk result (λ ran.
-        ran.text ≡ carry_text settings.now.job carried.now.finished.items carried.now.end) }
+    ensures text { IfOk result (λ ran. ran.text ≡ fetch_text carried.now.finished.items carried.now.end) }
     ensures end { IfOk result (λ ran. ran.end ≡ carry_end carried.now.end) }
 {
-    let text = carry_text(alloc, settings, carried)?;
+    let boxes = settings.owned.as_slice().len() as u32;
+    let text = fetch_text(alloc, carried, boxes, settings.width)?;
     Ok(Ran {
         text: Text::from_string(text),
         end: carry_end(&carried.end),
     })
 }
 
-/// Opens the client of the settings, with this seed where they have none, and works their job off over the
-/// net. To send is to write each part of the file to its address: it prints `outcome N TEXT` for each, then
-/// `sent COUNT` and `end`. To fetch is to read each own box: it prints `file HEX`, or `missing I` and a line
-/// `box K HEX` for each box that was read; then `end`. A request that comes to another end than an accepted
-/// write or a message is the last: its outcome is printed, then the boxes that were read, where the job is to
-/// fetch, and `stopped outcome`. The other `stopped` lines and `net fault` are those of `run_client`, behind
-/// the boxes that were read.
-pub fn run_carry<N: Net>(
+// Reads each own box, and tells the file that they join to.
+fn fetch<N: Net>(
     alloc: Global,
     settings: &CarrySettings,
-    seed: &[u8; 32],
+    worker: &mut Worker<'_>,
+    requests: &[Request<'_>],
     net: &mut N,
 ) -> Result<Ran, NoMemory>
     requires settings { IsCarrier settings.now }
-    ensures runs { IfOk result (λ ran.
-        CarryRuns settings.now seed.now (N.calls net.old) (N.calls net.new) ran.text ran.end) }
+    requires job { settings.now.job ≡ Fetch }
+    requires few { length requests.now ≤ length settings.now.owned }
+    requires width { worker.old.client.width ≡ settings.now.width }
+    requires ready { IsReady worker.old }
+    requires fits { All (λ r. Fits worker.old.client.width (plain_request r)) requests.now }
+    ensures fetches { IfOk result (λ ran. Fetches
+        (plan_at worker.old.peers worker.old.client (map plain_request requests.now)) ran (N.calls net.old) (N.calls net.new)) }
     ensures fault { IfOk result (λ ran. RunFault ran.end (N.count net.old) (N.count net.new)) }
     ensures door { N.doors net.new ≡ N.doors net.old }
 {
-    let askings = askings_of(alloc, settings)?;
-    let requests = requests_of(alloc, askings.as_slice())?;
-    let mut client = open(alloc, &carry_account(settings, seed))?;
+    let carried = carry_off(
+        alloc,
+        &mut worker.client,
+        requests,
+        &worker.peers,
+        net,
+        &mut worker.message,
+    )?;
+    fetched(alloc, settings, &carried)
+}
+
+// Writes each part to its address, and tells each that came to its end before the next.
+fn send<K: Sink, N: Net>(
+    alloc: Global,
+    worker: &mut Worker<'_>,
+    requests: &[Request<'_>],
+    parts: usize,
+    out: &mut K,
+    net: &mut N,
+) -> Result<Ran, Untold>
+    requires ready { IsReady worker.old }
+    requires fits { All (λ r. Fits worker.old.client.width (plain_request r)) requests.now }
+    ensures sends { SendComes parts (plan_at worker.old.peers worker.old.client (map plain_request requests.now)) result
+        (moment (N.calls net.old) (K.written out.old)) (moment (N.calls net.new) (K.written out.new)) }
+    ensures fault { IfOk result (λ ran. RunFault ran.end (N.count net.old) (N.count net.new)) }
+    ensures sink { PutSink result (K.count out.old) (K.count out.new) }
+    ensures door { N.doors net.new ≡ N.doors net.old }
+{
+    let end = tell_off(alloc, worker, requests, Until::Broken, out, net);
+    said(alloc, Some(parts), end)
+}
+
+/// Opens the client of the settings, with this seed where they have none, and works their job off over the
+/// net, up to the first request that comes to another end than an accepted write or a message. What is handed
+/// back is the last text of the run, which isn't put.
+///
+/// To send is to write each part of the file to its address. `outcome N TEXT` is put for each, before the next is
+/// asked; the last text is `sent COUNT` and `end`, or `stopped outcome`. To fetch is to read each own box. Nothing
+/// is put before the last text, which is `file HEX`, or `missing I` and a line `box K HEX` for each box that was
+/// read, then `end`; or the outcome of the request that broke off, the boxes that were read, and `stopped
+/// outcome`. The other `stopped` lines and `net fault` are those of `run_client`, behind the boxes that were read.
+pub fn run_carry<K: Sink, N: Net>(
+    alloc: Global,
+    settings: &CarrySettings,
+    seed: &[u8; 32],
+    out: &mut K,
+    net: &mut N,
+) -> Result<Ran, Untold>
+    requires settings { IsCarrier settings.now }
+    ensures comes { CarryComes settings.now seed.now result
+        (moment (N.calls net.old) (K.written out.old)) (moment (N.calls net.new) (K.written out.new)) }
+    ensures fault { IfOk result (λ ran. RunFault ran.end (N.count net.old) (N.count net.new)) }
+    ensures sink { PutSink result (K.count out.old) (K.count out.new) }
+    ensures door { N.doors net.new ≡ N.doors net.old }
+{
     let peers = Peers {
         leader: settings.leader.as_str(),
         helper: settings.helper.as_str(),
     };
-    let mut message = vec![in alloc; 0u8; settings.width as usize]?;
-    let carried = carry_off(
-        alloc,
-        &mut client,
-        requests.as_slice(),
-        &peers,
-        net,
-        &mut message,
-    )?;
-    carry_ran(alloc, settings, &carried)
+    let askings = askings_of(alloc, settings)?;
+    let requests = requests_of(alloc, askings.as_slice())?;
+    let mut worker = start(alloc, &carry_account(settings, seed), peers)?;
+    match &settings.job {
+        CarryJob::Send { addresses, .. } => {
+            let parts = addresses.as_slice().len();
+            send(alloc, &mut worker, requests.as_slice(), parts, out, net)
+        }
+        CarryJob::Fetch => Ok(fetch(alloc, settings, &mut worker, requests.as_slice(), net)?),
+    }
 }

@@ -3,14 +3,15 @@ ghost use Rattle.std.specs.Prelude.{◌≡◌, ◌≤◌, List, None, length, ma
 ghost use Rattle.client_core.specs.Requests.{plain_request};
 ghost use Rattle.node_client.specs.Talks.{Talk, TalksOn};
 ghost use Rattle.node_client.specs.Work.{Fits};
-ghost use Rattle.client_run.specs.Carrying.{carries, AllCarry, CarriesOff, carry_end};
+ghost use Rattle.client_run.specs.Carrying.{AllCarry, CarriesOff, carry_end};
 ghost use Rattle.client_run.specs.Carries.{AreWhole};
 ghost use Rattle.client_run.specs.Runs.{RunFault};
 
-use client_core::{Client, Outcome, Request};
+use crate::telling::carries;
+use client_core::{Client, Request};
 use express_words::NoMemory;
 use express_words::outside::Net;
-use node_client::{Finished, Peers, Stop, Told, line, one_request};
+use node_client::{Finished, Peers, Stop, line, one_request};
 use std::alloc::Global;
 
 /// Why a carrier doesn't go on.
@@ -28,16 +29,6 @@ pub enum Halt {
 pub struct Carried {
     pub finished: Vec<Finished>,
     pub end: Result<(), Halt>,
-}
-
-fn carries(told: Told) -> bool
-    ensures { result ≡ carries told }
-{
-    match told {
-        Told::Done(Outcome::Accepted) => true,
-        Told::Done(Outcome::Message) => true,
-        _ => false,
-    }
 }
 
 /// Works off a client's requests in order, up to the first that comes to another end than an accepted write

@@ -1,15 +1,18 @@
 //! The run of a client.
-ghost use Rattle.std.specs.Prelude.{◌≡◌, ◌++◌, IfOk, OnOk, flat_map, string_bytes};
+ghost use Rattle.std.specs.Prelude.{◌≡◌, IfOk};
 ghost use Rattle.client_run.specs.Accounts.{IsClient};
-ghost use Rattle.client_run.specs.Runs.{ClientRuns, RunFault, client_text, end_of};
+ghost use Rattle.client_run.specs.Runs.{ClientComes, RunFault, end_of};
+ghost use Rattle.client_run.specs.Telling.{moment, PutSink};
 
-use crate::account::{client_account, open};
+use crate::account::client_account;
 use crate::asking::requests_of;
+use crate::cut::Untold;
 use crate::ran::{Ran, RunEnd};
-use crate::texts::{add_outcomes, end_line};
-use express_words::outside::Net;
-use express_words::{NoMemory, Text};
-use node_client::{Peers, Stop, Work, work_off};
+use crate::said::said;
+use crate::telling::{Until, tell_off};
+use crate::worker::start;
+use express_words::outside::{Net, Sink};
+use node_client::{Peers, Stop};
 use settings_text::ClientSettings;
 use std::alloc::Global;
 
@@ -23,49 +26,37 @@ pub fn end_of(end: Result<(), Stop>) -> RunEnd
     }
 }
 
-fn ran(alloc: Global, work: &Work) -> Result<Ran, NoMemory>
-    ensures text { IfOk result (λ ran. ran.text ≡ client_text work.now.finished.items work.now.end) }
-    ensures end { IfOk result (λ ran. ran.end ≡ end_of work.now.end) }
-{
-    let mut text = String::new(alloc);
-    add_outcomes(alloc, &mut text, work.finished.as_slice())?;
-    let last = end_line(alloc, work.end)?;
-    text.push_str(last.as_str())?;
-    Ok(Ran {
-        text: Text::from_string(text),
-        end: end_of(work.end),
-    })
-}
-
-/// Opens the client of the settings, with this seed where they have none, works its requests off over the
-/// net, and gives what is printed of them: `outcome N TEXT` for each request that came to its end, then
-/// `end`, or `stopped ` and what stopped the work, or `net fault` where an exchange failed.
-pub fn run_client<N: Net>(
+/// Opens the client of the settings, with this seed where they have none, and works its requests off over the
+/// net. `outcome N TEXT` is put for each request that came to its end, before the next one is asked. What is
+/// handed back is the last text of the run, which isn't put: `end`, or `stopped ` and what stopped the work, or
+/// `net fault` where an exchange failed.
+pub fn run_client<K: Sink, N: Net>(
     alloc: Global,
     settings: &ClientSettings,
     seed: &[u8; 32],
+    out: &mut K,
     net: &mut N,
-) -> Result<Ran, NoMemory>
+) -> Result<Ran, Untold>
     requires settings { IsClient settings.now }
-    ensures runs { IfOk result (λ ran.
-        ClientRuns settings.now seed.now (N.calls net.old) (N.calls net.new) ran.text ran.end) }
+    ensures comes { ClientComes settings.now seed.now result
+        (moment (N.calls net.old) (K.written out.old)) (moment (N.calls net.new) (K.written out.new)) }
     ensures fault { IfOk result (λ ran. RunFault ran.end (N.count net.old) (N.count net.new)) }
+    ensures sink { PutSink result (K.count out.old) (K.count out.new) }
     ensures door { N.doors net.new ≡ N.doors net.old }
 {
-    let mut client = open(alloc, &client_account(settings, seed))?;
-    let requests = requests_of(alloc, settings.requests.as_slice())?;
     let peers = Peers {
         leader: settings.leader.as_str(),
         helper: settings.helper.as_str(),
     };
-    let mut message = vec![in alloc; 0u8; settings.width as usize]?;
-    let work = work_off(
+    let requests = requests_of(alloc, settings.requests.as_slice())?;
+    let mut worker = start(alloc, &client_account(settings, seed), peers)?;
+    let end = tell_off(
         alloc,
-        &mut client,
+        &mut worker,
         requests.as_slice(),
-        &peers,
+        Until::Last,
+        out,
         net,
-        &mut message,
-    )?;
-    ran(alloc, &work)
+    );
+    said(alloc, None, end)
 }

@@ -7,6 +7,7 @@ use Rattle.express_cli.specs.CommandLine.{AskSome, AskNothing}
 use Rattle.express_cli.specs.Reading.{GaveSome, GaveMore, most_bytes}
 use Rattle.express_cli.specs.Ends.{Prints, status_of, usage_text, read_fault_text, out_of_memory_text, too_long_text}
 use Rattle.express_cli.specs.Around.{Around}
+use Rattle.express_cli.specs.Talking.{WantsFirst}
 use Rattle.express_cli.specs.Runs.{MayDo, MayTalk, RunMay}
 use Rattle.express_cli.specs.Headline.{Worked, Refused, BrokeOff, WantsMemory}
 use Rattle.express_cli.specs.declared.ends.End.{End}
@@ -87,8 +88,8 @@ write_fault words from to c d net old new before now ends.WriteFault h e = h
 write_fault words from to c d net old new before now _ h e = cc
 
 wanting : (words : List Text) (from to : Option Stream) (net : Around) (old new : Option (List ℕ)) (text : List ℕ)
-    → (text ≡ out_of_memory_text) ⊎ MayTalk words from to net ends.OutOfMemory text → Took old new text → WantsMemory words from to net old new
-wanting words from to net old new text (inl same) took = inl (took_as old new _ _ same took)
+    → WantsFirst net text ⊎ MayTalk words from to net ends.OutOfMemory text → Took old new text → WantsMemory words from to net old new
+wanting words from to net old new text (inl (same, still)) took = inl (took_as old new _ _ same took, still)
 wanting words from to net old new text (inr talk) took = inr (text, talk, took)
 
 pub out_of_memory : (words : List Text) (from to : Option Stream) (c d : ℕ) (net : Around) (old new : Option (List ℕ)) (before now : ℕ) (end : End)
@@ -119,3 +120,7 @@ too_long_only words from to c d net old new before now ends.ReadFault h more = a
 too_long_only words from to c d net old new before now ends.WriteFault h more = (1, lit< tt, refl)
 too_long_only words from to c d net old new before now ends.OutOfMemory h more = (2, lit< tt, refl)
 too_long_only words from to c d net old new before now ends.TooLong h more = (0, lit< tt, refl)
+
+pub failed : (end : End) → status_of end ≡ 5 → end ≡ ends.WriteFault
+failed ends.WriteFault e = refl
+failed _ e = cc

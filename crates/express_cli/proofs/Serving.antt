@@ -18,7 +18,7 @@ use Rattle.node_serve.specs.declared.node.Node.{Node}
 use Rattle.node_host.specs.Opening.{IsOpened}
 use Rattle.express_cli.specs.Ends.{Prints, Said, BadKeyMay, FaultMay, out_of_memory_text}
 use Rattle.express_cli.specs.Around.{Around, Seen}
-use Rattle.express_cli.specs.Talking.{AtDoor, CarryRan, ClientRan, DoorMay, IsBadKey, ListeningMay, ServeMay, TalkMay, end_by}
+use Rattle.express_cli.specs.Talking.{AtDoor, CarryRan, ClientRan, DoorMay, IsBadKey, ListeningMay, ServeMay, TalkMay, end_by, IsStill}
 use Rattle.express_cli.specs.Talking.{SpellsCarry, SpellsClient, SpellsServe}
 use Rattle.express_cli.specs.declared.words.NetCommand.{NetCommand}
 use Rattle.express_cli.specs.declared.words.NetCommand.TheVariants.{Serve, Client, Carry}
@@ -114,41 +114,41 @@ carry_may settings bytes net run.NetFault text spells ran = (settings, spells, r
 
 -- ---- a fault of the settings
 
-wanting_may : (command : NetCommand) (bytes : List ℕ) (net : Around) (text : List ℕ) → text ≡ out_of_memory_text → TalkMay command bytes net ends.OutOfMemory text
-wanting_may Serve bytes net text same = inl same
-wanting_may Client bytes net text same = same
-wanting_may Carry bytes net text same = same
+wanting_may : (command : NetCommand) (bytes : List ℕ) (net : Around) (text : List ℕ) → IsStill net → text ≡ out_of_memory_text → TalkMay command bytes net ends.OutOfMemory text
+wanting_may Serve bytes net text still same = inl same
+wanting_may Client bytes net text still same = inl (same, still)
+wanting_may Carry bytes net text still same = inl (same, still)
 
-key_may : (command : NetCommand) (bytes key : List ℕ) (net : Around) → IsBadKey command key bytes
+key_may : (command : NetCommand) (bytes key : List ℕ) (net : Around) → IsStill net → IsBadKey command key bytes
     → (end : End) (text : List ℕ) → BadKeyMay key end text → TalkMay command bytes net end text
-key_may command bytes key net bad ends.Done text may = absurd may
-key_may command bytes key net bad ends.Usage text may = absurd may
-key_may command bytes key net bad (ends.BadLine n) text may = absurd may
-key_may command bytes key net bad ends.BadKey text may = (key, bad, may)
-key_may command bytes key net bad ends.ReadFault text may = absurd may
-key_may command bytes key net bad ends.WriteFault text may = absurd may
-key_may command bytes key net bad ends.NetFault text may = absurd may
-key_may command bytes key net bad ends.OutOfMemory text may = wanting_may command bytes net text may
-key_may command bytes key net bad ends.TooLong text may = absurd may
+key_may command bytes key net still bad ends.Done text may = absurd may
+key_may command bytes key net still bad ends.Usage text may = absurd may
+key_may command bytes key net still bad (ends.BadLine n) text may = absurd may
+key_may command bytes key net still bad ends.BadKey text may = (key, bad, may)
+key_may command bytes key net still bad ends.ReadFault text may = absurd may
+key_may command bytes key net still bad ends.WriteFault text may = absurd may
+key_may command bytes key net still bad ends.NetFault text may = absurd may
+key_may command bytes key net still bad ends.OutOfMemory text may = wanting_may command bytes net text still may
+key_may command bytes key net still bad ends.TooLong text may = absurd may
 
-said_may : (command : NetCommand) (bytes : List ℕ) (net : Around) (end : End) (text : List ℕ) → Said ends.OutOfMemory out_of_memory_text end text → TalkMay command bytes net end text
-said_may command bytes net end text said =
-    let Of : End → Type 0 = λ e. TalkMay command bytes net e text in subst Of (sym said.0) (wanting_may command bytes net text said.1)
+said_may : (command : NetCommand) (bytes : List ℕ) (net : Around) (end : End) (text : List ℕ) → IsStill net → Said ends.OutOfMemory out_of_memory_text end text → TalkMay command bytes net end text
+said_may command bytes net end text still said =
+    let Of : End → Type 0 = λ e. TalkMay command bytes net e text in subst Of (sym said.0) (wanting_may command bytes net text still said.1)
 
-pub serve_fault : (bytes : List ℕ) (net : Around) (f : TextFault) → Gives (λ s. s) (Err f) (judged serve_of bytes)
+pub serve_fault : (bytes : List ℕ) (net : Around) (f : TextFault) → IsStill net → Gives (λ s. s) (Err f) (judged serve_of bytes)
     → (end : End) (text : List ℕ) → FaultMay f end text → TalkMay Serve bytes net end text
-serve_fault bytes net (fault.Wrong n) gives end text may = absurd gives
-serve_fault bytes net (fault.WrongKey key) gives end text may = key_may Serve bytes (string_bytes key) net gives end text may
-serve_fault bytes net fault.NoMemory gives end text may = said_may Serve bytes net end text may
+serve_fault bytes net (fault.Wrong n) still gives end text may = absurd gives
+serve_fault bytes net (fault.WrongKey key) still gives end text may = key_may Serve bytes (string_bytes key) net still gives end text may
+serve_fault bytes net fault.NoMemory still gives end text may = said_may Serve bytes net end text still may
 
-pub client_fault : (bytes : List ℕ) (net : Around) (f : TextFault) → Gives (λ s. s) (Err f) (judged client_of bytes)
+pub client_fault : (bytes : List ℕ) (net : Around) (f : TextFault) → IsStill net → Gives (λ s. s) (Err f) (judged client_of bytes)
     → (end : End) (text : List ℕ) → FaultMay f end text → TalkMay Client bytes net end text
-client_fault bytes net (fault.Wrong n) gives end text may = absurd gives
-client_fault bytes net (fault.WrongKey key) gives end text may = key_may Client bytes (string_bytes key) net gives end text may
-client_fault bytes net fault.NoMemory gives end text may = said_may Client bytes net end text may
+client_fault bytes net (fault.Wrong n) still gives end text may = absurd gives
+client_fault bytes net (fault.WrongKey key) still gives end text may = key_may Client bytes (string_bytes key) net still gives end text may
+client_fault bytes net fault.NoMemory still gives end text may = said_may Client bytes net end text still may
 
-pub carry_fault : (bytes : List ℕ) (net : Around) (f : TextFault) → Gives (λ s. s) (Err f) (judged carry_of bytes)
+pub carry_fault : (bytes : List ℕ) (net : Around) (f : TextFault) → IsStill net → Gives (λ s. s) (Err f) (judged carry_of bytes)
     → (end : End) (text : List ℕ) → FaultMay f end text → TalkMay Carry bytes net end text
-carry_fault bytes net (fault.Wrong n) gives end text may = absurd gives
-carry_fault bytes net (fault.WrongKey key) gives end text may = key_may Carry bytes (string_bytes key) net gives end text may
-carry_fault bytes net fault.NoMemory gives end text may = said_may Carry bytes net end text may
+carry_fault bytes net (fault.Wrong n) still gives end text may = absurd gives
+carry_fault bytes net (fault.WrongKey key) still gives end text may = key_may Carry bytes (string_bytes key) net still gives end text may
+carry_fault bytes net fault.NoMemory still gives end text may = said_may Carry bytes net end text still may

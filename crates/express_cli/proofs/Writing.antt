@@ -7,7 +7,7 @@ use Rattle.express_cli.specs.Reading.{GaveAll}
 use Rattle.express_cli.specs.Work.{IsBad}
 use Rattle.express_cli.specs.Ends.{Prints, Said, BadLineMay, WorkMay, MillMay, bad_line}
 use Rattle.express_cli.specs.Around.{Around}
-use Rattle.express_cli.specs.Talking.{TalkMay}
+use Rattle.express_cli.specs.Talking.{TalkMay, IsStill}
 use Rattle.express_cli.specs.Runs.{RunMay, UnreadMay}
 use Rattle.express_cli.specs.declared.words.Command.{Command}
 use Rattle.express_cli.specs.declared.words.NetCommand.{NetCommand}
@@ -36,23 +36,23 @@ said May old new before now end result text may h =
     more_may (Said end text) May old new before now result (λ e t same. rw (same.0, same.1) may) h
 
 -- What the work on all that the source gave may come to is what the run may come to.
-all_may : (words : List Text) (from to : Option Stream) (c d : ℕ) (net : Around) (command : Command) (bytes : List ℕ) → Asks words command → GaveAll from to bytes
+all_may : (words : List Text) (from to : Option Stream) (c d : ℕ) (net : Around) (command : Command) (bytes : List ℕ) → IsStill net → Asks words command → GaveAll from to bytes
     → (end : End) (text : List ℕ) → WorkMay command bytes end text → RunMay words from to c d net end text
-all_may words from to c d net command bytes asks gave ends.Done text may = inl (command, asks, (bytes, gave, may))
-all_may words from to c d net command bytes asks gave ends.Usage text may = absurd may
-all_may words from to c d net command bytes asks gave (ends.BadLine n) text may = (command, asks, (bytes, gave, may))
-all_may words from to c d net command bytes asks gave ends.ReadFault text may = absurd may
-all_may words from to c d net command bytes asks gave ends.WriteFault text may = absurd may
-all_may words from to c d net command bytes asks gave ends.BadKey text may = absurd may
-all_may words from to c d net command bytes asks gave ends.NetFault text may = absurd may
-all_may words from to c d net command bytes asks gave ends.OutOfMemory text may = inl may
-all_may words from to c d net command bytes asks gave ends.TooLong text may = absurd may
+all_may words from to c d net command bytes still asks gave ends.Done text may = inl (command, asks, (bytes, gave, may))
+all_may words from to c d net command bytes still asks gave ends.Usage text may = absurd may
+all_may words from to c d net command bytes still asks gave (ends.BadLine n) text may = (command, asks, (bytes, gave, may))
+all_may words from to c d net command bytes still asks gave ends.ReadFault text may = absurd may
+all_may words from to c d net command bytes still asks gave ends.WriteFault text may = absurd may
+all_may words from to c d net command bytes still asks gave ends.BadKey text may = absurd may
+all_may words from to c d net command bytes still asks gave ends.NetFault text may = absurd may
+all_may words from to c d net command bytes still asks gave ends.OutOfMemory text may = inl (may, still)
+all_may words from to c d net command bytes still asks gave ends.TooLong text may = absurd may
 
 pub worked_all : (words : List Text) (from to : Option Stream) (c d : ℕ) (net : Around) (old new : Option (List ℕ)) (before now : ℕ) (end : End) (command : Command) (bytes read : List ℕ)
-    → Asks words command → GaveAll from to bytes → bytes ≡ read → Prints (WorkMay command read) old new before now end → Prints (RunMay words from to c d net) old new before now end
-worked_all words from to c d net old new before now end command bytes read asks gave same h =
+    → IsStill net → Asks words command → GaveAll from to bytes → bytes ≡ read → Prints (WorkMay command read) old new before now end → Prints (RunMay words from to c d net) old new before now end
+worked_all words from to c d net old new before now end command bytes read still asks gave same h =
     let Gave : List ℕ → Type 0 = λ b. GaveAll from to b in
-    more_may (WorkMay command read) (RunMay words from to c d net) old new before now end (all_may words from to c d net command read asks (subst Gave same gave)) h
+    more_may (WorkMay command read) (RunMay words from to c d net) old new before now end (all_may words from to c d net command read still asks (subst Gave same gave)) h
 
 -- So is what the command's work over a net may come to.
 talk_may : (words : List Text) (from to : Option Stream) (c d : ℕ) (net : Around) (command : NetCommand) (bytes : List ℕ) → AsksNet words command → GaveAll from to bytes
@@ -74,22 +74,22 @@ talked_all words from to c d net old new before now end command bytes read asks 
     more_may (TalkMay command read net) (RunMay words from to c d net) old new before now end (talk_may words from to c d net command read asks (subst Gave same gave)) h
 
 -- what may come where the input wasn't read to its end
-unread_may : (words : List Text) (from to : Option Stream) (c d : ℕ) (net : Around) → AskSome words → (end : End) (text : List ℕ) → UnreadMay from to c d end text
+unread_may : (words : List Text) (from to : Option Stream) (c d : ℕ) (net : Around) → IsStill net → AskSome words → (end : End) (text : List ℕ) → UnreadMay from to c d end text
     → RunMay words from to c d net end text
-unread_may words from to c d net asks ends.Done text may = absurd may
-unread_may words from to c d net asks ends.Usage text may = absurd may
-unread_may words from to c d net asks (ends.BadLine n) text may = absurd may
-unread_may words from to c d net asks ends.BadKey text may = absurd may
-unread_may words from to c d net asks ends.ReadFault text may = (asks, may.0, may.1, may.2)
-unread_may words from to c d net asks ends.WriteFault text may = absurd may
-unread_may words from to c d net asks ends.NetFault text may = absurd may
-unread_may words from to c d net asks ends.OutOfMemory text may = inl may
-unread_may words from to c d net asks ends.TooLong text may = (asks, may.0, may.1)
+unread_may words from to c d net still asks ends.Done text may = absurd may
+unread_may words from to c d net still asks ends.Usage text may = absurd may
+unread_may words from to c d net still asks (ends.BadLine n) text may = absurd may
+unread_may words from to c d net still asks ends.BadKey text may = absurd may
+unread_may words from to c d net still asks ends.ReadFault text may = (asks, may.0, may.1, may.2)
+unread_may words from to c d net still asks ends.WriteFault text may = absurd may
+unread_may words from to c d net still asks ends.NetFault text may = absurd may
+unread_may words from to c d net still asks ends.OutOfMemory text may = inl (may, still)
+unread_may words from to c d net still asks ends.TooLong text may = (asks, may.0, may.1)
 
 pub unread : (words : List Text) (from to : Option Stream) (c d : ℕ) (net : Around) (old new : Option (List ℕ)) (before now : ℕ) (end : End)
-    → AskSome words → Prints (UnreadMay from to c d) old new before now end → Prints (RunMay words from to c d net) old new before now end
-unread words from to c d net old new before now end asks h =
-    more_may (UnreadMay from to c d) (RunMay words from to c d net) old new before now end (unread_may words from to c d net asks) h
+    → IsStill net → AskSome words → Prints (UnreadMay from to c d) old new before now end → Prints (RunMay words from to c d net) old new before now end
+unread words from to c d net old new before now end still asks h =
+    more_may (UnreadMay from to c d) (RunMay words from to c d net) old new before now end (unread_may words from to c d net still asks) h
 
 -- where nothing was written before
 pub unmoved : (May : End → List ℕ → Type 0) (old mid new : Option (List ℕ)) (before between now : ℕ) (end : End)
@@ -100,22 +100,22 @@ unmoved May old mid new before between now end same_written same_count h =
     subst Wrote same_written (subst Counted same_count h)
 
 -- What the mill that the words ask for may come to is what the run may come to.
-mill_may : (words : List Text) (from to : Option Stream) (c d : ℕ) (net : Around) (n : ℕ) → AsksMill words n → to ≡ from
+mill_may : (words : List Text) (from to : Option Stream) (c d : ℕ) (net : Around) (n : ℕ) → IsStill net → AsksMill words n → to ≡ from
     → (end : End) (text : List ℕ) → MillMay n end text → RunMay words from to c d net end text
-mill_may words from to c d net n asks same ends.Done text may = inr (inr (n, asks, same, may))
-mill_may words from to c d net n asks same ends.Usage text may = absurd may
-mill_may words from to c d net n asks same (ends.BadLine m) text may = absurd may
-mill_may words from to c d net n asks same ends.ReadFault text may = absurd may
-mill_may words from to c d net n asks same ends.WriteFault text may = absurd may
-mill_may words from to c d net n asks same ends.BadKey text may = absurd may
-mill_may words from to c d net n asks same ends.NetFault text may = absurd may
-mill_may words from to c d net n asks same ends.OutOfMemory text may = inl may
-mill_may words from to c d net n asks same ends.TooLong text may = absurd may
+mill_may words from to c d net n still asks same ends.Done text may = inr (inr (n, asks, same, may))
+mill_may words from to c d net n still asks same ends.Usage text may = absurd may
+mill_may words from to c d net n still asks same (ends.BadLine m) text may = absurd may
+mill_may words from to c d net n still asks same ends.ReadFault text may = absurd may
+mill_may words from to c d net n still asks same ends.WriteFault text may = absurd may
+mill_may words from to c d net n still asks same ends.BadKey text may = absurd may
+mill_may words from to c d net n still asks same ends.NetFault text may = absurd may
+mill_may words from to c d net n still asks same ends.OutOfMemory text may = inl (may, still)
+mill_may words from to c d net n still asks same ends.TooLong text may = absurd may
 
 pub milled : (words : List Text) (from : Option Stream) (c d : ℕ) (net : Around) (old new : Option (List ℕ)) (before now : ℕ) (end : End) (n : ℕ)
-    → AsksMill words n → Prints (MillMay n) old new before now end → Prints (RunMay words from from c d net) old new before now end
-milled words from c d net old new before now end n asks h =
-    more_may (MillMay n) (RunMay words from from c d net) old new before now end (mill_may words from from c d net n asks refl) h
+    → IsStill net → AsksMill words n → Prints (MillMay n) old new before now end → Prints (RunMay words from from c d net) old new before now end
+milled words from c d net old new before now end n still asks h =
+    more_may (MillMay n) (RunMay words from from c d net) old new before now end (mill_may words from from c d net n still asks refl) h
 
 -- the task that was found
 pub asks_it : (words : List Text) (asked : Option Task) (task : Task) (command : Command) → asked ≡ Some task → task ≡ Work command → IsAsked words asked → Asks words command

@@ -10,6 +10,7 @@ use Rattle.express_cli.specs.Mills.{mill_text}
 use Rattle.express_cli.specs.Ends.{bad_line, out_of_memory_text}
 use Rattle.express_cli.specs.Around.{Around}
 use Rattle.express_cli.specs.Runs.{MayTalk}
+use Rattle.express_cli.specs.Talking.{IsStill}
 use Rattle.express_cli.specs.declared.words.Command.{Command}
 use Rattle.express_cli.specs.declared.ends.End.{End}
 use Rattle.express_cli.specs.declared.ends.End.TheVariants.{Done, BadKey, NetFault, OutOfMemory}
@@ -58,10 +59,11 @@ Refused words from to net old new = NamesLine words from to old new ⊎ Talked B
 abbrev pub BrokeOff : List Text → (from to : Option Stream) → Around → (old new : Option (List ℕ)) → Type 0
 BrokeOff words from to net old new = Talked NetFault words from to net old new
 
--- Memory was wanting, and that alone was told, or, of a server, that it listened before.
+-- Memory was wanting before any call on a net, and that alone was told; or of a command over a net, behind what
+-- was told before.
 abbrev pub WantsMemory : List Text → (from to : Option Stream) → Around → (old new : Option (List ℕ)) → Type 0
 WantsMemory words from to net old new =
-    Took old new out_of_memory_text ⊎ Talked OutOfMemory words from to net old new
+    (Took old new out_of_memory_text × IsStill net) ⊎ Talked OutOfMemory words from to net old new
 
 -- A command over a net that nothing else kept from its work was done, or a fault of the net broke it off; by
 -- the status its text was written.

@@ -24,7 +24,7 @@ use Rattle.express_cli.specs.Ends.{bad_line, bad_settings, usage_text, read_faul
 use Rattle.express_cli.specs.Around.{Around, Outside}
 use Rattle.express_cli.specs.Talking.{SpellsServe, SpellsClient, SpellsCarry, IsBadKey}
 use Rattle.express_cli.specs.Talking.{ServeMay, ClientMay, CarryMay}
-use Rattle.express_cli.specs.Runs.{RunMay}
+use Rattle.express_cli.specs.Runs.{RunMay, SinkFailed}
 use Rattle.express_cli.specs.Headline.{RanWell, Told, Worked, Refused, BrokeOff, WantsMemory}
 use Rattle.express_cli.specs.declared.words.Command.{Command}
 use Rattle.express_cli.specs.declared.words.Command.TheVariants.{Replay, Batch, Cloak}
@@ -103,6 +103,9 @@ pub record Ran (words : List Text) (old new : Outside) (net : Around) (status : 
   pub write_fault : status ≡ 5 → Rose old.output_faults new.output_faults
       × ((end : End) × (text : List ℕ) × MayCome words old new net end text
       × TookPrefix old.written new.written text)
+  -- Of a client's requests, and of the parts that a carrier sends, all were told by then but the last that came
+  -- to its end: the line of each is out before the next is asked.
+  pub told_in_time : status ≡ 5 → SinkFailed words old.content new.content net old.written new.written
   -- A listen, an accept or an exchange failed, after a part of the output of the command that was asked for.
   pub net_fault : status ≡ 6 → BrokeOff words old.content new.content net old.written new.written
   pub out_of_memory : status ≡ 7 → WantsMemory words old.content new.content net old.written new.written

@@ -8,7 +8,7 @@ use Rattle.express_cli.specs.Reading.{GaveAll, GaveSome, most_bytes}
 use Rattle.express_cli.specs.Mills.{mill_text}
 use Rattle.express_cli.specs.Ends.{WorkMay, usage_text, read_fault_text, out_of_memory_text, too_long_text}
 use Rattle.express_cli.specs.Around.{Around}
-use Rattle.express_cli.specs.Talking.{TalkMay}
+use Rattle.express_cli.specs.Talking.{TalkMay, WantsFirst, IsStill, BreaksOff}
 use Rattle.express_cli.specs.declared.words.Command.{Command}
 use Rattle.express_cli.specs.declared.words.NetCommand.{NetCommand}
 use Rattle.express_cli.specs.declared.ends.End.{End}
@@ -68,5 +68,13 @@ RunMay words from to before now net BadKey text = MayTalk words from to net BadK
 RunMay words from to before now net Done text = MayDo words from to net text
 RunMay words from to before now net NetFault text = MayTalk words from to net NetFault text
 RunMay words from to before now net OutOfMemory text =
-    (text ≡ out_of_memory_text) ⊎ MayTalk words from to net OutOfMemory text
+    WantsFirst net text ⊎ MayTalk words from to net OutOfMemory text
 RunMay words from to before now net WriteFault text = ⊥
+
+-- Where the sink failed, of a command over a net: nothing was done with the net, or the source gave all its
+-- bytes, and by the command's work on them so much was told.
+abbrev pub SinkFailed : List Text → Option Stream → Option Stream → Around → (old new : Option (List ℕ))
+    → Type 0
+SinkFailed words from to net old new =
+    (command : NetCommand) → AsksNet words command
+    → IsStill net ⊎ ((bytes : List ℕ) × GaveAll from to bytes × BreaksOff command bytes net old new)

@@ -1,5 +1,5 @@
 -- What comes of a command over a net, by the settings that are its input.
-use Rattle.std.specs.Prelude.{◌≡◌, ◌⊎◌, ℕ, true, false, List, ◌++◌, codes, Ok, Err}
+use Rattle.std.specs.Prelude.{◌≡◌, ◌⊎◌, ℕ, true, false, List, ◌++◌, length, codes, Option, Ok, Err}
 use Rattle.express_words.specs.Causes.{Rose}
 use Rattle.express_words.specs.Calls.{Listened, Adds}
 use Rattle.express_words.specs.declared.outside.Failed.{Failed}
@@ -9,6 +9,8 @@ use Rattle.settings_text.specs.Client.{client_of}
 use Rattle.settings_text.specs.Carry.{carry_of}
 use Rattle.settings_text.specs.declared.serve.ServeSettings.{ServeSettings}
 use Rattle.settings_text.specs.declared.client.ClientSettings.{ClientSettings}
+use Rattle.settings_text.specs.declared.carry.CarryJob.{CarryJob}
+use Rattle.settings_text.specs.declared.carry.CarryJob.TheVariants.{Send, Fetch}
 use Rattle.settings_text.specs.declared.carry.CarrySettings.{CarrySettings}
 use Rattle.node_serve.specs.declared.node.Node.{Node}
 use Rattle.node_host.specs.Opening.{IsOpened}
@@ -16,12 +18,17 @@ use Rattle.node_host.specs.Visits.{Visit, Standing, standing}
 use Rattle.node_host.specs.Hosting.{Hosts}
 use Rattle.node_host.specs.Tallies.{tally_text}
 use Rattle.node_host.specs.declared.tally.Tally.{Tally}
-use Rattle.client_run.specs.Runs.{ClientRuns, RunFault}
-use Rattle.client_run.specs.Carries.{CarryRuns}
+use Rattle.node_client.specs.declared.finished.Finished.{Finished}
+use Rattle.node_client.specs.Work.{Stand}
+use Rattle.client_run.specs.Runs.{ClientRuns, RunFault, Plan, CameTo, ClientEnded, client_plan}
+use Rattle.client_run.specs.Carries.{CarryRuns, SendEnded, carry_plan}
+use Rattle.client_run.specs.Telling.{TookPart, lines_of}
+use Rattle.client_run.specs.declared.cut.Untold.{Untold}
+use Rattle.client_run.specs.declared.cut.Untold.TheVariants as untold
 use Rattle.client_run.specs.declared.ran.RunEnd.{RunEnd}
 use Rattle.client_run.specs.declared.ran.RunEnd.TheVariants as run
 use Rattle.express_cli.specs.Around.{Around, Seen}
-use Rattle.express_cli.specs.Ends.{bad_settings, net_fault_text, out_of_memory_text}
+use Rattle.express_cli.specs.Ends.{Prints, Said, bad_settings, net_fault_text, out_of_memory_text}
 use Rattle.express_cli.specs.declared.words.NetCommand.{NetCommand}
 use Rattle.express_cli.specs.declared.words.NetCommand.TheVariants.{Serve, Client, Carry}
 use Rattle.express_cli.specs.declared.ends.End.{End}
@@ -103,12 +110,35 @@ ServeMay settings net ends.OutOfMemory text =
     (text ≡ out_of_memory_text) ⊎ AtDoor settings net ends.OutOfMemory text
 ServeMay settings net other text = ⊥
 
+-- ---- work that is told as it goes
+
+-- Memory was wanting for the text that was next of a plan's work: that is told, behind all that was told before.
+abbrev pub Wants : (plan : Plan) → (Stand → List Finished → List ℕ → RunEnd → Type 0) → Around → List ℕ → Type 0
+Wants plan Ended net text =
+    (told : List Finished) × (next : List ℕ) × CameTo plan Ended told next net.before.calls net.now.calls
+    × (text ≡ lines_of told ++ out_of_memory_text)
+
+-- The sink failed after a front of the text that was next, or of that memory was wanting for it; all that was
+-- told before went out.
+abbrev pub Breaks : (plan : Plan) → (Stand → List Finished → List ℕ → RunEnd → Type 0) → Around
+    → (old new : Option (List ℕ)) → Type 0
+Breaks plan Ended net old new =
+    (told : List Finished) × (next : List ℕ) × CameTo plan Ended told next net.before.calls net.now.calls
+    × (TookPart (lines_of told) next old new ⊎ TookPart (lines_of told) out_of_memory_text old new)
+
 -- ---- a client
 
 -- how the program ends after such a run
 abbrev pub end_by : RunEnd → End
 end_by run.Done = ends.Done
 end_by run.NetFault = ends.NetFault
+
+-- what is said where a run's next text isn't told: that memory is wanting, or nothing, since the sink failed
+abbrev pub SaysUntold : Untold → End → (old new : Option (List ℕ)) → (before now : ℕ) → Type 0
+SaysUntold untold.NoMemory end old new before now =
+    Prints (Said ends.OutOfMemory out_of_memory_text) old new before now end
+SaysUntold untold.Unwritten end old new before now =
+    (end ≡ ends.WriteFault) × (new ≡ old) × (now ≡ before)
 
 -- A client of these settings ran, and its text is told; the net's count rose only where it ended by a fault
 -- of the net.
@@ -117,11 +147,19 @@ ClientRan settings net end text =
     ClientRuns settings net.seed net.before.calls net.now.calls text end
     × RunFault end net.before.faults net.now.faults
 
+abbrev pub ClientWants : ClientSettings → Around → List ℕ → Type 0
+ClientWants settings net text =
+    let plan = client_plan settings net.seed in Wants plan (ClientEnded plan) net text
+
+abbrev pub ClientBreaks : ClientSettings → Around → (old new : Option (List ℕ)) → Type 0
+ClientBreaks settings net old new =
+    let plan = client_plan settings net.seed in Breaks plan (ClientEnded plan) net old new
+
 -- what may come of a client of these settings
 abbrev pub ClientMay : ClientSettings → Around → End → List ℕ → Type 0
 ClientMay settings net ends.Done text = ClientRan settings net run.Done text
 ClientMay settings net ends.NetFault text = ClientRan settings net run.NetFault text
-ClientMay settings net ends.OutOfMemory text = text ≡ out_of_memory_text
+ClientMay settings net ends.OutOfMemory text = ClientWants settings net text
 ClientMay settings net other text = ⊥
 
 -- ---- a carrier
@@ -132,11 +170,22 @@ CarryRan settings net end text =
     CarryRuns settings net.seed net.before.calls net.now.calls text end
     × RunFault end net.before.faults net.now.faults
 
+-- To send is told as a client's requests are; of a fetch nothing is told before its end.
+abbrev pub CarryWants : CarryJob → CarrySettings → Around → List ℕ → Type 0
+CarryWants (Send id file addresses) settings net text =
+    let plan = carry_plan settings net.seed in Wants plan (SendEnded (length addresses) plan) net text
+CarryWants Fetch settings net text = text ≡ out_of_memory_text
+
+abbrev pub CarryBreaks : CarryJob → CarrySettings → Around → (old new : Option (List ℕ)) → Type 0
+CarryBreaks (Send id file addresses) settings net old new =
+    let plan = carry_plan settings net.seed in Breaks plan (SendEnded (length addresses) plan) net old new
+CarryBreaks Fetch settings net old new = Unit {0}
+
 -- what may come of a carrier of these settings
 abbrev pub CarryMay : CarrySettings → Around → End → List ℕ → Type 0
 CarryMay settings net ends.Done text = CarryRan settings net run.Done text
 CarryMay settings net ends.NetFault text = CarryRan settings net run.NetFault text
-CarryMay settings net ends.OutOfMemory text = text ≡ out_of_memory_text
+CarryMay settings net ends.OutOfMemory text = CarryWants settings.job settings net text
 CarryMay settings net other text = ⊥
 
 -- ---- what may come
@@ -159,12 +208,22 @@ IsBroken Client bytes net text =
 IsBroken Carry bytes net text =
     (settings : CarrySettings) × SpellsCarry settings bytes × CarryRan settings net run.NetFault text
 
+-- nothing was done with the net
+abbrev pub IsStill : Around → Type 0
+IsStill net = net.now ≡ net.before
+
+-- memory was wanting before any call on the net, and nothing else is told
+abbrev pub WantsFirst : Around → List ℕ → Type 0
+WantsFirst net text = (text ≡ out_of_memory_text) × IsStill net
+
 -- memory was wanting; a server may have told before that it listens
 abbrev pub IsWanting : NetCommand → List ℕ → Around → List ℕ → Type 0
 IsWanting Serve bytes net text = (text ≡ out_of_memory_text)
     ⊎ ((settings : ServeSettings) × SpellsServe settings bytes × AtDoor settings net ends.OutOfMemory text)
-IsWanting Client bytes net text = text ≡ out_of_memory_text
-IsWanting Carry bytes net text = text ≡ out_of_memory_text
+IsWanting Client bytes net text = WantsFirst net text
+    ⊎ ((settings : ClientSettings) × SpellsClient settings bytes × ClientWants settings net text)
+IsWanting Carry bytes net text = WantsFirst net text
+    ⊎ ((settings : CarrySettings) × SpellsCarry settings bytes × CarryWants settings.job settings net text)
 
 -- what the command's work on these bytes may come to
 abbrev pub TalkMay : NetCommand → List ℕ → Around → End → List ℕ → Type 0
@@ -174,3 +233,12 @@ TalkMay command bytes net ends.BadKey text =
     (key : List ℕ) × IsBadKey command key bytes × (text ≡ bad_settings key)
 TalkMay command bytes net ends.OutOfMemory text = IsWanting command bytes net text
 TalkMay command bytes net other text = ⊥
+
+-- What the sink has where it failed: it failed before any call on the net, or while the command's work was
+-- told. Of a server nothing more is said than what may come of it.
+abbrev pub BreaksOff : NetCommand → List ℕ → Around → (old new : Option (List ℕ)) → Type 0
+BreaksOff Serve bytes net old new = Unit {0}
+BreaksOff Client bytes net old new = IsStill net
+    ⊎ ((settings : ClientSettings) × SpellsClient settings bytes × ClientBreaks settings net old new)
+BreaksOff Carry bytes net old new = IsStill net
+    ⊎ ((settings : CarrySettings) × SpellsCarry settings bytes × CarryBreaks settings.job settings net old new)

@@ -2,12 +2,12 @@
 ghost use Rattle.std.specs.Prelude.{◌≡◌, ◌≢◌, ◌≤◌};
 ghost use Rattle.express_cli.specs.Around.{around, seen};
 ghost use Rattle.express_cli.specs.Ends.{Prints};
-ghost use Rattle.express_cli.specs.Talking.{TalkMay};
+ghost use Rattle.express_cli.specs.Talking.{BreaksOff, TalkMay};
 ghost use Rattle.express_cli.specs.declared.words.NetCommand.TheVariants.{Carry};
 
 use crate::End;
-use crate::ran::say_ran;
-use crate::texts::{OUT_OF_MEMORY, say, say_fault};
+use crate::ran::{say_ran, say_untold};
+use crate::texts::say_fault;
 use client_run::run_carry;
 use express_words::outside::{Net, Sink};
 use settings_text::read_carry;
@@ -25,6 +25,9 @@ pub fn carry<K: Sink, N: Net>(
     ensures ends { Prints (TalkMay Carry text.now
         (around seed.now (seen (N.calls net.old) (N.count net.old) (N.doors net.old)) (seen (N.calls net.new) (N.count net.new) (N.doors net.new))))
         (K.written out.old) (K.written out.new) (K.count out.old) (K.count out.new) result }
+    ensures breaks { result ≡ End.WriteFault → BreaksOff Carry text.now
+        (around seed.now (seen (N.calls net.old) (N.count net.old) (N.doors net.old)) (seen (N.calls net.new) (N.count net.new) (N.doors net.new)))
+        (K.written out.old) (K.written out.new) }
     ensures told { result ≢ End.WriteFault → K.count out.new ≡ K.count out.old }
     ensures waits { result ≡ End.BadKey → net.new ≡ net.old }
 {
@@ -32,8 +35,8 @@ pub fn carry<K: Sink, N: Net>(
         Ok(settings) => settings,
         Err(fault) => return say_fault(alloc, out, fault),
     };
-    let Ok(ran) = run_carry(alloc, &settings, seed, net) else {
-        return say(out, OUT_OF_MEMORY, End::OutOfMemory);
-    };
-    say_ran(out, &ran)
+    match run_carry(alloc, &settings, seed, out, net) {
+        Ok(ran) => say_ran(out, &ran),
+        Err(why) => say_untold(out, why),
+    }
 }

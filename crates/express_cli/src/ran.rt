@@ -1,11 +1,11 @@
 //! Tells what a client's or a carrier's run came to.
 ghost use Rattle.std.specs.Prelude.{◌≡◌, ◌≢◌};
 ghost use Rattle.express_cli.specs.Ends.{Prints, Said};
-ghost use Rattle.express_cli.specs.Talking.{end_by};
+ghost use Rattle.express_cli.specs.Talking.{SaysUntold, end_by};
 
 use crate::End;
-use crate::texts::say;
-use client_run::{Ran, RunEnd};
+use crate::texts::{OUT_OF_MEMORY, say};
+use client_run::{Ran, RunEnd, Untold};
 use express_words::outside::Sink;
 
 /// Prints the text of a run, and comes to its end, or to a fault of the sink.
@@ -17,5 +17,17 @@ pub fn say_ran<K: Sink>(out: &mut K, ran: &Ran) -> End
     match ran.end {
         RunEnd::Done => say(out, ran.text.as_str(), End::Done),
         RunEnd::NetFault => say(out, ran.text.as_str(), End::NetFault),
+    }
+}
+
+/// Says that memory is wanting for the text that was next of a run, unless the sink failed before.
+pub fn say_untold<K: Sink>(out: &mut K, why: Untold) -> End
+    ensures says { SaysUntold why result (K.written out.old) (K.written out.new) (K.count out.old) (K.count out.new) }
+    ensures told { result ≢ End.WriteFault → K.count out.new ≡ K.count out.old }
+    ensures settings { result ≢ End.BadKey }
+{
+    match why {
+        Untold::NoMemory => say(out, OUT_OF_MEMORY, End::OutOfMemory),
+        Untold::Unwritten => End::WriteFault,
     }
 }

@@ -2,7 +2,7 @@
 ghost use Rattle.std.specs.Prelude.{◌≡◌, ◌≢◌, ◌≤◌};
 ghost use Rattle.express_cli.specs.Around.{around, seen};
 ghost use Rattle.express_cli.specs.Ends.{Prints};
-ghost use Rattle.express_cli.specs.Talking.{TalkMay};
+ghost use Rattle.express_cli.specs.Talking.{BreaksOff, TalkMay};
 
 use crate::End;
 use crate::carry::carry;
@@ -24,6 +24,9 @@ pub fn talk<K: Sink, N: Net>(
     ensures ends { Prints (TalkMay command text.now
         (around seed.now (seen (N.calls net.old) (N.count net.old) (N.doors net.old)) (seen (N.calls net.new) (N.count net.new) (N.doors net.new))))
         (K.written out.old) (K.written out.new) (K.count out.old) (K.count out.new) result }
+    ensures breaks { result ≡ End.WriteFault → BreaksOff command text.now
+        (around seed.now (seen (N.calls net.old) (N.count net.old) (N.doors net.old)) (seen (N.calls net.new) (N.count net.new) (N.doors net.new)))
+        (K.written out.old) (K.written out.new) }
     ensures told { result ≢ End.WriteFault → K.count out.new ≡ K.count out.old }
     ensures waits { result ≡ End.BadKey → net.new ≡ net.old }
 {

@@ -3,7 +3,7 @@ ghost use Rattle.std.specs.Prelude.{◌≡◌, ◌≢◌, ◌≤◌, ◌∷◌, 
 ghost use Rattle.express_cli.specs.CommandLine.{AskSome, AskTalk};
 ghost use Rattle.express_cli.specs.Around.{around, outside, seen};
 ghost use Rattle.express_cli.specs.Ends.{Prints};
-ghost use Rattle.express_cli.specs.Runs.{RunMay, WaitsForNet};
+ghost use Rattle.express_cli.specs.Runs.{RunMay, SinkFailed, WaitsForNet};
 ghost use Rattle.express_cli.specs.Ran.{Ran};
 ghost use Rattle.express_cli.specs.Laws.{Laws};
 
@@ -33,6 +33,9 @@ fn finish<S: Source, K: Sink, N: Net>(
     ensures ends { Prints (RunMay (map string_bytes words.now.items) (S.content input.old) (S.content input.new) (S.count input.old) (S.count input.new)
         (around seed.now (seen (N.calls net.old) (N.count net.old) (N.doors net.old)) (seen (N.calls net.new) (N.count net.new) (N.doors net.new))))
         (K.written out.old) (K.written out.new) (K.count out.old) (K.count out.new) result }
+    ensures breaks { result ≡ End.WriteFault → SinkFailed (map string_bytes words.now.items) (S.content input.old) (S.content input.new)
+        (around seed.now (seen (N.calls net.old) (N.count net.old) (N.doors net.old)) (seen (N.calls net.new) (N.count net.new) (N.doors net.new)))
+        (K.written out.old) (K.written out.new) }
     // A fault of the input or of the sink is told as that, and as nothing else.
     ensures source { result ≢ End.ReadFault → result ≢ End.WriteFault → S.count input.new ≡ S.count input.old }
     ensures sink { result ≢ End.WriteFault → K.count out.new ≡ K.count out.old }

@@ -41,20 +41,20 @@ read_line number (Registered n) message is = refl
 read_line number Accepted message is = refl
 read_line number (Refused refusal) message is = refl
 
-line_is : (number : ℕ) (end : Ending) (message : List ℕ) → IsMessage end message → line number message (told_in end) ≡ line_of number end
+pub line_is : (number : ℕ) (end : Ending) (message : List ℕ) → IsMessage end message → line number message (told_in end) ≡ line_of number end
 line_is number (Done outcome) message is = read_line number outcome message is
 line_is number (NoOwn own) message is = refl
 
 -- what was told is what the definition says
-end_told : (end : Result Ending Stop) (told : Told) → Ok told ≡ told_as end → (e : Ending) × (end ≡ Ok e) × (told ≡ told_in e)
+pub end_told : (end : Result Ending Stop) (told : Told) → Ok told ≡ told_as end → (e : Ending) × (end ≡ Ok e) × (told ≡ told_in e)
 end_told (Ok e) told is = (e, refl, cc)
 end_told (Err why) told is = absurd (cc is)
 
-stop_told : (end : Result Ending Stop) (why : Stop) → Err why ≡ told_as end → end ≡ Err why
+pub stop_told : (end : Result Ending Stop) (why : Stop) → Err why ≡ told_as end → end ≡ Err why
 stop_told (Ok e) why is = absurd (cc is)
 stop_told (Err other) why is = let same : why ≡ other = cc in ap Err (sym same)
 
-length_before : (number : ℕ) (requests : List Request) → number < length requests → length (take number requests) ≡ number
+pub length_before : (number : ℕ) (requests : List Request) → number < length requests → length (take number requests) ≡ number
 length_before number requests less = omega (arith, length-take number requests)
 
 pub works_more : (peers : Peers) (start old new : Client) (requests : List Request) (number : ℕ) (r : Request) (before after : List Finished) (f : Finished) (message : List ℕ) (told : Told) (a b c : Option (List Call))

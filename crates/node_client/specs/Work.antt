@@ -1,7 +1,6 @@
 -- A client's requests, worked off in order.
 use Rattle.std.specs.Prelude.{◌≡◌, ℕ, List, [], ◌∷◌, ◌++◌, length, Option, Some, None, Result, Ok, Err}
 use Rattle.express_words.specs.Calls.{Call}
-use Rattle.express_words.specs.declared.memory.NoMemory.{NoMemory}
 use Rattle.mailbox_rules.specs.Requests.{Request, Write}
 use Rattle.step_rules.specs.Client as steps
 use Rattle.step_rules.specs.Client.{Client, Fault}
@@ -13,9 +12,8 @@ use Rattle.node_client.specs.declared.finished.Told.TheVariants as told
 use Rattle.node_client.specs.declared.peers.Peers.{Peers}
 use Rattle.node_client.specs.declared.stop.Stop.{Stop}
 use Rattle.node_client.specs.declared.stop.Stop.TheVariants as stop
-use Rattle.node_client.specs.declared.working.Work.{Work}
 use Rattle.node_client.specs.Talks.{Talk, TalksOn}
-use Rattle.node_client.specs.Steps.{Ending, NoOwn, told_in, message_in, Walks, told_as, MessageBy, FaultBy}
+use Rattle.node_client.specs.Steps.{Ending, NoOwn, told_in, message_in, Walks, told_as, MessageBy}
 
 -- a message to be written has the width
 abbrev pub Fits : ℕ → Request → Type 0
@@ -107,8 +105,3 @@ pub record StopsAt (start : Client) (requests : List Request) (now : Stand) (why
 abbrev pub WorksOff : Client → List Request → Stand → Result Unit Stop → Type 0
 WorksOff start requests now (Ok done) = Works start requests now
 WorksOff start requests now (Err why) = StopsAt start requests now why
-
--- the net's count, by what is known of the work
-abbrev pub WorkFault : Result Work NoMemory → (before now : ℕ) → Type 0
-WorkFault (Ok w) before now = FaultBy w.end before now
-WorkFault (Err want) before now = now ≡ before

@@ -1,4 +1,4 @@
-//! A client's requests, worked off by exchanges with its two servers over a net.
+//! A client's requests, each worked off by exchanges with its two servers over a net.
 #![tactic(auto)]
 
 mod asking;
@@ -6,10 +6,8 @@ mod finished;
 mod peers;
 mod stepping;
 mod stop;
-mod working;
 
 pub use asking::one_request;
 pub use finished::{Finished, Told, line};
 pub use peers::Peers;
 pub use stop::Stop;
-pub use working::{Work, work_off};

@@ -1,6 +1,6 @@
 //! Runs over a net in memory that gives recorded answers.
-use client_run::{Ran, RunEnd, run_carry, run_client};
-use express_words::outside::{MemoryConn, MemoryNet};
+use client_run::{Ran, RunEnd, Untold, run_carry, run_client};
+use express_words::outside::{MemoryConn, MemoryNet, MemorySink};
 use settings_text::{read_carry, read_client};
 use std::alloc::{AllocError, Global};
 use std::test::Fail;
@@ -45,6 +45,12 @@ const ANSWERS: [&str; 8] = [
     "00000031010800000000000300000000000000000323ea3d83a3769e9362fd7047e721c92311440b55eb480931e524bb98d8ecf36d",
 ];
 
+// The first two frames that this program sends.
+const FRAMES: [&str; 2] = [
+    "000000310101000000000001000000000000000001cf323ab90f22f9f0d536e2b50d47830f798663b944f225a3381755501a62a218",
+    "0000004001020000000000010000000000000000000000000000000000000000000000001ae9902a1c493fa84a8ad2034a502d2caa003c7f1f4e485911b807342e02ec09",
+];
+
 const AGAIN: &str = "00000019010900000000000100000000000000000d0000000000000001";
 
 // A part of a file, in two shares that were masked by another program, and then a refusal.
@@ -77,43 +83,55 @@ fn net(alloc: Global, answers: &[&str], failing: &[u64]) -> Result<MemoryNet, Fa
 
 // The run of the client, or of the carrier, of these settings. Callers learn nothing of what they promise, which
 // keeps their proofs small.
-fn run_of(alloc: Global, text: &[u8], seed: &[u8; 32], net: &mut MemoryNet) -> Result<Ran, Fail> {
+fn run_of(
+    alloc: Global,
+    text: &[u8],
+    out: &mut MemorySink,
+    net: &mut MemoryNet,
+) -> Result<Result<Ran, Untold>, Fail> {
     let settings = read_client(alloc, text)?;
-    Ok(run_client(alloc, &settings, seed, net)?)
+    Ok(run_client(alloc, &settings, &[7; 32], out, net))
 }
 
-fn carry_of(alloc: Global, text: &[u8], seed: &[u8; 32], net: &mut MemoryNet) -> Result<Ran, Fail> {
+fn carry_of(
+    alloc: Global,
+    text: &[u8],
+    out: &mut MemorySink,
+    net: &mut MemoryNet,
+) -> Result<Result<Ran, Untold>, Fail> {
     let settings = read_carry(alloc, text)?;
-    Ok(run_carry(alloc, &settings, seed, net)?)
+    Ok(run_carry(alloc, &settings, &[7; 32], out, net))
 }
 
-// What the client's run comes to, where the connections give these answers in order.
-fn run(alloc: Global, answers: &[&str], failing: &[u64]) -> Result<Ran, Fail> {
-    let text = text(alloc, &CLIENT)?;
-    let mut net = net(alloc, answers, failing)?;
-    run_of(alloc, text.as_bytes(), &[7; 32], &mut net)
+// Whether a run came to this end, and this is what it put and its last text.
+fn is_end(
+    alloc: Global,
+    out: &MemorySink,
+    ran: Result<Ran, Untold>,
+    end: RunEnd,
+    text: &str,
+) -> Result<bool, Fail> {
+    let ran = ran?;
+    let mut printed = Vec::from_slice(alloc, out.written())?;
+    for byte in ran.text.as_str().as_bytes() {
+        printed.push(*byte)?;
+    }
+    Ok(ran.end == end && printed.as_slice() == text.as_bytes())
 }
 
-fn carry(alloc: Global, lines: &[&str], answers: &[&str]) -> Result<Ran, Fail> {
-    let text = text(alloc, lines)?;
-    let mut net = net(alloc, answers, &[])?;
-    carry_of(alloc, text.as_bytes(), &[7; 32], &mut net)
-}
-
-// Whether a run came to this end, and prints this.
-fn is_end(ran: &Ran, end: RunEnd, text: &str) -> bool {
-    ran.end == end && ran.text.as_str() == text
-}
-
+// Whether the client's run comes to this end and text, where the connections give these answers in order.
 fn runs(
     alloc: Global,
     answers: &[&str],
     failing: &[u64],
     end: RunEnd,
-    text: &str,
+    wanted: &str,
 ) -> Result<bool, Fail> {
-    let ran = run(alloc, answers, failing)?;
-    Ok(is_end(&ran, end, text))
+    let text = text(alloc, &CLIENT)?;
+    let mut net = net(alloc, answers, failing)?;
+    let mut out = MemorySink::new(alloc, 400, &[])?;
+    let ran = run_of(alloc, text.as_bytes(), &mut out, &mut net)?;
+    is_end(alloc, &out, ran, end, wanted)
 }
 
 // Whether a carrier's run comes to its end, and prints this.
@@ -121,14 +139,43 @@ pub(crate) fn carries(
     alloc: Global,
     lines: &[&str],
     answers: &[&str],
-    text: &str,
+    wanted: &str,
 ) -> Result<bool, Fail> {
-    let ran = carry(alloc, lines, answers)?;
-    Ok(is_end(&ran, RunEnd::Done, text))
+    let text = text(alloc, lines)?;
+    let mut net = net(alloc, answers, &[])?;
+    let mut out = MemorySink::new(alloc, 400, &[])?;
+    let ran = carry_of(alloc, text.as_bytes(), &mut out, &mut net)?;
+    is_end(alloc, &out, ran, RunEnd::Done, wanted)
+}
+
+// What the client's run puts where this put of it fails, and how many connections it closed by then.
+fn cut_off(alloc: Global, failing: u64, wanted: &str) -> Result<usize, Fail> {
+    let text = text(alloc, &CLIENT)?;
+    let mut net = net(alloc, &ANSWERS, &[])?;
+    let mut out = MemorySink::new(alloc, 400, &[failing])?;
+    let ran = run_of(alloc, text.as_bytes(), &mut out, &mut net)?;
+    match ran {
+        Err(Untold::Unwritten) if out.written() == wanted.as_bytes() => Ok(net.closed().len()),
+        _ => Ok(99),
+    }
+}
+
+// Whether the connections that a run closed first took the first frames.
+fn sends_frames(alloc: Global) -> Result<bool, Fail> {
+    let text = text(alloc, &CLIENT)?;
+    let mut net = net(alloc, &ANSWERS, &[])?;
+    let mut out = MemorySink::new(alloc, 400, &[])?;
+    run_of(alloc, text.as_bytes(), &mut out, &mut net)??;
+    let mut same = net.closed().len() == ANSWERS.len();
+    for (conn, frame) in net.closed().iter().zip(FRAMES) {
+        same = same && conn.written() == hex::decode(alloc, frame)?.as_slice();
+    }
+    Ok(same)
 }
 
 #[test]
 fn runs_to_the_last(rt: HostRuntime) -> Result<(), Fail> {
+    assert!(rt; sends_frames(rt.alloc())?);
     let text = "outcome 0 registered 0\noutcome 1 accepted\n\
         outcome 2 message ffffffffffffffffffffffffffffffff\noutcome 3 no box 1\nend\n";
     assert!(rt; runs(rt.alloc(), &ANSWERS, &[], RunEnd::Done, text)?);
@@ -139,6 +186,8 @@ fn runs_to_the_last(rt: HostRuntime) -> Result<(), Fail> {
 fn stops(rt: HostRuntime) -> Result<(), Fail> {
     let again = "stopped again 1\n";
     assert!(rt; runs(rt.alloc(), &[ANSWERS[0], AGAIN], &[], RunEnd::Done, again)?);
+    let early = [ANSWERS[0], &ANSWERS[0][..18]];
+    assert!(rt; runs(rt.alloc(), &early, &[], RunEnd::Done, "stopped answer\n")?);
     let fault = "outcome 0 registered 0\nnet fault\n";
     assert!(rt; runs(rt.alloc(), &ANSWERS, &[5], RunEnd::NetFault, fault)?);
     Ok(())
@@ -154,5 +203,16 @@ fn sends_and_fetches(rt: HostRuntime) -> Result<(), Fail> {
     let broken = "outcome 1 refused nobox 9\n\
         box 0 0000000000000007000000010003000000010200000000000000000000000000\nstopped outcome\n";
     assert!(rt; carries(alloc, &FETCH_TWO, &FETCHED, broken)?);
+    Ok(())
+}
+
+// A register takes two exchanges, a write four and a read two; a line that can't be put ends the run.
+#[test]
+fn tells_each_before_the_next(rt: HostRuntime) -> Result<(), Fail> {
+    let alloc = rt.alloc();
+    assert!(rt; cut_off(alloc, 1, "")? == 2);
+    assert!(rt; cut_off(alloc, 2, "outcome 0 registered 0\n")? == 6);
+    let two = "outcome 0 registered 0\noutcome 1 accepted\n";
+    assert!(rt; cut_off(alloc, 3, two)? == 8);
     Ok(())
 }

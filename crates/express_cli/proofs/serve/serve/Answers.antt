@@ -1,3 +1,4 @@
+use Rattle.std.proofs.Common.{refl}
 use Rattle.express_cli.specs.Ends.{FaultMay}
 use Rattle.express_cli.specs.Around.{Around}
 use Rattle.express_cli.specs.Talking.{ServeMay, TalkMay}
@@ -14,4 +15,4 @@ returns-in-Ok-clause-ends g c =
 pub returns-in-Err-clause-ends : goal.returns-in-Err-clause-ends
 returns-in-Err-clause-ends g c =
     let net : Around = record { seed = c.args.seed.now; before = record { calls = g.N.Net.calls c.args.net.now; faults = g.N.Counted.count c.args.net.now; doors = g.N.Net.doors c.args.net.now }; now = record { calls = g.N.Net.calls c.args.net.now; faults = g.N.Counted.count c.args.net.now; doors = g.N.Net.doors c.args.net.now } } in
-    more_may (FaultMay c.in-Err.fault) (TalkMay Serve c.args.text.now net) _ _ _ _ _ (serve_fault c.args.text.now net c.in-Err.fault c.in-Err.ensures.judges) c.say_fault.ensures.says
+    more_may (FaultMay c.in-Err.fault) (TalkMay Serve c.args.text.now net) _ _ _ _ _ (serve_fault c.args.text.now net c.in-Err.fault refl c.in-Err.ensures.judges) c.say_fault.ensures.says
