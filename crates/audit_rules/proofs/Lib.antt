@@ -12,4 +12,4 @@ pub mod Points
 pub mod Shares
 pub mod Transfer
 pub mod Whole
-mod Worked
+pub mod Worked

@@ -8,41 +8,25 @@ use Rattle.tower_laws.specs.Gf.{gf}
 use Rattle.tower_laws.proofs.ElementLaws.{level_laws, element_path}
 use Rattle.tower_laws.proofs.Rings.{var, nil, unit, ◌⊕◌, ◌⊗◌, solve}
 use Rattle.poly_roots.specs.Polynomials.{times_of}
-use Rattle.express_words.specs.declared.audit.ProofShare.{ProofShare}
-use Rattle.audit_rules.specs.declared.sums.Sums.{Sums}
-use Rattle.audit_rules.specs.Sketch.{verdict}
 use Rattle.audit_rules.specs.Audit.{product, value, sums_of, f_of, g_of, bad_s, opening_of, closing_of}
-use Rattle.audit_rules.proofs.Transfer.{E, z, add, mul, element}
+use Rattle.audit_rules.specs.Worked.{verdict, worked_sums, worked_share, worked_opening, worked_closing, ThreeOnesAreCaught, SquaresHideThreeOnes, OneIsTheBadValue, TwoOnesAreHidden, RightProofPasses, WrongConstantIsRefused, WrongTripleHidesAtOnePoint}
+use Rattle.audit_rules.proofs.Transfer.{E, add, mul, element}
 
--- a vector with three places that aren't zero is seen
-seen_sums : sums_of (1 ∷ (1 ∷ (1 ∷ []))) (1 ∷ (2 ∷ (0 ∷ []))) (1 ∷ (0 ∷ (0 ∷ [])))
-    ≡ record { x = 3; y = 1; m = 1; z = 1 }
+pub caught : ThreeOnesAreCaught
 unfolding sums_of product_at twist_at
-seen_sums = refl
+caught = (refl, refl)
 
-seen_verdict : verdict 0 bit_xor product (1 ∷ (1 ∷ (1 ∷ []))) (1 ∷ (2 ∷ (0 ∷ []))) (1 ∷ (0 ∷ (0 ∷ []))) ≡ 2
-unfolding product_at twist_at
-seen_verdict = refl
+pub squares : SquaresHideThreeOnes
+unfolding sums_of product_at twist_at
+squares = (refl, refl)
 
--- the same vector is hidden where one challenge serves for both
-squares_hide : verdict 0 bit_xor product (1 ∷ (1 ∷ (1 ∷ []))) (1 ∷ (2 ∷ (0 ∷ []))) (1 ∷ (2 ∷ (0 ∷ []))) ≡ 0
-unfolding product_at twist_at
-squares_hide = refl
-
--- the bad value of s at the second of two places
-hidden_by_one : bad_s (1 ∷ (1 ∷ [])) (1 ∷ (7 ∷ [])) 0 1 ≡ 1
+pub bad : OneIsTheBadValue
 unfolding bad_s product_at twist_at inverse_at
-hidden_by_one = refl
+bad s1 = refl
 
-hidden_sums : (r0 r1 : ℕ) →
-    let sums = sums_of (1 ∷ (1 ∷ [])) (r0 ∷ (r1 ∷ [])) (1 ∷ (1 ∷ [])) in
-    (sums.y ≡ 0) × (sums.m ≡ 0)
-unfolding sums_of product_at twist_at
-hidden_sums r0 r1 = (refl, refl)
-
--- so that it passes for every r: first of elements of the field, and then of their numbers
+-- two ones pass for every r: first of elements of the field, and then of their numbers
 hidden_elements : (r0 r1 : E) →
-    verdict 0 bit_xor product (1 ∷ (1 ∷ [])) (r0.value ∷ (r1.value ∷ [])) (1 ∷ (1 ∷ [])) ≡ 0
+    verdict (1 ∷ (1 ∷ [])) (r0.value ∷ (r1.value ∷ [])) (1 ∷ (1 ∷ [])) ≡ 0
 hidden_elements r0 r1 =
     ap (λ (x : E). x.value)
     (solve (level_laws 7).0 (r0 ∷ (r1 ∷ []))
@@ -50,54 +34,52 @@ hidden_elements r0 r1 =
     ⊕ (unit ⊕ (unit ⊕ nil)) ⊗ (unit ⊗ var 0 ⊗ unit ⊕ (unit ⊗ var 1 ⊗ unit ⊕ nil)))
     nil refl)
 
-hidden_verdict : (r0 r1 : ℕ) → r0 < 2 ^ 128 → r1 < 2 ^ 128 →
-    verdict 0 bit_xor product (1 ∷ (1 ∷ [])) (r0 ∷ (r1 ∷ [])) (1 ∷ (1 ∷ [])) ≡ 0
+pub hidden_verdict : TwoOnesAreHidden
 hidden_verdict r0 r1 h0 h1 = hidden_elements (element r0 h0) (element r1 h1)
 
--- the proof of m = 1 with r = 2, s = 3 and nothing drawn but a triple of ones
-sums : Sums
-sums = record { x = 2; y = 3; m = 1; z = 1 }
-
-share : ProofShare
-share = record { u = 0; v = 0; h = 0 ∷ (0 ∷ (0 ∷ (1 ∷ (0 ∷ [])))); a = 1; b = 1; c = 1 }
-
+-- f and g of the worked proof
 abbrev f : List ℕ
 f = 0 ∷ (0 ∷ (2 ∷ []))
 
 abbrev g : List ℕ
 g = 0 ∷ (3 ∷ (0 ∷ []))
 
-f_is : f_of sums share ≡ f
-unfolding sums share product_at twist_at
+f_is : f_of worked_sums (worked_share 0 1) ≡ f
+unfolding product_at twist_at
 f_is = refl
 
-g_is : g_of sums share ≡ g
-unfolding sums share product_at twist_at
+g_is : g_of worked_sums (worked_share 0 1) ≡ g
+unfolding product_at twist_at
 g_is = refl
 
-h_is : times_of 0 bit_xor product (f_of sums share) (g_of sums share) ≡ share.h
-unfolding sums share product_at twist_at
-h_is = refl
+f_by_g : times_of 0 bit_xor product f g ≡ (worked_share 0 1).h
+unfolding product_at twist_at
+f_by_g = refl
 
-opened : opening_of sums share 4 ≡ record { d = 15; e = 6 }
-unfolding opening_of sums share product_at twist_at
+opened : worked_opening 0 1 4 ≡ record { d = 15; e = 6 }
+unfolding opening_of product_at twist_at
 opened = refl
 
-closed : closing_of 0 share 4 (opening_of sums share 4) ≡ record { o = 0; tau = 0 }
-unfolding opening_of closing_of sums share product_at twist_at
+closed : worked_closing 0 1 4 ≡ record { o = 0; tau = 0 }
+unfolding opening_of closing_of product_at twist_at
 closed = refl
 
--- with another constant of h the verdict is 4
-other : ℕ → ProofShare
-other c = record share { h = 1 ∷ (0 ∷ (0 ∷ (1 ∷ (0 ∷ [])))); c = c }
+pub passes : RightProofPasses
+passes = record {
+  product =
+      ap (λ p. times_of 0 bit_xor product p (g_of worked_sums (worked_share 0 1))) f_is
+      ∙ ap (λ q. times_of 0 bit_xor product f q) g_is ∙ f_by_g;
+  opened = opened;
+  closed = closed;
+}
 
-refused : closing_of 0 (other 1) 4 (opening_of sums (other 1) 4) ≡ record { o = 0; tau = 4 }
-unfolding other opening_of closing_of sums share product_at twist_at
+pub refused : WrongConstantIsRefused
+unfolding opening_of closing_of product_at twist_at
 refused = refl
 
--- a triple's error hides that at 4 and at no other point: the verdict at a point is the sum of the point and 4
+-- a wrong triple hides that at 4 and at no other point: tau at a point is the sum of the point and 4
 tau_at : ℕ → ℕ
-tau_at sigma = (closing_of 0 (other 5) sigma (opening_of sums (other 5) sigma)).tau
+tau_at sigma = (worked_closing 1 5 sigma).tau
 
 -- the same, from the coefficients of f and g
 abbrev tau_from : List ℕ → List ℕ → ℕ → ℕ
@@ -105,13 +87,13 @@ tau_from p q sigma =
     let d = bit_xor (value p sigma) 1 in
     let e = bit_xor (product sigma (value q sigma)) 1 in
     bit_xor
-    (bit_xor (bit_xor (bit_xor (product d 1) (product e 1)) 5) (product sigma (value (other 5).h sigma)))
+    (bit_xor (bit_xor (bit_xor (product d 1) (product e 1)) 5) (product sigma (value (worked_share 1 5).h sigma)))
     (product d e)
 
 from_coefficients : (sigma : ℕ) → tau_at sigma ≡ tau_from f g sigma
-unfolding tau_at other share opening_of closing_of
+unfolding tau_at opening_of closing_of
 from_coefficients sigma =
-    ap (λ p. tau_from p (g_of sums (other 5)) sigma) f_is ∙ ap (λ q. tau_from f q sigma) g_is
+    ap (λ p. tau_from p (g_of worked_sums (worked_share 1 5)) sigma) f_is ∙ ap (λ q. tau_from f q sigma) g_is
 
 two_by_three : mul (gf 2) (gf 3) ≡ element_one 7
 unfolding product_at twist_at
@@ -121,7 +103,6 @@ four_is : add (gf 5) (element_one 7) ≡ gf 4
 four_is = element_path 7 (add (gf 5) (element_one 7)) (gf 4) refl
 
 of_elements : (s : E) → tau_from f g s.value ≡ bit_xor s.value 4
-unfolding other
 of_elements s =
     let laws = (level_laws 7).0 in
     let t = var 1 in let k = var 2 in let p = var 0 in
@@ -141,10 +122,15 @@ tau_is : (sigma : ℕ) → sigma < 2 ^ 128 → tau_at sigma ≡ bit_xor sigma 4
 tau_is sigma h = from_coefficients sigma ∙ of_elements (element sigma h)
 
 hidden_at_four : tau_at 4 ≡ 0
-unfolding tau_at other opening_of closing_of sums share product_at twist_at
+unfolding tau_at opening_of closing_of product_at twist_at
 hidden_at_four = refl
 
 seen_elsewhere : (sigma : ℕ) → sigma < 2 ^ 128 → tau_at sigma ≡ 0 → sigma ≡ 4
 seen_elsewhere sigma h none =
     sym (xor_zero_r sigma) ∙ ap (bit_xor sigma) (sym (xor_self 4)) ∙ sym (xor_assoc sigma 4 4)
     ∙ ap (λ n. bit_xor n 4) (sym (tau_is sigma h) ∙ none) ∙ xor_zero_l 4
+
+pub hidden_at_one : WrongTripleHidesAtOnePoint
+unfolding tau_at
+hidden_at_one sigma h =
+    (seen_elsewhere sigma h, λ at. ap tau_at at ∙ hidden_at_four)

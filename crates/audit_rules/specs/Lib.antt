@@ -7,3 +7,4 @@ pub mod Alone
 pub mod Challenges
 pub mod Values
 pub mod Laws
+pub mod Worked

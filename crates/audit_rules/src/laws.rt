@@ -5,6 +5,7 @@ ghost use Rattle.audit_rules.specs.Audit.{sums_of, bad_r_divisor, bad_s, PassesA
 ghost use Rattle.audit_rules.specs.BadWrites.{HasTwo, first_place, last_place, IsFirst, IsLast, IsBadChallenge};
 ghost use Rattle.audit_rules.specs.Laws.{BadRIsFixed, BadSIsFixed, ChangesAreSeen, ValuesInRange, ValuesAccept, AcceptedPasses};
 ghost use Rattle.audit_rules.specs.Alone.{IsAlone, sums_alone};
+ghost use Rattle.audit_rules.specs.Worked.{ThreeOnesAreCaught, SquaresHideThreeOnes, OneIsTheBadValue, TwoOnesAreHidden, RightProofPasses, WrongConstantIsRefused, WrongTripleHidesAtOnePoint};
 
 use crate::ranges::{read_share, read_sums, read_words};
 use crate::sums::Sums;
@@ -122,3 +123,20 @@ pub fn honest_proofs_pass(
     read_words(s);
     read_words(words);
 }
+
+/// Three worked sketches. Three places that aren't zero are caught by two challenge vectors and hidden where one serves
+/// for both; two places are hidden from every r by the bad value of s, which is 1.
+pub fn worked_sketches()
+    ensures caught { ThreeOnesAreCaught }
+    ensures squares { SquaresHideThreeOnes }
+    ensures bad { OneIsTheBadValue }
+    ensures hidden { TwoOnesAreHidden }
+{}
+
+/// A worked proof: the right one passes at the point 4, one with another constant of h doesn't, and a triple that hides
+/// that at 4 hides it at no other point.
+pub fn worked_proof()
+    ensures passes { RightProofPasses }
+    ensures refused { WrongConstantIsRefused }
+    ensures hidden { WrongTripleHidesAtOnePoint }
+{}

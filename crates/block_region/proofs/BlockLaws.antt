@@ -7,7 +7,7 @@ use Rattle.std.proofs.lemmas.List.Sums.{sum_by-cons, prefix_len-le-length}
 use Rattle.std.proofs.lemmas.Bool.Decides.{nat_tests}
 use Rattle.std.proofs.Math.Nat.{mul-le-mul_left}
 use Rattle.bytes.specs.Filled.{with_items}
-use Rattle.block_region.specs.Region.{Shelf, block_of, class_of, no_shelf}
+use Rattle.block_region.specs.Region.{Shelf, Shelves, block_of, class_of, no_shelf}
 use Rattle.block_region.specs.Lending.{rewritten}
 use Rattle.block_region.specs.Slots.{content, content_if, HaveSize}
 use Rattle.block_region.specs.declared.shelf.Slot.{Slot}
@@ -87,8 +87,8 @@ pub none-position : {X : Type 0} (p : X → Bool) (xs : List X) → count_by p x
 none-position p xs e = below-none _ _ (omega (arith, uncounted-length p xs e))
 
 -- a class that stands in the region, whichever way it was read
-pub class-at : (region : List Shelf) (class i : ℕ) (shelf : Shelf) → i ≡ class → class < length region → shelf ≡ get_or region i shelf → class_of region class ≡ shelf
-class-at region class i shelf same lt e = get_or_default region class no_shelf shelf lt ∙ sym (rw same at e)
+pub class-at : (region : Shelves) (class i : ℕ) (shelf : Shelf) → i ≡ class → class < length region.classes → shelf ≡ get_or region.classes i shelf → class_of region class ≡ shelf
+class-at region class i shelf same lt e = get_or_default region.classes class no_shelf shelf lt ∙ sym (rw same at e)
 
 replicate-last : {X : Type 0} (n : ℕ) (x : X) → replicate n x ++ x ∷ [] ≡ replicate (suc n) x
 replicate-last zero x = refl

@@ -1,3 +1,4 @@
 pub mod ArrayLaws
 pub mod BlockLaws
+pub mod CallLaws
 pub mod FreeLaws

@@ -2,7 +2,7 @@
 use Rattle.std.specs.Prelude.{ℕ, List, [], Option, Some, slice_set, length, unwrap_or}
 use Rattle.std.specs.Borrow.{Lends, MutBor, Fml, u8, Array}
 use Rattle.std.specs.List.{refill}
-use Rattle.block_region.specs.Region.{Shelf, Place, shelf_of, block_of, bytes_at, with_content}
+use Rattle.block_region.specs.Region.{Shelf, Shelves, Place, shelf_of, block_of, bytes_at, with_content}
 use Rattle.block_region.specs.contracts.shelf.BlockShelf.{the_row as shelf_row}
 use Rattle.block_region.specs.contracts.region.Region.{the_row as region_row}
 
@@ -17,7 +17,7 @@ LendsOnShelf shelf index r =
     shelf_of shelf.now.size
     (slice_set shelf.now.blocks index (rewritten (block_of shelf.now.blocks index) bytes)))
 
-abbrev pub LendsBlock : MutBor (List Shelf) → Place → MutBor (List ℕ) → Fml
+abbrev pub LendsBlock : MutBor Shelves → Place → MutBor (List ℕ) → Fml
 LendsBlock region place r =
     Lends region_row (Array u8 0) region r
     (λ bytes. with_content region.now place (rewritten (bytes_at region.now place) bytes))

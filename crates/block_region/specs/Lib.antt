@@ -1,5 +1,7 @@
 pub mod ArrayLending
+pub mod Calls
 pub mod Classes
+pub mod Codes
 pub mod Lending
 pub mod Region
 pub mod Slots

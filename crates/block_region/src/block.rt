@@ -1,28 +1,34 @@
 //! The right to a block.
+use crate::shelf::BlockShelf;
 use std::marker::Model;
 
-/// A block that was taken from a region. It can't be copied, so it is given back once at most.
+/// A block that was taken from a region, which it knows by its address. It can't be copied, so it is given back once at
+/// most, and to that region alone.
 #[derive(Drop)]
 pub struct Block {
+    home: *const BlockShelf,
     class: u8,
     index: usize,
 }
 
 impl Model for Block {
     ghost use Rattle.block_region.specs.Region.{Place};
+    ghost use Rattle.block_region.specs.Codes.{place_code};
 
     ghost Value = { Place };
 
-    ghost view = { λ b. record { class = b.class; index = b.index } };
+    ghost coded = { place_code };
+
+    ghost view = { λ b. record { home = b.home; class = b.class; index = b.index } };
 }
 
 impl Block {
     ghost use Rattle.std.specs.Prelude.{◌≡◌};
 
-    pub(crate) fn new(class: u8, index: usize) -> Block
-        ensures { result ≡ record { class = class; index = index } }
+    pub(crate) fn new(home: *const BlockShelf, class: u8, index: usize) -> Block
+        ensures { result ≡ record { home = home; class = class; index = index } }
     {
-        Block { class, index }
+        Block { home, class, index }
     }
 
     pub(crate) fn class(&self) -> usize

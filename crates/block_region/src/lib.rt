@@ -4,6 +4,7 @@
 mod block;
 mod block_array;
 mod front;
+pub mod laws;
 mod region;
 mod shelf;
 

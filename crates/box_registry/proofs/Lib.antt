@@ -1,3 +1,4 @@
+pub mod AddLaws
 pub mod DifferLemmas
 pub mod EntryLemmas
 pub mod RowLemmas

@@ -8,3 +8,4 @@ pub mod MemberLemmas
 pub mod ChosenLemmas
 pub mod InsertLemmas
 pub mod ExpansionLemmas
+pub mod PlaceLemmas

@@ -1,5 +1,5 @@
 //! Boxes by the order of their addresses.
-ghost use Rattle.std.specs.Prelude.{◌≡◌, ℕ, ◌<◌, ◌≤◌, length, vec_len, vec_capacity, slice_index, filter, map, nat_lt, position, Contains, IfSome, IfNone, IsTrue, false, ◌==◌};
+ghost use Rattle.std.specs.Prelude.{◌≡◌, ℕ, ◌<◌, ◌≤◌, length, vec_len, vec_capacity, slice_get, slice_index, unwrap_or, filter, map, nat_lt, position, Contains, IfSome, IfNone, IsTrue, false, ◌==◌};
 ghost use Rattle.dpf_eval.specs.Order.{IsOrder, has_box};
 
 /// Addresses by box, and the boxes by rising address.
@@ -17,17 +17,17 @@ pub(crate) fn place_of(addresses: &[u128], order: &[u32], address: u128) -> usiz
     ensures above { (k : ℕ) → result ≤ k → k < length order.now
         → address ≤ slice_index addresses.now (slice_index order.now k) }
 {
-    let mut low = 0;
-    let mut high = order.len();
-    while low < high {
-        let middle = low + (high - low) / 2;
-        if addresses[order[middle] as usize] < address {
-            low = middle + 1;
-        } else {
-            high = middle;
-        }
+    order.partition_point(|b| is_below(addresses, *b, address))
+}
+
+// Whether a box has an address below this one.
+fn is_below(addresses: &[u128], box_number: u32, address: u128) -> bool
+    ensures { result ≡ nat_lt (unwrap_or (slice_get addresses.now box_number) address) address }
+{
+    match addresses.get(box_number as usize) {
+        Some(other) => *other < address,
+        None => false,
     }
-    low
 }
 
 /// The box of an address.

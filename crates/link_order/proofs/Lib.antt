@@ -1,2 +1,3 @@
+pub mod CallLaws
 pub mod LinkLaws
 pub mod RingLaws

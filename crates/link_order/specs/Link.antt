@@ -1,5 +1,5 @@
 -- A numbered link as its two ends see it.
-use Rattle.std.specs.Prelude.{◌≡◌, ℕ, ◌+◌, ◌-◌, ◌<◌, ◌≤◌, min, List, length, drop, All}
+use Rattle.std.specs.Prelude.{◌≡◌, ℕ, ◌+◌, ◌-◌, ◌<◌, ◌≤◌, min, List, [], ◌∷◌, ◌++◌, length, drop, All}
 
 -- The commands that were issued and not acknowledged, oldest first; the next number, the most commands that
 -- may be outstanding, and the most bytes of one.
@@ -44,3 +44,38 @@ IsKeptAt link number place =
 -- the last n of a list
 abbrev pub last : ℕ → List (List ℕ) → List (List ℕ)
 last n xs = drop (length xs - n) xs
+
+-- no command was issued
+abbrev pub none_issued : ℕ → ℕ → Outstanding
+none_issued window size = record { next = 1; window = window; size = size; frames = [] }
+
+-- one command more is outstanding
+abbrev pub with_issued : Outstanding → List ℕ → Outstanding
+with_issued link frame = record {
+  next = link.next + 1;
+  window = link.window;
+  size = link.size;
+  frames = link.frames ++ frame ∷ [];
+}
+
+-- the oldest command isn't outstanding any more
+abbrev pub with_removed : Outstanding → Outstanding
+with_removed link = record {
+  next = link.next;
+  window = link.window;
+  size = link.size;
+  frames = drop 1 link.frames;
+}
+
+-- no command was carried out
+abbrev pub none_carried : ℕ → ℕ → Carried
+none_carried window size = record { carried = 0; window = window; size = size; replies = [] }
+
+-- one command more was carried out, with this reply
+abbrev pub with_carried : Carried → List ℕ → Carried
+with_carried link reply = record {
+  carried = link.carried + 1;
+  window = link.window;
+  size = link.size;
+  replies = last link.window (link.replies ++ reply ∷ []);
+}

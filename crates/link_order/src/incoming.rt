@@ -1,6 +1,6 @@
 //! The replies to the commands that were carried out last.
 ghost use Rattle.std.specs.Prelude.{◌≡◌, ◌+◌, ◌-◌, ◌<◌, ◌≤◌, ◌^◌, IfOk, [], ◌∷◌, ◌++◌, length, drop};
-ghost use Rattle.link_order.specs.Link.{IsCarried, last};
+ghost use Rattle.link_order.specs.Link.{IsCarried, none_carried, with_carried};
 
 use crate::frame_ring::FrameRing;
 use express_words::NoMemory;
@@ -41,7 +41,7 @@ impl Incoming {
     /// A link with no command carried out, that keeps the last `window` replies of at most `size` bytes each.
     pub fn open(alloc: Global, window: u8, size: u32) -> Result<Incoming, NoMemory>
         requires window { (1 ≤ window) × (window ≤ 32) }
-        ensures opened { IfOk result (λ link. link ≡ record { carried = 0; window = window; size = size; replies = [] }) }
+        ensures opened { IfOk result (λ link. link ≡ none_carried window size) }
         ensures link { IfOk result IsCarried }
     {
         Ok(Incoming {
@@ -74,7 +74,7 @@ impl Incoming {
     pub fn carry(&mut self, reply: &[u8])
         requires fits { length reply.now ≤ self.old.size }
         requires countable { self.old.carried < 2 ^ 64 - 1 }
-        ensures carried { self.new ≡ record { carried = self.old.carried + 1; window = self.old.window; size = self.old.size; replies = last self.old.window (self.old.replies ++ reply.now ∷ []) } }
+        ensures carried { self.new ≡ with_carried self.old reply.now }
         ensures grows { length self.old.replies < self.old.window → self.new.replies ≡ self.old.replies ++ reply.now ∷ [] }
         ensures turns { length self.old.replies ≡ self.old.window → self.new.replies ≡ drop 1 self.old.replies ++ reply.now ∷ [] }
         ensures link { IsCarried self.new }

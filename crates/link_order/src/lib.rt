@@ -3,6 +3,7 @@
 
 mod frame_ring;
 mod incoming;
+pub mod laws;
 mod outgoing;
 
 pub use incoming::{Arrival, Incoming};

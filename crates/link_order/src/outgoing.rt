@@ -1,7 +1,7 @@
 //! The commands that wait for their replies.
 ghost use Rattle.std.specs.Prelude.{◌≡◌, ◌+◌, ◌-◌, ◌<◌, ◌≤◌, ◌^◌, ◌↔◌, IfOk, OnOk, OnErr, IfErr, IsErr, IsNone, IsSome, IsTrue, IfSome, Some, [], ◌∷◌, ◌++◌, length, drop, slice_get};
 ghost use Rattle.std.specs.Bool.{OnTrue, OnFalse};
-ghost use Rattle.link_order.specs.Link.{IsOldest, IsOutstanding};
+ghost use Rattle.link_order.specs.Link.{IsOldest, IsOutstanding, none_issued, with_issued, with_removed};
 
 use crate::frame_ring::FrameRing;
 use express_words::NoMemory;
@@ -30,7 +30,7 @@ impl Outgoing {
     /// A link with no command issued, of which at most `window` may be outstanding, each of at most `size` bytes.
     pub fn open(alloc: Global, window: u8, size: u32) -> Result<Outgoing, NoMemory>
         requires window { (1 ≤ window) × (window ≤ 32) }
-        ensures opened { IfOk result (λ link. link ≡ record { next = 1; window = window; size = size; frames = [] }) }
+        ensures opened { IfOk result (λ link. link ≡ none_issued window size) }
         ensures link { IfOk result IsOutstanding }
     {
         Ok(Outgoing {
@@ -55,7 +55,7 @@ impl Outgoing {
         ensures oldest { IfErr result (IsOldest self.old) }
         ensures stays { OnErr result (self.new ≡ self.old) }
         ensures number { IfOk result (λ number. number ≡ self.old.next) }
-        ensures issued { OnOk result (self.new ≡ record { next = self.old.next + 1; window = self.old.window; size = self.old.size; frames = self.old.frames ++ frame.now ∷ [] }) }
+        ensures issued { OnOk result (self.new ≡ with_issued self.old frame.now) }
         ensures link { IsOutstanding self.new }
     {
         if self.ring.is_full() {
@@ -97,7 +97,7 @@ impl Outgoing {
     /// Removes the oldest outstanding command if this is its number, and says whether it is.
     pub fn acknowledge(&mut self, number: u64) -> bool
         ensures oldest { IsTrue result ↔ IsOldest self.old number }
-        ensures removed { OnTrue result (self.new ≡ record { next = self.old.next; window = self.old.window; size = self.old.size; frames = drop 1 self.old.frames }) }
+        ensures removed { OnTrue result (self.new ≡ with_removed self.old) }
         ensures stays { OnFalse result (self.new ≡ self.old) }
         ensures link { IsOutstanding self.new }
     {

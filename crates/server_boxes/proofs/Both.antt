@@ -6,12 +6,12 @@ use Rattle.box_registry.specs.declared.fault.RegFault.{RegFault}
 use Rattle.box_registry.specs.declared.fault.RegFault.TheVariants.{Full}
 use Rattle.step_rules.specs.Boxes.{place_of, with_read}
 use Rattle.std.proofs.lemmas.List.{get_or-drop, get_or-replicate, drop-drop, drop-replicate, drop-set-lt, length-append, length-set}
-use Rattle.dpf_rules.specs.Walk.{leaf_of, write_bytes}
+use Rattle.dpf_rules.specs.Walk.{leaf_bytes, leaf_of, write_bytes}
 use Rattle.share_store.specs.Shares.{Share, Shares, shares_with, empty_share, share_at, shares_of, with_cleared}
 use Rattle.box_registry.specs.Boxes.{Boxes, with_box, answer_at, answer_to}
 use Rattle.box_registry.specs.Boxes as registry
 use Rattle.step_rules.specs.Boxes.{Box, addresses_of, added, with_write, with_new}
-use Rattle.server_boxes.specs.Held.{Held, HasSameAddresses, share_of, with_boxes}
+use Rattle.server_boxes.specs.Held.{Held, HasSameAddresses, share_of, with_boxes, with_leaves}
 use Rattle.server_boxes.specs.Held as held
 use Rattle.server_boxes.specs.Pairs.{boxes_in, box_in, held_in, ArePairs}
 
@@ -54,6 +54,15 @@ write-boxes_in part server root count (b ∷ bs) [] h = absurd (omega arith)
 write-boxes_in part server root zero (b ∷ bs) (s ∷ ss) h = refl
 write-boxes_in part server root (suc count) (b ∷ bs) (s ∷ ss) h =
     ap (λ rest. added (write_bytes part server root) (box_in b s) ∷ rest) (write-boxes_in part server root count bs ss (omega arith))
+
+-- so are any leaves
+pub leaves-boxes_in : (part leaves : List ℕ) (bs : List registry.Box) (ss : List Share) → length bs ≤ length ss →
+    boxes_in bs (shares_with part leaves ss) ≡ with_leaves part leaves (boxes_in bs ss)
+leaves-boxes_in part [] bs ss h = refl
+leaves-boxes_in part (leaf ∷ leaves) [] ss h = refl
+leaves-boxes_in part (leaf ∷ leaves) (b ∷ bs) [] h = absurd (omega arith)
+leaves-boxes_in part (leaf ∷ leaves) (b ∷ bs) (s ∷ ss) h =
+    ap (λ rest. added (λ address. leaf_bytes part leaf) (box_in b s) ∷ rest) (leaves-boxes_in part leaves bs ss (omega arith))
 
 pub length-shares_with : (part leaves : List ℕ) (ss : List Share) → length (shares_with part leaves ss) ≡ length ss
 length-shares_with part [] ss = refl

@@ -1,7 +1,8 @@
 -- One server's boxes as a caller sees them.
-use Rattle.std.specs.Prelude.{◌≡◌, ℕ, List, Option, Some, None, length, replicate, slice_get}
+use Rattle.std.specs.Prelude.{◌≡◌, ℕ, List, [], ◌∷◌, Option, Some, None, length, replicate, slice_get}
+use Rattle.dpf_rules.specs.Walk.{leaf_bytes}
 use Rattle.audit_rules.specs.Values.{Write}
-use Rattle.step_rules.specs.Boxes.{Box, addresses_of}
+use Rattle.step_rules.specs.Boxes.{Box, added, addresses_of}
 use Rattle.server_boxes.specs.declared.room.Begun.{Begun}
 
 -- the bytes of a share, at most so many boxes, and those that stand
@@ -12,6 +13,14 @@ pub record Held : Type 0 where
 
 abbrev pub with_boxes : Held → List Box → Held
 with_boxes h boxes = record { width = h.width; limit = h.limit; boxes = boxes }
+
+-- the first boxes, as many as there are leaves, get the write bytes of their leaves, whatever these are; a
+-- retired box gets nothing
+abbrev pub with_leaves : List ℕ → List ℕ → List Box → List Box
+with_leaves part [] boxes = boxes
+with_leaves part (leaf ∷ leaves) [] = []
+with_leaves part (leaf ∷ leaves) (box ∷ boxes) =
+    added (λ address. leaf_bytes part leaf) box ∷ with_leaves part leaves boxes
 
 -- the same addresses in the same order, so the same count: shares alone may have changed, and boxes may be
 -- retired

@@ -1,2 +1,3 @@
-pub mod Shares
+pub mod Calls
 pub mod Marks
+pub mod Shares

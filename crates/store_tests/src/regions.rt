@@ -1,6 +1,6 @@
 //! A region of one class through takes and gives, and arrays of the largest settings.
-ghost use Rattle.std.specs.Prelude.{◌≡◌, ◌<◌, IsSome, length};
-ghost use Rattle.block_region.specs.Region.{bytes_at};
+ghost use Rattle.std.specs.Prelude.{◌≡◌, ◌<◌, length};
+ghost use Rattle.block_region.specs.Region.{IsOut};
 
 use block_region::{Block, BlockArray, Class, Region};
 use express_words::NoMemory;
@@ -17,14 +17,14 @@ fn is_all(bytes: &[u8], value: u8) -> bool {
 
 // The block has 16 bytes of this value.
 fn holds(region: &Region, block: &Block, value: u8) -> bool
-    requires { IsSome (bytes_at region.now block.now) }
+    requires { IsOut region.now block.now }
 {
     let bytes = region.bytes(block);
     bytes.len() == 16 && is_all(bytes, value)
 }
 
 fn no_third_block(region: &mut Region) -> bool
-    requires { 0 < length region.old }
+    requires { 0 < length region.old.classes }
 {
     let first = region.take(0).is_some();
     let second = region.take(0).is_some();
@@ -32,7 +32,7 @@ fn no_third_block(region: &mut Region) -> bool
 }
 
 fn gives_zeros(region: &mut Region) -> bool
-    requires { 0 < length region.old }
+    requires { 0 < length region.old.classes }
 {
     match region.take(0) {
         Some(block) => holds(region, &block, 0),
@@ -42,7 +42,7 @@ fn gives_zeros(region: &mut Region) -> bool
 
 // A block that is written and given back is handed out with zeros.
 fn fills_and_gives(region: &mut Region) -> bool
-    requires { 0 < length region.old }
+    requires { 0 < length region.old.classes }
 {
     let Some(first) = region.take(0) else {
         return false;
@@ -56,6 +56,22 @@ fn fills_and_gives(region: &mut Region) -> bool
     filled && region.free(0) == 1 && gives_zeros(region)
 }
 
+// Of two regions the block of each is given back to its own, and then both are free. Of a class that there isn't, no block is free.
+fn give_each_its_own(one: &mut Region, other: &mut Region) -> bool
+    requires { (0 < length one.old.classes) × (0 < length other.old.classes) }
+{
+    let Some(first) = one.take(0) else {
+        return false;
+    };
+    let Some(second) = other.take(0) else {
+        return false;
+    };
+    let both_out = one.free(0) == 1 && other.free(0) == 1;
+    one.give(first);
+    other.give(second);
+    both_out && one.free(0) == 2 && other.free(0) == 2 && one.free(1) == 0
+}
+
 const CLASS: Class = Class { size: 16, count: 2 };
 
 #[test]
@@ -64,6 +80,14 @@ fn two_blocks_of_one_class(rt: HostRuntime) -> Result<(), Fail> {
     assert!(rt; no_third_block(&mut region));
     let mut region = Region::open(rt.alloc(), &[CLASS])?;
     assert!(rt; fills_and_gives(&mut region));
+    Ok(())
+}
+
+#[test]
+fn two_regions(rt: HostRuntime) -> Result<(), Fail> {
+    let mut one = Region::open(rt.alloc(), &[CLASS])?;
+    let mut other = Region::open(rt.alloc(), &[CLASS])?;
+    assert!(rt; give_each_its_own(&mut one, &mut other));
     Ok(())
 }
 

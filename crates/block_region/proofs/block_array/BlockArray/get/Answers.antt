@@ -1,11 +1,11 @@
 use Rattle.std.proofs.Common.{ap, ◌∙◌, length}
-use Rattle.block_region.proofs.ArrayLaws.{array-bytes, array-size, same-some}
+use Rattle.block_region.proofs.ArrayLaws.{array-bytes, array-out, array-size, same-some}
 use Rattle.block_region.proofs.block_array.BlockArray.get.Goals as goal
 
 pub bytes-requires : goal.bytes-requires
 bytes-requires c =
     let within = rw (← c.self.view_is) at c.requires in
-    rw (array-bytes c.self.inside.region c.self.inside.blocks.items c.self.invariant c.args.index within c.index.result.now c.index.ensures)
+    array-out c.self.inside.region c.self.inside.blocks.items c.self.invariant c.args.index within c.index.result.now c.index.ensures
 
 pub returns : goal.returns
 returns c =
