@@ -4,9 +4,9 @@ ghost use Rattle.express_words.specs.Limits.{KeepsLimits};
 ghost use Rattle.frame_rules.specs.Spelling.{spelling};
 ghost use Rattle.leader_core.specs.Told.{sent_length};
 ghost use Rattle.node_journal.specs.Disk.{IsUntouched, Within, LeavesOnly};
-ghost use Rattle.node_journal.specs.Records.{content, IsUndamaged, LeavesNoByte, LeavesNoneOrFirst};
+ghost use Rattle.node_journal.specs.Records.{content, IsUndamaged};
 ghost use Rattle.node_journal.specs.Journal.{Passes, longer, broken};
-ghost use Rattle.node_restart.specs.Openings.{IsOpening, opening_record};
+ghost use Rattle.node_restart.specs.Openings.{IsOpening};
 ghost use Rattle.node_restart.specs.Frames.{Handed, AllFrames, IsForeign, IsOneFrame, handed, records_of};
 ghost use Rattle.node_restart.specs.Steps.{fold, share_in, resent_by, IsOldest, settings_of, role_of, step_of, Takes};
 ghost use Rattle.node_restart.specs.Faults.{OnForeign, OnDamaged, OnNotEmpty, OnFull, OnNoMemory, IsOfCreate, IsOfReopen, IsOkOrDiskFault, CountsFault, Counts};
@@ -76,13 +76,6 @@ impl<D: Disk> Kept<D> {
         ensures no_memory_stays { IfErr result (λ x. OnNoMemory x.0 (x.1 ≡ disk)) }
         ensures counts_ok { IfOk result (λ k. D.Counted.count k.disk ≡ D.Counted.count disk) }
         ensures counts { IfErr result (λ x. CountsFault (D.Counted.count disk) (D.Counted.count x.1) x.0) }
-
-        // Where a crash before the call leaves no byte, a crash at any moment of it leaves no record, or
-        // exactly that of the opening.
-        ensures any_moment_ok { IfOk result (λ k. LeavesNoByte (D.may_leave disk)
-            → LeavesOnly D.moment D.left_since disk k.disk (LeavesNoneOrFirst limit (opening_record opening.now))) }
-        ensures any_moment { IfErr result (λ x. LeavesNoByte (D.may_leave disk)
-            → LeavesOnly D.moment D.left_since disk x.1 (LeavesNoneOrFirst limit (opening_record opening.now))) }
     {
         let Ok(core) = Core::open(alloc, opening) else {
             return Err((KeepFault::NoMemory, disk));

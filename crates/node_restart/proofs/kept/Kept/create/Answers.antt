@@ -1,10 +1,5 @@
-use Rattle.std.proofs.Common.{◌≡◌, ◌≢◌, ◌<◌, ℕ, List, [], ◌∷◌, Err, ap, subst, ◌∙◌, arith, rules}
-use Rattle.node_journal.specs.Disk.{LeavesOnly}
+use Rattle.std.proofs.Common.{◌≡◌, ◌≢◌, ◌<◌, ℕ, List, [], ◌∷◌, Err, ap, ◌∙◌, arith, rules}
 use Rattle.node_journal.specs.Journal.{JournalState}
-use Rattle.node_journal.specs.Records.{LeavesNoneOrFirst}
-use Rattle.node_journal.proofs.Moments.{started}
-use Rattle.node_journal.proofs.Places.{blank_leaves}
-use Rattle.node_restart.specs.Openings.{opening_record}
 use Rattle.node_restart.specs.Steps.{settings_of, role_of}
 use Rattle.node_journal.specs.declared.fault.JournalFault.{JournalFault}
 use Rattle.node_journal.specs.declared.fault.JournalFault.TheVariants.{NotEmpty, Full}
@@ -27,24 +22,6 @@ invariant_of-result g c =
         held = λ d read. c.in-Ok-create.ensures.content d read ∙ ap (λ (l : List ℕ). l ∷ []) c.record.ensures;
       };
     }
-
-pub returns-in_default-clause-any_moment : goal.returns-in_default-clause-any_moment
-returns-in_default-clause-any_moment g c none =
-    let D = g.D.Disk in
-    let blank = blank_leaves c.args.limit (opening_record c.args.opening.now) (D.may_leave c.args.disk) none in
-    started D.moment D.left_since c.args.disk _ (λ f left. blank f (g.met.D.Disk.only_now c.args.disk f left))
-
-pub returns-in-Ok-create-clause-any_moment_ok : goal.returns-in-Ok-create-clause-any_moment_ok
-returns-in-Ok-create-clause-any_moment_ok g c none =
-    let D = g.D.Disk in
-    let Leaves : List ℕ → Type 0 = λ first. LeavesOnly D.moment D.left_since c.args.disk c.create.new.disk (LeavesNoneOrFirst c.args.limit first) in
-    subst Leaves c.record.ensures (c.create.ensures.any_moment none)
-
-pub returns-in-Err-clause-any_moment : goal.returns-in-Err-clause-any_moment
-returns-in-Err-clause-any_moment g c none =
-    let D = g.D.Disk in
-    let Leaves : List ℕ → Type 0 = λ first. LeavesOnly D.moment D.left_since c.args.disk c.create.new.disk (LeavesNoneOrFirst c.args.limit first) in
-    subst Leaves c.record.ensures (c.create.ensures.any_moment none)
 
 pub returns-in-Err-clause-not_empty : goal.returns-in-Err-clause-not_empty
 returns-in-Err-clause-not_empty g c =
