@@ -1,6 +1,5 @@
 -- The calls of a visit.
 use Rattle.std.proofs.Common.{◌≡◌, ◌≢◌, ℕ, ◌==◌, false, List, [], ◌∷◌, ◌++◌, Option, Some, None, refl, sym, ap, ◌∙◌, subst, append_assoc}
-use Rattle.std.specs.Prelude.{string_bytes}
 use Rattle.std.proofs.lemmas.List.{append-nil}
 use Rattle.express_words.specs.Streams.{Stream, Gave}
 use Rattle.express_words.specs.Calls.{Call, Accepted, Closed, Adds, AddsClose, GivesTelling}
@@ -50,7 +49,7 @@ pub serves_told : (old : Node) (bytes : List ℕ) (new : Node) (a b : Option (Li
 serves_told (node.Help h) bytes new a b count why reply serves rests =
     ([], subst (λ (x : Option (List Call)). Makes a x []) (sym (rests tt)) (makes_none a), serves, λ is. refl)
 serves_told (node.Lead l peer) bytes new a b count why reply (now, is, (made, on, leads)) rests =
-    let calls = told (string_bytes peer) made a b [] on in
+    let calls = told peer made a b [] on in
     (calls.0, calls.1, (now, is, (made, calls.2, leads)), λ none. absurd none)
 
 -- ---- an accept, these calls, and a close

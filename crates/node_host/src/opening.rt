@@ -3,7 +3,7 @@ ghost use Rattle.std.specs.Prelude.{◌≤◌, IfOk};
 ghost use Rattle.express_words.specs.Limits.{KeepsLimits};
 ghost use Rattle.node_host.specs.Opening.{IsOpened};
 
-use express_words::NoMemory;
+use express_words::{NoMemory, Text};
 use helper_core::Helper;
 use leader_core::Leader;
 use node_serve::Node;
@@ -20,7 +20,7 @@ pub fn open_node(alloc: Global, settings: &ServeSettings, seed: &[u8; 32]) -> Re
     if settings.role == LEADER {
         let leader = Leader::open(alloc, &settings.settings, seed)?;
         let peer = String::from_str(alloc, settings.peer.as_str())?;
-        Ok(Node::Lead(leader, peer))
+        Ok(Node::Lead(leader, Text::from_string(peer)))
     } else {
         Ok(Node::Help(Helper::open(alloc, &settings.settings, seed)?))
     }

@@ -2,8 +2,8 @@ mod Contents
 mod Found
 mod Histories
 mod LogLaws
-mod Moments
-mod Places
+pub mod Moments
+pub mod Places
 mod Steps
 mod Tears
 mod Walks

@@ -23,3 +23,11 @@ module _ {D : Type 0} (moment : D → ℕ) (left_since : D → ℕ → List ℕ 
     each = λ c left. wider c (so_far.each c left);
     before = λ t c le left. ⊎_elim (λ past. inl past) (λ now. inr (wider c now)) (so_far.before t c le left);
   }
+
+  -- one run after another
+  pub and_then : (old mid new : D) (P : List ℕ → Type 0) → LeavesOnly moment left_since old mid P → LeavesOnly moment left_since mid new P → LeavesOnly moment left_since old new P
+  and_then old mid new P first second = record {
+    later = omega (arith, first.later, second.later);
+    each = λ c left. ⊎_elim (first.each c) (λ here. here) (second.before (moment old) c first.later left);
+    before = λ t c le left. ⊎_elim (first.before t c le) (λ here. inr here) (second.before t c (omega (arith, le, first.later)) left);
+  }

@@ -2,7 +2,7 @@
 use Rattle.std.proofs.Common.{◌≡◌, ◌≢◌, ◌⊎◌, inl, inr, ℕ, ◌+◌, ◌≤◌, List, [], ◌∷◌, ◌++◌, length, take, drop, refl, sym, ◌∙◌, ap, subst, arith, length-append, length-take, append_assoc, Ok, Err, Some, None}
 use Rattle.std.proofs.lemmas.List.{drop_at}
 use Rattle.std.specs.Int.{w32, to_be_bytes}
-use Rattle.node_journal.specs.Records.{content, records_from, opened, body, AllSized, IsBehind, EndsAt, IsUndamaged, IsBeforeOrAfter, RestsBeforeOrAfter, LeavesBeforeOrAfter}
+use Rattle.node_journal.specs.Records.{content, records_from, opened, body, AllSized, IsBehind, EndsAt, IsUndamaged, IsBeforeOrAfter, RestsBeforeOrAfter, LeavesBeforeOrAfter, LeavesNoByte, RestsNoneOrFirst, LeavesNoneOrFirst}
 use Rattle.node_journal.specs.Disk.{Within, IsUntouched}
 use Rattle.node_journal.specs.Journal.{JournalState, IsInPlace}
 use Rattle.node_journal.specs.Next.{found}
@@ -112,6 +112,24 @@ rests_leaves limit end added reads fits c rests = let k = kept rests.2 in (rests
         → IsBeforeOrAfter (content rests.0) added c × IsUndamaged limit 0 c
     kept (inl before) = (inl before.1, undamaged_end limit end c before.0 (omega (arith, fits)))
     kept (inr after) = (inr after.1, undamaged_end limit (end + 5 + length added) c after.0 fits)
+
+-- no byte is no record
+pub blank_leaves : (limit : ℕ) (first : List ℕ) (may : List ℕ → Type 0) → LeavesNoByte may → Within may (LeavesNoneOrFirst limit first)
+blank_leaves limit first may none c left =
+    let empty : length c ≡ 0 = ap length (none c left) in
+    (inl (ap content (none c left)), inl (omega (arith, empty)))
+
+-- What the making of a journal may leave is undamaged behind its first byte, where the first record and a closed
+-- gate keep the limit.
+pub first_leaves : (limit : ℕ) (first : List ℕ) → 0 + 5 + length first + 1 ≤ limit → Within (RestsNoneOrFirst first) (LeavesNoneOrFirst limit first)
+first_leaves limit first fits c (inl short) = (inl (no_record c short), inl short)
+  where
+    no_record : (bytes : List ℕ) → length bytes ≤ 1 → content bytes ≡ []
+    no_record [] few = refl
+    no_record (gate ∷ []) few = refl
+    no_record (gate ∷ next ∷ rest) few = absurd (omega (arith, few))
+first_leaves limit first fits c (inr (inl (ends, none))) = (inl none, inr (undamaged_end limit 0 c ends (omega (arith, fits))))
+first_leaves limit first fits c (inr (inr (ends, one))) = (inr one, inr (undamaged_end limit (0 + 5 + length first) c ends fits))
 
 -- A record of n bytes was read into the front of a buffer.
 module _ (end limit n : ℕ) (out : List ℕ) (held : n ≤ length out) where

@@ -3,7 +3,7 @@ use Rattle.std.proofs.Common.{◌≡◌, ◌⊎◌, inl, inr, get_or, ℕ, ◌+�
 use Rattle.std.proofs.lemmas.List.{take_at}
 use Rattle.std.proofs.lemmas.Bool.{cases_eq}
 use Rattle.node_journal.specs.Disk.{Torn, Holds, Follows, Within}
-use Rattle.node_journal.specs.Records.{content, opened, body, IsSized, AllSized, EndsAt, RestsBeforeOrAfter, Appended}
+use Rattle.node_journal.specs.Records.{content, opened, body, IsSized, AllSized, EndsAt, LeavesNoByte, RestsBeforeOrAfter, RestsNoneOrFirst, Appended}
 use Rattle.node_journal.proofs.Contents.{content_closed, content_opened, opened_push, opened_length, sized_push}
 use Rattle.node_journal.proofs.Tears.{behind_whole, behind_gate, at_whole, front_gate, back_gate}
 
@@ -128,3 +128,25 @@ first_gate reads reads_1 empty follows c read =
 
 pub ends_first : (c : List ℕ) → c ≡ 0 ∷ [] → EndsAt 0 c
 ends_first c is = record { records = []; sized = tt; gate = 0; closed = omega arith; tail = []; split = is; place = refl }
+
+-- what a crash leaves of a disk with no byte, and of a write of one byte to it
+pub none_rests : (bytes : List ℕ) (may : List ℕ → Type 0) → LeavesNoByte may → Within may (RestsNoneOrFirst bytes)
+none_rests bytes may none c left = let empty : length c ≡ 0 = ap length (none c left) in inl (omega (arith, empty))
+
+pub torn_rests : (bytes : List ℕ) (may may_1 : List ℕ → Type 0) → LeavesNoByte may → Follows (Torn 0 1) may may_1 → Within may_1 (RestsNoneOrFirst bytes)
+torn_rests bytes may may_1 none follows c left =
+    let from = follows c left in
+    let empty : length from.0 ≡ 0 = ap length (none from.0 from.1) in
+    inl (omega (arith, empty, from.2.no_longer))
+
+-- what an append to a closed gate alone leaves
+pub first_rests : (bytes : List ℕ) (reads : List ℕ → Type 0) → ((c : List ℕ) → reads c → c ≡ 0 ∷ []) → Within (RestsBeforeOrAfter reads 0 bytes) (RestsNoneOrFirst bytes)
+first_rests bytes reads gate c rests = kept rests.2
+  where
+    none : content rests.0 ≡ []
+    none = ap content (gate rests.0 rests.1)
+
+    kept : (EndsAt 0 c × (content c ≡ content rests.0)) ⊎ (EndsAt (0 + 5 + length bytes) c × (content c ≡ content rests.0 ++ bytes ∷ []))
+        → RestsNoneOrFirst bytes c
+    kept (inl before) = inr (inl (before.0, before.1 ∙ none))
+    kept (inr after) = inr (inr (after.0, after.1 ∙ ap (λ (rs : List (List ℕ)). rs ++ bytes ∷ []) none))

@@ -82,6 +82,21 @@ RestsBeforeOrAfter reads end added bytes = (d : List ℕ) × reads d
     × ((EndsAt end bytes × (content bytes ≡ content d))
     ⊎ (EndsAt (end + 5 + length added) bytes × (content bytes ≡ content d ++ added ∷ [])))
 
+-- A crash leaves no byte.
+abbrev pub LeavesNoByte : (List ℕ → Type 0) → Type 0
+LeavesNoByte may_leave = (bytes : List ℕ) → may_leave bytes → bytes ≡ []
+
+-- One byte at most; or a closed gate at the front with no record, or behind the first record.
+abbrev pub RestsNoneOrFirst : List ℕ → List ℕ → Type 0
+RestsNoneOrFirst first bytes = (length bytes ≤ 1)
+    ⊎ ((EndsAt 0 bytes × (content bytes ≡ []))
+    ⊎ (EndsAt (0 + 5 + length first) bytes × (content bytes ≡ first ∷ [])))
+
+-- The content is no record or exactly the first one. It is undamaged, unless it has one byte at most.
+abbrev pub LeavesNoneOrFirst : ℕ → List ℕ → List ℕ → Type 0
+LeavesNoneOrFirst limit first bytes = ((content bytes ≡ []) ⊎ (content bytes ≡ first ∷ []))
+    × ((length bytes ≤ 1) ⊎ IsUndamaged limit 0 bytes)
+
 -- the content stands for these records, or for them and one more
 abbrev pub IsBeforeOrAfter : List (List ℕ) → List ℕ → List ℕ → Type 0
 IsBeforeOrAfter records added bytes = (content bytes ≡ records) ⊎ (content bytes ≡ records ++ added ∷ [])

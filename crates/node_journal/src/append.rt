@@ -1,7 +1,7 @@
 //! One record more behind the closed gate, and then the gate opened.
 ghost use Rattle.std.specs.Prelude.{◌≡◌, ◌≤◌, ◌+◌, ◌^◌, ◌++◌, ◌∷◌, [], List, ℕ, length, OnOk};
 ghost use Rattle.node_journal.specs.Disk.{CountsFault, Within, LeavesOnly};
-ghost use Rattle.node_journal.specs.Records.{body, content, IsSized, EndsAt, RestsBeforeOrAfter, Appended};
+ghost use Rattle.node_journal.specs.Records.{body, content, IsSized, EndsAt, LeavesNoByte, RestsBeforeOrAfter, RestsNoneOrFirst, Appended};
 
 use crate::{Disk, HEAD_LEN, RECORD_MAX};
 use express_words::outside::Failed;
@@ -42,21 +42,18 @@ pub(crate) fn put_record<D: Disk>(disk: &mut D, end: u64, bytes: &[u8]) -> Resul
     Ok(())
 }
 
-/// The first record, on a disk with no byte.
+/// The first record, on a disk with no byte. Its closed gate is on the disk before the record is written.
 pub(crate) fn put_first<D: Disk>(disk: &mut D, bytes: &[u8]) -> Result<(), Failed>
     requires sized { IsSized bytes.now }
     requires empty { (c : List ℕ) → D.reads disk.old c → c ≡ [] }
     ensures added { OnOk result ((c : List ℕ) → D.reads disk.new c → EndsAt (0 + 5 + length bytes.now) c
         × (content c ≡ bytes.now ∷ [])) }
     ensures durable { OnOk result (Within (D.may_leave disk.new) (D.reads disk.new)) }
+    ensures any_moment { LeavesNoByte (D.may_leave disk.old)
+        → LeavesOnly D.moment D.left_since disk.old disk.new (RestsNoneOrFirst bytes.now) }
     ensures counts { CountsFault (D.Counted.count disk.old) (D.Counted.count disk.new) result }
 {
-    let mut room = [0; ROOM];
-    let staged = stage(bytes, &mut room);
     disk.write(0, &[0])?;
-    disk.write(1, staged)?;
     disk.sync()?;
-    disk.write(0, &[1])?;
-    disk.sync()?;
-    Ok(())
+    put_record(disk, 0, bytes)
 }

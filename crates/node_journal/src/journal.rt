@@ -1,7 +1,7 @@
 //! A journal of records, each of them on the disk before its append answers Ok.
 ghost use Rattle.std.specs.Prelude.{◌≡◌, ◌≢◌, ◌≤◌, ◌+◌, ◌^◌, ◌++◌, ◌∷◌, [], true, false, List, ℕ, length, OnOk, OnErr, IsErrOf, Err, Ok, Some, None, take, drop, IfOk};
 ghost use Rattle.node_journal.specs.Disk.{IsUntouched, LeavesOnly};
-ghost use Rattle.node_journal.specs.Records.{record_max, IsSized, IsUndamaged, LeavesBeforeOrAfter, Appended, content, records_from};
+ghost use Rattle.node_journal.specs.Records.{record_max, IsSized, IsUndamaged, LeavesBeforeOrAfter, LeavesNoByte, LeavesNoneOrFirst, Appended, content, records_from};
 ghost use Rattle.node_journal.specs.Next.{found};
 ghost use Rattle.node_journal.specs.Journal.{JournalState, IsInPlace, CountsDisk, IsOkOrDisk, IsOkDiskOrDamaged, longer, at_end, broken, Passes};
 
@@ -57,6 +57,11 @@ impl Journal {
         ensures content { OnOk result ((c : List ℕ) → D.reads disk.new c → content c ≡ first.now ∷ []) }
         ensures undamaged { OnOk result ((c : List ℕ) → D.reads disk.new c → IsUndamaged limit 0 c) }
         ensures in_place { IfOk result (λ j. IsInPlace j (D.reads disk.new) (D.may_leave disk.new)) }
+
+        // Where a crash before the call leaves no byte, a crash at any moment of it leaves no record, or
+        // exactly the first.
+        ensures any_moment { LeavesNoByte (D.may_leave disk.old)
+            → LeavesOnly D.moment D.left_since disk.old disk.new (LeavesNoneOrFirst limit first.now) }
     {
         let mut probe = [0; 1];
         match disk.read(0, &mut probe) {

@@ -1,9 +1,10 @@
 -- What is said of a fault says what follows from it.
-use Rattle.std.proofs.Common.{ℕ}
+use Rattle.std.proofs.Common.{◌≡◌, ℕ, refl}
+use Rattle.node_journal.specs.declared.fault.JournalFault.{JournalFault}
 use Rattle.node_journal.specs.declared.fault.JournalFault.TheVariants.{Closed, NotEmpty, Full, Disk, Damaged}
 use Rattle.node_restart.specs.declared.fault.KeepFault.{KeepFault}
 use Rattle.node_restart.specs.declared.fault.KeepFault.TheVariants.{Journal, NoMemory, Foreign}
-use Rattle.node_restart.specs.Faults.{OnForeign, OnDamaged}
+use Rattle.node_restart.specs.Faults.{OnForeign, OnDamaged, OnFull, OnNotEmpty}
 
 pub on_foreign : (why : KeepFault) (P Q : ℕ → Type 0) → ((n : ℕ) → P n → Q n) → OnForeign why P → OnForeign why Q
 on_foreign (Foreign n) P Q follows p = follows n p
@@ -18,3 +19,17 @@ on_damaged (Journal (Full end)) P Q follows p = tt
 on_damaged (Journal (Disk faults)) P Q follows p = tt
 on_damaged NoMemory P Q follows p = tt
 on_damaged (Foreign n) P Q follows p = tt
+
+pub on_not_empty : (why : JournalFault) (P : Type 0) → (why ≡ NotEmpty → P) → OnNotEmpty (Journal why) P
+on_not_empty NotEmpty P follows = follows refl
+on_not_empty Closed P follows = tt
+on_not_empty (Full end) P follows = tt
+on_not_empty (Disk faults) P follows = tt
+on_not_empty (Damaged at) P follows = tt
+
+pub on_full : (why : JournalFault) (P : ℕ → Type 0) → ((n : ℕ) → why ≡ Full n → P n) → OnFull (Journal why) P
+on_full (Full end) P follows = follows end refl
+on_full Closed P follows = tt
+on_full NotEmpty P follows = tt
+on_full (Disk faults) P follows = tt
+on_full (Damaged at) P follows = tt

@@ -1,11 +1,11 @@
 -- What a source gave in two takes, and which calls an exchange makes.
-use Rattle.std.proofs.Common.{◌≡◌, ◌≢◌, ℕ, Bool, true, false, eqb, List, [], ◌∷◌, ◌++◌, Option, Some, None, refl, sym, ap, ◌∙◌, append_assoc, arith}
+use Rattle.std.proofs.Common.{◌≡◌, ◌≢◌, inl, inr, ℕ, Bool, true, false, eqb, List, [], ◌∷◌, ◌++◌, Option, Some, None, refl, sym, ap, ◌∙◌, append_assoc, arith}
 use Rattle.std.proofs.lemmas.Bool.Decides.{nat_tests}
 use Rattle.express_words.specs.Causes.{Rose}
-use Rattle.express_words.specs.Streams.{Stream, Gave, Took, TookPrefix}
+use Rattle.express_words.specs.Streams.{Stream, Gave, Took}
 use Rattle.express_words.specs.Calls.{Call, Dialled, Closed, Adds, AddsClose, GivesTelling}
 use Rattle.node_serve.specs.Taking.{IsWanted}
-use Rattle.node_serve.specs.Exchanging.{Makes, Exchange, IsExchange, IsFault, IsAnswer}
+use Rattle.node_serve.specs.Exchanging.{Makes, Exchange, IsExchange, IsFault, IsAnswer, TakesFirst}
 
 pub gave_more : (a b c : Option Stream) (x y : List ℕ) → Gave a b x → Gave b c y → Gave a c (x ++ y)
 gave_more None b c x y g h = tt
@@ -48,11 +48,14 @@ whole_talk a b c s t v w peer e given count dial tells gave took close none want
 not_zero : (n : ℕ) → n ≢ 0 → eqb n 0 ≡ false
 not_zero n h = grind (arith, nat_tests)
 
--- and of one whose connection failed
+-- and of one whose connection failed, after it took all that was sent or without giving a byte
 pub broken_talk : (a b c : Option (List Call)) (s t : Option Stream) (v w : Option (List ℕ)) (peer : List ℕ) (e : Exchange) (given : List ℕ) (count : ℕ)
-    → Adds a b (Dialled peer false) → GivesTelling b s v → Gave s t given → TookPrefix v w e.sent → AddsClose b c t w count
+    → Adds a b (Dialled peer false) → GivesTelling b s v → Gave s t given → TakesFirst v w e.sent given → AddsClose b c t w count
     → Rose 0 count → IsWanted given → IsFault e.answer
     → (calls : List Call) × Makes a c calls × IsExchange peer e calls
-broken_talk a b c s t v w peer e given count dial tells gave took close rose wanted fault =
+broken_talk a b c s t v w peer e given count dial tells gave (inl took) close rose wanted fault =
     let some : count ≢ 0 = λ z. absurd (omega arith) in
-    (Dialled peer false ∷ Closed given took.0 false ∷ [], close_made a b c s t v w (Dialled peer false) given took.0 count false dial tells gave took.3 close (not_zero count some), (refl, ((took.1, took.2), wanted, fault)))
+    (Dialled peer false ∷ Closed given e.sent false ∷ [], close_made a b c s t v w (Dialled peer false) given e.sent count false dial tells gave took close (not_zero count some), (refl, (inl refl, wanted, fault)))
+broken_talk a b c s t v w peer e given count dial tells gave (inr (took, nothing)) close rose wanted fault =
+    let some : count ≢ 0 = λ z. absurd (omega arith) in
+    (Dialled peer false ∷ Closed given took.0 false ∷ [], close_made a b c s t v w (Dialled peer false) given took.0 count false dial tells gave took.3 close (not_zero count some), (refl, (inr ((took.1, took.2), nothing), wanted, fault)))

@@ -1,8 +1,8 @@
 -- One exchange with a peer, and the calls that it makes on a net.
-use Rattle.std.specs.Prelude.{◌≡◌, ℕ, Bool, true, false, List, [], ◌∷◌, ◌++◌, length, take}
+use Rattle.std.specs.Prelude.{◌≡◌, ◌⊎◌, ℕ, Bool, true, false, List, [], ◌∷◌, ◌++◌, length, take}
 use Rattle.std.specs.Prelude.{Option, Some, None, Result, Ok, Err}
 use Rattle.express_words.specs.Causes.{Rose}
-use Rattle.express_words.specs.Streams.{Stream, IsAtEnd}
+use Rattle.express_words.specs.Streams.{Stream, IsAtEnd, Took, TookPrefix}
 use Rattle.express_words.specs.Calls.{Call, Dialled, Closed, AddsClose}
 use Rattle.frame_rules.specs.Reading.{decoded}
 use Rattle.frame_rules.specs.declared.fault.FrameFault.TheVariants.{Short}
@@ -36,10 +36,18 @@ IsAnswer (Err (broken.Early count)) given = (decoded given ≡ Err Short) × (co
 IsAnswer (Err (broken.Wrong fault)) given = IsNoFrame fault given
 IsAnswer (Err (broken.Fault count)) given = ⊥
 
--- by whether the connection stayed whole: then it took all that was sent, else a front of it
+-- it took all that was sent; or a front of it, and then it gave nothing
+abbrev pub TookFirst : (sent given taken : List ℕ) → Type 0
+TookFirst sent given taken = (taken ≡ sent) ⊎ (((rest : List ℕ) × (sent ≡ taken ++ rest)) × (given ≡ []))
+
+-- by whether the connection stayed whole: then it took all that was sent, else its answer is a fault
 abbrev pub IsTalk : Bool → Exchange → (given taken : List ℕ) → Type 0
 IsTalk true e given taken = (taken ≡ e.sent) × IsWanted given × IsAnswer e.answer given
-IsTalk false e given taken = ((rest : List ℕ) × (e.sent ≡ taken ++ rest)) × IsWanted given × IsFault e.answer
+IsTalk false e given taken = TookFirst e.sent given taken × IsWanted given × IsFault e.answer
+
+-- From old to new a connection took all that was sent; or a front of it, and then it gave nothing.
+abbrev pub TakesFirst : Option (List ℕ) → Option (List ℕ) → (sent given : List ℕ) → Type 0
+TakesFirst old new sent given = Took old new sent ⊎ (TookPrefix old new sent × (given ≡ []))
 
 -- the calls of an exchange: a dial that failed, or a dial and the close of its connection
 abbrev pub IsExchange : List ℕ → Exchange → List Call → Type 0

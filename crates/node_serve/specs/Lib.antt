@@ -4,3 +4,4 @@ pub mod Helping
 pub mod Draining
 pub mod Leading
 pub mod Serving
+pub mod Texts

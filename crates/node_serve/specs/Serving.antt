@@ -1,5 +1,5 @@
 -- One connection of a server.
-use Rattle.std.specs.Prelude.{◌≡◌, ◌⊎◌, ℕ, List, [], Option, string_bytes}
+use Rattle.std.specs.Prelude.{◌≡◌, ◌⊎◌, ℕ, List, [], Option}
 use Rattle.express_words.specs.Causes.{Rose}
 use Rattle.express_words.specs.Streams.{Stream, Gave, IsAtEnd, Took, TookPrefix}
 use Rattle.express_words.specs.Calls.{Call}
@@ -52,7 +52,7 @@ Serves (node.Help h) bytes new before now count why reply =
     IsSent why × (new ≡ node.Help (helper_step h bytes).helper) × (reply ≡ (helper_step h bytes).answer)
 Serves (node.Lead a peer) bytes new before now count why reply =
     (b : Leader) × (new ≡ node.Lead b peer)
-    × ((made : List Exchange) × ExchangesOn (string_bytes peer) made before now
+    × ((made : List Exchange) × ExchangesOn peer made before now
     × Leads (taken_in (whole bytes)) a bytes b made count why reply)
 
 -- no call failed: the count of faults didn't rise

@@ -1,9 +1,10 @@
 //! One frame goes to a peer, and one comes back.
-ghost use Rattle.std.specs.Prelude.{◌≡◌, ◌≢◌, ℕ, ◌≤◌, List, length, take, IfOk, Err};
+ghost use Rattle.std.specs.Prelude.{◌≡◌, ◌≢◌, ℕ, ◌≤◌, List, length, take, IfOk, Err, Some};
 ghost use Rattle.express_words.specs.Causes.{Rose};
-ghost use Rattle.express_words.specs.Streams.{Gave, IsAtEnd, Took, TookPrefix};
+ghost use Rattle.express_words.specs.Streams.{Gave, IsAtEnd, Took};
 ghost use Rattle.express_words.specs.Calls.{Call};
-ghost use Rattle.node_serve.specs.Exchanging.{Makes, IsExchange, Exchange, answer_in, CountBy, ClosedAtEnd};
+ghost use Rattle.node_serve.specs.Exchanging.{Makes, IsExchange, Exchange, answer_in, CountBy, ClosedAtEnd, TakesFirst};
+ghost use Rattle.node_serve.specs.Texts.{broken_text};
 ghost use Rattle.node_serve.specs.Taking.{EndsBy, IsOneFrame, IsWanted};
 
 use crate::reading::{Reading, read_frame};
@@ -23,6 +24,8 @@ pub enum Broken {
 }
 
 impl fmt::Display for Broken {
+    ghost output = { λ broken. Some (broken_text broken) };
+
     fn fmt<W: fmt::Write>(&self, f: &mut fmt::Formatter<W>) -> fmt::Result {
         match *self {
             Broken::Fault(count) => write!(f, "the net has had {count} faults"),
@@ -42,7 +45,7 @@ fn converse<C: Conn>(conn: &mut C, frame: &[u8], reply: &mut [u8]) -> (usize, Re
     ensures ends { result.1 ≢ Reading.Failed → EndsBy result.1 (take result.0 reply.new) }
     ensures end { result.1 ≡ Reading.Ended → IsAtEnd (C.content conn.new) }
     ensures took { result.1 ≢ Reading.Failed → Took (C.written conn.old) (C.written conn.new) frame.now }
-    ensures front { TookPrefix (C.written conn.old) (C.written conn.new) frame.now }
+    ensures first { TakesFirst (C.written conn.old) (C.written conn.new) frame.now (take result.0 reply.new) }
     ensures cause { result.1 ≡ Reading.Failed → Rose (C.count conn.old) (C.count conn.new) }
     ensures unfailed { result.1 ≢ Reading.Failed → C.count conn.new ≡ C.count conn.old }
 {

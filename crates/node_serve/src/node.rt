@@ -1,4 +1,5 @@
 //! A server, and what became of a connection.
+use express_words::Text;
 use helper_core::Helper;
 use leader_core::Leader;
 
@@ -6,7 +7,7 @@ use leader_core::Leader;
 #[derive(Drop)]
 pub enum Node {
     /// The leader, with the helper's address.
-    Lead(Leader, String),
+    Lead(Leader, Text),
     Help(Helper),
 }
 

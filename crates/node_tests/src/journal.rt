@@ -18,7 +18,7 @@ fn disk(
     arriving: &[u8],
     failing: &[u64],
 ) -> Result<MemoryDisk, Fail> {
-    let disk = MemoryDisk::new(rt.alloc(), bytes, arriving, 9, 64, failing)?;
+    let disk = MemoryDisk::new(rt.alloc(), bytes, arriving, 10, 64, failing)?;
     Ok(disk)
 }
 

@@ -1,7 +1,7 @@
 //! A leader or a helper. Its contracts hide what it holds, since only what it writes is compared.
 ghost use Rattle.std.specs.Prelude.{◌≤◌, length};
 
-use express_words::Settings;
+use express_words::{Settings, Text};
 use express_words::outside::{MemoryConn, MemoryNet};
 use frame_rules::FRAME_MAX;
 use helper_core::Helper;
@@ -45,7 +45,7 @@ impl Server {
         let gather = Gather::open(alloc)?;
         let leader = Leader::open(alloc, &SETTINGS, seed)?;
         Ok(Server {
-            node: Node::Lead(leader, peer),
+            node: Node::Lead(leader, Text::from_string(peer)),
             gather,
         })
     }

@@ -5,3 +5,9 @@ pub mod FileLaws
 pub mod ListLaws
 pub mod LoopLaws
 pub mod TableLaws
+pub mod ExactLaws
+pub mod MeaningLaws
+pub mod ServeExact
+pub mod ClientExact
+pub mod CarryExact
+pub mod TextExact

@@ -16,3 +16,11 @@ abbrev pub Names : List ℕ → TextFault → Type 0
 Names key (Wrong n) = ⊥
 Names key (WrongKey named) = string_bytes named ≡ key
 Names key NoMemory = Unit {0}
+
+-- Ok has what the text spells, and a wrong key comes where that one is to be named. No line is wrong.
+abbrev pub Judges : {A : Type 0} → (Spells : A → List ℕ → Type 0) → (IsBadKey : List ℕ → List ℕ → Type 0)
+    → List ℕ → Result A TextFault → Type 0
+Judges Spells IsBadKey text (Ok a) = Spells a text
+Judges Spells IsBadKey text (Err (Wrong n)) = ⊥
+Judges Spells IsBadKey text (Err (WrongKey key)) = IsBadKey (string_bytes key) text
+Judges Spells IsBadKey text (Err NoMemory) = Unit {0}

@@ -8,3 +8,8 @@ pub mod Requests
 pub mod Client
 pub mod Files
 pub mod Carry
+pub mod Meanings
+pub mod ServeSpelling
+pub mod AccountSpelling
+pub mod ClientSpelling
+pub mod CarrySpelling

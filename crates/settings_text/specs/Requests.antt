@@ -3,7 +3,6 @@ use Rattle.std.specs.Prelude.{◌≡◌, ℕ, ◌≤◌, if◌then◌else◌, Li
 use Rattle.std.specs.Prelude.{Option, Some, None, option_map}
 use Rattle.std.specs.Str.{bytes_eq}
 use Rattle.text_fields.specs.Fields.{◌>>=◌}
-use Rattle.text_fields.specs.declared.limits.TheConstants.{MOST_OWN}
 use Rattle.toml.specs.Data.{Data, Members, as_str, as_table}
 use Rattle.settings_text.specs.declared.requests.Asking.{Asking}
 use Rattle.settings_text.specs.declared.requests.Asking.TheVariants.{Register, Write, Read, Retire}
@@ -26,7 +25,7 @@ write_of width table = do
   Some (Write address message)
 
 abbrev pub own_of : Members → Option ℕ
-own_of table = at_key (codes "own") (number_in 0 MOST_OWN) table
+own_of table = at_key (codes "own") (number_in 0 4095) table
 
 unfoldable pub asking_of : ℕ → Kind → Members → Option Asking
 asking_of width kind.Register table = option_map Register (at_key (codes "address") address_in table)
@@ -49,5 +48,5 @@ requests_in width value = list_within 1 1000 value >>= every (asking_in width)
 abbrev pub IsAsking : ℕ → Asking → Type 0
 IsAsking width (Register address) = Unit {0}
 IsAsking width (Write address message) = length message ≡ width
-IsAsking width (Read own) = own ≤ MOST_OWN
-IsAsking width (Retire own) = own ≤ MOST_OWN
+IsAsking width (Read own) = own ≤ 4095
+IsAsking width (Retire own) = own ≤ 4095

@@ -3,9 +3,10 @@ ghost use Rattle.std.specs.Prelude.{◌≡◌, ◌≤◌, [], All, codes, length
 ghost use Rattle.file_carry.specs.Parts.{IsPartWidth};
 ghost use Rattle.toml.specs.View.{table_view};
 ghost use Rattle.settings_text.specs.Carry.{IsJob, mode_of, mode_in, send_of, job_of, carry_with, carry_of};
-ghost use Rattle.settings_text.specs.Judging.{Gives};
+ghost use Rattle.settings_text.specs.Judging.{Gives, Judges};
 ghost use Rattle.settings_text.specs.Keys.{needed};
 ghost use Rattle.settings_text.specs.Owned.{IsOwned};
+ghost use Rattle.settings_text.specs.CarrySpelling.{SpellsCarry, IsBadCarryKey};
 ghost use Rattle.settings_text.specs.Tables.{judged};
 
 use crate::account::{Account, LAST_LANE, account_of};
@@ -170,11 +171,7 @@ fn carry_of(alloc: Global, table: &Table) -> Result<CarrySettings, TextFault>
     Ok(carry_with(account, job))
 }
 
-/// The settings of a carrier that the text spells, or the first key that is missing or wrong: `lane`,
-/// `leader`, `helper`, `width` (32 or more), `boxes`, `serial`, `seed` and `owned` (which both may be
-/// missing), `mode` ("send" or "fetch"), and to send `id`, `file` and `addresses`. It is `owned` too where a
-/// fetch has none. Other keys aren't looked at. The key is `toml` where the text isn't TOML.
-pub fn read_carry(alloc: Global, text: &[u8]) -> Result<CarrySettings, TextFault>
+fn settings_in(alloc: Global, text: &[u8]) -> Result<CarrySettings, TextFault>
     ensures judges { Gives (λ s. s) result (judged carry_of text.now) }
     ensures lane { IfOk result (λ s. s.lane ≤ LAST_LANE) }
     ensures width { IfOk result (λ s. IsPartWidth s.width) }
@@ -187,4 +184,23 @@ pub fn read_carry(alloc: Global, text: &[u8]) -> Result<CarrySettings, TextFault
 {
     let table = table_of(alloc, text)?;
     carry_of(alloc, &table)
+}
+
+/// The settings of a carrier that the text spells, or the first key that is missing or wrong: `lane`,
+/// `leader`, `helper`, `width` (32 or more), `boxes`, `serial`, `seed` and `owned` (which both may be
+/// missing), `mode` ("send" or "fetch"), and to send `id`, `file` and `addresses`. It is `owned` too where a
+/// fetch has none. Other keys aren't looked at. The key is `toml` where the text isn't TOML.
+pub fn read_carry(alloc: Global, text: &[u8]) -> Result<CarrySettings, TextFault>
+    ensures spells { Judges SpellsCarry IsBadCarryKey text.now result }
+    ensures judges { Gives (λ s. s) result (judged carry_of text.now) }
+    ensures lane { IfOk result (λ s. s.lane ≤ LAST_LANE) }
+    ensures width { IfOk result (λ s. IsPartWidth s.width) }
+    ensures some { IfOk result (λ s. 1 ≤ s.boxes) }
+    ensures few { IfOk result (λ s. s.boxes ≤ 4096) }
+    ensures serial { IfOk result (λ s. 1 ≤ s.serial) }
+    ensures owned { IfOk result (λ s. All IsOwned s.owned) }
+    ensures few_owned { IfOk result (λ s. length s.owned ≤ s.boxes) }
+    ensures job { IfOk result (λ s. IsJob s.width s.owned s.job) }
+{
+    settings_in(alloc, text)
 }

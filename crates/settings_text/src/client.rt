@@ -3,9 +3,10 @@ ghost use Rattle.std.specs.Prelude.{◌≡◌, ◌≤◌, All, length, IfOk};
 ghost use Rattle.express_words.specs.Limits.{IsWidth};
 ghost use Rattle.toml.specs.View.{table_view};
 ghost use Rattle.settings_text.specs.Client.{client_of, client_with};
-ghost use Rattle.settings_text.specs.Judging.{Gives};
+ghost use Rattle.settings_text.specs.Judging.{Gives, Judges};
 ghost use Rattle.settings_text.specs.Owned.{IsOwned};
 ghost use Rattle.settings_text.specs.Requests.{IsAsking};
+ghost use Rattle.settings_text.specs.ClientSpelling.{SpellsClient, IsBadClientKey};
 ghost use Rattle.settings_text.specs.Tables.{judged};
 
 use crate::account::{Account, LAST_LANE, account_of};
@@ -86,11 +87,7 @@ fn client_of(alloc: Global, table: &Table) -> Result<ClientSettings, TextFault>
     Ok(client_with(account, requests))
 }
 
-/// The settings of a client that the text spells, or the first key that is missing or wrong: `lane`,
-/// `leader`, `helper`, `width`, `boxes`, `serial`, `seed` and `owned` (which both may be missing), `request`,
-/// and `request` too where a write's message hasn't the width. Other keys aren't looked at. The key is `toml`
-/// where the text isn't TOML.
-pub fn read_client(alloc: Global, text: &[u8]) -> Result<ClientSettings, TextFault>
+fn settings_in(alloc: Global, text: &[u8]) -> Result<ClientSettings, TextFault>
     ensures judges { Gives (λ s. s) result (judged client_of text.now) }
     ensures lane { IfOk result (λ s. s.lane ≤ LAST_LANE) }
     ensures width { IfOk result (λ s. IsWidth s.width) }
@@ -105,4 +102,25 @@ pub fn read_client(alloc: Global, text: &[u8]) -> Result<ClientSettings, TextFau
 {
     let table = table_of(alloc, text)?;
     client_of(alloc, &table)
+}
+
+/// The settings of a client that the text spells, or the first key that is missing or wrong: `lane`,
+/// `leader`, `helper`, `width`, `boxes`, `serial`, `seed` and `owned` (which both may be missing), `request`,
+/// and `request` too where a write's message hasn't the width. Other keys aren't looked at. The key is `toml`
+/// where the text isn't TOML.
+pub fn read_client(alloc: Global, text: &[u8]) -> Result<ClientSettings, TextFault>
+    ensures spells { Judges SpellsClient IsBadClientKey text.now result }
+    ensures judges { Gives (λ s. s) result (judged client_of text.now) }
+    ensures lane { IfOk result (λ s. s.lane ≤ LAST_LANE) }
+    ensures width { IfOk result (λ s. IsWidth s.width) }
+    ensures some { IfOk result (λ s. 1 ≤ s.boxes) }
+    ensures few { IfOk result (λ s. s.boxes ≤ 4096) }
+    ensures serial { IfOk result (λ s. 1 ≤ s.serial) }
+    ensures owned { IfOk result (λ s. All IsOwned s.owned) }
+    ensures few_owned { IfOk result (λ s. length s.owned ≤ s.boxes) }
+    ensures requests { IfOk result (λ s. All (IsAsking s.width) s.requests) }
+    ensures some_requests { IfOk result (λ s. 1 ≤ length s.requests) }
+    ensures few_requests { IfOk result (λ s. length s.requests ≤ MOST_REQUESTS) }
+{
+    settings_in(alloc, text)
 }

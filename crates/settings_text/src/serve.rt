@@ -2,9 +2,10 @@
 ghost use Rattle.std.specs.Prelude.{◌≡◌, ◌≤◌, [], codes, IfOk, IfSome};
 ghost use Rattle.express_words.specs.Limits.{KeepsLimits};
 ghost use Rattle.toml.specs.View.{table_view};
-ghost use Rattle.settings_text.specs.Judging.{Gives};
+ghost use Rattle.settings_text.specs.Judging.{Gives, Judges};
 ghost use Rattle.settings_text.specs.Keys.{needed};
 ghost use Rattle.settings_text.specs.Serve.{role_of, role_in, peer_of, settings_of, serve_of};
+ghost use Rattle.settings_text.specs.ServeSpelling.{SpellsServe, IsBadServeKey};
 ghost use Rattle.settings_text.specs.Tables.{judged};
 
 use crate::faults::wrong_key;
@@ -122,10 +123,7 @@ fn serve_of(alloc: Global, table: &Table) -> Result<ServeSettings, TextFault>
     })
 }
 
-/// The settings of a server that the text spells, or the first key that is missing or wrong: `role`
-/// ("leader" or "helper"), `listen`, `peer` (which a helper doesn't look at), `width`, `boxes`, `lanes`,
-/// `window`, `connections`. Other keys aren't looked at. The key is `toml` where the text isn't TOML.
-pub fn read_serve(alloc: Global, text: &[u8]) -> Result<ServeSettings, TextFault>
+fn settings_in(alloc: Global, text: &[u8]) -> Result<ServeSettings, TextFault>
     ensures judges { Gives (λ s. s) result (judged serve_of text.now) }
     ensures role { IfOk result (λ s. s.role ≤ HELPER) }
     ensures limits { IfOk result (λ s.
@@ -136,4 +134,20 @@ pub fn read_serve(alloc: Global, text: &[u8]) -> Result<ServeSettings, TextFault
 {
     let table = table_of(alloc, text)?;
     serve_of(alloc, &table)
+}
+
+/// The settings of a server that the text spells, or the first key that is missing or wrong: `role`
+/// ("leader" or "helper"), `listen`, `peer` (which a helper doesn't look at), `width`, `boxes`, `lanes`,
+/// `window`, `connections`. Other keys aren't looked at. The key is `toml` where the text isn't TOML.
+pub fn read_serve(alloc: Global, text: &[u8]) -> Result<ServeSettings, TextFault>
+    ensures spells { Judges SpellsServe IsBadServeKey text.now result }
+    ensures judges { Gives (λ s. s) result (judged serve_of text.now) }
+    ensures role { IfOk result (λ s. s.role ≤ HELPER) }
+    ensures limits { IfOk result (λ s.
+        KeepsLimits s.settings.width s.settings.boxes s.settings.lanes s.settings.window) }
+    ensures some { IfOk result (λ s. 1 ≤ s.connections) }
+    ensures few { IfOk result (λ s. s.connections ≤ MOST_CONNECTIONS) }
+    ensures alone { IfOk result (λ s. s.role ≡ HELPER → s.peer ≡ []) }
+{
+    settings_in(alloc, text)
 }

@@ -1,17 +1,54 @@
-use Rattle.std.proofs.Common.{◌+◌, [], ◌∷◌, ◌++◌, List, ℕ, ◌∙◌, ap, subst}
-use Rattle.node_journal.specs.Disk.{Holds, Follows}
-use Rattle.node_journal.specs.Records.{EndsAt, content}
-use Rattle.node_journal.proofs.Steps.{staged, last, first_gate, ends_first}
+use Rattle.std.proofs.Common.{◌≡◌, [], ◌∷◌, ◌++◌, List, ℕ, ◌∙◌, ap}
+use Rattle.std.proofs.lemmas.Result.{on_ok_weaker}
+use Rattle.node_journal.specs.Records.{RestsNoneOrFirst, content}
+use Rattle.node_journal.proofs.Moments.{started, goes_on, and_then, widened}
+use Rattle.node_journal.proofs.Steps.{none_rests, torn_rests, first_rests, first_gate, ends_first}
 use Rattle.node_journal.proofs.append.put_first.Goals as goal
+
+pub put_record-requires-clause-ends : goal.put_record-requires-clause-ends
+put_record-requires-clause-ends g c f read =
+    let D = g.D.Disk in
+    let gate = first_gate (D.reads c.args.disk.now) (D.reads c.write.new.self) c.requires.empty c.in_ok-write.ensures.written in
+    ends_first f (gate f (c.sync.ensures.untouched.gives f read))
+
+pub returns-in_err-write-clause-any_moment : goal.returns-in_err-write-clause-any_moment
+returns-in_err-write-clause-any_moment g c none =
+    let D = g.D.Disk in
+    let disk = c.args.disk.now in
+    let P = RestsNoneOrFirst c.args.bytes.now in
+    let start = started D.moment D.left_since disk P (λ f left. none_rests c.args.bytes.now (D.may_leave disk) none f (g.met.D.Disk.only_now disk f left)) in
+    let torn = torn_rests c.args.bytes.now (D.may_leave disk) (D.may_leave c.write.new.self) none c.write.ensures.crash in
+    goes_on D.moment D.left_since disk disk c.write.new.self P _ start c.write.ensures.time torn
+
+pub returns-in_err-sync-clause-any_moment : goal.returns-in_err-sync-clause-any_moment
+returns-in_err-sync-clause-any_moment g c none =
+    let D = g.D.Disk in
+    let disk = c.args.disk.now in
+    let P = RestsNoneOrFirst c.args.bytes.now in
+    let start = started D.moment D.left_since disk P (λ f left. none_rests c.args.bytes.now (D.may_leave disk) none f (g.met.D.Disk.only_now disk f left)) in
+    let torn = torn_rests c.args.bytes.now (D.may_leave disk) (D.may_leave c.write.new.self) none c.write.ensures.crash in
+    let gate = goes_on D.moment D.left_since disk disk c.write.new.self P _ start c.write.ensures.time torn in
+    goes_on D.moment D.left_since disk c.write.new.self c.sync.new.self P _ gate c.sync.ensures.time (λ f now. torn f (c.sync.ensures.untouched.crash f now))
+
+pub returns-clause-any_moment : goal.returns-clause-any_moment
+returns-clause-any_moment g c none =
+    let D = g.D.Disk in
+    let disk = c.args.disk.now in
+    let P = RestsNoneOrFirst c.args.bytes.now in
+    let start = started D.moment D.left_since disk P (λ f left. none_rests c.args.bytes.now (D.may_leave disk) none f (g.met.D.Disk.only_now disk f left)) in
+    let torn = torn_rests c.args.bytes.now (D.may_leave disk) (D.may_leave c.write.new.self) none c.write.ensures.crash in
+    let gate = goes_on D.moment D.left_since disk disk c.write.new.self P _ start c.write.ensures.time torn in
+    let kept = goes_on D.moment D.left_since disk c.write.new.self c.sync.new.self P _ gate c.sync.ensures.time (λ f now. torn f (c.sync.ensures.untouched.crash f now)) in
+    let shut = first_gate (D.reads disk) (D.reads c.write.new.self) c.requires.empty c.in_ok-write.ensures.written in
+    let rests = first_rests c.args.bytes.now (D.reads c.sync.new.self) (λ f read. shut f (c.sync.ensures.untouched.gives f read)) in
+    let behind = widened D.moment D.left_since c.sync.new.self c.put_record.new.disk _ P c.put_record.ensures.any_moment rests in
+    and_then D.moment D.left_since disk c.sync.new.self c.put_record.new.disk P kept behind
 
 pub returns-clause-added : goal.returns-clause-added
 returns-clause-added g c =
     let D = g.D.Disk in
-    let gate = first_gate (D.reads c.args.disk.now) (D.reads c.write.new.self) c.requires.empty c.in_ok-write.ensures.written in
-    let ends : (f : List ℕ) → D.reads c.write.new.self f → EndsAt 0 f = λ f read. ends_first f (gate f read) in
-    let written = subst (λ (l : List ℕ). Follows (Holds (0 + 1) l) (D.reads c.write.new.self) (D.reads c.write-2.new.self)) c.stage-staged.ensures c.in_ok-write-2.ensures.written in
-    let is_staged = staged 0 c.args.bytes.now c.requires.sized (D.reads c.write.new.self) (D.reads c.write.new.self) ends (λ f r. r) (D.reads c.write-2.new.self) written in
-    λ f read.
-    let done = last 0 c.args.bytes.now c.requires.sized (D.reads c.write.new.self) (D.reads c.write.new.self) ends (λ f r. r) (D.reads c.sync.new.self) (D.reads c.write-3.new.self) (λ x now. is_staged x (c.sync.ensures.untouched.gives x now)) c.in_ok-write-3.ensures.written f (c.sync-2.ensures.untouched.gives f read) in
-    let from = done.1 in
-    (done.0, from.2 ∙ ap (λ (x : List ℕ). content x ++ c.args.bytes.now ∷ []) (gate from.0 from.1))
+    let shut = first_gate (D.reads c.args.disk.now) (D.reads c.write.new.self) c.requires.empty c.in_ok-write.ensures.written in
+    let gate : (f : List ℕ) → D.reads c.sync.new.self f → f ≡ 0 ∷ [] = λ f read. shut f (c.sync.ensures.untouched.gives f read) in
+    on_ok_weaker c.put_record.result (λ done f read.
+    let from = (done f read).1 in
+    ((done f read).0, from.2 ∙ ap (λ (x : List ℕ). content x ++ c.args.bytes.now ∷ []) (gate from.0 from.1))) c.put_record.ensures.added

@@ -46,5 +46,5 @@ returns-in-Failed-clause-calls g c =
     let h = c.converse-count.ensures in
     let d = c.in-Ok.ensures in
     let given : List ℕ = take c.converse-count.result.0 c.converse-count.new.reply in
-    broken_talk _ _ _ _ _ _ _ c.args.peer.now (record { sent = c.args.frame.now; answer = Err (broken.Fault c.faults-in-Failed.result) }) given _ d.call d.tells h.gave h.front c.close.ensures.call
+    broken_talk _ _ _ _ _ _ _ c.args.peer.now (record { sent = c.args.frame.now; answer = Err (broken.Fault c.faults-in-Failed.result) }) given _ d.call d.tells h.gave h.first c.close.ensures.call
     (subst (λ n. Rose n (g.N.Conn.Counted.count c.converse-count.new.conn)) d.whole (h.cause c.in-Failed.is)) h.wanted tt

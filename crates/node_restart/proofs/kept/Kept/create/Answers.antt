@@ -1,6 +1,9 @@
-use Rattle.std.proofs.Common.{ℕ, List, [], ◌∷◌, ap, ◌∙◌, rules}
+use Rattle.std.proofs.Common.{◌≡◌, ◌≢◌, ◌<◌, ℕ, List, [], ◌∷◌, Err, ap, ◌∙◌, arith, rules}
 use Rattle.node_journal.specs.Journal.{JournalState}
 use Rattle.node_restart.specs.Steps.{settings_of, role_of}
+use Rattle.node_journal.specs.declared.fault.JournalFault.{JournalFault}
+use Rattle.node_journal.specs.declared.fault.JournalFault.TheVariants.{NotEmpty, Full}
+use Rattle.node_restart.proofs.FaultLaws.{on_full, on_not_empty}
 use Rattle.node_restart.proofs.StepLaws.{opened_settings, opened_role}
 use Rattle.node_restart.proofs.kept.Kept.create.Goals as goal
 
@@ -19,3 +22,14 @@ invariant_of-result g c =
         held = λ d read. c.in-Ok-create.ensures.content d read ∙ ap (λ (l : List ℕ). l ∷ []) c.record.ensures;
       };
     }
+
+pub returns-in-Err-clause-not_empty : goal.returns-in-Err-clause-not_empty
+returns-in-Err-clause-not_empty g c =
+    on_not_empty c.in-Err.fault ((d : List ℕ) → g.D.Disk.reads c.args.disk d → d ≢ []) (λ e. c.in-Err.ensures.not_empty (ap (λ (f : JournalFault). Err f) e))
+
+pub returns-in-Err-clause-full : goal.returns-in-Err-clause-full
+returns-in-Err-clause-full g c =
+    let Empty : Type 0 = (d : List ℕ) → g.D.Disk.reads c.args.disk d → d ≡ [] in
+    on_full c.in-Err.fault (λ n. (n ≡ 0) × (c.args.limit < 51) × Empty) (λ n e.
+    let full = c.in-Err.ensures.full n (ap (λ (f : JournalFault). Err f) e) in
+    (full.0, omega (arith, full.1), full.2))
