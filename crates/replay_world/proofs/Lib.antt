@@ -8,3 +8,4 @@ pub mod Lanes
 pub mod Letters
 pub mod ClientSchedules
 pub mod Strangers
+pub mod LeaderStays
