@@ -9,3 +9,5 @@ pub mod Letters
 pub mod ClientSchedules
 pub mod Strangers
 pub mod LeaderStays
+pub mod RunKeeps
+pub mod ClientAnswers

@@ -6,6 +6,7 @@ ghost use Rattle.run_rules.specs.Plain.{BoxesArePlain, ClientsAreReady, HistoryI
 ghost use Rattle.run_rules.specs.Soundness.{BadWritesAreCaught, SettledAsTheyPass};
 ghost use Rattle.replay_world.specs.Laws.{OfSchedules, RequestsAreTold};
 ghost use Rattle.replay_world.specs.Strangers.{BusyRowsAwait, FinishesAnswer, HistoryIsOfRun, OfEverySchedule, OthersAreTold, SchedulesFit, StrangersAreForeign, StrangersWereBrought};
+ghost use Rattle.replay_world.specs.Sight.{ClientsGetAnswers};
 
 use leader_core::rows_await;
 
@@ -70,6 +71,12 @@ pub fn rows_are_awaited()
 {
     rows_await();
 }
+
+/// Every frame that is addressed to a client is one of the six answers to a client: none with an audit's point, an
+/// opening or a proof share goes to its lane, whatever bytes come from outside.
+pub fn clients_get_answers()
+    ensures { ClientsGetAnswers }
+{}
 
 /// A foreign command that did something was brought what it needs, by frames of its lane and serial: the leader took
 /// the submission and the helper the deposit, for an audit or settle both took a proof too, and for a read or retire
