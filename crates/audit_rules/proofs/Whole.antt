@@ -13,6 +13,7 @@ use Rattle.express_words.specs.declared.audit.ProofShare.{ProofShare}
 use Rattle.audit_rules.specs.declared.sums.Sums.{Sums}
 use Rattle.audit_rules.specs.Sketch as sketch
 use Rattle.express_words.specs.Ranges.{IsProofShare}
+use Rattle.audit_rules.specs.Laws.{ClosingsAddUp}
 use Rattle.audit_rules.specs.Ranges.{IsSums}
 use Rattle.audit_rules.proofs.Shares.{total-both, dot-both, dot3-both, through-both, closings-both}
 use Rattle.audit_rules.specs.Audit.{product, value, f_of, g_of, sums_of, whole_sums, whole_proof, difference, closing_of, opening_of, IsAccepted, ServersAccept, PassesAt}
@@ -128,6 +129,22 @@ module _ (x0 y0 m0 k0 x1 y1 m1 k1 u0 v0 a0 b0 c0 u1 v1 a1 b1 c1 : E) (h0 h1 : Li
     λ accepted. record { outputs = sym outputs_both ∙ accepted.0; product = sym tau_both ∙ accepted.1 },
     λ passes. (outputs_both ∙ passes.outputs, tau_both ∙ passes.product),
   )
+
+  closings_made : ClosingsAddUp s0 s1 p0 p1 sigma.value
+  unfolding opening_of closing_of whole_proof whole_sums
+  closings_made = record { outputs = outputs_both; tau = tau_both }
+
+-- what both closings add up to
+pub closings_add : (sums0 sums1 : Sums) (share0 share1 : ProofShare) (sigma : ℕ) → IsSums sums0 → IsSums sums1 → IsProofShare share0 → IsProofShare share1 → sigma < 2 ^ 128
+    → ClosingsAddUp sums0 sums1 share0 share1 sigma
+closings_add sums0 sums1 share0 share1 sigma t0 t1 p0 p1 hs =
+    subst (λ h. ClosingsAddUp sums0 sums1 (record share0 { h = h }) share1 sigma) (values-elements share0.h p0.h)
+    (subst (λ h. ClosingsAddUp sums0 sums1 (record share0 { h = values (elements share0.h p0.h) }) (record share1 { h = h }) sigma) (values-elements share1.h p1.h)
+    (closings_made
+    (element sums0.x t0.x) (element sums0.y t0.y) (element sums0.m t0.m) (element sums0.z t0.z) (element sums1.x t1.x) (element sums1.y t1.y) (element sums1.m t1.m) (element sums1.z t1.z)
+    (element share0.u p0.u) (element share0.v p0.v) (element share0.a p0.a) (element share0.b p0.b) (element share0.c p0.c)
+    (element share1.u p1.u) (element share1.v p1.v) (element share1.a p1.a) (element share1.b p1.b) (element share1.c p1.c)
+    (elements share0.h p0.h) (elements share1.h p1.h) (element sigma hs)))
 
 -- both servers accept exactly where the whole proof passes for the whole sums
 pub servers_pass : (sums0 sums1 : Sums) (share0 share1 : ProofShare) (sigma : ℕ) → IsSums sums0 → IsSums sums1 → IsProofShare share0 → IsProofShare share1 → sigma < 2 ^ 128 →

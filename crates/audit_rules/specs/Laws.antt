@@ -1,11 +1,13 @@
 -- Laws of difference vectors and of an audit's values.
-use Rattle.std.specs.Prelude.{◌≡◌, ◌≢◌, ℕ, ◌^◌, ◌<◌, ◌↔◌, true, List, length, slice_index, slice_set}
+use Rattle.std.specs.Prelude.{◌≡◌, ◌≢◌, ℕ, ◌^◌, ◌<◌, ◌↔◌, true, List, length, slice_index, slice_set, bit_xor}
 use Rattle.dpf_rules.specs.Bytes.{AreBytes}
 use Rattle.dpf_rules.specs.Walk.{write_bytes}
 use Rattle.dpf_rules.specs.Evaluation.{difference_vector}
 use Rattle.express_words.specs.declared.audit.ProofShare.{ProofShare}
 use Rattle.express_words.specs.declared.audit.Openings.{Openings}
-use Rattle.audit_rules.specs.Audit.{bad_r, bad_s, accepts, whole_proof, PassesAt, ServersAccept}
+use Rattle.audit_rules.specs.Audit.{bad_r, bad_s, accepts, closing_of, f_of, g_of, opened_of, opening_of}
+use Rattle.audit_rules.specs.Audit.{product, value, whole_proof, whole_sums, PassesAt, ServersAccept}
+use Rattle.audit_rules.specs.declared.sums.Sums.{Sums}
 use Rattle.audit_rules.specs.Challenges.{sums_under}
 use Rattle.audit_rules.specs.BadWrites.{HasTwo}
 use Rattle.express_words.specs.Ranges.{IsProofShare, IsOpenings, IsClosing}
@@ -50,6 +52,21 @@ ValuesAccept =
     let one = values 1 w1 addresses share1 sigma (opens 0 w0 addresses share0 sigma) in
     (accepts zero.closing one.closing ≡ true)
     ↔ ServersAccept (sums_at 0 w0 addresses) (sums_at 1 w1 addresses) share0 share1 sigma
+
+-- What both closings add up to, whether or not they accept: both o to h(1) + h(2), and both tau to
+-- sigma·(f(sigma)·g(sigma) + h(sigma)) + (a·b + c), with the polynomials and the triple of the whole proof.
+pub record ClosingsAddUp (sums0 sums1 : Sums) (share0 share1 : ProofShare) (sigma : ℕ) : Type 0 where
+  pub outputs : let opened = opened_of (opening_of sums0 share0 sigma) (opening_of sums1 share1 sigma) in
+      let proof = whole_proof share0 share1 in
+      bit_xor (closing_of 0 share0 sigma opened).o (closing_of 1 share1 sigma opened).o
+      ≡ bit_xor (value proof.h 1) (value proof.h 2)
+  pub tau : let opened = opened_of (opening_of sums0 share0 sigma) (opening_of sums1 share1 sigma) in
+      let sums = whole_sums sums0 sums1 in
+      let proof = whole_proof share0 share1 in
+      let gate = bit_xor (product (value (f_of sums proof) sigma) (value (g_of sums proof) sigma))
+      (value proof.h sigma) in
+      bit_xor (closing_of 0 share0 sigma opened).tau (closing_of 1 share1 sigma opened).tau
+      ≡ bit_xor (product sigma gate) (bit_xor (product proof.a proof.b) proof.c)
 
 -- so they accept exactly where the whole proof passes for the difference vector
 abbrev pub AcceptedPasses : Type 0

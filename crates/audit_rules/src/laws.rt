@@ -3,7 +3,7 @@
 ghost use Rattle.std.specs.Prelude.{◌≡◌, ◌≢◌, ℕ, ◌<◌, ◌≤◌, ◌↔◌, ◌⊎◌, length, All, AllPairs, slice_index};
 ghost use Rattle.audit_rules.specs.Audit.{sums_of, bad_r_divisor, bad_s, PassesAt, ServersAccept, whole_sums, whole_proof, difference, zero_share, one_share};
 ghost use Rattle.audit_rules.specs.BadWrites.{HasTwo, first_place, last_place, IsFirst, IsLast, IsBadChallenge};
-ghost use Rattle.audit_rules.specs.Laws.{BadRIsFixed, BadSIsFixed, ChangesAreSeen, ValuesInRange, ValuesAccept, AcceptedPasses};
+ghost use Rattle.audit_rules.specs.Laws.{BadRIsFixed, BadSIsFixed, ChangesAreSeen, ClosingsAddUp, ValuesInRange, ValuesAccept, AcceptedPasses};
 ghost use Rattle.audit_rules.specs.Alone.{IsAlone, sums_alone};
 ghost use Rattle.audit_rules.specs.Worked.{ThreeOnesAreCaught, SquaresHideThreeOnes, OneIsTheBadValue, TwoOnesAreHidden, RightProofPasses, WrongConstantIsRefused, WrongTripleHidesAtOnePoint};
 
@@ -74,6 +74,24 @@ pub fn servers_accept_what_passes(
 )
     ensures passes { ServersAccept sums0.now sums1.now share0.now share1.now sigma
         ↔ PassesAt (whole_sums sums0.now sums1.now) (whole_proof share0.now share1.now) sigma }
+{
+    read_sums(sums0);
+    read_sums(sums1);
+    read_share(share0);
+    read_share(share1);
+}
+
+/// What both servers' closings add up to at their common openings, whether or not they accept: both o to
+/// h(1) + h(2), and both tau to σ·(f(σ)·g(σ) + h(σ)) + (a·b + c), with the polynomials and the triple of the whole
+/// proof.
+pub fn closings_add_up(
+    sums0: &Sums,
+    sums1: &Sums,
+    share0: &ProofShare,
+    share1: &ProofShare,
+    sigma: u128,
+)
+    ensures { ClosingsAddUp sums0.now sums1.now share0.now share1.now sigma }
 {
     read_sums(sums0);
     read_sums(sums1);

@@ -8,3 +8,6 @@ pub mod Lanes
 pub mod Letters
 pub mod ClientSchedules
 pub mod Strangers
+pub mod LeaderStays
+pub mod RunKeeps
+pub mod ClientAnswers

@@ -17,14 +17,16 @@ use Rattle.run_rules.specs.Acts as acts
 use Rattle.run_rules.specs.Acts.{AreFitting, IsFitting, IsOutside, NamesForeign, foreign_in}
 use Rattle.run_rules.specs.EveryEnd.{AtEveryEnd}
 use Rattle.run_rules.specs.Run as run
+use Rattle.run_rules.proofs.BroughtEnds.{commands_were_brought}
 use Rattle.run_rules.proofs.FinishAnswers.{finish_answers}
+use Rattle.run_rules.proofs.HistoryRuns.{runs_are_one}
 use Rattle.schedule_text.specs.declared.schedule.Event.{Event}
 use Rattle.schedule_text.specs.declared.schedule.Event.TheVariants.{Ask, Send, Tick, Deliver, Show, Finish, Inject}
 use Rattle.schedule_text.specs.Lanes.{IsApart, client_of, foreign_by, is_foreign, is_lane, is_used, lane_from_client, lane_in}
 use Rattle.schedule_text.specs.Rules.{EventsKeepRules}
 use Rattle.replay_world.specs.Parts.{event_in, events_in}
 use Rattle.replay_world.specs.Played.{run_of}
-use Rattle.replay_world.specs.Strangers.{FinishesAnswer, OfEverySchedule, OthersAreTold, SchedulesFit, StrangersAreForeign, runs_of, strangers_in}
+use Rattle.replay_world.specs.Strangers.{FinishesAnswer, HistoryIsOfRun, OfEverySchedule, OthersAreTold, SchedulesFit, StrangersAreForeign, StrangersWereBrought, runs_of, strangers_in}
 use Rattle.replay_world.proofs.ClientSchedules.{fits}
 
 -- ---- the lanes that bytes from outside name
@@ -173,6 +175,17 @@ unfolding run_of
 of_every_schedule P h schedule rules =
     h schedule.header.settings schedule.header.seed (strangers_in schedule) (events_in schedule.events) rules.limits
     (schedule_fits schedule rules) (omega (arith, rules.few, length-map schedule.events event_in))
+
+pub history_is_of_run : HistoryIsOfRun
+unfolding run_of
+history_is_of_run schedule rules =
+    runs_are_one schedule.header.settings schedule.header.seed (strangers_in schedule) (events_in schedule.events) rules.limits
+    (schedule_fits schedule rules) (omega (arith, rules.few, length-map schedule.events event_in))
+
+pub strangers_were_brought : StrangersWereBrought
+strangers_were_brought schedule i e rules at strange =
+    commands_were_brought schedule.header.settings schedule.header.seed (strangers_in schedule) (events_in schedule.events) rules.limits
+    (schedule_fits schedule rules) (omega (arith, rules.few, length-map schedule.events event_in)) i e at strange
 
 -- ---- what is told, and a finish
 

@@ -5,3 +5,4 @@ pub mod Output
 pub mod Played
 pub mod Laws
 pub mod Strangers
+pub mod Sight

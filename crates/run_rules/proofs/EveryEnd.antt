@@ -14,14 +14,14 @@ use Rattle.run_rules.specs.Book.{Book, request_of}
 use Rattle.run_rules.specs.Follows.{Follows, IsLineOf}
 use Rattle.run_rules.specs.History.{frame_run, token_events, token_run}
 use Rattle.run_rules.specs.Acts.{AreFitting, Both, ended_of, history_of}
-use Rattle.run_rules.specs.Plain.{BoxesArePlain, IsHistory, IsStrange, JournalInOrder, JournalIsTold, OutcomesArePlain, SharesAreFolds}
+use Rattle.run_rules.specs.Plain.{BoxesArePlain, ClientsAreReady, IsHistory, IsStrange, JournalInOrder, JournalIsTold, OutcomesArePlain, SharesAreFolds}
 use Rattle.run_rules.specs.Soundness.{BadWritesAreCaught, SettledAsTheyPass}
 use Rattle.run_rules.specs.EveryEnd.{AtEveryEnd, HistoryIsSo}
 use Rattle.run_rules.proofs.ForeignFollows.{foreign_runs_agree}
 use Rattle.run_rules.proofs.WholeForeign.{room, sound, whole, within, world_is}
 use Rattle.run_rules.proofs.PlainStrangers.{is_strange}
 use Rattle.run_rules.proofs.SoundEnds.{bad_writes_are_caught, settled_as_they_pass}
-use Rattle.run_rules.proofs.PlainEnds.{boxes_are_plain, entry_there, is_answer, journal_is_told, line_at, outcomes_are_plain, shares_are_folds}
+use Rattle.run_rules.proofs.PlainEnds.{boxes_are_plain, clients_are_ready, entry_there, is_answer, journal_is_told, line_at, outcomes_are_plain, shares_are_folds}
 
 -- ---- a foreign lane is asked nothing
 
@@ -105,6 +105,13 @@ journal_at_every_end settings seed foreign events limits fit few =
     subst (JournalIsTold b f) (same settings seed foreign events limits fit few)
     (journal_is_told b s.world (whole settings seed foreign events limits fit few) f
     (history settings seed foreign events limits fit few) (follows settings seed foreign events limits fit few))
+
+pub ready_at_every_end : AtEveryEnd ClientsAreReady
+ready_at_every_end settings seed foreign events limits fit few =
+    let s = ended_of settings seed foreign events in
+    clients_are_ready (history_of settings seed foreign s) s.world (whole settings seed foreign events limits fit few)
+    (frame_run settings seed events) (token_run (oracle_of s.acts) settings foreign events)
+    (journal_at_every_end settings seed foreign events limits fit few)
 
 pub shares_at_every_end : AtEveryEnd SharesAreFolds
 shares_at_every_end settings seed foreign events limits fit few =

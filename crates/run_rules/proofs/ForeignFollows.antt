@@ -21,7 +21,7 @@ use Rattle.run_rules.specs.Known.{Known}
 use Rattle.run_rules.specs.History.{frame_run, token_run}
 use Rattle.run_rules.specs.Acts.{AreFitting, AreTaken, Both, OutsideAt, Taken, both_come, brought_by, ended_of, history_of, leader_takes, taken_in, taken_of}
 use Rattle.run_rules.proofs.ForeignFits.{come_fits}
-use Rattle.run_rules.proofs.WholeForeign.{run_follows, run_unique}
+use Rattle.run_rules.proofs.WholeForeign.{run_follows, run_is, run_unique}
 use Rattle.run_rules.proofs.WholeHelperRows.{comes_grow}
 use Rattle.run_rules.proofs.ForeignLeaderFirst.{HaveCommands, NamesForeignLane, taken_have}
 use Rattle.run_rules.proofs.ForeignLeaderFinds.{leader_are_taken}
@@ -41,9 +41,9 @@ leaders_rows rows f bytes (Ok g) = of_answer (on_client f.leader bytes).answer
     of_answer (leader.StillWaiting n) = tt
 leaders_rows rows f bytes (Err r) = tt
 
-stays : (s : Both) (g : FrameWorld) (u : World) (acts : List Act) → g.helper ≡ s.frames.helper → g.leader ≡ s.frames.leader → u.commands ≡ s.world.commands
-    → u.misfits ≡ s.world.misfits → Unique s → Unique (record { frames = g; world = u; acts = acts; taken = s.taken })
-stays s g u acts helper leader commands misfits unique = (
+pub stays : (s : Both) (g : FrameWorld) (u : World) (acts : List Act) → g.helper ≡ s.frames.helper → g.leader ≡ s.frames.leader → u.commands ≡ s.world.commands
+    → u.journal ≡ s.world.journal → u.misfits ≡ s.world.misfits → Unique s → Unique (record { frames = g; world = u; acts = acts; taken = s.taken })
+stays s g u acts helper leader commands journal misfits unique = (
   subst (λ h. HaveRows h.server.rows s.taken) (sym helper) unique.0,
   subst (λ ys. HaveCommands ys s.taken) (sym commands) unique.1,
   misfits ∙ unique.2,
@@ -88,6 +88,15 @@ pub foreign_runs_agree : (settings : Settings) (seed : List ℕ) (foreign : ℕ 
 foreign_runs_agree settings seed foreign events limits fit few =
     let s = ended_of settings seed foreign events in
     run_follows settings seed foreign events limits fit few Unique
+    (takes (history_of settings seed foreign s) s.world s.taken refl) stays (tt, tt, refl)
+
+-- the run over bytes is the one that the history is read off
+pub frames_agree : (settings : Settings) (seed : List ℕ) (foreign : ℕ → Bool) (events : List Event)
+    → KeepsLimits settings.width settings.boxes settings.lanes settings.window → AreFitting settings foreign events → length events ≤ 20000
+    → (ended_of settings seed foreign events).frames ≡ frame_run settings seed events
+frames_agree settings seed foreign events limits fit few =
+    let s = ended_of settings seed foreign events in
+    run_is settings seed foreign events limits fit few Unique
     (takes (history_of settings seed foreign s) s.world s.taken refl) stays (tt, tt, refl)
 
 -- in a run over bytes each reply to a foreign command fits

@@ -114,3 +114,9 @@ pub mod EveryEnd
 pub mod OutcomesGrow
 pub mod FinishAnswers
 pub mod PlainRefusals
+pub mod HistoryRuns
+pub mod BroughtTokens
+pub mod BroughtRows
+pub mod BroughtLines
+pub mod BroughtRuns
+pub mod BroughtEnds

@@ -1,9 +1,10 @@
 -- At the end of a schedule of clients each outcome and each printed line is that of the plain table.
-use Rattle.std.proofs.Common.{◌≡◌, ◌+◌, ◌-◌, ℕ, zero, suc, Bool, true, false, cond, List, [], ◌∷◌, length, take, Contains, Option, Some, None, slice_get, refl, sym, ap, ap₂, ◌∙◌, ◌⊎◌, subst, inl, inr, arith}
+use Rattle.std.proofs.Common.{◌≡◌, ◌<◌, ◌+◌, ◌-◌, ℕ, zero, suc, Bool, true, false, cond, List, [], ◌∷◌, length, take, Contains, Option, Some, None, slice_get, refl, sym, ap, ap₂, ◌∙◌, ◌⊎◌, subst, inl, inr, arith}
 use Rattle.std.proofs.lemmas.Bool.{cases_Bool}
 use Rattle.std.specs.Option.{option_map}
 use Rattle.express_words.specs.declared.refusal.Refusal.{Refusal}
-use Rattle.std.proofs.lemmas.Option.{slice_get-map}
+use Rattle.express_words.specs.declared.refusal.Refusal.TheVariants as refusal
+use Rattle.std.proofs.lemmas.Option.{slice_get-map, slice_get_cases, slice_get_within}
 use Rattle.mailbox_rules.specs.Requests.{Request, Register, Write, Read, Retire, Command, Registers, Begins, Audits, Settles, Reads, Retires, Line, Entry, SettleWrite, RetireBox, Refuse, lines_of, opening_of, opens_with, operation_of, reads_box, retires_box}
 use Rattle.mailbox_rules.specs.Tables.{Mailbox, Result, Registered, Taken, Full, Began, WasAudited, Settled, Gave, NoBox, Refused, given, result_of, result_outline, result_sum, no_writes, table_after}
 use Rattle.mailbox_rules.specs.Laws.{Did}
@@ -26,7 +27,7 @@ use Rattle.run_rules.proofs.ReadCommands.{journal_count}
 use Rattle.run_rules.specs.Frames.{answer_at, answer_with, last_at, last_in, line_value, result_at}
 use Rattle.run_rules.specs.Follows.{AreOutcomes, Follows, IsLineOf, IsOutcome, Journals, Sound, TellsSame, Within, given_in, message_told, says}
 use Rattle.run_rules.specs.Known.{IsWhole}
-use Rattle.run_rules.specs.Plain.{IsAnswer, IsAnswered, IsClients, IsDue, IsHistory, IsPlainLine, IsRefusedLine, IsToldPlain, BoxesArePlain, JournalIsPlain, JournalIsTold, OutcomesArePlain, SharesAreFolds, outcome_of, plain_at, plain_of, plain_result, printed_of, shared_result}
+use Rattle.run_rules.specs.Plain.{IsAnswer, IsAnswered, IsClients, IsDue, IsHistory, IsPlainLine, IsRefusedLine, IsToldPlain, IsOfTable, BoxesArePlain, ClientsAreReady, JournalIsPlain, JournalIsTold, OutcomesArePlain, SharesAreFolds, outcome_of, plain_at, plain_of, plain_result, printed_of, read_value, shared_result}
 use Rattle.run_rules.proofs.Places.{place_is}
 use Rattle.run_rules.proofs.ReadBasics.{asks, holds_box}
 use Rattle.run_rules.proofs.PlainTables.{results_are_plain, shares_are_plain}
@@ -76,7 +77,13 @@ module _ (b : Book) (v : World) (whole : IsWhole b v) where
   pub is_answer : (i : ℕ) (e : Entry) → slice_get b.entries i ≡ Some e → Honest e.line.lane → IsAnswer b i e
   is_answer i e is honest =
       let a = answers i e is honest in
-      record { request = a.request; is = a.asked; does = a.does ∙ ap (operation_of ((table_at b i).got e.line.lane) e.line.command) (sym a.asked) }
+      record {
+        request = a.request;
+        is = a.asked;
+        opens = a.opens;
+        does = a.does ∙ ap (operation_of ((table_at b i).got e.line.lane) e.line.command) (sym a.asked);
+        done = a.done;
+      }
 
   -- where each lane is a client's the history is one of clients
   pub clients : Sound b → ((c : ℕ) → Honest c) → IsClients b
@@ -254,6 +261,8 @@ module _ (b : Book) (v : World) (whole : IsWhole b v) where
           entry = e;
           is = found.is;
           last = found.line ∙ ap (line_of c s) is_last;
+          does = a.does ∙ ap (λ d. operation_of ((table_at b i).got d) e.line.command (Some a.request)) lane;
+          done = a.done;
           told = told_plain;
           due = λ refused same. due_at k i e found.is mine a.request a.asked (command ∙ is_last) refused (told_plain ∙ ap (λ o. Some o) same);
         }
@@ -405,6 +414,57 @@ module _ (b : Book) (v : World) (whole : IsWhole b v) where
           ],
         );
   }
+
+  -- ---- what a client's line is refused with
+
+  never_refused : (y : Command) → IsOf y Refused → ⊥
+  never_refused Registers h = h
+  never_refused Begins h = h
+  never_refused Audits h = h
+  never_refused Settles h = h
+  never_refused Reads h = h
+  never_refused Retires h = h
+
+  never_read : (y z : Command) (n : ℕ) (refused : Refusal) → read_value y n ≡ run.Refused z refused → ⊥
+  never_read Retires z n refused e = cc e
+  never_read Registers z n refused e = cc e
+  never_read Begins z n refused e = cc e
+  never_read Audits z n refused e = cc e
+  never_read Settles z n refused e = cc e
+  never_read Reads z n refused e = cc e
+
+  refused_by_table : (x : Line) (y : Command) (r : Result) (refused : Refusal) → IsOf x.command r
+      → printed_of b x r ≡ run.Refused y refused → IsOfTable refused
+  refused_by_table x y (Taken n) refused kind e = let same : refusal.Taken n ≡ refused = cc e in subst IsOfTable same tt
+  refused_by_table x y (Full n) refused kind e = let same : refusal.Full n ≡ refused = cc e in subst IsOfTable same tt
+  refused_by_table x y (NoBox n) refused kind e = let same : refusal.NoBox n ≡ refused = cc e in subst IsOfTable same tt
+  refused_by_table x y Refused refused kind e = absurd (never_refused x.command kind)
+  refused_by_table x y (Gave n bytes) refused kind e = absurd (never_read x.command y n refused e)
+  refused_by_table x y (Registered n) refused kind e = absurd (cc e)
+  refused_by_table x y (Began n) refused kind e = absurd (cc e)
+  refused_by_table x y WasAudited refused kind e = absurd (cc e)
+  refused_by_table x y (Settled t) refused kind e = absurd (cc e)
+
+  pub clients_are_ready : (f : FrameWorld) (w : World) → JournalIsTold b f w → ClientsAreReady b f w
+  clients_are_ready f w told i line y refused is honest value =
+      let low : i < length b.entries = let n = slice_get_within f.journal i line is in let same = told.count in omega (arith, n, same) in
+      elim ((slice_get_cases b.entries i).1) [
+        | inl there ↦
+            let at = told.lines i there.0 there.2 in
+            let same : at.0 ≡ line = cc (at.1, is) in
+            of_line there.0 there.2 (subst (λ l. IsPlainLine b i there.0 l ⊎ IsRefusedLine b i there.0 l) same at.2)
+        | inr past ↦ let high = past.0 in absurd (omega (arith, low, high))
+      ]
+    where
+      of_line : (e : Entry) → slice_get b.entries i ≡ Some e → IsPlainLine b i e line ⊎ IsRefusedLine b i e line → IsOfTable refused
+      of_line e there (inl plain) =
+          let lane : line.lane ≡ e.line.lane = ap (λ l. l.lane) plain in
+          let mine : Honest e.line.lane = ap b.foreign (sym lane) ∙ honest in
+          refused_by_table e.line y (plain_result b i e) refused (plain_is_of i e there mine)
+          (sym (ap (λ l. l.value) plain) ∙ value)
+      of_line e there (inr strange) =
+          let lane : line.lane ≡ e.line.lane = ap (λ l. l.lane) strange.is in
+          absurd (cc (honest, ap b.foreign lane, strange.foreign))
 
   -- where each lane is a client's none is refused
   pub journal_is_plain : (f : FrameWorld) → IsHistory b → ((c : ℕ) → Honest c) → Follows b f v → JournalIsPlain b f v

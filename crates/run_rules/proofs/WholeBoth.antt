@@ -128,6 +128,30 @@ asks_commands : (w : World) (c : ℕ) (r : Request) → (asks w c r).commands �
 unfolding asks
 asks_commands w c r = cond_both {A = World} (nat_eq (w.lanes c).step 0) _ _ (λ v. v.commands ≡ w.commands) (λ e. went_commands w c _) (λ e. refl)
 
+-- nor leave an entry
+
+sends_journal : (w : World) (c : ℕ) → (client_sends w c).journal ≡ w.journal
+unfolding client_sends
+sends_journal w c = cond_both {A = World} (w.foreign c) _ _ (λ v. v.journal ≡ w.journal) (λ e. refl) (λ e. refl)
+
+resent_journal : (w : World) (x : Option Line) → (resends w x).journal ≡ w.journal
+unfolding resends
+resent_journal w (Some x) = refl
+resent_journal w None = refl
+
+ticks_journal : (w : World) → (ticks w).journal ≡ w.journal
+unfolding ticks
+ticks_journal w = resent_journal w (slice_get w.commands w.acknowledged)
+
+went_journal : (w : World) (c : ℕ) (rs : List Request) → (goes_on w c rs).journal ≡ w.journal
+unfolding goes_on
+went_journal w c [] = refl
+went_journal w c (r ∷ rest) = cond_both {A = World} (is_refused w c r) _ _ (λ v. v.journal ≡ w.journal) (λ e. went_journal (notes w c _) c rest) (λ e. refl)
+
+asks_journal : (w : World) (c : ℕ) (r : Request) → (asks w c r).journal ≡ w.journal
+unfolding asks
+asks_journal w c r = cond_both {A = World} (nat_eq (w.lanes c).step 0) _ _ (λ v. v.journal ≡ w.journal) (λ e. went_journal w c _) (λ e. refl)
+
 -- ---- what clients do leaves the servers
 
 went_frames : (f : FrameWorld) (c : ℕ) (rs : List Request) → ((frames.goes_on f c rs).helper ≡ f.helper) × ((frames.goes_on f c rs).leader ≡ f.leader)
@@ -187,7 +211,7 @@ module _ (b : Book) (v : World) (all : List Taken) (sound : Sound b) (whole_is :
     (takes : (s : Both) (t : Token) (i : ℕ) (l : Letter) (more : List Taken) → Known b v s.world → slice_get s.world.pool i ≡ Some t → Follows b s.frames s.world
     → Carries b t l → OutsideAt b.foreign t l → all ≡ (s.taken ++ taken_of s.frames t l) ++ more → Unique s
     → AreTaken b (taken_of s.frames t l) × Unique (both_come s (Some t) (Some l)))
-    (stays : (s : Both) (g : FrameWorld) (u : World) (acts : List Act) → g.helper ≡ s.frames.helper → g.leader ≡ s.frames.leader → u.commands ≡ s.world.commands → u.misfits ≡ s.world.misfits
+    (stays : (s : Both) (g : FrameWorld) (u : World) (acts : List Act) → g.helper ≡ s.frames.helper → g.leader ≡ s.frames.leader → u.commands ≡ s.world.commands → u.journal ≡ s.world.journal → u.misfits ≡ s.world.misfits
     → Unique s → Unique (record { frames = g; world = u; acts = acts; taken = s.taken })) where
   pub record Kept (s : Both) : Type 0 where
     pub follows : Follows b s.frames s.world
@@ -252,7 +276,7 @@ module _ (b : Book) (v : World) (all : List Taken) (sound : Sound b) (whole_is :
     lawful = h.lawful;
     outside = h.outside;
     unique = subst (λ ts. Unique (record { frames = s.frames; world = s.world; acts = s.acts ++ acts_taken s.world s.world no_act; taken = ts })) (sym (append-nil s.taken))
-        (stays s s.frames s.world (s.acts ++ acts_taken s.world s.world no_act) refl refl refl refl h.unique);
+        (stays s s.frames s.world (s.acts ++ acts_taken s.world s.world no_act) refl refl refl refl refl h.unique);
   }
   letter_comes s (Some t) None h at allowed next = absurd at.found
   letter_comes s None (Some l) h at allowed next = absurd at.found
@@ -358,7 +382,7 @@ module _ (b : Book) (v : World) (all : List Taken) (sound : Sound b) (whole_is :
         follows = lanes.sends_follow b s.frames v s.world c (known s h.lawful h.follows.foreign (back_on_sends s c next)) h.follows;
         lawful = (moves_keep o).send s.world c h.lawful;
         outside = outside_more b.foreign s.world (client_sends s.world c) s.frames (frames.client_sends s.frames c) (pools_length b s.world.pool s.frames.pool h.follows.pool) h.outside (sends_add s.world c) (client_sends_post s.frames c);
-        unique = stays s (frames.client_sends s.frames c) (client_sends s.world c) s.acts refl refl (sends_commands s.world c) (sends_fit s.world c) h.unique;
+        unique = stays s (frames.client_sends s.frames c) (client_sends s.world c) s.acts refl refl (sends_commands s.world c) (sends_journal s.world c) (sends_fit s.world c) h.unique;
       }
 
   back_on_ticks : (s : Both) → Allowed (both_tick s) → Allowed s
@@ -372,7 +396,7 @@ module _ (b : Book) (v : World) (all : List Taken) (sound : Sound b) (whole_is :
         follows = ticks_follow b s.frames s.world h.follows;
         lawful = (moves_keep o).tick s.world h.lawful;
         outside = outside_more b.foreign s.world (ticks s.world) s.frames (frames.ticks s.frames) (pools_length b s.world.pool s.frames.pool h.follows.pool) h.outside (ticks_add s.world) (ticks_post s.frames);
-        unique = stays s (frames.ticks s.frames) (ticks s.world) s.acts refl refl (ticks_commands s.world) (ticks_fit s.world) h.unique;
+        unique = stays s (frames.ticks s.frames) (ticks s.world) s.acts refl refl (ticks_commands s.world) (ticks_journal s.world) (ticks_fit s.world) h.unique;
       }
 
   -- ---- a finish
@@ -410,7 +434,7 @@ module _ (b : Book) (v : World) (all : List Taken) (sound : Sound b) (whole_is :
       }
     where
       asks_unique : ((frames.asks s.frames c r).helper ≡ s.frames.helper) × ((frames.asks s.frames c r).leader ≡ s.frames.leader) → Unique (both_ask s c r)
-      asks_unique e = stays s (frames.asks s.frames c r) (asks s.world c r) s.acts e.0 e.1 (asks_commands s.world c r) (asks_fit s.world c r) h.unique
+      asks_unique e = stays s (frames.asks s.frames c r) (asks s.world c r) s.acts e.0 e.1 (asks_commands s.world c r) (asks_journal s.world c r) (asks_fit s.world c r) h.unique
 
   -- bytes come from outside
   back_on_injects : (s : Both) (to_leader : Bool) (bytes : List ℕ) → Allowed (both_inject s to_leader bytes) → Allowed s
@@ -425,13 +449,13 @@ module _ (b : Book) (v : World) (all : List Taken) (sound : Sound b) (whole_is :
     follows = injected_follows b s.frames s.world true (lane_from_client (whole bytes)) bytes h.follows (injected_is bytes out.bytes_are);
     lawful = ((moves_keep (λ n. no_act)).inject s.world true (lane_from_client (whole bytes)) h.lawful);
     outside = injected_outside b.foreign ToLeader true bytes out s.world.pool s.frames.pool (pools_length b s.world.pool s.frames.pool h.follows.pool) (λ i t l e d. h.outside i t l e d);
-    unique = stays s _ _ s.acts refl refl refl refl h.unique;
+    unique = stays s _ _ s.acts refl refl refl refl refl h.unique;
   }
   on_injects s false bytes out h next = record {
     follows = injected_follows b s.frames s.world false (lane_from_client (whole bytes)) bytes h.follows (injected_is bytes out.bytes_are);
     lawful = ((moves_keep (λ n. no_act)).inject s.world false (lane_from_client (whole bytes)) h.lawful);
     outside = injected_outside b.foreign ToHelper false bytes out s.world.pool s.frames.pool (pools_length b s.world.pool s.frames.pool h.follows.pool) (λ i t l e d. h.outside i t l e d);
-    unique = stays s _ _ s.acts refl refl refl refl h.unique;
+    unique = stays s _ _ s.acts refl refl refl refl refl h.unique;
   }
 
   shown_follows : (s : Both) (n : ℕ) → Kept s → (l : Option Letter) → Kept (record s { frames = frames.shows s.frames n l })
@@ -454,7 +478,7 @@ module _ (b : Book) (v : World) (all : List Taken) (sound : Sound b) (whole_is :
     };
     lawful = h.lawful;
     outside = h.outside;
-    unique = stays s _ s.world s.acts refl refl refl refl h.unique;
+    unique = stays s _ s.world s.acts refl refl refl refl refl h.unique;
   }
 
   -- ---- a whole schedule

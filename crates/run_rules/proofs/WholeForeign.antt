@@ -126,7 +126,7 @@ module _ (settings : Settings) (seed : List ℕ) (foreign : ℕ → Bool) (event
       (takes : (s : Both) (t : Token) (i : ℕ) (l : Letter) (more : List Taken) → Known b v s.world → slice_get s.world.pool i ≡ Some t → Follows b s.frames s.world
       → Carries b t l → OutsideAt b.foreign t l → ended.taken ≡ (s.taken ++ taken_of s.frames t l) ++ more → Unique s
       → AreTaken b (taken_of s.frames t l) × Unique (both_come s (Some t) (Some l)))
-      (stays : (s : Both) (g : FrameWorld) (u : World) (acts : List Act) → g.helper ≡ s.frames.helper → g.leader ≡ s.frames.leader → u.commands ≡ s.world.commands → u.misfits ≡ s.world.misfits
+      (stays : (s : Both) (g : FrameWorld) (u : World) (acts : List Act) → g.helper ≡ s.frames.helper → g.leader ≡ s.frames.leader → u.commands ≡ s.world.commands → u.journal ≡ s.world.journal → u.misfits ≡ s.world.misfits
       → Unique s → Unique (record { frames = g; world = u; acts = acts; taken = s.taken }))
       (at_first : Unique opened_both) where
     allowed : Allowed b v ended.taken sound whole Unique foreign_follow takes stays ended
@@ -141,10 +141,13 @@ module _ (settings : Settings) (seed : List ℕ) (foreign : ℕ → Bool) (event
     kept_to_end : Kept b v ended.taken sound whole Unique foreign_follow takes stays ended
     kept_to_end = run_keeps b v ended.taken sound whole Unique foreign_follow takes stays events opened_both fit kept allowed
 
+    -- the run over bytes goes on as it does alone
+    pub run_is : ended.frames ≡ frame_run settings seed events
+    run_is = run_same b v ended.taken sound whole Unique foreign_follow takes stays events opened_both fit kept allowed
+
     pub run_follows : Follows b (frame_run settings seed events) (token_run o settings foreign events)
     run_follows =
-        let same = run_same b v ended.taken sound whole Unique foreign_follow takes stays events opened_both fit kept allowed in
-        subst (λ f. Follows b f (token_run o settings foreign events)) same (subst (Follows b ended.frames) world_is kept_to_end.follows)
+        subst (λ f. Follows b f (token_run o settings foreign events)) run_is (subst (Follows b ended.frames) world_is kept_to_end.follows)
 
     -- what is kept of both runs
     pub run_unique : Unique ended

@@ -268,14 +268,14 @@ went_same f c (r ∷ rest) = at_asked (asked (f.clients c) r) (frames.goes_on (f
     at_asked (Err (client.Width width)) next e = refl
     at_asked (Err (client.OwnFull n)) next e = refl
 
-progress_same : (f : FrameWorld) (c : ℕ) (p : Progress) → (frames.goes_on_after f c p).helper ≡ f.helper
+pub progress_same : (f : FrameWorld) (c : ℕ) (p : Progress) → (frames.goes_on_after f c p).helper ≡ f.helper
 unfolding frames.goes_on_after
 progress_same f c (Finished outcome) = went_same (frames.notes f c _) c (f.waiting c)
 progress_same f c client.Ignored = refl
 progress_same f c (client.Later r) = refl
 progress_same f c client.Next = refl
 
-answers_same : (f : FrameWorld) (order : Option PlainFrame) (a : Answer) → (frames.helper_answers f order a).helper ≡ f.helper
+pub answers_same : (f : FrameWorld) (order : Option PlainFrame) (a : Answer) → (frames.helper_answers f order a).helper ≡ f.helper
 unfolding frames.helper_answers
 answers_same f order (Carried reply) = refl
 answers_same f order (Repeated bytes) = refl

@@ -11,3 +11,5 @@ pub mod History
 pub mod Acts
 pub mod EveryEnd
 pub mod Soundness
+pub mod HistoryRuns
+pub mod Came

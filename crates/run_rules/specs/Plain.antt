@@ -8,7 +8,7 @@ use Rattle.frame_rules.specs.Frames.{PlainBody}
 use Rattle.express_words.specs.declared.refusal.Refusal.{Refusal}
 use Rattle.express_words.specs.declared.refusal.Refusal.TheVariants as refusal
 use Rattle.mailbox_rules.specs.Requests.{Request, Register, Write, Read, Retire, Line, Entry, RetireBox}
-use Rattle.mailbox_rules.specs.Requests.{lines_of, opening_of, Command, Refuse, Retires}
+use Rattle.mailbox_rules.specs.Requests.{lines_of, opening_of, opens_with, operation_of, Command, Refuse, Retires}
 use Rattle.mailbox_rules.specs.Tables.{Table, Result, Registered, Taken, Full, Began, WasAudited, Settled}
 use Rattle.mailbox_rules.specs.Tables.{Gave, NoBox, Refused, Writes, table_after, result_of, result_sum}
 use Rattle.mailbox_rules.specs.Tables.{plain_writes}
@@ -19,7 +19,7 @@ use Rattle.token_rules.specs.Run.{line_of}
 use Rattle.token_rules.specs.Laws.{HasLines, InOrder, Once, last_of}
 use Rattle.step_rules.specs.Client as client
 use Rattle.step_rules.specs.Client.{Outcome}
-use Rattle.run_rules.specs.Book.{Book, request_of}
+use Rattle.run_rules.specs.Book.{Book, request_of, table_at}
 use Rattle.run_rules.specs.Values.{accepted_at, boxes_at, closing_at, counted_at, opened_at, part_at, root_at}
 use Rattle.run_rules.specs.Values.{shares_at, writes_at}
 use Rattle.run_rules.specs.Frames.{does_at}
@@ -51,11 +51,14 @@ plain_at b i = table_after b.settings.boxes b.settings.width (plain_of b) (take 
 unfoldable pub plain_result : Book → ℕ → Entry → Result
 plain_result b i e = result_of b.settings.boxes (plain_of b) (plain_at b i) e.line e.does
 
--- the entry did what a request of its client asks
+-- The entry did what a request of its client asks, and so never nothing: a read is of the client's own box of
+-- that index.
 pub record IsAnswer (b : Book) (i : ℕ) (e : Entry) : Type 0 where
   pub request : Request
   pub is : request_of b e.line.lane e.line.serial ≡ Some request
+  pub opens : opens_with e.line.command ≡ opening_of request
   pub does : e.does ≡ does_at b i e.line
+  pub done : e.does ≡ Refuse → ⊥
 
 -- a history of clients alone: no lane is foreign, and each entry answers a request
 pub record IsClients (b : Book) : Type 0 where
@@ -130,8 +133,8 @@ IsDue b i x (Read own) (refusal.NoBox n) = Did (take i b.entries) (RetireBox n)
 IsDue b i x (Retire own) (refusal.NoBox n) = Did (take i b.entries) (RetireBox n)
 IsDue b i x request refused = ⊥
 
--- The outcome of the request that a client sent under a serial: each of its lines stands in the journal, and
--- what is told is the plain table's result at the place of the last one. So the message of a read is what the
+-- The outcome of the request that a client sent under a serial: each of its lines stands in the journal, the
+-- last did what the request asks, and what is told is the plain table's result at the place of the last one. So the message of a read is what the
 -- plain table gives at that place.
 pub record IsAnswered (b : Book) (c serial : ℕ) (outcome : Outcome) : Type 0 where
   pub request : Request
@@ -141,6 +144,8 @@ pub record IsAnswered (b : Book) (c serial : ℕ) (outcome : Outcome) : Type 0 w
   pub entry : Entry
   pub is : slice_get b.entries place ≡ Some entry
   pub last : entry.line ≡ line_of c serial (last_of (opening_of request))
+  pub does : entry.does ≡ operation_of ((table_at b place).got c) entry.line.command (Some request)
+  pub done : entry.does ≡ Refuse → ⊥
   pub told : outcome_of b entry.line (plain_result b place entry) ≡ Some outcome
   pub due : (refused : Refusal) → outcome ≡ client.Refused refused → IsDue b place entry.line request refused
 
@@ -219,6 +224,20 @@ pub record JournalIsTold (b : Book) (f : FrameWorld) (w : World) : Type 0 where
   pub lines : (i : ℕ) (e : Entry) → slice_get b.entries i ≡ Some e
       → (line : JournalLine) × (slice_get f.journal i ≡ Some line)
       × (IsPlainLine b i e line ⊎ IsRefusedLine b i e line)
+
+-- the refusals that the plain table has
+abbrev pub IsOfTable : Refusal → Type 0
+IsOfTable (refusal.Taken n) = Unit {0}
+IsOfTable (refusal.Full limit) = Unit {0}
+IsOfTable (refusal.NoBox n) = Unit {0}
+IsOfTable refused = ⊥
+
+-- A client's line that is refused is refused by the plain table: none is for a deposit or a proof that didn't
+-- come, nor for a wrong token.
+abbrev pub ClientsAreReady : Book → FrameWorld → World → Type 0
+ClientsAreReady b f w = (i : ℕ) (line : JournalLine) (command : Command) (refused : Refusal)
+    → slice_get f.journal i ≡ Some line → b.foreign line.lane ≡ false
+    → line.value ≡ run.Refused command refused → IsOfTable refused
 
 -- The helper's boxes hold its shares after the whole journal,
 -- the leader's those after the entries that it has acknowledged.

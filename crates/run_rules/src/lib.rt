@@ -6,10 +6,12 @@
 #![tactic(auto)]
 
 ghost use Rattle.run_rules.specs.Acts.{StrangersFollow};
+ghost use Rattle.run_rules.specs.Came.{CommandsWereBrought};
 ghost use Rattle.run_rules.specs.EveryEnd.{AtEveryEnd, FinishAlwaysEnds, FinishAnswers, HistoryIsSo};
 ghost use Rattle.run_rules.specs.Follows.{Follows};
 ghost use Rattle.run_rules.specs.History.{AtEnd};
-ghost use Rattle.run_rules.specs.Plain.{BoxesArePlain, HistoryIsClients, JournalInOrder, JournalIsPlain, JournalIsTold, OutcomesArePlain, RegisteredAreAccepted, ResultsArePlain, SharesAreFolds, SharesArePlain};
+ghost use Rattle.run_rules.specs.HistoryRuns.{HistoryIsRuns, RunsAreOne};
+ghost use Rattle.run_rules.specs.Plain.{BoxesArePlain, ClientsAreReady, HistoryIsClients, JournalInOrder, JournalIsPlain, JournalIsTold, OutcomesArePlain, RegisteredAreAccepted, ResultsArePlain, SharesAreFolds, SharesArePlain};
 ghost use Rattle.run_rules.specs.Soundness.{BadWritesAreCaught, SettledAsTheyPass};
 
 /// At the end of every schedule of clients, whatever frames are lost, repeated or reordered, the run over bytes is the
@@ -21,6 +23,15 @@ pub fn runs_agree()
     ensures follows { AtEnd Follows }
     ensures clients { AtEnd HistoryIsClients }
     ensures strangers { StrangersFollow }
+{}
+
+/// The history is that of the two runs, with and without bytes from outside: it has the requests that the token run
+/// sent for each client under their serials, the commands that it issued, and the entries that it carried out. The run
+/// over bytes that a history is read off is the one that is printed.
+pub fn history_is_theirs()
+    ensures clients { AtEnd HistoryIsRuns }
+    ensures strangers { AtEveryEnd HistoryIsRuns }
+    ensures runs { RunsAreOne }
 {}
 
 /// Each outcome is what the plain table of mailboxes gives at the place of its request's last entry in the journal, and
@@ -40,15 +51,24 @@ pub fn schedules_are_plain()
 /// reordered: each outcome of a client is what the plain table gives at its place in the journal, where the
 /// plain table has the accepted writes of foreign lanes too, as what both servers add to each box. Each line
 /// is printed with the plain table's result, or is that of a foreign command which was refused and did
-/// nothing. A client's lines stand once and in order. The servers' boxes are the folds of what each was sent
+/// nothing. A client's line is refused for what the plain table has alone: no deposit or proof of it is missing.
+/// A client's lines stand once and in order. The servers' boxes are the folds of what each was sent
 /// by clients and foreign lanes, and add up to the plain table.
 pub fn strangers_are_counted()
     ensures history { AtEveryEnd HistoryIsSo }
     ensures outcomes { AtEveryEnd OutcomesArePlain }
     ensures journal { AtEveryEnd JournalIsTold }
+    ensures ready { AtEveryEnd ClientsAreReady }
     ensures order { AtEveryEnd JournalInOrder }
     ensures shares { AtEveryEnd SharesAreFolds }
     ensures boxes { AtEveryEnd BoxesArePlain }
+{}
+
+/// A foreign command that did something was brought what it needs, at both servers: of its lane and serial the leader
+/// took the submission and the helper the deposit, for an audit or settle both took a proof too, and for a read or
+/// retire both took the token of the box's key.
+pub fn foreign_commands_are_brought()
+    ensures { CommandsWereBrought }
 {}
 
 /// So too: each line of a settle, a client's or a foreign lane's, is printed as accepted exactly where the

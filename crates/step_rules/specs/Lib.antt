@@ -9,3 +9,5 @@ pub mod Client
 pub mod ClientAsks
 pub mod ClientReplies
 pub mod Refusals
+pub mod Needs
+pub mod Firsts

@@ -2,6 +2,8 @@
 //! laws of them.
 #![tactic(auto)]
 
+mod needs;
 mod refusals;
 
+pub use needs::{commands_need, firsts_stand};
 pub use refusals::{helper_refusals, leader_refusals};

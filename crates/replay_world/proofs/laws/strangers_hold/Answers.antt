@@ -1,13 +1,9 @@
-use Rattle.run_rules.proofs.EveryEnd.{boxes_at_every_end, history_at_every_end, journal_at_every_end, order_at_every_end, outcomes_at_every_end, shares_at_every_end}
+use Rattle.run_rules.proofs.EveryEnd.{boxes_at_every_end, journal_at_every_end, order_at_every_end, outcomes_at_every_end, ready_at_every_end, shares_at_every_end}
 use Rattle.run_rules.proofs.ForeignFollows.{foreign_runs_agree}
-use Rattle.run_rules.specs.EveryEnd.{HistoryIsSo}
 use Rattle.run_rules.specs.Follows.{Follows}
-use Rattle.run_rules.specs.Plain.{BoxesArePlain, JournalInOrder, JournalIsTold, OutcomesArePlain, SharesAreFolds}
+use Rattle.run_rules.specs.Plain.{BoxesArePlain, ClientsAreReady, JournalInOrder, JournalIsTold, OutcomesArePlain, SharesAreFolds}
 use Rattle.replay_world.proofs.Strangers.{of_every_schedule}
 use Rattle.replay_world.proofs.laws.strangers_hold.Goals as goal
-
-pub returns-clause-history : goal.returns-clause-history
-returns-clause-history c = of_every_schedule HistoryIsSo history_at_every_end
 
 pub returns-clause-follows : goal.returns-clause-follows
 returns-clause-follows c = of_every_schedule Follows foreign_runs_agree
@@ -17,6 +13,9 @@ returns-clause-outcomes c = of_every_schedule OutcomesArePlain outcomes_at_every
 
 pub returns-clause-journal : goal.returns-clause-journal
 returns-clause-journal c = of_every_schedule JournalIsTold journal_at_every_end
+
+pub returns-clause-ready : goal.returns-clause-ready
+returns-clause-ready c = of_every_schedule ClientsAreReady ready_at_every_end
 
 pub returns-clause-order : goal.returns-clause-order
 returns-clause-order c = of_every_schedule JournalInOrder order_at_every_end
