@@ -41,7 +41,7 @@ leaders_rows rows f bytes (Ok g) = of_answer (on_client f.leader bytes).answer
     of_answer (leader.StillWaiting n) = tt
 leaders_rows rows f bytes (Err r) = tt
 
-stays : (s : Both) (g : FrameWorld) (u : World) (acts : List Act) → g.helper ≡ s.frames.helper → g.leader ≡ s.frames.leader → u.commands ≡ s.world.commands
+pub stays : (s : Both) (g : FrameWorld) (u : World) (acts : List Act) → g.helper ≡ s.frames.helper → g.leader ≡ s.frames.leader → u.commands ≡ s.world.commands
     → u.misfits ≡ s.world.misfits → Unique s → Unique (record { frames = g; world = u; acts = acts; taken = s.taken })
 stays s g u acts helper leader commands misfits unique = (
   subst (λ h. HaveRows h.server.rows s.taken) (sym helper) unique.0,
