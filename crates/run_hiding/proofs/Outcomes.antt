@@ -6,7 +6,7 @@ use Rattle.express_words.specs.declared.refusal.Refusal.TheVariants as refusal
 use Rattle.mailbox_rules.specs.Requests.{Entry, Line, Operation, Request, AddBox, BeginWrite, AuditWrite, SettleWrite, ReadBox, RetireBox, Refuse, entry, lines_of, opening_of, operation_of}
 use Rattle.mailbox_rules.specs.Tables.{Began, Full, Gave, Mailbox, NoBox, Refused, Registered, Result, Settled, Table, Taken, WasAudited, box_of, given, register_result, result_of, result_outline}
 use Rattle.token_rules.specs.Tokens as token
-use Rattle.token_rules.specs.Tokens.{Oracle, World, oracle_of}
+use Rattle.token_rules.specs.Tokens.{World, oracle_of}
 use Rattle.token_rules.specs.Laws.{last_of}
 use Rattle.token_rules.specs.Run.{line_of}
 use Rattle.step_rules.specs.Client as client
