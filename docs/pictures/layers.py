@@ -9,7 +9,7 @@ GROUPS = [
      "frame_rules step_rules step_tokens run_rules file_table"),
     ("the point function", "#dbeafe", "chacha_expand dpf_keys dpf_eval"),
     ("the field, the audit, what one server sees", "#dcf5e4", "tower_field field_tables poly_roots write_sketch "
-     "snip_proof batch_audit write_hiding"),
+     "snip_proof batch_audit write_hiding run_hiding"),
     ("frames, texts and files", "#fdecc8", "wire_frames outcome_text schedule_text express_texts settings_text "
      "file_carry"),
     ("stores", "#e2e8f0", "block_region lane_table link_order share_store box_registry server_boxes"),

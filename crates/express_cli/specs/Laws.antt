@@ -9,6 +9,11 @@ use Rattle.run_rules.specs.Follows.{Follows}
 use Rattle.run_rules.specs.Plain.{BoxesArePlain, JournalInOrder, JournalIsPlain, JournalIsTold}
 use Rattle.run_rules.specs.Plain.{OutcomesArePlain, SharesAreFolds}
 use Rattle.run_rules.specs.Soundness.{BadWritesAreCaught, SettledAsTheyPass}
+use Rattle.run_hiding.specs.Flow.{FlowStays, OutcomesStay, OutcomesStayBeside, RunsFitBeside}
+use Rattle.run_hiding.specs.Flow.{SchedulesFitOtherAims}
+use Rattle.run_hiding.specs.Laws.{DistinctRunsStay, ForeignOrdersStay, ForeignRepliesAreIdeal, IdealsStay}
+use Rattle.run_hiding.specs.Laws.{LettersAreIdeal, MasksApart, RealIsIdeal, ResultsStay, RunsFitOtherAims}
+use Rattle.run_hiding.specs.Laws.{RunsHaveForm, RunsReturn, SightsStay, WritesAddUp}
 use Rattle.replay_world.specs.Laws.{AreFromClients, OfSchedules, RequestsAreTold}
 use Rattle.replay_world.specs.Strangers.{FinishesAnswer, OfEverySchedule, OthersAreTold, SchedulesFit}
 use Rattle.replay_world.specs.Strangers.{StrangersAreForeign}
@@ -68,3 +73,26 @@ pub record Laws : Type 0 where
   pub distinct_stay : DistinctStay
   pub writes_are_choices : WritesAreChoices
   pub writes_are_seen : WritesAreSeen
+  -- What either server is sent in a whole run is what it is sent in the ideal history with the run's own
+  -- expansions and masks, foreign lanes beside; and no two reads take one slice of a key's stream.
+  pub letters_are_ideal : (viewer : ℕ) → OfEverySchedule (LettersAreIdeal viewer)
+  pub masks_are_apart : OfEverySchedule MasksApart
+  pub runs_have_form : RunsHaveForm
+  pub frames_are_ideal : RealIsIdeal
+  pub foreign_replies_are_ideal : ForeignRepliesAreIdeal
+  pub foreign_orders_stay : ForeignOrdersStay
+  -- It fits every other aim of the writes at registered boxes, history for history.
+  pub histories_stay : IdealsStay
+  pub sights_stay : SightsStay
+  pub histories_return : RunsReturn
+  pub distinct_histories_stay : DistinctRunsStay
+  pub runs_fit_other_aims : RunsFitOtherAims
+  pub schedules_fit_other_aims : SchedulesFitOtherAims
+  pub runs_fit_beside_strangers : RunsFitBeside
+  -- Nor do the order of frames, the journal and what clients are told depend on aims, but for messages; and
+  -- whatever is drawn, both servers add up to the message at the target and to zeros elsewhere.
+  pub flow_stays : FlowStays
+  pub results_stay : ResultsStay
+  pub outcomes_stay : OutcomesStay
+  pub outcomes_stay_beside_strangers : OutcomesStayBeside
+  pub writes_add_up : WritesAddUp

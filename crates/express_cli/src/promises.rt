@@ -6,6 +6,10 @@ use file_table::{answers_join, unwritten_is_missing};
 use replay_world::{
     accepted_writes_pass, requests_are_told, schedules_fit, schedules_hold, strangers_hold,
 };
+use run_hiding::{
+    flow_stays, runs_are_ideal, runs_fit_other_aims, sights_stay, strangers_tell_no_more,
+    writes_add_up,
+};
 use write_hiding::{views_stay, writes_are_choices};
 
 /// What holds of every schedule, batch, game and file: the laws that stand on the top call. It does nothing.
@@ -23,4 +27,10 @@ pub fn laws()
     few_values_pass();
     views_stay();
     writes_are_choices();
+    runs_are_ideal();
+    strangers_tell_no_more();
+    sights_stay();
+    runs_fit_other_aims();
+    flow_stays();
+    writes_add_up();
 }

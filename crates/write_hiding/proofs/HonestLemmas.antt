@@ -1,17 +1,12 @@
 -- A client's write is an ideal choice, and its view is what the viewer gets.
-use Rattle.std.proofs.Common.{◌≡◌, ◌≢◌, ℕ, ◌^◌, ◌<◌, ◌≤◌, inl, inr, List, [], ◌∷◌, map, length, refl, sym, ap, ◌∙◌, arith, bit_xor}
+use Rattle.std.proofs.Common.{◌≡◌, ℕ, ◌^◌, ◌<◌, List, [], ◌∷◌, map, length, refl, ap, ◌∙◌, bit_xor}
 use Rattle.std.specs.Prelude.{All}
 use Rattle.std.specs.Int.Bits.{xor_comm}
-use Rattle.std.proofs.lemmas.Bool.Decides.{eqb_tells}
 use Rattle.std.proofs.lemmas.List.Elements.{All-head, All-tail, All-contains}
 use Rattle.dpf_rules.specs.Expansion.{challenge_r, challenge_s}
-use Rattle.dpf_rules.specs.Walk.{state_at, leaf_of}
-use Rattle.dpf_rules.specs.Keys.{Expansions, honest, path_at, honest_keys}
+use Rattle.dpf_rules.specs.Walk.{leaf_of}
+use Rattle.dpf_rules.specs.Keys.{path_at, honest_keys}
 use Rattle.dpf_rules.specs.Evaluation.{difference_at}
-use Rattle.dpf_rules.specs.Ideal.{ideal_keys, given_at}
-use Rattle.dpf_rules.proofs.KeysLemmas.{honest_same, follows}
-use Rattle.dpf_rules.proofs.PointLemmas.{along, leaves_equal}
-use Rattle.dpf_rules.proofs.IdealLemmas.{honest_other0, honest_other1, given_walk}
 use Rattle.express_words.specs.declared.audit.ProofShare.{ProofShare}
 use Rattle.audit_rules.specs.declared.sums.Sums.{Sums}
 use Rattle.audit_rules.specs.Audit.{zero_share, one_share, opening_of, opened_of, closing_of}
@@ -22,6 +17,7 @@ use Rattle.write_hiding.specs.Views.{other_leaf, other_end, own_leaf, own_sums, 
 use Rattle.write_hiding.specs.Writes.{Drawn, IsDrawn, choice_of, write_view}
 use Rattle.dpf_rules.proofs.RangeLemmas.{honest-form}
 use Rattle.audit_rules.specs.Values.{values, opens, sums_at}
+use Rattle.write_hiding.proofs.OtherLeaves.{end0, end1, keys0, keys1, leaf0, leaf1, own0, own1}
 use Rattle.write_hiding.proofs.ViewLemmas.{same_view}
 
 map_same : (f g : ℕ → ℕ) (n : ℕ) (xs : List ℕ) → All (λ x. x < n) xs → ((x : ℕ) → x < n → f x ≡ g x) → map f xs ≡ map g xs
@@ -48,36 +44,8 @@ module _ (width : ℕ) (d : Drawn) (aim : PlainAim) (game : PlainGame) (is_drawn
   abbrev part : List ℕ
   part = honest_keys q aim.message root0 root1
 
-  abbrev side0 : Expansions
-  side0 = honest (λ i. (path_at q root0 root1 i).0) n
-
-  abbrev side1 : Expansions
-  side1 = honest (λ i. (path_at q root0 root1 i).1) n
-
   small : q < 2 ^ 128
   small = All-contains (λ n. n < 2 ^ 128) game.addresses q places aimed.registered
-
-  keys0 : ideal_keys q aim.message 0 root0 side1 ≡ part
-  keys0 = honest_other1 q aim.message root0 root1
-
-  keys1 : ideal_keys q aim.message 1 root1 side0 ≡ part
-  keys1 = honest_other0 q aim.message root0 root1
-
-  walks : (i : ℕ) → i ≤ 128 → (state_at part 0 root0 q i ≡ (path_at q root0 root1 i).0) × (state_at part 1 root1 q i ≡ (path_at q root0 root1 i).1)
-  walks i h = along part q root0 root1 (follows q aim.message root0 root1) q i h (λ k l. refl)
-
-  ends1 : given_at part q 1 root1 side1 128 ≡ leaf_of part 1 root1 q
-  ends1 =
-      ap (λ e. given_at part q 1 root1 e 128) (honest_same (λ i. (path_at q root0 root1 i).1) (state_at part 1 root1 q) n (λ i h. sym (walks i h).1))
-      ∙ given_walk part q 1 root1 n 128 (omega arith)
-
-  ends0 : given_at part q 0 root0 side0 128 ≡ leaf_of part 0 root0 q
-  ends0 =
-      ap (λ e. given_at part q 0 root0 e 128) (honest_same (λ i. (path_at q root0 root1 i).0) (state_at part 0 root0 q) n (λ i h. sym (walks i h).0))
-      ∙ given_walk part q 0 root0 n 128 (omega arith)
-
-  apart : (a : ℕ) → a < 2 ^ 128 → a ≢ q → leaf_of part 0 root0 a ≡ leaf_of part 1 root1 a
-  apart a h other = leaves_equal part q root0 root1 (follows q aim.message root0 root1) a h small other
 
   abbrev sums0 : Sums
   sums0 = sums_under game.ckey game.addresses (leaves part 0 root0 game.addresses)
@@ -105,29 +73,15 @@ module _ (width : ℕ) (d : Drawn) (aim : PlainAim) (game : PlainGame) (is_drawn
     words = is_drawn.words;
   }
 
-  end0 : other_end 0 c0 aim ≡ leaf_of part 1 root1 q
-  unfolding choice_of
-  end0 = ap (λ k. given_at k q 1 root1 side1 128) keys0 ∙ ends1
-
-  own0 : (a : ℕ) → own_leaf 0 c0 aim a ≡ leaf_of part 0 root0 a
-  unfolding choice_of
-  own0 a = ap (λ k. leaf_of k 0 root0 a) keys0
-
-  leaf0 : (a : ℕ) → a < 2 ^ 128 → other_leaf 0 c0 aim a ≡ leaf_of part 1 root1 a
-  leaf0 a h = elim (eqb_tells a q) [
-    | inl e ↦ rw e.0 (end0 ∙ ap (leaf_of part 1 root1) (sym e.1))
-    | inr e ↦ rw e.0 (own0 a ∙ apart a h e.1)
-  ]
-
   own_sums0 : own_sums 0 c0 aim game ≡ sums0
-  own_sums0 = ap (sums_under game.ckey game.addresses) (map_same (own_leaf 0 c0 aim) (leaf_of part 0 root0) (2 ^ 128) game.addresses places (λ a h. own0 a))
+  own_sums0 = ap (sums_under game.ckey game.addresses) (map_same (own_leaf 0 c0 aim) (leaf_of part 0 root0) (2 ^ 128) game.addresses places (λ a h. own0 d aim a))
 
   other_sums0 : other_sums 0 c0 aim game ≡ sums1
-  other_sums0 = ap (sums_under game.ckey game.addresses) (map_same (other_leaf 0 c0 aim) (leaf_of part 1 root1) (2 ^ 128) game.addresses places leaf0)
+  other_sums0 = ap (sums_under game.ckey game.addresses) (map_same (other_leaf 0 c0 aim) (leaf_of part 1 root1) (2 ^ 128) game.addresses places (leaf0 d aim small))
 
   difference0 : difference_of 0 c0 aim ≡ m
   unfolding difference_at
-  difference0 = ap (λ x. bit_xor x (other_end 0 c0 aim)) (own0 q) ∙ ap (bit_xor (leaf_of part 0 root0 q)) end0
+  difference0 = ap (λ x. bit_xor x (other_end 0 c0 aim)) (own0 d aim q) ∙ ap (bit_xor (leaf_of part 0 root0 q)) (end0 d aim)
 
   proof0 : share_of 0 0 c0 aim game ≡ zero_share (root0 ∷ (root1 ∷ words))
   unfolding choice_of
@@ -151,7 +105,7 @@ module _ (width : ℕ) (d : Drawn) (aim : PlainAim) (game : PlainGame) (is_drawn
 
   pub view0 : view 0 c0 aim game ≡ write_view 0 d aim game
   unfolding view write_view choice_of values opens sums_at
-  view0 = same_view (view 0 c0 aim game) (write_view 0 d aim game) refl keys0 proof0 opened0 closed0
+  view0 = same_view (view 0 c0 aim game) (write_view 0 d aim game) refl (keys0 d aim) proof0 opened0 closed0
 
   -- ---- the viewer is server 1
   abbrev c1 : PlainChoice
@@ -167,30 +121,16 @@ module _ (width : ℕ) (d : Drawn) (aim : PlainAim) (game : PlainGame) (is_drawn
     words = is_drawn.words;
   }
 
-  end1 : other_end 1 c1 aim ≡ leaf_of part 0 root0 q
-  unfolding choice_of
-  end1 = ap (λ k. given_at k q 0 root0 side0 128) keys1 ∙ ends0
-
-  own1 : (a : ℕ) → own_leaf 1 c1 aim a ≡ leaf_of part 1 root1 a
-  unfolding choice_of
-  own1 a = ap (λ k. leaf_of k 1 root1 a) keys1
-
-  leaf1 : (a : ℕ) → a < 2 ^ 128 → other_leaf 1 c1 aim a ≡ leaf_of part 0 root0 a
-  leaf1 a h = elim (eqb_tells a q) [
-    | inl e ↦ rw e.0 (end1 ∙ ap (leaf_of part 0 root0) (sym e.1))
-    | inr e ↦ rw e.0 (own1 a ∙ sym (apart a h e.1))
-  ]
-
   own_sums1 : own_sums 1 c1 aim game ≡ sums1
-  own_sums1 = ap (sums_under game.ckey game.addresses) (map_same (own_leaf 1 c1 aim) (leaf_of part 1 root1) (2 ^ 128) game.addresses places (λ a h. own1 a))
+  own_sums1 = ap (sums_under game.ckey game.addresses) (map_same (own_leaf 1 c1 aim) (leaf_of part 1 root1) (2 ^ 128) game.addresses places (λ a h. own1 d aim a))
 
   other_sums1 : other_sums 1 c1 aim game ≡ sums0
-  other_sums1 = ap (sums_under game.ckey game.addresses) (map_same (other_leaf 1 c1 aim) (leaf_of part 0 root0) (2 ^ 128) game.addresses places leaf1)
+  other_sums1 = ap (sums_under game.ckey game.addresses) (map_same (other_leaf 1 c1 aim) (leaf_of part 0 root0) (2 ^ 128) game.addresses places (leaf1 d aim small))
 
   difference1 : difference_of 1 c1 aim ≡ m
   unfolding difference_at
   difference1 =
-      ap (λ x. bit_xor x (other_end 1 c1 aim)) (own1 q) ∙ ap (bit_xor (leaf_of part 1 root1 q)) end1
+      ap (λ x. bit_xor x (other_end 1 c1 aim)) (own1 d aim q) ∙ ap (bit_xor (leaf_of part 1 root1 q)) (end1 d aim)
       ∙ xor_comm (leaf_of part 1 root1 q) (leaf_of part 0 root0 q)
 
   proof1 : share_of 1 1 c1 aim game ≡ made m
@@ -215,4 +155,4 @@ module _ (width : ℕ) (d : Drawn) (aim : PlainAim) (game : PlainGame) (is_drawn
 
   pub view1 : view 1 c1 aim game ≡ write_view 1 d aim game
   unfolding view write_view choice_of values opens sums_at
-  view1 = same_view (view 1 c1 aim game) (write_view 1 d aim game) refl keys1 proof1 opened1 closed1
+  view1 = same_view (view 1 c1 aim game) (write_view 1 d aim game) refl (keys1 d aim) proof1 opened1 closed1

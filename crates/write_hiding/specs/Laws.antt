@@ -1,12 +1,12 @@
 -- The laws of views: of two writes to registered addresses, with messages of one width, a viewer's view of
 -- the one is its view of the other under the moved choice, and the opposite move undoes the move.
-use Rattle.std.specs.Prelude.{◌≡◌, ◌≢◌, ℕ, ◌^◌, ◌<◌, ◌≤◌, List, map, length, All, AllPairs}
-use Rattle.dpf_rules.specs.Walk.{state_at}
-use Rattle.dpf_rules.specs.Keys.{Expansions, level_word, level_right}
+use Rattle.std.specs.Prelude.{◌≡◌, ◌≢◌, ℕ, ◌^◌, ◌<◌, ◌≤◌, ◌-◌, List, map, length, All, AllPairs}
+use Rattle.dpf_rules.specs.Walk.{leaf_of, state_at}
+use Rattle.dpf_rules.specs.Keys.{Expansions, honest_keys, level_word, level_right}
 use Rattle.dpf_rules.specs.Ideal.{own_at}
 use Rattle.write_hiding.specs.declared.choice.View.{View}
 use Rattle.write_hiding.specs.Choices.{PlainChoice, PlainAim, PlainGame, IsChoice, IsAim, IsGame}
-use Rattle.write_hiding.specs.Views.{public_part, view}
+use Rattle.write_hiding.specs.Views.{other_end, other_leaf, public_part, view}
 use Rattle.write_hiding.specs.Moved.{moved_pair, moved_list, moved}
 use Rattle.write_hiding.specs.Writes.{Drawn, IsDrawn, choice_of, write_view}
 
@@ -96,3 +96,29 @@ WritesAreChoices = OfAWrite (λ width viewer drawn aim game. IsChoice width (cho
 abbrev pub WritesAreSeen : Type 0
 WritesAreSeen = OfAWrite (λ width viewer drawn aim game.
     view viewer (choice_of viewer drawn aim) aim game ≡ write_view viewer drawn aim game)
+
+-- ---- its keys and leaves
+
+-- the public part of that choice is a write's honest keys
+abbrev pub KeysAreHonest : Type 0
+KeysAreHonest =
+    (viewer : ℕ) (drawn : Drawn) (aim : PlainAim) → viewer < 2 →
+    public_part viewer (choice_of viewer drawn aim) aim
+    ≡ honest_keys aim.target aim.message drawn.root0 drawn.root1
+
+-- the end of the other server's path is its leaf at the target
+abbrev pub EndsAreLeaves : Type 0
+EndsAreLeaves =
+    (viewer : ℕ) (drawn : Drawn) (aim : PlainAim) → viewer < 2 →
+    let choice = choice_of viewer drawn aim in
+    let part = honest_keys aim.target aim.message drawn.root0 drawn.root1 in
+    other_end viewer choice aim ≡ leaf_of part (1 - viewer) choice.other_root aim.target
+
+-- and at every address its leaf is that of its walk
+abbrev pub LeavesAreHonest : Type 0
+LeavesAreHonest =
+    (viewer : ℕ) (drawn : Drawn) (aim : PlainAim) (address : ℕ) →
+    viewer < 2 → address < 2 ^ 128 → aim.target < 2 ^ 128 →
+    let choice = choice_of viewer drawn aim in
+    let part = honest_keys aim.target aim.message drawn.root0 drawn.root1 in
+    other_leaf viewer choice aim address ≡ leaf_of part (1 - viewer) choice.other_root address

@@ -10,6 +10,9 @@ ghost use Rattle.write_hiding.specs.Laws.{
   DistinctStay,
   WritesAreChoices,
   WritesAreSeen,
+  KeysAreHonest,
+  EndsAreLeaves,
+  LeavesAreHonest,
 };
 
 /// The moved expansions make the same public part, level by level.
@@ -31,8 +34,12 @@ pub fn views_stay()
 {}
 
 /// A client's write is a choice in which the other server's expansions are honest, and the view of that choice is what
-/// the viewer gets of the write.
+/// the viewer gets of the write. Its public part is the honest keys, and the other server's leaves are those of its walk
+/// under them, at the target the end of its path.
 pub fn writes_are_choices()
     ensures choice { WritesAreChoices }
     ensures seen { WritesAreSeen }
+    ensures keys { KeysAreHonest }
+    ensures end { EndsAreLeaves }
+    ensures leaf { LeavesAreHonest }
 {}

@@ -1,5 +1,7 @@
 use Rattle.schedule_text.proofs.MillLaws.{mill_keeps}
 use Rattle.schedule_text.proofs.RuleLaws.{keeps_rules}
+use Rattle.run_hiding.specs.Laws.{LettersAreIdeal, MasksApart}
+use Rattle.replay_world.proofs.Strangers.{of_every_schedule}
 use Rattle.express_cli.proofs.MillEvents.{mill_from_clients}
 use Rattle.express_cli.proofs.promises.laws.Goals as goal
 
@@ -36,4 +38,22 @@ returns c = record {
   distinct_stay = c.views_stay.ensures.distinct_stay;
   writes_are_choices = c.writes_are_choices.ensures.choice;
   writes_are_seen = c.writes_are_choices.ensures.seen;
+  letters_are_ideal = λ viewer. of_every_schedule (LettersAreIdeal viewer) (c.runs_are_ideal.ensures.letters viewer);
+  masks_are_apart = of_every_schedule MasksApart c.runs_are_ideal.ensures.masks;
+  runs_have_form = c.runs_are_ideal.ensures.form;
+  frames_are_ideal = c.runs_are_ideal.ensures.frames;
+  foreign_replies_are_ideal = c.strangers_tell_no_more.ensures.replies;
+  foreign_orders_stay = c.strangers_tell_no_more.ensures.orders;
+  histories_stay = c.sights_stay.ensures.form;
+  sights_stay = c.sights_stay.ensures.sights;
+  histories_return = c.sights_stay.ensures.back;
+  distinct_histories_stay = c.sights_stay.ensures.distinct;
+  runs_fit_other_aims = c.runs_fit_other_aims.ensures.fit;
+  schedules_fit_other_aims = c.runs_fit_other_aims.ensures.schedules;
+  runs_fit_beside_strangers = c.runs_fit_other_aims.ensures.beside;
+  flow_stays = c.flow_stays.ensures.flow;
+  results_stay = c.flow_stays.ensures.results;
+  outcomes_stay = c.flow_stays.ensures.outcomes;
+  outcomes_stay_beside_strangers = c.flow_stays.ensures.beside;
+  writes_add_up = c.writes_add_up.ensures.sum;
 }

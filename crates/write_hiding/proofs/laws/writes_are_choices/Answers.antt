@@ -1,6 +1,7 @@
 use Rattle.std.proofs.Common.{zero, suc, arith}
 use Rattle.write_hiding.specs.Laws.{WritesAreChoices, WritesAreSeen}
 use Rattle.write_hiding.proofs.HonestLemmas.{form0, view0, form1, view1}
+use Rattle.write_hiding.proofs.OtherLeaves.{ends_are_leaves, keys_are_honest, leaves_are_honest}
 use Rattle.write_hiding.proofs.laws.writes_are_choices.Goals as goal
 
 writes_are_choices : WritesAreChoices
@@ -14,4 +15,4 @@ writes_are_seen width (suc zero) d aim game h is_drawn places aimed = view1 widt
 writes_are_seen width (suc (suc n)) d aim game h is_drawn places aimed = absurd (omega arith)
 
 pub returns : goal.returns
-returns c = record { choice = writes_are_choices; seen = writes_are_seen }
+returns c = record { choice = writes_are_choices; seen = writes_are_seen; keys = keys_are_honest; end = ends_are_leaves; leaf = leaves_are_honest }

@@ -1,0 +1,16 @@
+pub mod Aims
+pub mod Quiet
+pub mod Bytes
+pub mod Histories
+pub mod Widths
+pub mod Stays
+pub mod Seen
+pub mod Added
+pub mod Real
+pub mod Ends
+pub mod Flow
+pub mod Letters
+pub mod Apart
+pub mod Schedules
+pub mod AddUp
+pub mod Outcomes
