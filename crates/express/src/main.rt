@@ -72,7 +72,7 @@ fn random_seed<R: Files>(rt: &R) -> Result<[u8; 32], u8>
 fn work(rt: &HostRuntime, words: &Vec<String>, seed: &[u8; 32]) -> u8 {
     let mut input = Adapter::new(Direct(rt.reader()));
     let mut out = Adapter::new(Direct(io::writer(rt)));
-    let mut net = TcpNet::new(TcpPorts::new(rt));
+    let mut net = TcpNet::new(TcpPorts::new(*rt));
     let disk = FileDisk::new(JournalFile::new(rt, JOURNAL));
     let (status, _) = run_kept(
         rt.alloc(),

@@ -18,34 +18,34 @@ const PAUSE: u64 = 100;
 /// The ports of the system, with a listener once `listen` has succeeded. An address is an IP address or a host's
 /// name, and a port, as "127.0.0.1:7000".
 #[derive(Drop)]
-pub struct TcpPorts<'a, R: Net + Clock> {
-    rt: &'a R,
+pub struct TcpPorts<R: Net + Clock + Copy> {
+    rt: R,
     pub(crate) door: Option<R::Listener>,
 }
 
 /// A stream, and the clock by which its calls end in time.
 #[derive(Drop)]
-pub struct TcpSocket<'a, R: Net + Clock> {
-    rt: &'a R,
+pub struct TcpSocket<R: Net + Clock + Copy> {
+    rt: R,
     stream: R::Stream,
 }
 
-impl<'a, R: Net + Clock> TcpPorts<'a, R> {
+impl<R: Net + Clock + Copy> TcpPorts<R> {
     /// Listens nowhere yet.
-    pub fn new(rt: &'a R) -> Self {
+    pub fn new(rt: R) -> Self {
         TcpPorts { rt, door: None }
     }
 
     // The stream, as connected now.
-    fn connected(&self, stream: R::Stream) -> io::Result<Connected<TcpSocket<'a, R>>> {
-        let at = Instant::now(self.rt)?;
+    fn connected(&self, stream: R::Stream) -> io::Result<Connected<TcpSocket<R>>> {
+        let at = Instant::now(&self.rt)?;
         Ok(Connected {
             socket: TcpSocket::new(self.rt, stream),
             at,
         })
     }
 
-    fn accepted(&self) -> io::Result<Connected<TcpSocket<'a, R>>> {
+    fn accepted(&self) -> io::Result<Connected<TcpSocket<R>>> {
         let Some(door) = &self.door else {
             return Err(io::Error::from(ErrorKind::NotConnected));
         };
@@ -55,17 +55,17 @@ impl<'a, R: Net + Clock> TcpPorts<'a, R> {
 
     // A connection to one address, if there is time left for it.
     fn dialled_at(&self, addr: SocketAddr, limit: &mut Limit) -> io::Result<R::Stream> {
-        let Some(left) = limit.left_at(Instant::now(self.rt)?) else {
+        let Some(left) = limit.left_at(Instant::now(&self.rt)?) else {
             return Err(io::Error::from(ErrorKind::TimedOut));
         };
-        TcpStream::connect_timeout(self.rt, &addr, left)
+        TcpStream::connect_timeout(&self.rt, &addr, left)
     }
 
     // Each address of the peer is dialled in turn.
-    fn dialled(&self, peer: &str) -> io::Result<Connected<TcpSocket<'a, R>>> {
+    fn dialled(&self, peer: &str) -> io::Result<Connected<TcpSocket<R>>> {
         let mut limit = Limit::of(PATIENCE_WITH_DIALS);
         let mut last = io::Error::from(ErrorKind::InvalidInput);
-        for addr in peer.to_socket_addrs(self.rt)? {
+        for addr in peer.to_socket_addrs(&self.rt)? {
             match self.dialled_at(addr, &mut limit) {
                 Ok(stream) => return self.connected(stream),
                 Err(error) => last = error,
@@ -75,32 +75,32 @@ impl<'a, R: Net + Clock> TcpPorts<'a, R> {
     }
 }
 
-impl<'a, R: Net + Clock> Ports for TcpPorts<'a, R> {
-    type Socket = TcpSocket<'a, R>;
+impl<R: Net + Clock + Copy> Ports for TcpPorts<R> {
+    type Socket = TcpSocket<R>;
 
     ghost accepts = { λ _. None };
 
     fn listen(&mut self, at: &str) -> Result<(), Trouble> {
-        self.door = Some(TcpListener::bind(self.rt, at).map_err(trouble_of)?);
+        self.door = Some(TcpListener::bind(&self.rt, at).map_err(trouble_of)?);
         Ok(())
     }
 
-    fn accept(&mut self) -> Result<Connected<TcpSocket<'a, R>>, Trouble> {
+    fn accept(&mut self) -> Result<Connected<TcpSocket<R>>, Trouble> {
         self.accepted().map_err(trouble_of)
     }
 
-    fn dial(&mut self, peer: &str) -> Result<Connected<TcpSocket<'a, R>>, Trouble> {
+    fn dial(&mut self, peer: &str) -> Result<Connected<TcpSocket<R>>, Trouble> {
         self.dialled(peer).map_err(trouble_of)
     }
 
     fn pause(&mut self) {
-        thread::sleep(self.rt, Duration::from_millis(PAUSE));
+        thread::sleep(&self.rt, Duration::from_millis(PAUSE));
     }
 }
 
-impl<'a, R: Net + Clock> TcpSocket<'a, R> {
+impl<R: Net + Clock + Copy> TcpSocket<R> {
     /// A stream whose calls end by this clock.
-    pub fn new(rt: &'a R, stream: R::Stream) -> Self {
+    pub fn new(rt: R, stream: R::Stream) -> Self {
         TcpSocket { rt, stream }
     }
 
@@ -119,11 +119,11 @@ impl<'a, R: Net + Clock> TcpSocket<'a, R> {
     }
 }
 
-impl<'a, R: Net + Clock> Socket for TcpSocket<'a, R> {
+impl<R: Net + Clock + Copy> Socket for TcpSocket<R> {
     ghost calls = { λ _. None };
 
     fn now(&mut self) -> Result<Instant, Trouble> {
-        Instant::now(self.rt).map_err(trouble_of)
+        Instant::now(&self.rt).map_err(trouble_of)
     }
 
     fn read_within(&mut self, left: Duration, buf: &mut [u8]) -> Result<usize, Trouble> {

@@ -9,13 +9,10 @@ use std::net::TcpStream;
 use std::test::Fail;
 use std::thread;
 
-type Near<'a> = Adapter<Timed<TcpSocket<'a, HostRuntime>>>;
+type Near = Adapter<Timed<TcpSocket<HostRuntime>>>;
 
 // A connection with a second for its reads and one for its writes, and its peer.
-fn pair<'a>(
-    rt: &'a HostRuntime,
-    ports: &mut TcpPorts<'a, HostRuntime>,
-) -> Result<(Near<'a>, TcpStream), Fail> {
+fn pair(rt: &HostRuntime, ports: &mut TcpPorts<HostRuntime>) -> Result<(Near, TcpStream), Fail> {
     if ports.listen("127.0.0.1:0").is_err() {
         Err("it can't listen")?;
     }
@@ -35,7 +32,7 @@ fn pair<'a>(
 }
 
 // Whether a byte that the peer sends is read, and then a part of the second is over.
-fn takes_a_byte(rt: &HostRuntime, near: &mut Near<'_>, peer: &mut TcpStream) -> Result<bool, Fail> {
+fn takes_a_byte(rt: &HostRuntime, near: &mut Near, peer: &mut TcpStream) -> Result<bool, Fail> {
     peer.write_all(b"d")?;
     let is_taken = matches!(near.take(&mut [0; 8]), Ok(1));
     thread::sleep(rt, Duration::from_millis(600));
@@ -44,7 +41,7 @@ fn takes_a_byte(rt: &HostRuntime, near: &mut Near<'_>, peer: &mut TcpStream) -> 
 
 #[test]
 fn a_peer_that_drips_is_cut_and_may_still_be_answered(rt: HostRuntime) -> Result<(), Fail> {
-    let mut ports = TcpPorts::new(&rt);
+    let mut ports = TcpPorts::new(rt);
     let (mut near, mut peer) = pair(&rt, &mut ports)?;
     assert!(rt; takes_a_byte(&rt, &mut near, &mut peer)?);
     assert!(rt; takes_a_byte(&rt, &mut near, &mut peer)?);
@@ -64,7 +61,7 @@ fn lasts_a_second(rt: &HostRuntime, start: Instant) -> Result<bool, Fail> {
 
 #[test]
 fn a_silent_peer_is_cut(rt: HostRuntime) -> Result<(), Fail> {
-    let mut ports = TcpPorts::new(&rt);
+    let mut ports = TcpPorts::new(rt);
     let (mut near, _peer) = pair(&rt, &mut ports)?;
     let start = Instant::now(&rt)?;
     assert!(rt; near.take(&mut [0; 8]).is_err());
@@ -74,7 +71,7 @@ fn a_silent_peer_is_cut(rt: HostRuntime) -> Result<(), Fail> {
 
 #[test]
 fn a_peer_that_takes_nothing_is_cut(rt: HostRuntime) -> Result<(), Fail> {
-    let mut ports = TcpPorts::new(&rt);
+    let mut ports = TcpPorts::new(rt);
     let (mut near, _peer) = pair(&rt, &mut ports)?;
     let bytes = vec![in rt.alloc(); 0u8; 1 << 26]?;
     let start = Instant::now(&rt)?;
