@@ -13,6 +13,7 @@ PIECES='644 share/man/man1/express.1 man/express.1
 644 share/bash-completion/completions/express-drill completions/express.bash
 644 lib/systemd/system/express-helper.service units/express-helper.service
 644 lib/systemd/system/express-leader.service units/express-leader.service
+755 lib/express/set-aside units/set-aside
 644 share/doc/express/OPERATIONS.md docs/OPERATIONS.md
 644 share/doc/express/PRIVACY.md docs/PRIVACY.md
 644 share/doc/express/FRAMES.md docs/FRAMES.md
@@ -63,8 +64,8 @@ build() {
     "$top/.ci/sources-hash" "$program" >"$program.sources"
 }
 
-# Copies a piece to its place; a unit gets the program's place under this prefix.
+# Copies a piece to its place; a unit gets the places of its programs under this prefix.
 put_piece() {
     local mode=$1 source=$2 place=$3 prefix=$4
-    sed "s|/usr/local/bin/express|$prefix/bin/express|" "$top/$source" | install -D -m "$mode" /dev/stdin "$place"
+    sed -E "s#/usr/local/(bin|lib)/express#$prefix/\1/express#" "$top/$source" | install -D -m "$mode" /dev/stdin "$place"
 }

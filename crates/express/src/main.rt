@@ -1,23 +1,31 @@
 //! The program: the real objects, handed to the top call.
 #![tactic(auto)]
 
-ghost use Rattle.std.specs.Prelude.{◌≡◌, ◌≢◌, [], ◌∷◌, Contains, IfErr};
+ghost use Rattle.std.specs.Prelude.{◌≡◌, ◌≢◌, [], ◌∷◌, Contains, IfErr, MatchResult};
 ghost use Rattle.std.specs.IoError.{error_kind};
+ghost use Rattle.std.specs.Process.{exit_status};
 
 mod adapter;
+mod calls;
 mod file_disk;
+mod journal_file;
+mod patience;
 mod tcp_net;
+mod tcp_ports;
 
 use adapter::Adapter;
+use calls::Direct;
 use express_cli::seed_of;
 use express_keep::run_kept;
 use file_disk::FileDisk;
+use journal_file::JournalFile;
 use std::fs::File;
 use std::io::ErrorKind;
 use std::process::ExitCode;
 use std::rt::{Env, Files};
 use std::{env, io};
 use tcp_net::TcpNet;
+use tcp_ports::TcpPorts;
 
 /// The journal of a server under `keep`, in the folder that the program runs in.
 const JOURNAL: &str = "express.journal";
@@ -57,15 +65,15 @@ fn random_seed<R: Files>(rt: &R) -> Result<[u8; 32], u8>
     ensures { IfErr result (λ status. status ≡ 9) }
 {
     let random = File::open(rt, "/dev/urandom").map_err(|_| NO_SEED)?;
-    seed_of(&mut Adapter::new(random)).map_err(|_| NO_SEED)
+    seed_of(&mut Adapter::new(Direct(random))).map_err(|_| NO_SEED)
 }
 
 // Hands the real objects to the top call, and answers its status.
 fn work(rt: &HostRuntime, words: &Vec<String>, seed: &[u8; 32]) -> u8 {
-    let mut input = Adapter::new(rt.reader());
-    let mut out = Adapter::new(io::writer(rt));
-    let mut net = TcpNet::new(rt);
-    let disk = FileDisk::new(rt, JOURNAL);
+    let mut input = Adapter::new(Direct(rt.reader()));
+    let mut out = Adapter::new(Direct(io::writer(rt)));
+    let mut net = TcpNet::new(TcpPorts::new(*rt));
+    let disk = FileDisk::new(JournalFile::new(rt, JOURNAL));
     let (status, _) = run_kept(
         rt.alloc(),
         words,
@@ -87,10 +95,17 @@ fn start(rt: &HostRuntime) -> Result<u8, u8>
     Ok(work(rt, &words, &seed))
 }
 
-fn main(rt: HostRuntime) -> ExitCode {
-    match start(&rt) {
+// What the program ends with: the status, wherever it was found.
+fn exit_of(started: Result<u8, u8>) -> ExitCode
+    ensures { MatchResult started (λ status. exit_status result ≡ status) (λ status. exit_status result ≡ status) }
+{
+    match started {
         Ok(status) | Err(status) => ExitCode::from(status),
     }
+}
+
+fn main(rt: HostRuntime) -> ExitCode {
+    exit_of(start(&rt))
 }
 
 #[cfg(test)]

@@ -219,9 +219,9 @@ module _ (b : Book) (v : World) (all : List Taken)
       (r.0, (r.1, first_once b s.frames v s.world i l known h t at k out unique.1))
 
   pub stays_once : (s : Both) (g : FrameWorld) (u : World) (acts : List Act) → g.helper ≡ s.frames.helper → g.leader ≡ s.frames.leader → u.commands ≡ s.world.commands
-      → u.misfits ≡ s.world.misfits → UniqueOnce s → UniqueOnce (record { frames = g; world = u; acts = acts; taken = s.taken })
-  stays_once s g u acts helper leader commands misfits unique =
-      (stays s g u acts helper leader commands misfits unique.0, subst (FirstOnce b.foreign) (sym commands) unique.1)
+      → u.journal ≡ s.world.journal → u.misfits ≡ s.world.misfits → UniqueOnce s → UniqueOnce (record { frames = g; world = u; acts = acts; taken = s.taken })
+  stays_once s g u acts helper leader commands journal misfits unique =
+      (stays s g u acts helper leader commands journal misfits unique.0, subst (FirstOnce b.foreign) (sym commands) unique.1)
 
 -- ---- the end of a run
 

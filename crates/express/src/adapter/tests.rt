@@ -1,18 +1,36 @@
-//! The adapters over a reader and a writer that fail.
+//! The adapters over a reader and a writer that fail or are interrupted.
 use super::*;
-use std::io::{self, ErrorKind};
+use crate::calls::Direct;
+use std::io::{self, ErrorKind, Read, Write};
 
-/// A reader that has two bytes, then fails once, then has ended.
+/// A reader that has two bytes, then fails once, then has ended. Each of its reads is interrupted so many times first.
 #[derive(Drop)]
-struct Interrupted {
+struct Failing {
     reads: u8,
+    interrupts: u32,
+    left: u32,
 }
 
-impl Read for Interrupted {
+impl Failing {
+    fn new(interrupts: u32) -> Failing {
+        Failing {
+            reads: 0,
+            interrupts,
+            left: interrupts,
+        }
+    }
+}
+
+impl Read for Failing {
     fn read(&mut self, buf: &mut [u8]) -> io::Result<usize> {
+        if self.left > 0 {
+            self.left -= 1;
+            return Err(io::Error::from(ErrorKind::Interrupted));
+        }
+        self.left = self.interrupts;
         self.reads = self.reads.saturating_add(1);
         if self.reads == 2 {
-            return Err(io::Error::from(ErrorKind::Interrupted));
+            return Err(io::Error::from(ErrorKind::BrokenPipe));
         }
         if self.reads > 2 || buf.len() < 2 {
             return Ok(0);
@@ -24,36 +42,55 @@ impl Read for Interrupted {
 }
 
 // Whether the next take gives so many bytes, and so many calls have failed by then.
-fn gives(source: &mut Adapter<Interrupted>, buf: &mut [u8; 8], bytes: usize, faults: u64) -> bool {
+fn gives(
+    source: &mut Adapter<Direct<Failing>>,
+    buf: &mut [u8; 8],
+    bytes: usize,
+    faults: u64,
+) -> bool {
     match source.take(buf) {
         Ok(count) => count == bytes && source.faults() == faults,
         Err(Failed) => false,
     }
 }
 
-fn fails(source: &mut Adapter<Interrupted>, buf: &mut [u8; 8], faults: u64) -> bool {
+fn fails(source: &mut Adapter<Direct<Failing>>, buf: &mut [u8; 8], faults: u64) -> bool {
     source.take(buf).is_err() && source.faults() == faults
 }
 
 #[test]
-fn a_source_counts_errors(rt: HostRuntime) {
-    let mut source = Adapter::new(Interrupted { reads: 0 });
-    let mut buf = [0u8; 8];
-    assert!(rt; gives(&mut source, &mut buf, 2, 0));
-    assert!(rt; buf[0] == b'o' && buf[1] == b'k');
-    assert!(rt; fails(&mut source, &mut buf, 1));
-    assert!(rt; gives(&mut source, &mut buf, 0, 1));
+fn a_source_counts_errors_but_no_interruptions(rt: HostRuntime) {
+    for interrupts in [0, 1, 999] {
+        let mut source = Adapter::new(Direct(Failing::new(interrupts)));
+        let mut buf = [0u8; 8];
+        assert!(rt; gives(&mut source, &mut buf, 2, 0));
+        assert!(rt; buf[0] == b'o' && buf[1] == b'k');
+        assert!(rt; fails(&mut source, &mut buf, 1));
+        assert!(rt; gives(&mut source, &mut buf, 0, 1));
+    }
 }
 
-/// A writer that takes two bytes a time, as long as there is room, and may fail at each flush.
+#[test]
+fn a_source_that_is_always_interrupted_fails(rt: HostRuntime) {
+    let mut source = Adapter::new(Direct(Failing::new(1000)));
+    assert!(rt; fails(&mut source, &mut [0; 8], 1));
+}
+
+/// A writer that takes two bytes a time, as long as there is room, is interrupted before each, and may fail at each
+/// flush.
 #[derive(Drop)]
 struct Narrow {
     room: usize,
     flushes: bool,
+    is_interrupted: bool,
 }
 
 impl Write for Narrow {
     fn write(&mut self, buf: &[u8]) -> io::Result<usize> {
+        self.is_interrupted = !self.is_interrupted;
+        if self.is_interrupted {
+            return Err(io::Error::from(ErrorKind::Interrupted));
+        }
         let count = buf.len().min(2).min(self.room);
         self.room -= count;
         Ok(count)
@@ -68,22 +105,24 @@ impl Write for Narrow {
     }
 }
 
+fn sink(flushes: bool) -> Adapter<Direct<Narrow>> {
+    Adapter::new(Direct(Narrow {
+        room: 7,
+        flushes,
+        is_interrupted: false,
+    }))
+}
+
 // Whether a put of these bytes goes so, and so many calls have failed by then.
-fn puts(sink: &mut Adapter<Narrow>, bytes: &[u8], taken: bool, faults: u64) -> bool {
+fn puts(sink: &mut Adapter<Direct<Narrow>>, bytes: &[u8], taken: bool, faults: u64) -> bool {
     sink.put(bytes).is_ok() == taken && sink.faults() == faults
 }
 
 #[test]
 fn a_sink_writes_on_and_counts_what_is_not_taken(rt: HostRuntime) {
-    let mut sink = Adapter::new(Narrow {
-        room: 7,
-        flushes: true,
-    });
-    assert!(rt; puts(&mut sink, b"short", true, 0));
-    assert!(rt; puts(&mut sink, b"longer", false, 1));
-    let mut unflushed = Adapter::new(Narrow {
-        room: 7,
-        flushes: false,
-    });
+    let mut flushed = sink(true);
+    assert!(rt; puts(&mut flushed, b"short", true, 0));
+    assert!(rt; puts(&mut flushed, b"longer", false, 1));
+    let mut unflushed = sink(false);
     assert!(rt; puts(&mut unflushed, b"short", false, 1));
 }

@@ -1,8 +1,11 @@
 //! A net over loopback.
 use super::*;
+use crate::tcp_ports::{TcpPorts, TcpSocket};
 use express_words::outside::{Conn, Sink, Source};
-use std::net::Shutdown;
+use std::net::{Shutdown, TcpStream};
 use std::test::Fail;
+
+type Loopback = TcpNet<TcpPorts<HostRuntime>>;
 
 // Whether the next bytes of a source, of which no more are asked, are these.
 fn gives<S: Source>(from: &mut S, wanted: &[u8; 3]) -> bool {
@@ -28,31 +31,31 @@ fn is_mute<C: Conn>(conn: &mut C) -> bool {
     conn.put(b"more").is_err() && conn.take(&mut [0; 3]).is_err() && conn.faults() == 2
 }
 
-fn has_counted(net: &TcpNet<'_, HostRuntime>, faults: u64, doors: u64) -> bool {
+fn has_counted(net: &Loopback, faults: u64, doors: u64) -> bool {
     net.faults() == faults && net.doors == doors
 }
 
-fn accepts(net: &mut TcpNet<'_, HostRuntime>) -> bool {
+fn accepts(net: &mut Loopback) -> bool {
     net.accept().is_ok()
 }
 
-fn dials(net: &mut TcpNet<'_, HostRuntime>, peer: &str) -> bool {
+fn dials(net: &mut Loopback, peer: &str) -> bool {
     net.dial(peer).is_ok()
 }
 
 // Where the net listens from now on.
-fn listening(rt: &HostRuntime, net: &mut TcpNet<'_, HostRuntime>) -> Result<String, Fail> {
+fn listening(rt: &HostRuntime, net: &mut Loopback) -> Result<String, Fail> {
     if net.listen("127.0.0.1:0").is_err() {
         Err("it can't listen")?;
     }
-    let Some(listener) = &net.listener else {
+    let Some(listener) = &net.ports.door else {
         return Err(Fail::from("nothing listens"));
     };
     Ok(format!(in rt.alloc(); "{}", listener.local_addr()?)?)
 }
 
 // Whether bytes go both ways between the net and itself.
-fn talks(net: &mut TcpNet<'_, HostRuntime>, at: &str) -> bool {
+fn talks<N: Net>(net: &mut N, at: &str) -> bool {
     let (Ok(mut near), Ok(far)) = (net.dial(at), net.accept()) else {
         return false;
     };
@@ -62,10 +65,10 @@ fn talks(net: &mut TcpNet<'_, HostRuntime>, at: &str) -> bool {
 }
 
 // Whether a connection that was shut at this end, and to which nobody answers, fails in both directions.
-fn fails(rt: &HostRuntime, net: &mut TcpNet<'_, HostRuntime>, at: &str) -> Result<bool, Fail> {
+fn fails(rt: &HostRuntime, net: &mut Loopback, at: &str) -> Result<bool, Fail> {
     let stream = TcpStream::connect(rt, at)?;
     stream.shutdown(Shutdown::Write)?;
-    let mut mute = patient(stream, 1)?;
+    let mut mute = Adapter::new(Timed::lasting(TcpSocket::new(*rt, stream), Instant::now(rt)?, 1));
     let failed = is_mute(&mut mute);
     net.close(mute);
     Ok(failed)
@@ -73,7 +76,7 @@ fn fails(rt: &HostRuntime, net: &mut TcpNet<'_, HostRuntime>, at: &str) -> Resul
 
 #[test]
 fn bytes_go_both_ways_and_each_fault_is_counted(rt: HostRuntime) -> Result<(), Fail> {
-    let mut net = TcpNet::new(&rt);
+    let mut net = TcpNet::new(TcpPorts::new(rt));
     assert!(rt; !accepts(&mut net), "nothing listens yet");
     assert!(rt; net.listen("no address").is_err(), "a text without a port");
     assert!(rt; !dials(&mut net, "127.0.0.1"), "a text without a port");
