@@ -22,6 +22,7 @@ PIECES='644 share/man/man1/express.1 man/express.1
 644 share/doc/express/examples/reader.toml examples/reader.toml
 644 share/doc/express/deploy/README.md deploy/README.md
 755 share/doc/express/deploy/keys deploy/keys
+755 share/doc/express/deploy/sizes deploy/sizes
 644 share/doc/express/deploy/helper.toml deploy/helper.toml
 644 share/doc/express/deploy/helper.haproxy.cfg deploy/helper.haproxy.cfg
 644 share/doc/express/deploy/helper.stunnel.conf deploy/helper.stunnel.conf
