@@ -81,7 +81,7 @@ window = {sizes.window}
 connections = {connections}
 """
         self.command = [path, "keep" if folder else "serve"]
-        self.role, self.port, self.folder, self.process = role, port, folder, None
+        self.role, self.port, self.folder, self.sizes, self.process = role, port, folder, sizes, None
 
     def start(self):
         """Starts it, and gives it back once it listens."""

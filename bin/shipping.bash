@@ -21,8 +21,10 @@ PIECES='644 share/man/man1/express.1 man/express.1
 644 share/doc/express/examples/owner.toml examples/owner.toml
 644 share/doc/express/examples/writer.toml examples/writer.toml
 644 share/doc/express/examples/reader.toml examples/reader.toml
+755 share/doc/express/examples/rest examples/rest
 644 share/doc/express/deploy/README.md deploy/README.md
 755 share/doc/express/deploy/keys deploy/keys
+755 share/doc/express/deploy/sizes deploy/sizes
 644 share/doc/express/deploy/helper.toml deploy/helper.toml
 644 share/doc/express/deploy/helper.haproxy.cfg deploy/helper.haproxy.cfg
 644 share/doc/express/deploy/helper.stunnel.conf deploy/helper.stunnel.conf
