@@ -1,13 +1,18 @@
 -- The laws that stand on the top call whatever its words are: what holds of every schedule, batch, game and
--- file.
+-- file. A law of schedules says P b f w: b is the history of the schedule's run, with the requests sent, the
+-- commands issued, the entries carried out and what foreign lanes brought; f is its run over bytes, with both
+-- servers, the clients, the pool, the journal and the outcomes that are printed; and w is its token run, the
+-- same frames without content.
 use Rattle.std.specs.Prelude.{ℕ, ◌≤◌, List}
 use Rattle.schedule_text.specs.Mill.{mill_schedule}
 use Rattle.schedule_text.specs.Rules.{KeepsRules}
 use Rattle.schedule_text.specs.Spelling.{SpellsSchedule}
 use Rattle.schedule_text.specs.declared.schedule.Schedule.{Schedule}
 use Rattle.run_rules.specs.Follows.{Follows}
-use Rattle.run_rules.specs.Plain.{BoxesArePlain, JournalInOrder, JournalIsPlain, JournalIsTold}
-use Rattle.run_rules.specs.Plain.{OutcomesArePlain, SharesAreFolds}
+use Rattle.run_rules.specs.EveryEnd.{HistoryIsSo}
+use Rattle.run_rules.specs.HistoryRuns.{HistoryIsRuns}
+use Rattle.run_rules.specs.Plain.{BoxesArePlain, ClientsAreReady, HistoryIsClients, JournalInOrder}
+use Rattle.run_rules.specs.Plain.{JournalIsPlain, JournalIsTold, OutcomesArePlain, SharesAreFolds}
 use Rattle.run_rules.specs.Soundness.{BadWritesAreCaught, SettledAsTheyPass}
 use Rattle.run_hiding.specs.Flow.{FlowStays, OutcomesStay, OutcomesStayBeside, RunsFitBeside}
 use Rattle.run_hiding.specs.Flow.{SchedulesFitOtherAims}
@@ -15,8 +20,8 @@ use Rattle.run_hiding.specs.Laws.{DistinctRunsStay, ForeignOrdersStay, ForeignRe
 use Rattle.run_hiding.specs.Laws.{LettersAreIdeal, MasksApart, RealIsIdeal, ResultsStay, RunsFitOtherAims}
 use Rattle.run_hiding.specs.Laws.{RunsHaveForm, RunsReturn, SightsStay, WritesAddUp}
 use Rattle.replay_world.specs.Laws.{AreFromClients, OfSchedules, RequestsAreTold}
-use Rattle.replay_world.specs.Strangers.{FinishesAnswer, OfEverySchedule, OthersAreTold, SchedulesFit}
-use Rattle.replay_world.specs.Strangers.{StrangersAreForeign}
+use Rattle.replay_world.specs.Strangers.{BusyRowsAwait, FinishesAnswer, HistoryIsOfRun}
+use Rattle.replay_world.specs.Strangers.{OfEverySchedule, OthersAreTold, SchedulesFit, StrangersAreForeign, StrangersWereBrought}
 use Rattle.file_table.specs.Laws.{AnswersJoin, UnwrittenIsMissing}
 use Rattle.batch_audit.specs.Batch.{FewValuesPass}
 use Rattle.batch_audit.specs.Sorting.{SortsAreOne}
@@ -30,6 +35,11 @@ pub record Laws : Type 0 where
   -- So does a mill's schedule, in which no bytes come from outside.
   pub mills_keep_rules : (n : ℕ) → n ≤ 5000
       → KeepsRules (mill_schedule n) × AreFromClients (mill_schedule n).events
+  -- The history that these laws speak of is the run's: the requests that the token run sent for each client
+  -- under their serials, the commands that it issued, and the entries that it carried out, each of which did
+  -- what its request asked, and never nothing.
+  pub histories_are_runs : OfSchedules HistoryIsRuns
+  pub entries_answer : OfSchedules HistoryIsClients
   -- Whatever frames of a schedule of clients are lost, repeated or reordered: its run is the protocol's
   -- machine with content; each outcome is what the plain table of mailboxes gives at its request's place in
   -- the journal, so a message that an owner decodes is the one that stands in the table there.
@@ -46,13 +56,24 @@ pub record Laws : Type 0 where
   -- command's line has the plain table's result, or the helper's refusal of a command that did nothing.
   pub lanes_stay_apart : SchedulesFit
   pub foreign_lanes : StrangersAreForeign
+  pub all_histories_are_runs : OfEverySchedule HistoryIsRuns
+  pub all_entries_answer : OfEverySchedule HistoryIsSo
+  pub runs_are_printed : HistoryIsOfRun
   pub all_follow_protocol : OfEverySchedule Follows
   pub all_outcomes_are_plain : OfEverySchedule OutcomesArePlain
   pub all_lines_are_told : OfEverySchedule JournalIsTold
+  -- A client's command is refused for what the plain table has alone: its deposit and proof never are missing.
+  pub all_clients_are_ready : OfEverySchedule ClientsAreReady
   pub all_clients_in_order : OfEverySchedule JournalInOrder
   pub all_shares_are_folds : OfEverySchedule SharesAreFolds
   pub all_boxes_are_plain : OfEverySchedule BoxesArePlain
   pub all_requests_are_told : OthersAreTold
+  -- A row of the leader waits or audits exactly where one command of its lane and serial is outstanding, whatever
+  -- lane it is.
+  pub rows_are_awaited : BusyRowsAwait
+  -- A foreign command that did something was brought what it needs by its lane, at both servers: submission and
+  -- deposit, for an audit or settle both proofs, for a read or retire the token of the box's key at both.
+  pub strangers_were_brought : StrangersWereBrought
   -- At the end each request that a client was asked before a `finish` of it has its outcome.
   pub finishes_answer : FinishesAnswer
   -- Each settle is printed as accepted exactly where the write's proof passes at its point; a foreign write
