@@ -20,6 +20,7 @@ use Rattle.run_hiding.specs.Laws.{DistinctRunsStay, ForeignOrdersStay, ForeignRe
 use Rattle.run_hiding.specs.Laws.{LettersAreIdeal, MasksApart, RealIsIdeal, ResultsStay, RunsFitOtherAims}
 use Rattle.run_hiding.specs.Laws.{RunsHaveForm, RunsReturn, SightsStay, WritesAddUp}
 use Rattle.replay_world.specs.Laws.{AreFromClients, OfSchedules, RequestsAreTold}
+use Rattle.replay_world.specs.Sight.{ClientsGetAnswers}
 use Rattle.replay_world.specs.Strangers.{BusyRowsAwait, FinishesAnswer, HistoryIsOfRun}
 use Rattle.replay_world.specs.Strangers.{OfEverySchedule, OthersAreTold, SchedulesFit, StrangersAreForeign, StrangersWereBrought}
 use Rattle.file_table.specs.Laws.{AnswersJoin, UnwrittenIsMissing}
@@ -74,6 +75,9 @@ pub record Laws : Type 0 where
   -- A foreign command that did something was brought what it needs by its lane, at both servers: submission and
   -- deposit, for an audit or settle both proofs, for a read or retire the token of the box's key at both.
   pub strangers_were_brought : StrangersWereBrought
+  -- What is addressed to a client is one of the six answers that clients get, whatever lane it is: no frame to a
+  -- client has the point of a proof in it.
+  pub clients_get_answers : ClientsGetAnswers
   -- At the end each request that a client was asked before a `finish` of it has its outcome.
   pub finishes_answer : FinishesAnswer
   -- Each settle is printed as accepted exactly where the write's proof passes at its point; a foreign write

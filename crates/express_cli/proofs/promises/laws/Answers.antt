@@ -33,6 +33,7 @@ returns c = record {
   all_requests_are_told = c.requests_are_told.ensures.others;
   rows_are_awaited = c.rows_are_awaited.ensures;
   strangers_were_brought = c.strangers_were_brought.ensures;
+  clients_get_answers = c.clients_get_answers.ensures;
   finishes_answer = c.requests_are_told.ensures.finished;
   accepted_writes_pass = c.accepted_writes_pass.ensures.passes;
   bad_writes_are_caught = c.accepted_writes_pass.ensures.caught;
