@@ -21,8 +21,7 @@ use Rattle.run_rules.proofs.PlainWrites.{settles_write}
 use Rattle.run_hiding.specs.Ideal.{AreAims, is_write, writes}
 use Rattle.run_hiding.specs.Moved.{OtherAims, with_sent}
 use Rattle.run_hiding.specs.Flow.{OutcomesStay, OutcomesStayBeside, SameOutcome, unread, unread_told}
-use Rattle.run_hiding.proofs.Aims.{bare, pair}
-use Rattle.run_hiding.proofs.Flow.{opening_unaimed}
+use Rattle.run_hiding.proofs.Aims.{bare, opening_unaimed, pair}
 use Rattle.run_hiding.proofs.Histories.{history_stays}
 use Rattle.run_hiding.proofs.Letters.{results_stay}
 use Rattle.run_hiding.proofs.Seen.{asked}
