@@ -102,7 +102,7 @@ fn read_text(alloc: Global, text: &[u8]) -> Result<BatchPairs, TextFault>
 pub fn read_batch(alloc: Global, text: &[u8]) -> Result<BatchPairs, TextFault>
     ensures judges { Judges text.now result }
     ensures batch { Gives batch_in result (batch_of text.now) }
-    ensures few { IfOk result (λ pairs. length pairs.zero.items ≤ 20000) }
+    ensures few { IfOk result (λ pairs. length pairs.zero.items ≤ MOST_PAIRS) }
     ensures as_many { IfOk result (λ pairs. length pairs.one.items ≡ length pairs.zero.items) }
 {
     read_text(alloc, text)

@@ -115,7 +115,7 @@ fn aim_of(alloc: Global, word: &[u8], width: u32, line: &[u8]) -> Result<Option<
 #[tactic(auto, unfolding(crate::specs::Games::address_behind))]
 fn address_behind(before: &[u128], line: &[u8]) -> Option<u128>
     ensures address { result ≡ address_behind before.now line.now }
-    ensures room { IfSome result (λ a. length before.now < 4096) }
+    ensures room { IfSome result (λ a. length before.now < MOST_ADDRESSES) }
 {
     if before.len() >= MOST_ADDRESSES {
         return None;

@@ -3,6 +3,7 @@ use Rattle.std.specs.Prelude.{IfOk}
 use Rattle.express_texts.specs.declared.fault.TextFault.{TextFault}
 use Rattle.express_texts.specs.declared.fault.TextFault.TheVariants.{Wrong, WrongKey, NoMemory}
 use Rattle.express_texts.specs.declared.batch.BatchPairs.{BatchPairs}
+use Rattle.express_texts.specs.declared.batch.TheConstants.{MOST_PAIRS}
 use Rattle.express_texts.specs.Batch.{batch_of}
 use Rattle.express_texts.specs.Judging.{Gives, Judges, batch_in}
 use Rattle.express_texts.proofs.BatchLaws.{batch_found, bad_found, as_many}
@@ -14,7 +15,7 @@ judged text (Err (Wrong n)) h = bad_found text n h
 judged text (Err (WrongKey key)) h = absurd h
 judged text (Err NoMemory) h = tt
 
-few : (text : List ℕ) (r : Result BatchPairs TextFault) → Judges text r → IfOk r (λ pairs. length pairs.zero.items ≤ 20000)
+few : (text : List ℕ) (r : Result BatchPairs TextFault) → Judges text r → IfOk r (λ pairs. length pairs.zero.items ≤ MOST_PAIRS)
 few text (Ok pairs) h = h.few
 few text (Err fault) h = tt
 
