@@ -55,7 +55,10 @@ fn listening(rt: &HostRuntime, net: &mut Loopback) -> Result<String, Fail> {
 }
 
 // Whether bytes go both ways between the net and itself.
-fn talks<N: Net>(net: &mut N, at: &str) -> bool {
+fn talks<N: Net>(net: &mut N, at: &str) -> bool
+where
+    N::Conn: Drop,
+{
     let (Ok(mut near), Ok(far)) = (net.dial(at), net.accept()) else {
         return false;
     };
