@@ -1,8 +1,8 @@
 //! A leader or a helper. Its contracts hide what it holds, since only what it writes is compared.
 ghost use Rattle.std.specs.Prelude.{◌≤◌, length};
 
-use express_words::{Settings, Text};
 use express_words::outside::{MemoryConn, MemoryNet};
+use express_words::{Settings, Text};
 use frame_rules::FRAME_MAX;
 use helper_core::Helper;
 use leader_core::Leader;
