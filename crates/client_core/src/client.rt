@@ -2,6 +2,7 @@
 ghost use Rattle.std.specs.Prelude.{◌≡◌, ◌≤◌, ◌↔◌, ℕ, List, length, take, drop, IfOk, IfErr, OnErr, Ok, Err, Some, None, option_map, is_none, if◌then◌else◌, false};
 ghost use Rattle.express_words.specs.Limits.{IsWidth};
 ghost use Rattle.mailbox_rules.specs.Requests.{Write};
+ghost use Rattle.frame_rules.specs.Room.{HasRoom};
 ghost use Rattle.step_rules.specs.Client.{opened_client, Step};
 ghost use Rattle.step_rules.specs.ClientAsks.{asked, owning, sends, words};
 ghost use Rattle.step_rules.specs.ClientReplies.{on_reply};
@@ -97,16 +98,18 @@ impl Client {
     /// or the helper 1, and its length in bytes. None exactly where no request is current. The frame is the same each
     /// time.
     pub fn send(&self, out: &mut [u8]) -> Option<(u8, usize)>
-        requires room { 8213 ≤ length out.old }
+        requires room { HasRoom out.old }
         ensures none { (result ≡ None) ↔ (self.now.current ≡ None) }
         ensures sent { result ≡ option_map addressed (sends self.now) }
         ensures written { take (length (bytes_of (sends self.now))) out.new ≡ bytes_of (sends self.now) }
-        ensures rest { let count = length (bytes_of (sends self.now)) in drop count out.new ≡ drop count out.old }
+        ensures rest { let count = length (bytes_of
+            (sends self.now)) in drop count out.new ≡ drop count out.old }
         // The frames of a write are the honest keys and the proof of the sixteen words that were drawn for its serial,
         // with lane and serial, and nothing else.
         ensures write { (target : ℕ) (message : List ℕ) (step : Step) →
             self.now.current ≡ Some (record { request = Write target message; step = step }) →
-            sends self.now ≡ Some (write_sent self.now.lane self.now.serial (words self.now) target message step) }
+            sends self.now ≡ Some (write_sent self.now.lane self.now.serial
+            (words self.now) target message step) }
         ensures words { AreWords (words self.now) }
     {
         match self.state.stage {

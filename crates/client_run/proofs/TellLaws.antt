@@ -22,7 +22,7 @@ use Rattle.client_run.specs.declared.cut.Untold.{Untold}
 use Rattle.client_run.specs.declared.cut.Untold.TheVariants as untold
 use Rattle.client_run.specs.declared.telling.Until.{Until}
 use Rattle.client_run.specs.Texts.{outcome_line}
-use Rattle.client_run.specs.Telling.{Moment, moment, Passed, PassedPart, TookPart, PutsLine, TellsOne, TellsOff, goes_on, AllGoOn, lines_of, IsLast}
+use Rattle.client_run.specs.Telling.{Moment, Passed, PassedPart, TookPart, PutsLine, TellsOne, TellsOff, goes_on, AllGoOn, lines_of, IsLast}
 use Rattle.client_run.proofs.PassedLaws.{took_nothing, passed_both, passed_part, passed_silent, lines_more}
 
 -- ---- one request
@@ -50,9 +50,12 @@ ended peers number old r new message told a b came =
       is_line = ap (line number message) e.2 ∙ line_is number e.0 message read;
     }
 
+abbrev at : Option (List Call) → Option (List ℕ) → Moment
+at calls written = record { calls = calls; written = written }
+
 pub tells_end : (peers : Peers) (number : ℕ) (old : Client) (r : Request) (new : Client) (message : List ℕ) (told : Told) (a b : Option (List Call)) (w v : Option (List ℕ))
     → Came peers old r new message (Ok told) a b → Took w v (outcome_line (line number message told))
-    → TellsOne peers number old r new (Ok told) (moment a w) (moment b v)
+    → TellsOne peers number old r new (Ok told) (at a w) (at b v)
 tells_end peers number old r new message told a b w v came took =
     let e = ended peers number old r new message told a b came in
     let out : Took w v (outcome_line (line_of number e.end)) = subst (λ (x : Finished). Took w v (outcome_line x)) e.is_line took in
@@ -60,7 +63,7 @@ tells_end peers number old r new message told a b w v came took =
 
 pub tells_untold : (peers : Peers) (number : ℕ) (old : Client) (r : Request) (new : Client) (message : List ℕ) (told : Told) (why : Untold) (a b : Option (List Call)) (w v : Option (List ℕ))
     → Came peers old r new message (Ok told) a b → PutsLine (outcome_line (line number message told)) (Err why) w v
-    → TellsOne peers number old r new (Err (cuts.Untold why)) (moment a w) (moment b v)
+    → TellsOne peers number old r new (Err (cuts.Untold why)) (at a w) (at b v)
 tells_untold peers number old r new message told untold.NoMemory a b w v came same =
     let e = ended peers number old r new message told a b came in
     (e.made, e.end, e.comes, record { calls = e.calls; written = subst (λ (x : Option (List ℕ)). Took w x []) (sym same) (took_nothing w) })
@@ -69,7 +72,7 @@ tells_untold peers number old r new message told untold.Unwritten a b w v came p
     (e.made, e.end, e.comes, record { calls = e.calls; written = subst (λ (x : Finished). TookPart [] (outcome_line x) w v) e.is_line part })
 
 pub tells_stop : (peers : Peers) (number : ℕ) (old : Client) (r : Request) (new : Client) (message : List ℕ) (why : Stop) (a b : Option (List Call)) (w : Option (List ℕ))
-    → Came peers old r new message (Err why) a b → TellsOne peers number old r new (Err (cuts.Stopped why)) (moment a w) (moment b w)
+    → Came peers old r new message (Err why) a b → TellsOne peers number old r new (Err (cuts.Stopped why)) (at a w) (at b w)
 tells_stop peers number old r new message why a b w came =
     (came.made, subst (λ (x : Result Ending Stop). Comes old r new came.made x) (stop_told came.end why came.told) came.comes, record { calls = came.calls; written = took_nothing w })
 

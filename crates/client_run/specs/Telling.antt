@@ -2,6 +2,7 @@
 use Rattle.std.specs.Prelude.{◌≡◌, ℕ, Bool, true, false, List, [], ◌∷◌, ◌++◌, length, flat_map}
 use Rattle.std.specs.Prelude.{Option, None, Result, Ok, Err}
 use Rattle.std.specs.List.{AllPass}
+use Rattle.express_words.specs.Seen.{Seen}
 use Rattle.express_words.specs.Calls.{Call}
 use Rattle.express_words.specs.Causes.{Rose}
 use Rattle.express_words.specs.Streams.{Took}
@@ -32,8 +33,8 @@ pub record Moment : Type 0 where
   pub calls : Option (List Call)
   pub written : Option (List ℕ)
 
-abbrev pub moment : Option (List Call) → Option (List ℕ) → Moment
-moment calls written = record { calls = calls; written = written }
+abbrev pub moment : (net out : Seen) → Moment
+moment net out = record { calls = net.calls; written = out.written }
 
 -- from one moment to another these exchanges were made and no other call, and these bytes went out
 pub record Passed (peers : Peers) (made : List Talk) (bytes : List ℕ) (before now : Moment) : Type 0 where

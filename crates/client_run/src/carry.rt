@@ -67,9 +67,9 @@ fn fetch<N: Net>(
     requires ready { IsReady worker.old }
     requires fits { All (λ r. Fits worker.old.client.width (plain_request r)) requests.now }
     ensures fetches { IfOk result (λ ran. Fetches
-        (plan_at worker.old.peers worker.old.client (map plain_request requests.now)) ran (N.calls net.old) (N.calls net.new)) }
-    ensures fault { IfOk result (λ ran. RunFault ran.end (N.count net.old) (N.count net.new)) }
-    ensures door { N.doors net.new ≡ N.doors net.old }
+        (plan_at worker.old.peers worker.old.client (map plain_request requests.now)) ran (N.seen net.old).calls (N.seen net.new).calls) }
+    ensures fault { IfOk result (λ ran. RunFault ran.end (N.seen net.old).faults (N.seen net.new).faults) }
+    ensures door { (N.seen net.new).doors ≡ (N.seen net.old).doors }
 {
     let carried = carry_off(
         alloc,
@@ -94,10 +94,10 @@ fn send<K: Sink, N: Net>(
     requires ready { IsReady worker.old }
     requires fits { All (λ r. Fits worker.old.client.width (plain_request r)) requests.now }
     ensures sends { SendComes parts (plan_at worker.old.peers worker.old.client (map plain_request requests.now)) result
-        (moment (N.calls net.old) (K.written out.old)) (moment (N.calls net.new) (K.written out.new)) }
-    ensures fault { IfOk result (λ ran. RunFault ran.end (N.count net.old) (N.count net.new)) }
-    ensures sink { PutSink result (K.count out.old) (K.count out.new) }
-    ensures door { N.doors net.new ≡ N.doors net.old }
+        (moment (N.seen net.old) (K.seen out.old)) (moment (N.seen net.new) (K.seen out.new)) }
+    ensures fault { IfOk result (λ ran. RunFault ran.end (N.seen net.old).faults (N.seen net.new).faults) }
+    ensures sink { PutSink result (K.seen out.old).faults (K.seen out.new).faults }
+    ensures door { (N.seen net.new).doors ≡ (N.seen net.old).doors }
 {
     let end = tell_off(alloc, worker, requests, Until::Broken, out, net);
     said(alloc, Some(parts), end)
@@ -121,10 +121,10 @@ pub fn run_carry<K: Sink, N: Net>(
 ) -> Result<Ran, Untold>
     requires settings { IsCarrier settings.now }
     ensures comes { CarryComes settings.now seed.now result
-        (moment (N.calls net.old) (K.written out.old)) (moment (N.calls net.new) (K.written out.new)) }
-    ensures fault { IfOk result (λ ran. RunFault ran.end (N.count net.old) (N.count net.new)) }
-    ensures sink { PutSink result (K.count out.old) (K.count out.new) }
-    ensures door { N.doors net.new ≡ N.doors net.old }
+        (moment (N.seen net.old) (K.seen out.old)) (moment (N.seen net.new) (K.seen out.new)) }
+    ensures fault { IfOk result (λ ran. RunFault ran.end (N.seen net.old).faults (N.seen net.new).faults) }
+    ensures sink { PutSink result (K.seen out.old).faults (K.seen out.new).faults }
+    ensures door { (N.seen net.new).doors ≡ (N.seen net.old).doors }
 {
     let peers = Peers {
         leader: settings.leader.as_str(),

@@ -46,12 +46,13 @@ pub fn carry_off<N: Net>(
     requires fits { All (λ r. Fits client.old.width (plain_request r)) requests.now }
     ensures works { IfOk result (λ c. (made : List Talk)
         × CarriesOff client.old (map plain_request requests.now) client.new c.finished.items made c.end
-        × TalksOn peers.now made (N.calls net.old) (N.calls net.new)) }
+        × TalksOn peers.now made (N.seen net.old).calls (N.seen net.new).calls) }
     ensures carried { IfOk result (λ c. AllCarry c.finished.items) }
     ensures whole { IfOk result (λ c. AreWhole client.old.width c.finished.items) }
     ensures few { IfOk result (λ c. length c.finished.items ≤ length requests.now) }
-    ensures fault { IfOk result (λ c. RunFault (carry_end c.end) (N.count net.old) (N.count net.new)) }
-    ensures door { N.doors net.new ≡ N.doors net.old }
+    ensures fault { IfOk result (λ c. RunFault (carry_end c.end) (N.seen net.old).faults
+        (N.seen net.new).faults) }
+    ensures door { (N.seen net.new).doors ≡ (N.seen net.old).doors }
 {
     let mut finished = Vec::new(alloc);
     for (number, request) in requests.iter().enumerate() {

@@ -39,10 +39,10 @@ pub fn run_client<K: Sink, N: Net>(
 ) -> Result<Ran, Untold>
     requires settings { IsClient settings.now }
     ensures comes { ClientComes settings.now seed.now result
-        (moment (N.calls net.old) (K.written out.old)) (moment (N.calls net.new) (K.written out.new)) }
-    ensures fault { IfOk result (λ ran. RunFault ran.end (N.count net.old) (N.count net.new)) }
-    ensures sink { PutSink result (K.count out.old) (K.count out.new) }
-    ensures door { N.doors net.new ≡ N.doors net.old }
+        (moment (N.seen net.old) (K.seen out.old)) (moment (N.seen net.new) (K.seen out.new)) }
+    ensures fault { IfOk result (λ ran. RunFault ran.end (N.seen net.old).faults (N.seen net.new).faults) }
+    ensures sink { PutSink result (K.seen out.old).faults (K.seen out.new).faults }
+    ensures door { (N.seen net.new).doors ≡ (N.seen net.old).doors }
 {
     let peers = Peers {
         leader: settings.leader.as_str(),

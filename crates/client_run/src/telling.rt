@@ -52,10 +52,10 @@ pub fn tell_off<K: Sink, N: Net>(
     requires ready { IsReady worker.old }
     requires fits { All (λ r. Fits worker.old.client.width (plain_request r)) requests.now }
     ensures tells { TellsOff worker.old.peers until worker.old.client (map plain_request requests.now) result
-        (moment (N.calls net.old) (K.written out.old)) (moment (N.calls net.new) (K.written out.new)) }
-    ensures fault { CutFault result (N.count net.old) (N.count net.new) }
-    ensures sink { CutSink result (K.count out.old) (K.count out.new) }
-    ensures door { N.doors net.new ≡ N.doors net.old }
+        (moment (N.seen net.old) (K.seen out.old)) (moment (N.seen net.new) (K.seen out.new)) }
+    ensures fault { CutFault result (N.seen net.old).faults (N.seen net.new).faults }
+    ensures sink { CutSink result (K.seen out.old).faults (K.seen out.new).faults }
+    ensures door { (N.seen net.new).doors ≡ (N.seen net.old).doors }
 {
     for (number, request) in requests.iter().enumerate() {
         let told = match worker.tell_one(alloc, number, request, out, net) {

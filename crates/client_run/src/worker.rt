@@ -40,8 +40,8 @@ fn put_told<K: Sink>(
     message: &[u8],
     out: &mut K,
 ) -> Result<(), Untold>
-    ensures puts { PutsLine (outcome_line (line number message.now told)) result (K.written out.old) (K.written out.new) }
-    ensures sink { PutSink result (K.count out.old) (K.count out.new) }
+    ensures puts { PutsLine (outcome_line (line number message.now told)) result (K.seen out.old).written (K.seen out.new).written }
+    ensures sink { PutSink result (K.seen out.old).faults (K.seen out.new).faults }
 {
     let text = told_line(alloc, number, told, message)?;
     match out.put(text.as_bytes()) {
@@ -86,14 +86,15 @@ impl<'a> Worker<'a> {
     ) -> Result<Told, Cut>
         requires ready { IsReady self.old }
         requires fits { Fits self.old.client.width (plain_request request.now) }
-        ensures tells { TellsOne self.old.peers number self.old.client (plain_request request.now) self.new.client result
-            (moment (N.calls net.old) (K.written out.old)) (moment (N.calls net.new) (K.written out.new)) }
+        ensures tells { TellsOne self.old.peers number self.old.client
+            (plain_request request.now) self.new.client result
+            (moment (N.seen net.old) (K.seen out.old)) (moment (N.seen net.new) (K.seen out.new)) }
         ensures ready { OnOk result (IsReady self.new) }
         ensures peers { self.new.peers ≡ self.old.peers }
         ensures width { self.new.client.width ≡ self.old.client.width }
-        ensures fault { CutFault result (N.count net.old) (N.count net.new) }
-        ensures sink { CutSink result (K.count out.old) (K.count out.new) }
-        ensures door { N.doors net.new ≡ N.doors net.old }
+        ensures fault { CutFault result (N.seen net.old).faults (N.seen net.new).faults }
+        ensures sink { CutSink result (K.seen out.old).faults (K.seen out.new).faults }
+        ensures door { (N.seen net.new).doors ≡ (N.seen net.old).doors }
     {
         let message = self.message.as_mut_slice();
         let told = match one_request(&mut self.client, request, &self.peers, net, message) {

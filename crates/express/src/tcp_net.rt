@@ -1,6 +1,7 @@
 //! A net over the system's ports.
 ghost use Rattle.std.specs.Prelude.{◌≡◌, ◌≤◌, List, Option, None, Some, Result, Ok, Err, IfOk, MatchResult};
 ghost use Rattle.std.specs.Duration.{as_nanos};
+ghost use Rattle.express_words.specs.Seen.{netted};
 ghost use Rattle.express_words.specs.Causes.{HasCause, CountsFault, CountsFailure, next};
 ghost use Rattle.express.specs.Calls.{added, EndedBy};
 ghost use Rattle.express.specs.Patience.{seconds};
@@ -106,7 +107,7 @@ fn accept_again<P: Ports>(ports: &mut P) -> Result<Connected<P::Socket>, Trouble
 }
 
 impl<P: Ports> Counted for TcpNet<P> {
-    ghost count = { λ n. n.faults };
+    ghost seen = { λ n. netted None n.faults n.doors };
 
     fn faults(&self) -> u64 {
         self.faults
@@ -115,10 +116,6 @@ impl<P: Ports> Counted for TcpNet<P> {
 
 impl<P: Ports> Net for TcpNet<P> {
     type Conn = Adapter<Timed<P::Socket>>;
-
-    ghost calls = { λ _. None };
-
-    ghost doors = { λ n. n.doors };
 
     fn listen(&mut self, at: &str) -> Result<(), Failed> {
         match self.ports.listen(at) {
@@ -136,10 +133,12 @@ impl<P: Ports> Net for TcpNet<P> {
         ensures cause { HasCause self.old.faults self.new.faults result }
         ensures counts { CountsFault self.old.faults self.new.faults result }
         ensures ended { MatchResult result
-            (λ conn. (at : _) × (conn.inner.reading.began ≡ Some at) × EndedBy (P.accepts self.new.ports) (Ok at))
+            (λ conn. (at : _) × (conn.inner.reading.began ≡ Some at)
+            × EndedBy (P.accepts self.new.ports) (Ok at))
             (λ _. (why : _) × EndedBy (P.accepts self.new.ports) (Err why)) }
         ensures reading { IfOk result (λ conn. as_nanos conn.inner.reading.allowed ≡ seconds 10) }
-        ensures writing { IfOk result (λ conn. (conn.inner.writing.began ≡ None) × (as_nanos conn.inner.writing.allowed ≡ seconds 10)) }
+        ensures writing { IfOk result (λ conn. (conn.inner.writing.began ≡ None)
+            × (as_nanos conn.inner.writing.allowed ≡ seconds 10)) }
     {
         match accept_again(&mut self.ports) {
             Ok(made) => Ok(Adapter::new(Timed::accepted(made.socket, made.at))),

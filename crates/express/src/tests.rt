@@ -1,4 +1,6 @@
 //! The top call over objects in memory.
+ghost use Rattle.express_words.specs.Seen.{silent};
+
 mod batch;
 mod cases;
 mod cloak;
@@ -104,7 +106,7 @@ struct Long {
 }
 
 impl Counted for Long {
-    ghost count = { λ _. 0 };
+    ghost seen = { λ _. silent 0 };
 
     fn faults(&self) -> u64 {
         0

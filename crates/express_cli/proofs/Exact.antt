@@ -16,7 +16,7 @@ use Rattle.express_cli.specs.Batches.{SortsOut, IsBatchText, batch_text}
 use Rattle.express_cli.specs.Cloaks.{old_view, new_view, cloak_text, IsCloakText}
 use Rattle.express_cli.specs.Mills.{mill_text}
 use Rattle.express_cli.specs.Work.{IsOutput, IsBad}
-use Rattle.express_cli.specs.Ends.{Prints, status_of, bad_line, too_long_text}
+use Rattle.express_cli.specs.Ends.{PrintsBy, status_of, bad_line, too_long_text}
 use Rattle.express_cli.specs.Around.{Around}
 use Rattle.express_cli.specs.Runs.{MayDo, MayWork, RunMay}
 use Rattle.express_cli.specs.Headline.{RanWell}
@@ -56,7 +56,7 @@ mill_done words from to net text n asks (inr (inr mill)) = (mill.2, mill.3 ∙ a
 
 -- what a mill wrote whose sink didn't fail and that found memory
 pub mills : (words : List Text) (from to : Option Stream) (c d : ℕ) (net : Around) (old new : Option (List ℕ)) (before now : ℕ) (end : End) (n : ℕ)
-    → Prints (RunMay words from to c d net) old new before now end → AsksMill words n → ¬ Rose before now → status_of end ≢ 7
+    → PrintsBy (RunMay words from to c d net) old new before now end → AsksMill words n → ¬ Rose before now → status_of end ≢ 7
     → (status_of end ≡ 0) × (to ≡ from) × Took old new (mill_text n)
 mills words from to c d net old new before now ends.Done n h asks sink memory =
     let did = mill_done words from to net h.0 n asks h.1 in (refl, did.0, took_as old new _ _ did.1 h.2)
@@ -71,7 +71,7 @@ mills words from to c d net old new before now ends.TooLong n h asks sink memory
 
 -- what a command that ran well wrote of bytes that aren't bad
 writes : Reads → (words : List Text) (s : Stream) (to : Option Stream) (c d : ℕ) (net : Around) (old new : Option (List ℕ)) (before now : ℕ) (end : End) (command : Command)
-    → Prints (RunMay words (Some s) to c d net) old new before now end → Asks words command → RanWell c d before now (status_of end)
+    → PrintsBy (RunMay words (Some s) to c d net) old new before now end → Asks words command → RanWell c d before now (status_of end)
     → ((n : ℕ) → IsBad command n s.left → ⊥) → length s.left ≤ most_bytes
     → (status_of end ≡ 0) × ((text : List ℕ) × IsOutput command s.left text × Took old new text)
 writes law words s to c d net old new before now ends.Done command h asks well good short =
@@ -89,7 +89,7 @@ writes law words s to c d net old new before now ends.TooLong command h asks wel
     absurd (omega (arith, gave_within s to h.1.1.0 h.1.1.1, h.1.1.2, short))
 
 replays : Reads → (words : List Text) (s : Stream) (to : Option Stream) (c d : ℕ) (net : Around) (old new : Option (List ℕ)) (before now : ℕ) (end : End)
-    → Prints (RunMay words (Some s) to c d net) old new before now end → Asks words Replay → RanWell c d before now (status_of end)
+    → PrintsBy (RunMay words (Some s) to c d net) old new before now end → Asks words Replay → RanWell c d before now (status_of end)
     → (schedule : Schedule) → SpellsSchedule schedule s.left → length s.left ≤ most_bytes → (status_of end ≡ 0) × Took old new (output_of schedule)
 replays law words s to c d net old new before now end h asks well schedule spells short =
     let w = writes law words s to c d net old new before now end Replay h asks well (λ n. not_bad_schedule law s.left schedule n spells) short in
@@ -97,7 +97,7 @@ replays law words s to c d net old new before now end h asks well schedule spell
     (w.0, took_as old new _ _ (wrote.2 ∙ ap output_of (same_schedule law s.left _ schedule wrote.1 spells)) w.1.2)
 
 sorts : Reads → (words : List Text) (s : Stream) (to : Option Stream) (c d : ℕ) (net : Around) (old new : Option (List ℕ)) (before now : ℕ) (end : End)
-    → Prints (RunMay words (Some s) to c d net) old new before now end → Asks words Batch → RanWell c d before now (status_of end)
+    → PrintsBy (RunMay words (Some s) to c d net) old new before now end → Asks words Batch → RanWell c d before now (status_of end)
     → (pairs : Pairs) → SpellsBatch pairs s.left → length s.left ≤ most_bytes
     → (status_of end ≡ 0) × ((rejected : List Bool) × (judged : ℕ) × SortsOut pairs rejected judged × Took old new (batch_text rejected judged))
 sorts law words s to c d net old new before now end h asks well pairs spells short =
@@ -107,7 +107,7 @@ sorts law words s to c d net old new before now end h asks well pairs spells sho
     (w.0, (sort.0, sort.1, sort.2, took_as old new _ _ sort.3 w.1.2))
 
 shows : Reads → (words : List Text) (s : Stream) (to : Option Stream) (c d : ℕ) (net : Around) (old new : Option (List ℕ)) (before now : ℕ) (end : End)
-    → Prints (RunMay words (Some s) to c d net) old new before now end → Asks words Cloak → RanWell c d before now (status_of end)
+    → PrintsBy (RunMay words (Some s) to c d net) old new before now end → Asks words Cloak → RanWell c d before now (status_of end)
     → (game : CloakGame) → SpellsGame game s.left → length s.left ≤ most_bytes → (status_of end ≡ 0) × (new_view game ≡ old_view game) × Took old new (cloak_text game)
 shows law words s to c d net old new before now end h asks well game spells short =
     let w = writes law words s to c d net old new before now end Cloak h asks well (λ n. not_bad_game law s.left game n spells) short in
@@ -116,7 +116,7 @@ shows law words s to c d net old new before now end h asks well game spells shor
     (w.0, shown.0, took_as old new _ _ shown.1 w.1.2)
 
 names_bad : Reads → (words : List Text) (s : Stream) (to : Option Stream) (c d : ℕ) (net : Around) (old new : Option (List ℕ)) (before now : ℕ) (end : End) (command : Command)
-    → Prints (RunMay words (Some s) to c d net) old new before now end → Asks words command → RanWell c d before now (status_of end)
+    → PrintsBy (RunMay words (Some s) to c d net) old new before now end → Asks words command → RanWell c d before now (status_of end)
     → (n : ℕ) → IsBad command n s.left → length s.left ≤ most_bytes → (status_of end ≡ 3) × Took old new (bad_line n)
 names_bad law words s to c d net old new before now ends.Done command h asks well n bad short =
     let did = work_done words (Some s) to net h.0 command asks h.1 in
@@ -145,7 +145,7 @@ done_not_long words s to net text asks (inr (inl talk)) long = not_long s talk.2
 done_not_long words s to net text asks (inr (inr mill)) long = some_no_mill words mill.0 asks mill.1
 
 refuses : (words : List Text) (s : Stream) (to : Option Stream) (c d : ℕ) (net : Around) (old new : Option (List ℕ)) (before now : ℕ) (end : End)
-    → Prints (RunMay words (Some s) to c d net) old new before now end → AskSome words → RanWell c d before now (status_of end)
+    → PrintsBy (RunMay words (Some s) to c d net) old new before now end → AskSome words → RanWell c d before now (status_of end)
     → most_bytes < length s.left → (status_of end ≡ 8) × Took old new too_long_text
 refuses words s to c d net old new before now ends.Done h asks well long = absurd (done_not_long words s to net h.0 asks h.1 long)
 refuses words s to c d net old new before now ends.Usage h asks well long = absurd (nothing_of_some words h.1.0 asks)
@@ -162,32 +162,32 @@ refuses words s to c d net old new before now ends.TooLong h asks well long = (r
 
 -- each where the source tells its bytes
 pub headline : Reads → (words : List Text) (from to : Option Stream) (c d : ℕ) (net : Around) (old new : Option (List ℕ)) (before now : ℕ) (end : End)
-    → Prints (RunMay words from to c d net) old new before now end → Asks words Replay → RanWell c d before now (status_of end)
+    → PrintsBy (RunMay words from to c d net) old new before now end → Asks words Replay → RanWell c d before now (status_of end)
     → IfSome from (λ s. (schedule : Schedule) → SpellsSchedule schedule s.left → length s.left ≤ most_bytes → (status_of end ≡ 0) × Took old new (output_of schedule))
 headline law words None to c d net old new before now end h asks well = tt
 headline law words (Some s) to c d net old new before now end h asks well = replays law words s to c d net old new before now end h asks well
 
 pub batch : Reads → (words : List Text) (from to : Option Stream) (c d : ℕ) (net : Around) (old new : Option (List ℕ)) (before now : ℕ) (end : End)
-    → Prints (RunMay words from to c d net) old new before now end → Asks words Batch → RanWell c d before now (status_of end)
+    → PrintsBy (RunMay words from to c d net) old new before now end → Asks words Batch → RanWell c d before now (status_of end)
     → IfSome from (λ s. (pairs : Pairs) → SpellsBatch pairs s.left → length s.left ≤ most_bytes
     → (status_of end ≡ 0) × ((rejected : List Bool) × (judged : ℕ) × SortsOut pairs rejected judged × Took old new (batch_text rejected judged)))
 batch law words None to c d net old new before now end h asks well = tt
 batch law words (Some s) to c d net old new before now end h asks well = sorts law words s to c d net old new before now end h asks well
 
 pub cloak : Reads → (words : List Text) (from to : Option Stream) (c d : ℕ) (net : Around) (old new : Option (List ℕ)) (before now : ℕ) (end : End)
-    → Prints (RunMay words from to c d net) old new before now end → Asks words Cloak → RanWell c d before now (status_of end)
+    → PrintsBy (RunMay words from to c d net) old new before now end → Asks words Cloak → RanWell c d before now (status_of end)
     → IfSome from (λ s. (game : CloakGame) → SpellsGame game s.left → length s.left ≤ most_bytes → (status_of end ≡ 0) × (new_view game ≡ old_view game) × Took old new (cloak_text game))
 cloak law words None to c d net old new before now end h asks well = tt
 cloak law words (Some s) to c d net old new before now end h asks well = shows law words s to c d net old new before now end h asks well
 
 pub names_bad_line : Reads → (words : List Text) (from to : Option Stream) (c d : ℕ) (net : Around) (old new : Option (List ℕ)) (before now : ℕ) (end : End) (command : Command)
-    → Prints (RunMay words from to c d net) old new before now end → Asks words command → RanWell c d before now (status_of end)
+    → PrintsBy (RunMay words from to c d net) old new before now end → Asks words command → RanWell c d before now (status_of end)
     → IfSome from (λ s. (n : ℕ) → IsBad command n s.left → length s.left ≤ most_bytes → (status_of end ≡ 3) × Took old new (bad_line n))
 names_bad_line law words None to c d net old new before now end command h asks well = tt
 names_bad_line law words (Some s) to c d net old new before now end command h asks well = names_bad law words s to c d net old new before now end command h asks well
 
 pub refuses_too_long : (words : List Text) (from to : Option Stream) (c d : ℕ) (net : Around) (old new : Option (List ℕ)) (before now : ℕ) (end : End)
-    → Prints (RunMay words from to c d net) old new before now end → AskSome words → RanWell c d before now (status_of end)
+    → PrintsBy (RunMay words from to c d net) old new before now end → AskSome words → RanWell c d before now (status_of end)
     → IfSome from (λ s. most_bytes < length s.left → (status_of end ≡ 8) × Took old new too_long_text)
 refuses_too_long words None to c d net old new before now end h asks well = tt
 refuses_too_long words (Some s) to c d net old new before now end h asks well = refuses words s to c d net old new before now end h asks well

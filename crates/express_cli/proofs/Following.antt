@@ -2,7 +2,7 @@
 use Rattle.std.proofs.Common.{◌≡◌, ℕ, List, ◌++◌, Option, Some, None, append_assoc, sym, ap, subst, ◌∙◌}
 use Rattle.express_words.specs.Causes.{Rose}
 use Rattle.express_words.specs.Streams.{Took, TookPrefix}
-use Rattle.express_cli.specs.Ends.{Prints}
+use Rattle.express_cli.specs.Ends.{PrintsBy}
 use Rattle.express_cli.specs.declared.ends.End.{End}
 use Rattle.express_cli.specs.declared.ends.End.TheVariants as ends
 
@@ -25,7 +25,7 @@ prefix_more old new text more h =
 -- What comes after a text that was taken is written behind it.
 pub follows : (Then May : End → List ℕ → Type 0) (old mid new : Option (List ℕ)) (before between now : ℕ) (end : End) (front : List ℕ)
     → Took old mid front → between ≡ before → ((e : End) (text : List ℕ) → Then e text → May e (front ++ text))
-    → Prints Then mid new between now end → Prints May old new before now end
+    → PrintsBy Then mid new between now end → PrintsBy May old new before now end
 follows Then May old mid new before between now ends.Done front took same f h = (front ++ h.0, f _ _ h.1, took_both old mid new front h.0 took h.2)
 follows Then May old mid new before between now ends.Usage front took same f h = (front ++ h.0, f _ _ h.1, took_both old mid new front h.0 took h.2)
 follows Then May old mid new before between now (ends.BadLine n) front took same f h = (front ++ h.0, f _ _ h.1, took_both old mid new front h.0 took h.2)

@@ -2,7 +2,7 @@
 use Rattle.std.proofs.Common.{◌≡◌, ◌≢◌, ℕ, List, ◌∙◌, ap, sym, subst}
 use Rattle.clap.specs.Words.{Text}
 use Rattle.express_cli.specs.Around.{Around, Outside}
-use Rattle.express_cli.specs.Ends.{Prints, status_of}
+use Rattle.express_cli.specs.Ends.{PrintsBy, status_of}
 use Rattle.express_cli.specs.Ran.{MayCome, Ran}
 use Rattle.express_cli.specs.Runs.{SinkFailed}
 use Rattle.express_cli.specs.declared.ends.End.{End}
@@ -15,7 +15,7 @@ use Rattle.express_cli.proofs.Talked as talked
 -- a run that came to this end, with its text written
 abbrev pub Came : List Text → Outside → Outside → Around → End → Type 0
 Came words old new net end =
-    Prints (MayCome words old new net) old.written new.written old.output_faults new.output_faults end
+    PrintsBy (MayCome words old new net) old.written new.written old.output_faults new.output_faults end
 
 -- its input failed only where it says so, and so did its sink
 abbrev pub SourceTold : Outside → Outside → End → Type 0

@@ -16,7 +16,7 @@ use Rattle.client_run.specs.declared.ran.RunEnd.{RunEnd}
 use Rattle.client_run.specs.declared.ran.RunEnd.TheVariants as run
 use Rattle.node_serve.specs.declared.node.Node.{Node}
 use Rattle.node_host.specs.Opening.{IsOpened}
-use Rattle.express_cli.specs.Ends.{Prints, Said, BadKeyMay, FaultMay, out_of_memory_text}
+use Rattle.express_cli.specs.Ends.{PrintsBy, Said, BadKeyMay, FaultMay, out_of_memory_text}
 use Rattle.express_cli.specs.Around.{Around, Seen}
 use Rattle.express_cli.specs.Talking.{AtDoor, CarryRan, ClientRan, DoorMay, IsBadKey, ListeningMay, ServeMay, TalkMay, end_by, IsStill}
 use Rattle.express_cli.specs.Talking.{SpellsCarry, SpellsClient, SpellsServe}
@@ -41,7 +41,7 @@ prefix_as old new text other same took = let P : List ℕ → Type 0 = λ t. Too
 
 -- where telling it failed, a part of a longer text was written
 pub first_failed : (May : End → List ℕ → Type 0) (old new : Option (List ℕ)) (before now : ℕ) (end : End) (front more : List ℕ)
-    → Prints (Said ends.Done front) old new before now end → end ≢ ends.Done → May ends.OutOfMemory (front ++ more) → Prints May old new before now end
+    → PrintsBy (Said ends.Done front) old new before now end → end ≢ ends.Done → May ends.OutOfMemory (front ++ more) → PrintsBy May old new before now end
 first_failed May old new before now ends.Done front more h other may = absurd (other refl)
 first_failed May old new before now ends.Usage front more h other may = absurd (other h.1.0)
 first_failed May old new before now (ends.BadLine n) front more h other may = absurd (other h.1.0)

@@ -11,7 +11,7 @@ use Rattle.settings_text.specs.declared.carry.CarrySettings.{CarrySettings}
 use Rattle.settings_text.specs.declared.serve.ServeSettings.{ServeSettings}
 use Rattle.express_cli.specs.CommandLine.{AsksNet}
 use Rattle.express_cli.specs.Reading.{most_bytes}
-use Rattle.express_cli.specs.Ends.{Prints, status_of, bad_settings}
+use Rattle.express_cli.specs.Ends.{PrintsBy, status_of, bad_settings}
 use Rattle.express_cli.specs.Around.{Around}
 use Rattle.express_cli.specs.Talking.{CarryMay, ClientMay, IsBadKey, ServeMay, SpellsCarry, SpellsClient, SpellsServe, TalkMay}
 use Rattle.express_cli.specs.Runs.{MayDo, MayTalk, RunMay}
@@ -41,7 +41,7 @@ talk_left words s to net end text command asks talk =
 
 -- no command over a net names a line, and one whose settings are good names no key
 talks : (words : List Text) (s : Stream) (to : Option Stream) (c d : ℕ) (net : Around) (old new : Option (List ℕ)) (before now : ℕ) (end : End) (command : NetCommand)
-    → Prints (RunMay words (Some s) to c d net) old new before now end → AsksNet words command → RanWell c d before now (status_of end) → length s.left ≤ most_bytes
+    → PrintsBy (RunMay words (Some s) to c d net) old new before now end → AsksNet words command → RanWell c d before now (status_of end) → length s.left ≤ most_bytes
     → ((key : List ℕ) → IsBadKey command key s.left → ⊥) → Told (TalkMay command s.left net) old new (status_of end)
 talks words s to c d net old new before now ends.Done command h asks well short good =
     (h.0, h.2, inl (refl, talk_left words s to net ends.Done h.0 command asks (talk_done words (Some s) to net h.0 command asks h.1)))
@@ -90,7 +90,7 @@ carriers_at net bytes text settings status spells (inr broke) =
     inr (broke.0, subst Did (same_settings (judged carry_of bytes) broke.1.0 settings broke.1.1 spells) broke.1.2)
 
 pub serve : (words : List Text) (from to : Option Stream) (c d : ℕ) (net : Around) (old new : Option (List ℕ)) (before now : ℕ) (end : End)
-    → Prints (RunMay words from to c d net) old new before now end → AsksNet words Serve → RanWell c d before now (status_of end)
+    → PrintsBy (RunMay words from to c d net) old new before now end → AsksNet words Serve → RanWell c d before now (status_of end)
     → IfSome from (λ s. (settings : ServeSettings) → SpellsServe settings s.left → length s.left ≤ most_bytes → Told (ServeMay settings net) old new (status_of end))
 serve words None to c d net old new before now end h asks well = tt
 serve words (Some s) to c d net old new before now end h asks well = λ settings spells short.
@@ -98,7 +98,7 @@ serve words (Some s) to c d net old new before now end h asks well = λ settings
     (told.0, told.1, serves_at net s.left told.0 settings (status_of end) spells told.2)
 
 pub client : (words : List Text) (from to : Option Stream) (c d : ℕ) (net : Around) (old new : Option (List ℕ)) (before now : ℕ) (end : End)
-    → Prints (RunMay words from to c d net) old new before now end → AsksNet words Client → RanWell c d before now (status_of end)
+    → PrintsBy (RunMay words from to c d net) old new before now end → AsksNet words Client → RanWell c d before now (status_of end)
     → IfSome from (λ s. (settings : ClientSettings) → SpellsClient settings s.left → length s.left ≤ most_bytes → Told (ClientMay settings net) old new (status_of end))
 client words None to c d net old new before now end h asks well = tt
 client words (Some s) to c d net old new before now end h asks well = λ settings spells short.
@@ -106,7 +106,7 @@ client words (Some s) to c d net old new before now end h asks well = λ setting
     (told.0, told.1, clients_at net s.left told.0 settings (status_of end) spells told.2)
 
 pub carry : (words : List Text) (from to : Option Stream) (c d : ℕ) (net : Around) (old new : Option (List ℕ)) (before now : ℕ) (end : End)
-    → Prints (RunMay words from to c d net) old new before now end → AsksNet words Carry → RanWell c d before now (status_of end)
+    → PrintsBy (RunMay words from to c d net) old new before now end → AsksNet words Carry → RanWell c d before now (status_of end)
     → IfSome from (λ s. (settings : CarrySettings) → SpellsCarry settings s.left → length s.left ≤ most_bytes → Told (CarryMay settings net) old new (status_of end))
 carry words None to c d net old new before now end h asks well = tt
 carry words (Some s) to c d net old new before now end h asks well = λ settings spells short.
@@ -131,7 +131,7 @@ one_key Client bytes key other bad too = same_key (judged client_of bytes) key o
 one_key Carry bytes key other bad too = same_key (judged carry_of bytes) key other bad too
 
 names_key : (words : List Text) (s : Stream) (to : Option Stream) (c d : ℕ) (net : Around) (old new : Option (List ℕ)) (before now : ℕ) (end : End) (command : NetCommand)
-    → Prints (RunMay words (Some s) to c d net) old new before now end → AsksNet words command → RanWell c d before now (status_of end)
+    → PrintsBy (RunMay words (Some s) to c d net) old new before now end → AsksNet words command → RanWell c d before now (status_of end)
     → (key : List ℕ) → IsBadKey command key s.left → length s.left ≤ most_bytes → (status_of end ≡ 3) × Took old new (bad_settings key)
 names_key words s to c d net old new before now ends.Done command h asks well key bad short =
     let did = talk_left words s to net ends.Done h.0 command asks (talk_done words (Some s) to net h.0 command asks h.1) in
@@ -150,7 +150,7 @@ names_key words s to c d net old new before now ends.TooLong command h asks well
     absurd (omega (arith, gave_within s to h.1.1.0 h.1.1.1, h.1.1.2, short))
 
 pub names_bad_key : (words : List Text) (from to : Option Stream) (c d : ℕ) (net : Around) (old new : Option (List ℕ)) (before now : ℕ) (end : End) (command : NetCommand)
-    → Prints (RunMay words from to c d net) old new before now end → AsksNet words command → RanWell c d before now (status_of end)
+    → PrintsBy (RunMay words from to c d net) old new before now end → AsksNet words command → RanWell c d before now (status_of end)
     → IfSome from (λ s. (key : List ℕ) → IsBadKey command key s.left → length s.left ≤ most_bytes → (status_of end ≡ 3) × Took old new (bad_settings key))
 names_bad_key words None to c d net old new before now end command h asks well = tt
 names_bad_key words (Some s) to c d net old new before now end command h asks well = names_key words s to c d net old new before now end command h asks well

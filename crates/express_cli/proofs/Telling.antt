@@ -17,13 +17,13 @@ use Rattle.client_run.specs.declared.ran.RunEnd.{RunEnd}
 use Rattle.client_run.specs.declared.ran.RunEnd.TheVariants as run
 use Rattle.client_run.specs.Carries.{CarryComes, ComesBy, FetchComes, SendComes, SendEnded, CarryRuns, carry_plan, carry_text, send_end, told_by}
 use Rattle.client_run.specs.Runs.{Plan, IsNext, between, outcome, ended, CameTo, EndsWith, BreaksOff as BrokeOff, Comes, ClientEnded, ClientComes, ClientRuns, RunFault, client_plan}
-use Rattle.client_run.specs.Telling.{Moment, moment, TookPart, PutSink, lines_of}
+use Rattle.client_run.specs.Telling.{Moment, TookPart, PutSink, lines_of}
 use Rattle.client_run.specs.Texts.{outcome_line, end_line}
 use Rattle.client_run.proofs.PassedLaws.{lines_more, part_behind, took_nothing, took_part}
 use Rattle.express_cli.specs.Around.{Around}
 use Rattle.express_cli.specs.CommandLine.{AsksNet}
 use Rattle.express_cli.specs.Reading.{GaveAll}
-use Rattle.express_cli.specs.Ends.{Prints, Said, out_of_memory_text}
+use Rattle.express_cli.specs.Ends.{PrintsBy, Said, out_of_memory_text}
 use Rattle.express_cli.specs.Talking.{Breaks, BreaksOff, CarryBreaks, CarryRan, CarryWants, ClientRan, SaysUntold, SpellsCarry, SpellsClient, TalkMay, Wants, end_by}
 use Rattle.express_cli.specs.declared.words.NetCommand.{NetCommand}
 use Rattle.express_cli.specs.declared.words.NetCommand.TheVariants.{Client, Carry}
@@ -32,6 +32,9 @@ use Rattle.express_cli.specs.declared.ends.End.TheVariants as ends
 use Rattle.express_cli.proofs.Following.{follows}
 use Rattle.express_cli.proofs.OneReading.{same_net}
 use Rattle.express_cli.proofs.Serving.{client_may, carry_may}
+
+abbrev at : Option (List Call) → Option (List ℕ) → Moment
+at calls written = record { calls = calls; written = written }
 
 -- ---- any plan
 
@@ -70,7 +73,7 @@ broken_prefix plan a b e more =
 
 -- of a text that was said, a front went out where the sink failed
 said_part : (said : End) (text sure : List ℕ) (old mid new : Option (List ℕ)) (before now : ℕ) (end : End)
-    → Took old mid sure → Prints (Said said text) mid new before now end → end ≡ ends.WriteFault → TookPart sure text old new
+    → Took old mid sure → PrintsBy (Said said text) mid new before now end → end ≡ ends.WriteFault → TookPart sure text old new
 said_part said text sure old mid new before now ends.WriteFault took (rose, (e, t, (is, same), prefix)) failed =
     part_behind old mid new sure text took (subst (λ (x : List ℕ). TookPart [] x mid new) same (took_part mid new t prefix))
 said_part said text sure old mid new before now ends.Done took h failed = absurd (cc failed)
@@ -84,8 +87,8 @@ said_part said text sure old mid new before now ends.TooLong took h failed = abs
 
 -- what is said of the end, behind what was told
 says : (May : End → List ℕ → Type 0) (end_is : End) (text told : List ℕ) (old mid new : Option (List ℕ)) (before middle now : ℕ) (end : End)
-    → May end_is (told ++ text) → Took old mid told → middle ≡ before → Prints (Said end_is text) mid new middle now end
-    → Prints May old new before now end
+    → May end_is (told ++ text) → Took old mid told → middle ≡ before → PrintsBy (Said end_is text) mid new middle now end
+    → PrintsBy May old new before now end
 says May end_is text told old mid new before middle now end may took same said =
     follows (Said end_is text) May old mid new before middle now end told took same
     (λ x t is. subst (λ (y : End). May y (told ++ t)) (sym is.0) (subst (λ (y : List ℕ). May end_is (told ++ y)) (sym is.1) may)) said
@@ -93,24 +96,24 @@ says May end_is text told old mid new before middle now end may took same said =
 -- what a plan's work comes to that isn't told to its end
 untold_says : (May : End → List ℕ → Type 0) (plan : Plan) (Ended : Stand → List Finished → List ℕ → RunEnd → Type 0) (net : Around) (why : Untold) (old mid new : Option (List ℕ)) (before middle now : ℕ) (end : End)
     → ((text : List ℕ) → Wants plan Ended net text → May ends.OutOfMemory text)
-    → Comes plan Ended (Err why) (moment net.before.calls old) (moment net.now.calls mid)
-    → PutSink {A = Ran} (Err why) before middle → SaysUntold why end mid new middle now → Prints May old new before now end
+    → Comes plan Ended (Err why) (at net.before.calls old) (at net.now.calls mid)
+    → PutSink {A = Ran} (Err why) before middle → SaysUntold why end mid new middle now → PrintsBy May old new before now end
 untold_says May plan Ended net untold.NoMemory old mid new before middle now end may (told, next, came, took) same said =
     says May ends.OutOfMemory out_of_memory_text (lines_of told) old mid new before middle now end (may _ (told, next, came, refl)) took same said
 untold_says May plan Ended net untold.Unwritten old mid new before middle now end may e rose (is, same, still) =
     let text = lines_of e.stand.finished ++ out_of_memory_text in
     let prefix : TookPrefix old new text = subst (λ (x : Option (List ℕ)). TookPrefix old x text) (sym same) (broken_prefix plan _ _ e out_of_memory_text) in
     let risen : Rose before now = subst (λ n. Rose before n) (sym still) rose in
-    subst (λ (x : End). Prints May old new before now x) (sym is) (risen, (ends.OutOfMemory, text, may text (e.stand.finished, [], came_whole plan Ended _ _ e, refl), prefix))
+    subst (λ (x : End). PrintsBy May old new before now x) (sym is) (risen, (ends.OutOfMemory, text, may text (e.stand.finished, [], came_whole plan Ended _ _ e, refl), prefix))
 
 ended_breaks : (plan : Plan) (Ended : Stand → List Finished → List ℕ → RunEnd → Type 0) (net : Around) (ran : Ran) (said_end : End) (old mid new : Option (List ℕ)) (middle now : ℕ) (end : End)
-    → EndsWith plan Ended ran (moment net.before.calls old) (moment net.now.calls mid)
-    → Prints (Said said_end ran.text) mid new middle now end → end ≡ ends.WriteFault → Breaks plan Ended net old new
+    → EndsWith plan Ended ran (at net.before.calls old) (at net.now.calls mid)
+    → PrintsBy (Said said_end ran.text) mid new middle now end → end ≡ ends.WriteFault → Breaks plan Ended net old new
 ended_breaks plan Ended net ran said_end old mid new middle now end e said failed =
     (e.told, ran.text, came_ended plan Ended ran _ _ e, inl (said_part said_end ran.text (lines_of e.told) old mid new middle now end e.passed.written said failed))
 
 untold_breaks : (plan : Plan) (Ended : Stand → List Finished → List ℕ → RunEnd → Type 0) (net : Around) (why : Untold) (old mid new : Option (List ℕ)) (middle now : ℕ) (end : End)
-    → Comes plan Ended (Err why) (moment net.before.calls old) (moment net.now.calls mid)
+    → Comes plan Ended (Err why) (at net.before.calls old) (at net.now.calls mid)
     → SaysUntold why end mid new middle now → end ≡ ends.WriteFault → Breaks plan Ended net old new
 untold_breaks plan Ended net untold.NoMemory old mid new middle now end (told, next, came, took) said failed =
     (told, next, came, inr (said_part ends.OutOfMemory out_of_memory_text (lines_of told) old mid new middle now end took said failed))
@@ -122,7 +125,7 @@ untold_breaks plan Ended net untold.Unwritten old mid new middle now end e (is, 
 -- ---- a client
 
 client_ran : (settings : ClientSettings) (net : Around) (ran : Ran) (w v : Option (List ℕ))
-    → (e : EndsWith (client_plan settings net.seed) (ClientEnded (client_plan settings net.seed)) ran (moment net.before.calls w) (moment net.now.calls v))
+    → (e : EndsWith (client_plan settings net.seed) (ClientEnded (client_plan settings net.seed)) ran (at net.before.calls w) (at net.now.calls v))
     → RunFault ran.end net.before.faults net.now.faults → ClientRan settings net ran.end (lines_of e.told ++ ran.text)
 client_ran settings net ran w v e fault =
     let (worked, works, told_is, text_is, end_is) = e.is_ended in
@@ -139,28 +142,28 @@ client_ran settings net ran w v e fault =
     (runs, fault)
 
 pub client_says : (settings : ClientSettings) (bytes : List ℕ) (net : Around) (ran : Ran) (old mid new : Option (List ℕ)) (before middle now : ℕ) (end : End)
-    → SpellsClient settings bytes → ClientComes settings net.seed (Ok ran) (moment net.before.calls old) (moment net.now.calls mid)
+    → SpellsClient settings bytes → ClientComes settings net.seed (Ok ran) (at net.before.calls old) (at net.now.calls mid)
     → RunFault ran.end net.before.faults net.now.faults → middle ≡ before
-    → Prints (Said (end_by ran.end) ran.text) mid new middle now end → Prints (TalkMay Client bytes net) old new before now end
+    → PrintsBy (Said (end_by ran.end) ran.text) mid new middle now end → PrintsBy (TalkMay Client bytes net) old new before now end
 client_says settings bytes net ran old mid new before middle now end spells e fault same said =
     says (TalkMay Client bytes net) (end_by ran.end) ran.text (lines_of e.told) old mid new before middle now end
     (client_may settings bytes net ran.end (lines_of e.told ++ ran.text) spells (client_ran settings net ran old mid e fault)) e.passed.written same said
 
 pub client_untold : (settings : ClientSettings) (bytes : List ℕ) (net : Around) (why : Untold) (old mid new : Option (List ℕ)) (before middle now : ℕ) (end : End)
-    → SpellsClient settings bytes → ClientComes settings net.seed (Err why) (moment net.before.calls old) (moment net.now.calls mid)
-    → PutSink {A = Ran} (Err why) before middle → SaysUntold why end mid new middle now → Prints (TalkMay Client bytes net) old new before now end
+    → SpellsClient settings bytes → ClientComes settings net.seed (Err why) (at net.before.calls old) (at net.now.calls mid)
+    → PutSink {A = Ran} (Err why) before middle → SaysUntold why end mid new middle now → PrintsBy (TalkMay Client bytes net) old new before now end
 client_untold settings bytes net why old mid new before middle now end spells comes sink said =
     untold_says (TalkMay Client bytes net) (client_plan settings net.seed) (ClientEnded (client_plan settings net.seed)) net why old mid new before middle now end
     (λ text wants. inr (settings, spells, wants)) comes sink said
 
 pub client_ends_in_part : (settings : ClientSettings) (bytes : List ℕ) (net : Around) (ran : Ran) (old mid new : Option (List ℕ)) (middle now : ℕ) (end : End)
-    → SpellsClient settings bytes → ClientComes settings net.seed (Ok ran) (moment net.before.calls old) (moment net.now.calls mid)
-    → Prints (Said (end_by ran.end) ran.text) mid new middle now end → end ≡ ends.WriteFault → BreaksOff Client bytes net old new
+    → SpellsClient settings bytes → ClientComes settings net.seed (Ok ran) (at net.before.calls old) (at net.now.calls mid)
+    → PrintsBy (Said (end_by ran.end) ran.text) mid new middle now end → end ≡ ends.WriteFault → BreaksOff Client bytes net old new
 client_ends_in_part settings bytes net ran old mid new middle now end spells e said failed =
     inr (settings, spells, ended_breaks _ _ net ran (end_by ran.end) old mid new middle now end e said failed)
 
 pub client_untold_in_part : (settings : ClientSettings) (bytes : List ℕ) (net : Around) (why : Untold) (old mid new : Option (List ℕ)) (middle now : ℕ) (end : End)
-    → SpellsClient settings bytes → ClientComes settings net.seed (Err why) (moment net.before.calls old) (moment net.now.calls mid)
+    → SpellsClient settings bytes → ClientComes settings net.seed (Err why) (at net.before.calls old) (at net.now.calls mid)
     → SaysUntold why end mid new middle now → end ≡ ends.WriteFault → BreaksOff Client bytes net old new
 client_untold_in_part settings bytes net why old mid new middle now end spells comes said failed =
     inr (settings, spells, untold_breaks (client_plan settings net.seed) (ClientEnded (client_plan settings net.seed)) net why old mid new middle now end comes said failed)
@@ -168,7 +171,7 @@ client_untold_in_part settings bytes net why old mid new middle now end spells c
 -- ---- a carrier
 
 send_ran : (settings : CarrySettings) (net : Around) (id : ℕ) (file addresses : List ℕ) (ran : Ran) (w v : Option (List ℕ)) → settings.job ≡ Send id file addresses
-    → (e : EndsWith (carry_plan settings net.seed) (SendEnded (length addresses) (carry_plan settings net.seed)) ran (moment net.before.calls w) (moment net.now.calls v))
+    → (e : EndsWith (carry_plan settings net.seed) (SendEnded (length addresses) (carry_plan settings net.seed)) ran (at net.before.calls w) (at net.now.calls v))
     → RunFault ran.end net.before.faults net.now.faults → CarryRan settings net ran.end (lines_of e.told ++ ran.text)
 send_ran settings net id file addresses ran w v job e fault =
     let (finished, worked, carries, carried, told_is, text_is, end_is) = e.is_ended in
@@ -189,9 +192,9 @@ send_ran settings net id file addresses ran w v job e fault =
     (runs, fault)
 
 carry_says_by : (job : CarryJob) (settings : CarrySettings) (bytes : List ℕ) (net : Around) (ran : Ran) (old mid new : Option (List ℕ)) (before middle now : ℕ) (end : End) → settings.job ≡ job
-    → SpellsCarry settings bytes → ComesBy job settings net.seed (Ok ran) (moment net.before.calls old) (moment net.now.calls mid)
+    → SpellsCarry settings bytes → ComesBy job settings net.seed (Ok ran) (at net.before.calls old) (at net.now.calls mid)
     → RunFault ran.end net.before.faults net.now.faults → middle ≡ before
-    → Prints (Said (end_by ran.end) ran.text) mid new middle now end → Prints (TalkMay Carry bytes net) old new before now end
+    → PrintsBy (Said (end_by ran.end) ran.text) mid new middle now end → PrintsBy (TalkMay Carry bytes net) old new before now end
 carry_says_by (Send id file addresses) settings bytes net ran old mid new before middle now end job spells e fault same said =
     says (TalkMay Carry bytes net) (end_by ran.end) ran.text (lines_of e.told) old mid new before middle now end
     (carry_may settings bytes net ran.end (lines_of e.told ++ ran.text) spells (send_ran settings net id file addresses ran old mid job e fault)) e.passed.written same said
@@ -200,15 +203,15 @@ carry_says_by Fetch settings bytes net ran old mid new before middle now end job
     (carry_may settings bytes net ran.end ran.text spells (runs, fault)) (subst (λ (x : Option (List ℕ)). Took old x []) (sym still) (took_nothing old)) same said
 
 pub carry_says : (settings : CarrySettings) (bytes : List ℕ) (net : Around) (ran : Ran) (old mid new : Option (List ℕ)) (before middle now : ℕ) (end : End)
-    → SpellsCarry settings bytes → CarryComes settings net.seed (Ok ran) (moment net.before.calls old) (moment net.now.calls mid)
+    → SpellsCarry settings bytes → CarryComes settings net.seed (Ok ran) (at net.before.calls old) (at net.now.calls mid)
     → RunFault ran.end net.before.faults net.now.faults → middle ≡ before
-    → Prints (Said (end_by ran.end) ran.text) mid new middle now end → Prints (TalkMay Carry bytes net) old new before now end
+    → PrintsBy (Said (end_by ran.end) ran.text) mid new middle now end → PrintsBy (TalkMay Carry bytes net) old new before now end
 carry_says settings bytes net ran old mid new before middle now end spells comes fault same said =
     carry_says_by settings.job settings bytes net ran old mid new before middle now end refl spells comes fault same said
 
 carry_untold_by : (job : CarryJob) (settings : CarrySettings) (bytes : List ℕ) (net : Around) (why : Untold) (old mid new : Option (List ℕ)) (before middle now : ℕ) (end : End) → settings.job ≡ job
-    → SpellsCarry settings bytes → ComesBy job settings net.seed (Err why) (moment net.before.calls old) (moment net.now.calls mid)
-    → PutSink {A = Ran} (Err why) before middle → SaysUntold why end mid new middle now → Prints (TalkMay Carry bytes net) old new before now end
+    → SpellsCarry settings bytes → ComesBy job settings net.seed (Err why) (at net.before.calls old) (at net.now.calls mid)
+    → PutSink {A = Ran} (Err why) before middle → SaysUntold why end mid new middle now → PrintsBy (TalkMay Carry bytes net) old new before now end
 carry_untold_by (Send id file addresses) settings bytes net why old mid new before middle now end job spells comes sink said =
     untold_says (TalkMay Carry bytes net) (carry_plan settings net.seed) (SendEnded (length addresses) (carry_plan settings net.seed)) net why old mid new before middle now end
     (λ text wants. inr (settings, spells, subst (λ (j : CarryJob). CarryWants j settings net text) (sym job) wants)) comes sink said
@@ -218,33 +221,33 @@ carry_untold_by Fetch settings bytes net untold.NoMemory old mid new before midd
 carry_untold_by Fetch settings bytes net untold.Unwritten old mid new before middle now end job spells never sink said = absurd never
 
 pub carry_untold : (settings : CarrySettings) (bytes : List ℕ) (net : Around) (why : Untold) (old mid new : Option (List ℕ)) (before middle now : ℕ) (end : End)
-    → SpellsCarry settings bytes → CarryComes settings net.seed (Err why) (moment net.before.calls old) (moment net.now.calls mid)
-    → PutSink {A = Ran} (Err why) before middle → SaysUntold why end mid new middle now → Prints (TalkMay Carry bytes net) old new before now end
+    → SpellsCarry settings bytes → CarryComes settings net.seed (Err why) (at net.before.calls old) (at net.now.calls mid)
+    → PutSink {A = Ran} (Err why) before middle → SaysUntold why end mid new middle now → PrintsBy (TalkMay Carry bytes net) old new before now end
 carry_untold settings bytes net why old mid new before middle now end spells comes sink said =
     carry_untold_by settings.job settings bytes net why old mid new before middle now end refl spells comes sink said
 
 carry_part_by : (job : CarryJob) (settings : CarrySettings) (net : Around) (ran : Ran) (old mid new : Option (List ℕ)) (middle now : ℕ) (end : End)
-    → ComesBy job settings net.seed (Ok ran) (moment net.before.calls old) (moment net.now.calls mid)
-    → Prints (Said (end_by ran.end) ran.text) mid new middle now end → end ≡ ends.WriteFault → CarryBreaks job settings net old new
+    → ComesBy job settings net.seed (Ok ran) (at net.before.calls old) (at net.now.calls mid)
+    → PrintsBy (Said (end_by ran.end) ran.text) mid new middle now end → end ≡ ends.WriteFault → CarryBreaks job settings net old new
 carry_part_by (Send id file addresses) settings net ran old mid new middle now end e said failed =
     ended_breaks (carry_plan settings net.seed) (SendEnded (length addresses) (carry_plan settings net.seed)) net ran (end_by ran.end) old mid new middle now end e said failed
 carry_part_by Fetch settings net ran old mid new middle now end e said failed = tt
 
 pub carry_ends_in_part : (settings : CarrySettings) (bytes : List ℕ) (net : Around) (ran : Ran) (old mid new : Option (List ℕ)) (middle now : ℕ) (end : End)
-    → SpellsCarry settings bytes → CarryComes settings net.seed (Ok ran) (moment net.before.calls old) (moment net.now.calls mid)
-    → Prints (Said (end_by ran.end) ran.text) mid new middle now end → end ≡ ends.WriteFault → BreaksOff Carry bytes net old new
+    → SpellsCarry settings bytes → CarryComes settings net.seed (Ok ran) (at net.before.calls old) (at net.now.calls mid)
+    → PrintsBy (Said (end_by ran.end) ran.text) mid new middle now end → end ≡ ends.WriteFault → BreaksOff Carry bytes net old new
 carry_ends_in_part settings bytes net ran old mid new middle now end spells comes said failed =
     inr (settings, spells, carry_part_by settings.job settings net ran old mid new middle now end comes said failed)
 
 carry_untold_part_by : (job : CarryJob) (settings : CarrySettings) (net : Around) (why : Untold) (old mid new : Option (List ℕ)) (middle now : ℕ) (end : End)
-    → ComesBy job settings net.seed (Err why) (moment net.before.calls old) (moment net.now.calls mid)
+    → ComesBy job settings net.seed (Err why) (at net.before.calls old) (at net.now.calls mid)
     → SaysUntold why end mid new middle now → end ≡ ends.WriteFault → CarryBreaks job settings net old new
 carry_untold_part_by (Send id file addresses) settings net why old mid new middle now end comes said failed =
     untold_breaks (carry_plan settings net.seed) (SendEnded (length addresses) (carry_plan settings net.seed)) net why old mid new middle now end comes said failed
 carry_untold_part_by Fetch settings net why old mid new middle now end comes said failed = tt
 
 pub carry_untold_in_part : (settings : CarrySettings) (bytes : List ℕ) (net : Around) (why : Untold) (old mid new : Option (List ℕ)) (middle now : ℕ) (end : End)
-    → SpellsCarry settings bytes → CarryComes settings net.seed (Err why) (moment net.before.calls old) (moment net.now.calls mid)
+    → SpellsCarry settings bytes → CarryComes settings net.seed (Err why) (at net.before.calls old) (at net.now.calls mid)
     → SaysUntold why end mid new middle now → end ≡ ends.WriteFault → BreaksOff Carry bytes net old new
 carry_untold_in_part settings bytes net why old mid new middle now end spells comes said failed =
     inr (settings, spells, carry_untold_part_by settings.job settings net why old mid new middle now end comes said failed)

@@ -5,7 +5,7 @@ use Rattle.express_words.specs.Streams.{Stream}
 use Rattle.express_cli.specs.CommandLine.{Asks, AsksMill, AsksNet, AskSome, IsAsked}
 use Rattle.express_cli.specs.Reading.{GaveAll}
 use Rattle.express_cli.specs.Work.{IsBad}
-use Rattle.express_cli.specs.Ends.{Prints, Said, BadLineMay, WorkMay, MillMay, bad_line}
+use Rattle.express_cli.specs.Ends.{PrintsBy, Said, BadLineMay, WorkMay, MillMay, bad_line}
 use Rattle.express_cli.specs.Around.{Around}
 use Rattle.express_cli.specs.Talking.{TalkMay, IsStill}
 use Rattle.express_cli.specs.Runs.{RunMay, UnreadMay}
@@ -18,7 +18,7 @@ use Rattle.express_cli.specs.declared.ends.End.TheVariants as ends
 
 -- where more may come
 pub more_may : (May Could : End → List ℕ → Type 0) (old new : Option (List ℕ)) (before now : ℕ) (end : End)
-    → ((e : End) (text : List ℕ) → May e text → Could e text) → Prints May old new before now end → Prints Could old new before now end
+    → ((e : End) (text : List ℕ) → May e text → Could e text) → PrintsBy May old new before now end → PrintsBy Could old new before now end
 more_may May Could old new before now ends.Done f h = (h.0, f _ _ h.1, h.2)
 more_may May Could old new before now ends.Usage f h = (h.0, f _ _ h.1, h.2)
 more_may May Could old new before now (ends.BadLine n) f h = (h.0, f _ _ h.1, h.2)
@@ -31,7 +31,7 @@ more_may May Could old new before now ends.TooLong f h = (h.0, f _ _ h.1, h.2)
 
 -- where the text that was said is one that may come
 pub said : (May : End → List ℕ → Type 0) (old new : Option (List ℕ)) (before now : ℕ) (end result : End) (text : List ℕ)
-    → May end text → Prints (Said end text) old new before now result → Prints May old new before now result
+    → May end text → PrintsBy (Said end text) old new before now result → PrintsBy May old new before now result
 said May old new before now end result text may h =
     more_may (Said end text) May old new before now result (λ e t same. rw (same.0, same.1) may) h
 
@@ -49,7 +49,7 @@ all_may words from to c d net command bytes still asks gave ends.OutOfMemory tex
 all_may words from to c d net command bytes still asks gave ends.TooLong text may = absurd may
 
 pub worked_all : (words : List Text) (from to : Option Stream) (c d : ℕ) (net : Around) (old new : Option (List ℕ)) (before now : ℕ) (end : End) (command : Command) (bytes read : List ℕ)
-    → IsStill net → Asks words command → GaveAll from to bytes → bytes ≡ read → Prints (WorkMay command read) old new before now end → Prints (RunMay words from to c d net) old new before now end
+    → IsStill net → Asks words command → GaveAll from to bytes → bytes ≡ read → PrintsBy (WorkMay command read) old new before now end → PrintsBy (RunMay words from to c d net) old new before now end
 worked_all words from to c d net old new before now end command bytes read still asks gave same h =
     let Gave : List ℕ → Type 0 = λ b. GaveAll from to b in
     more_may (WorkMay command read) (RunMay words from to c d net) old new before now end (all_may words from to c d net command read still asks (subst Gave same gave)) h
@@ -68,7 +68,7 @@ talk_may words from to c d net command bytes asks gave ends.OutOfMemory text may
 talk_may words from to c d net command bytes asks gave ends.TooLong text may = absurd may
 
 pub talked_all : (words : List Text) (from to : Option Stream) (c d : ℕ) (net : Around) (old new : Option (List ℕ)) (before now : ℕ) (end : End) (command : NetCommand) (bytes read : List ℕ)
-    → AsksNet words command → GaveAll from to bytes → bytes ≡ read → Prints (TalkMay command read net) old new before now end → Prints (RunMay words from to c d net) old new before now end
+    → AsksNet words command → GaveAll from to bytes → bytes ≡ read → PrintsBy (TalkMay command read net) old new before now end → PrintsBy (RunMay words from to c d net) old new before now end
 talked_all words from to c d net old new before now end command bytes read asks gave same h =
     let Gave : List ℕ → Type 0 = λ b. GaveAll from to b in
     more_may (TalkMay command read net) (RunMay words from to c d net) old new before now end (talk_may words from to c d net command read asks (subst Gave same gave)) h
@@ -87,16 +87,16 @@ unread_may words from to c d net still asks ends.OutOfMemory text may = inl (may
 unread_may words from to c d net still asks ends.TooLong text may = (asks, may.0, may.1)
 
 pub unread : (words : List Text) (from to : Option Stream) (c d : ℕ) (net : Around) (old new : Option (List ℕ)) (before now : ℕ) (end : End)
-    → IsStill net → AskSome words → Prints (UnreadMay from to c d) old new before now end → Prints (RunMay words from to c d net) old new before now end
+    → IsStill net → AskSome words → PrintsBy (UnreadMay from to c d) old new before now end → PrintsBy (RunMay words from to c d net) old new before now end
 unread words from to c d net old new before now end still asks h =
     more_may (UnreadMay from to c d) (RunMay words from to c d net) old new before now end (unread_may words from to c d net still asks) h
 
 -- where nothing was written before
 pub unmoved : (May : End → List ℕ → Type 0) (old mid new : Option (List ℕ)) (before between now : ℕ) (end : End)
-    → mid ≡ old → between ≡ before → Prints May mid new between now end → Prints May old new before now end
+    → mid ≡ old → between ≡ before → PrintsBy May mid new between now end → PrintsBy May old new before now end
 unmoved May old mid new before between now end same_written same_count h =
-    let Wrote : Option (List ℕ) → Type 0 = λ w. Prints May w new before now end in
-    let Counted : ℕ → Type 0 = λ n. Prints May mid new n now end in
+    let Wrote : Option (List ℕ) → Type 0 = λ w. PrintsBy May w new before now end in
+    let Counted : ℕ → Type 0 = λ n. PrintsBy May mid new n now end in
     subst Wrote same_written (subst Counted same_count h)
 
 -- What the mill that the words ask for may come to is what the run may come to.
@@ -113,7 +113,7 @@ mill_may words from to c d net n still asks same ends.OutOfMemory text may = inl
 mill_may words from to c d net n still asks same ends.TooLong text may = absurd may
 
 pub milled : (words : List Text) (from : Option Stream) (c d : ℕ) (net : Around) (old new : Option (List ℕ)) (before now : ℕ) (end : End) (n : ℕ)
-    → IsStill net → AsksMill words n → Prints (MillMay n) old new before now end → Prints (RunMay words from from c d net) old new before now end
+    → IsStill net → AsksMill words n → PrintsBy (MillMay n) old new before now end → PrintsBy (RunMay words from from c d net) old new before now end
 milled words from c d net old new before now end n still asks h =
     more_may (MillMay n) (RunMay words from from c d net) old new before now end (mill_may words from from c d net n still asks refl) h
 

@@ -2,6 +2,7 @@
 use Rattle.std.specs.Prelude.{◌≡◌, ℕ, List, ◌++◌, codes, string_bytes, Option}
 use Rattle.std.specs.Fmt.{decimal}
 use Rattle.express_words.specs.Causes.{Rose}
+use Rattle.express_words.specs.Seen.{Seen}
 use Rattle.express_words.specs.Streams.{Took, TookPrefix}
 use Rattle.express_texts.specs.declared.fault.TextFault.{TextFault}
 use Rattle.express_texts.specs.declared.fault.TextFault.TheVariants as fault
@@ -59,17 +60,21 @@ too_long_text = codes "input too long\n"
 
 -- Of the ends with their texts that may come, one came and its text was written; or the sink failed after a
 -- part of such a text.
-abbrev pub Prints : (End → List ℕ → Type 0) → Option (List ℕ) → Option (List ℕ) → ℕ → ℕ → End → Type 0
-Prints May old new before now Done = (text : List ℕ) × May Done text × Took old new text
-Prints May old new before now Usage = (text : List ℕ) × May Usage text × Took old new text
-Prints May old new before now (BadLine n) = (text : List ℕ) × May (BadLine n) text × Took old new text
-Prints May old new before now BadKey = (text : List ℕ) × May BadKey text × Took old new text
-Prints May old new before now ReadFault = (text : List ℕ) × May ReadFault text × Took old new text
-Prints May old new before now WriteFault =
+abbrev pub PrintsBy : (End → List ℕ → Type 0) → Option (List ℕ) → Option (List ℕ) → ℕ → ℕ → End → Type 0
+PrintsBy May old new before now Done = (text : List ℕ) × May Done text × Took old new text
+PrintsBy May old new before now Usage = (text : List ℕ) × May Usage text × Took old new text
+PrintsBy May old new before now (BadLine n) = (text : List ℕ) × May (BadLine n) text × Took old new text
+PrintsBy May old new before now BadKey = (text : List ℕ) × May BadKey text × Took old new text
+PrintsBy May old new before now ReadFault = (text : List ℕ) × May ReadFault text × Took old new text
+PrintsBy May old new before now WriteFault =
     Rose before now × ((end : End) × (text : List ℕ) × May end text × TookPrefix old new text)
-Prints May old new before now NetFault = (text : List ℕ) × May NetFault text × Took old new text
-Prints May old new before now OutOfMemory = (text : List ℕ) × May OutOfMemory text × Took old new text
-Prints May old new before now TooLong = (text : List ℕ) × May TooLong text × Took old new text
+PrintsBy May old new before now NetFault = (text : List ℕ) × May NetFault text × Took old new text
+PrintsBy May old new before now OutOfMemory = (text : List ℕ) × May OutOfMemory text × Took old new text
+PrintsBy May old new before now TooLong = (text : List ℕ) × May TooLong text × Took old new text
+
+-- likewise of a sink that showed this before and shows that now
+abbrev pub Prints : (End → List ℕ → Type 0) → (old new : Seen) → End → Type 0
+Prints May old new end = PrintsBy May old.written new.written old.faults new.faults end
 
 -- this end with this text
 abbrev pub Said : End → List ℕ → End → List ℕ → Type 0

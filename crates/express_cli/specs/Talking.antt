@@ -28,7 +28,7 @@ use Rattle.client_run.specs.declared.cut.Untold.TheVariants as untold
 use Rattle.client_run.specs.declared.ran.RunEnd.{RunEnd}
 use Rattle.client_run.specs.declared.ran.RunEnd.TheVariants as run
 use Rattle.express_cli.specs.Around.{Around, Seen}
-use Rattle.express_cli.specs.Ends.{Prints, Said, bad_settings, net_fault_text, out_of_memory_text}
+use Rattle.express_cli.specs.Ends.{PrintsBy, Said, bad_settings, net_fault_text, out_of_memory_text}
 use Rattle.express_cli.specs.declared.words.NetCommand.{NetCommand}
 use Rattle.express_cli.specs.declared.words.NetCommand.TheVariants.{Serve, Client, Carry}
 use Rattle.express_cli.specs.declared.ends.End.{End}
@@ -113,7 +113,8 @@ ServeMay settings net other text = ⊥
 -- ---- work that is told as it goes
 
 -- Memory was wanting for the text that was next of a plan's work: that is told, behind all that was told before.
-abbrev pub Wants : (plan : Plan) → (Stand → List Finished → List ℕ → RunEnd → Type 0) → Around → List ℕ → Type 0
+abbrev pub Wants : (plan : Plan) → (Stand → List Finished → List ℕ → RunEnd → Type 0) → Around → List ℕ
+    → Type 0
 Wants plan Ended net text =
     (told : List Finished) × (next : List ℕ) × CameTo plan Ended told next net.before.calls net.now.calls
     × (text ≡ lines_of told ++ out_of_memory_text)
@@ -136,7 +137,7 @@ end_by run.NetFault = ends.NetFault
 -- what is said where a run's next text isn't told: that memory is wanting, or nothing, since the sink failed
 abbrev pub SaysUntold : Untold → End → (old new : Option (List ℕ)) → (before now : ℕ) → Type 0
 SaysUntold untold.NoMemory end old new before now =
-    Prints (Said ends.OutOfMemory out_of_memory_text) old new before now end
+    PrintsBy (Said ends.OutOfMemory out_of_memory_text) old new before now end
 SaysUntold untold.Unwritten end old new before now =
     (end ≡ ends.WriteFault) × (new ≡ old) × (now ≡ before)
 
@@ -241,4 +242,5 @@ BreaksOff Serve bytes net old new = Unit {0}
 BreaksOff Client bytes net old new = IsStill net
     ⊎ ((settings : ClientSettings) × SpellsClient settings bytes × ClientBreaks settings net old new)
 BreaksOff Carry bytes net old new = IsStill net
-    ⊎ ((settings : CarrySettings) × SpellsCarry settings bytes × CarryBreaks settings.job settings net old new)
+    ⊎ ((settings : CarrySettings) × SpellsCarry settings bytes
+    × CarryBreaks settings.job settings net old new)

@@ -1,6 +1,6 @@
 //! Works a client's requests off over a net.
 ghost use Rattle.std.specs.Prelude.{◌≡◌, ◌≢◌, ◌≤◌};
-ghost use Rattle.express_cli.specs.Around.{around, seen};
+ghost use Rattle.express_cli.specs.Around.{around};
 ghost use Rattle.express_cli.specs.Ends.{Prints};
 ghost use Rattle.express_cli.specs.Talking.{BreaksOff, TalkMay};
 ghost use Rattle.express_cli.specs.declared.words.NetCommand.TheVariants.{Client};
@@ -22,12 +22,12 @@ pub fn client<K: Sink, N: Net>(
     net: &mut N,
 ) -> End
     ensures ends { Prints (TalkMay Client text.now
-        (around seed.now (seen (N.calls net.old) (N.count net.old) (N.doors net.old)) (seen (N.calls net.new) (N.count net.new) (N.doors net.new))))
-        (K.written out.old) (K.written out.new) (K.count out.old) (K.count out.new) result }
+        (around seed.now (N.seen net.old) (N.seen net.new)))
+        (K.seen out.old) (K.seen out.new) result }
     ensures breaks { result ≡ End.WriteFault → BreaksOff Client text.now
-        (around seed.now (seen (N.calls net.old) (N.count net.old) (N.doors net.old)) (seen (N.calls net.new) (N.count net.new) (N.doors net.new)))
-        (K.written out.old) (K.written out.new) }
-    ensures told { result ≢ End.WriteFault → K.count out.new ≡ K.count out.old }
+        (around seed.now (N.seen net.old) (N.seen net.new))
+        (K.seen out.old).written (K.seen out.new).written }
+    ensures told { result ≢ End.WriteFault → (K.seen out.new).faults ≡ (K.seen out.old).faults }
     ensures waits { result ≡ End.BadKey → net.new ≡ net.old }
 {
     let settings = match read_client(alloc, text) {

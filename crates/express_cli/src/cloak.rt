@@ -76,9 +76,9 @@ fn cloak_text(alloc: Global, game: &CloakGame) -> Result<String, NoMemory>
 /// Shows both views of the game that the text spells.
 pub fn cloak<K: Sink>(alloc: Global, text: &[u8], out: &mut K) -> End
     ensures ends { Prints (WorkMay Cloak text.now)
-        (K.written out.old) (K.written out.new) (K.count out.old) (K.count out.new) result }
-    ensures later { K.count out.old ≤ K.count out.new }
-    ensures told { result ≢ End.WriteFault → K.count out.new ≡ K.count out.old }
+        (K.seen out.old) (K.seen out.new) result }
+    ensures later { (K.seen out.old).faults ≤ (K.seen out.new).faults }
+    ensures told { result ≢ End.WriteFault → (K.seen out.new).faults ≡ (K.seen out.old).faults }
 {
     let game = match read_cloak(alloc, text) {
         Ok(game) => game,

@@ -16,13 +16,17 @@ pub fn input_of<S: Source, K: Sink>(
     input: &mut S,
     out: &mut K,
 ) -> Result<Vec<u8>, End>
-    ensures read { IfOk result (λ text. GaveAll (S.content input.old) (S.content input.new) text.items) }
-    ensures unread { IfErr result (λ end. Prints (UnreadMay (S.content input.old) (S.content input.new) (S.count input.old) (S.count input.new))
-        (K.written out.old) (K.written out.new) (K.count out.old) (K.count out.new) end) }
+    ensures read { IfOk result (λ text. GaveAll (S.seen input.old).content
+        (S.seen input.new).content text.items) }
+    ensures unread { IfErr result (λ end. Prints (UnreadMay (S.seen input.old).content
+        (S.seen input.new).content (S.seen input.old).faults (S.seen input.new).faults)
+        (K.seen out.old) (K.seen out.new) end) }
     ensures rests { OnOk result (out.new ≡ out.old) }
-    ensures source { OnOk result (S.count input.new ≡ S.count input.old) }
-    ensures told { IfErr result (λ end. end ≢ End.ReadFault → end ≢ End.WriteFault → S.count input.new ≡ S.count input.old) }
-    ensures sink { IfErr result (λ end. end ≢ End.WriteFault → K.count out.new ≡ K.count out.old) }
+    ensures source { OnOk result ((S.seen input.new).faults ≡ (S.seen input.old).faults) }
+    ensures told { IfErr result (λ end. end ≢ End.ReadFault → end ≢ End.WriteFault
+        → (S.seen input.new).faults ≡ (S.seen input.old).faults) }
+    ensures sink { IfErr result (λ end. end ≢ End.WriteFault
+        → (K.seen out.new).faults ≡ (K.seen out.old).faults) }
 {
     match read_all(alloc, input) {
         Ok(text) => Ok(text),

@@ -108,7 +108,8 @@ fn mill_lines(
     outcomes: &[OutcomeLine],
     journal: &[JournalLine],
 ) -> Result<String, AllocError>
-    ensures { IfOk result (λ text. string_bytes text ≡ mill_lines number (outcomes_in outcomes.now) (journal_in journal.now)) }
+    ensures { IfOk result (λ text. string_bytes text ≡ mill_lines number (outcomes_in outcomes.now)
+        (journal_in journal.now)) }
 {
     let outcomes = outcomes_text(alloc, number, outcomes)?;
     let journal = journal_text(alloc, journal)?;
@@ -130,9 +131,9 @@ fn mill_text(alloc: Global, number: u16) -> Result<String, NoMemory>
 pub fn mill<K: Sink>(alloc: Global, number: u16, out: &mut K) -> End
     requires { number ≤ 5000 }
     ensures ends { Prints (MillMay number)
-        (K.written out.old) (K.written out.new) (K.count out.old) (K.count out.new) result }
-    ensures later { K.count out.old ≤ K.count out.new }
-    ensures told { result ≢ End.WriteFault → K.count out.new ≡ K.count out.old }
+        (K.seen out.old) (K.seen out.new) result }
+    ensures later { (K.seen out.old).faults ≤ (K.seen out.new).faults }
+    ensures told { result ≢ End.WriteFault → (K.seen out.new).faults ≡ (K.seen out.old).faults }
 {
     match mill_text(alloc, number) {
         Err(_) => say(out, OUT_OF_MEMORY, End::OutOfMemory),

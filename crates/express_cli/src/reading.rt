@@ -30,12 +30,14 @@ impl fmt::Display for InputFault {
 
 /// The bytes of the input up to its end. Reading stops at the first fault, and at byte 67,108,865.
 pub fn read_all<S: Source>(alloc: Global, input: &mut S) -> Result<Vec<u8>, InputFault>
-    ensures read { IfOk result (λ text. GaveAll (S.content input.old) (S.content input.new) text.items) }
-    ensures stopped { IfErr result (Stopped (S.content input.old) (S.content input.new) (S.count input.old) (S.count input.new)) }
-    ensures later { S.count input.old ≤ S.count input.new }
+    ensures read { IfOk result (λ text. GaveAll (S.seen input.old).content
+        (S.seen input.new).content text.items) }
+    ensures stopped { IfErr result (Stopped (S.seen input.old).content (S.seen input.new).content (S.seen input.old).faults (S.seen input.new).faults) }
+    ensures later { (S.seen input.old).faults ≤ (S.seen input.new).faults }
     // No fault of the input is passed over, or told as another cause.
-    ensures unfailed { OnOk result (S.count input.new ≡ S.count input.old) }
-    ensures told { IfErr result (λ fault. fault ≢ InputFault.Failed → S.count input.new ≡ S.count input.old) }
+    ensures unfailed { OnOk result ((S.seen input.new).faults ≡ (S.seen input.old).faults) }
+    ensures told { IfErr result (λ fault. fault ≢ InputFault.Failed
+        → (S.seen input.new).faults ≡ (S.seen input.old).faults) }
 {
     let mut text = Vec::new(alloc);
     let mut buffer = [0u8; 4096];

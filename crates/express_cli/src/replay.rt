@@ -31,9 +31,9 @@ pub fn world_after(alloc: Global, schedule: &Schedule) -> Result<World, NoMemory
 fn put_world<K: Sink>(alloc: Global, world: &World, out: &mut K) -> End
     requires { IsWhole world.now }
     ensures ends { (text : List ℕ) → SpellsSchedule (played world.now) text
-        → Prints (WorkMay Replay text) (K.written out.old) (K.written out.new) (K.count out.old) (K.count out.new) result }
-    ensures later { K.count out.old ≤ K.count out.new }
-    ensures told { result ≢ End.WriteFault → K.count out.new ≡ K.count out.old }
+        → Prints (WorkMay Replay text) (K.seen out.old) (K.seen out.new) result }
+    ensures later { (K.seen out.old).faults ≤ (K.seen out.new).faults }
+    ensures told { result ≢ End.WriteFault → (K.seen out.new).faults ≡ (K.seen out.old).faults }
 {
     match world.put(alloc, out) {
         Ok(()) => End::Done,
@@ -46,9 +46,9 @@ fn put_world<K: Sink>(alloc: Global, world: &World, out: &mut K) -> End
 fn replay_schedule<K: Sink>(alloc: Global, schedule: &Schedule, out: &mut K) -> End
     requires { KeepsRules schedule.now }
     ensures ends { (text : List ℕ) → SpellsSchedule schedule.now text
-        → Prints (WorkMay Replay text) (K.written out.old) (K.written out.new) (K.count out.old) (K.count out.new) result }
-    ensures later { K.count out.old ≤ K.count out.new }
-    ensures told { result ≢ End.WriteFault → K.count out.new ≡ K.count out.old }
+        → Prints (WorkMay Replay text) (K.seen out.old) (K.seen out.new) result }
+    ensures later { (K.seen out.old).faults ≤ (K.seen out.new).faults }
+    ensures told { result ≢ End.WriteFault → (K.seen out.new).faults ≡ (K.seen out.old).faults }
 {
     match world_after(alloc, schedule) {
         Ok(world) => put_world(alloc, &world, out),
@@ -58,9 +58,9 @@ fn replay_schedule<K: Sink>(alloc: Global, schedule: &Schedule, out: &mut K) -> 
 
 /// Replays the schedule that the text spells.
 pub fn replay<K: Sink>(alloc: Global, text: &[u8], out: &mut K) -> End
-    ensures ends { Prints (WorkMay Replay text.now) (K.written out.old) (K.written out.new) (K.count out.old) (K.count out.new) result }
-    ensures later { K.count out.old ≤ K.count out.new }
-    ensures told { result ≢ End.WriteFault → K.count out.new ≡ K.count out.old }
+    ensures ends { Prints (WorkMay Replay text.now) (K.seen out.old) (K.seen out.new) result }
+    ensures later { (K.seen out.old).faults ≤ (K.seen out.new).faults }
+    ensures told { result ≢ End.WriteFault → (K.seen out.new).faults ≡ (K.seen out.old).faults }
 {
     match read(alloc, text) {
         Ok(schedule) => replay_schedule(alloc, &schedule, out),

@@ -40,24 +40,27 @@ fn take_behind<S: Source>(
     requires { length < 32 }
     ensures bound { IfOk result (λ n. length + n ≤ 32) }
     ensures stays { take length seed.new ≡ take length seed.old }
-    ensures gave { IfOk result (λ n. Gave (S.content random.old) (S.content random.new) (take n (drop length seed.new))) }
-    ensures end { IfOk result (λ n. n ≡ 0 → IsAtEnd (S.content random.new)) }
-    ensures failed { OnErr result (Gave (S.content random.old) (S.content random.new) []) }
-    ensures counts { CountsFault (S.count random.old) (S.count random.new) result }
+    ensures gave { IfOk result (λ n. Gave (S.seen random.old).content (S.seen random.new).content (take n
+        (drop length seed.new))) }
+    ensures end { IfOk result (λ n. n ≡ 0 → IsAtEnd (S.seen random.new).content) }
+    ensures failed { OnErr result (Gave (S.seen random.old).content (S.seen random.new).content []) }
+    ensures counts { CountsFault (S.seen random.old).faults (S.seen random.new).faults result }
 {
     random.take(&mut seed[length..])
 }
 
 /// The next 32 bytes of the source, of which no more are taken. It stops at the first fault and at the end.
 pub fn seed_of<S: Source>(random: &mut S) -> Result<[u8; 32], SeedFault>
-    ensures seed { IfOk result (Gave (S.content random.old) (S.content random.new)) }
-    ensures refused { IfErr result (GaveNoSeed (S.content random.old) (S.content random.new) (S.count random.old) (S.count random.new)) }
+    ensures seed { IfOk result (Gave (S.seen random.old).content (S.seen random.new).content) }
+    ensures refused { IfErr result (GaveNoSeed (S.seen random.old).content (S.seen random.new).content (S.seen random.old).faults (S.seen random.new).faults) }
     // Where the source tells its bytes and doesn't fail, there is a seed exactly where it has 32 bytes left.
-    ensures enough { IfSome (S.content random.old) (λ s. seed_bytes ≤ length s.left → ¬ Rose (S.count random.old) (S.count random.new)
+    ensures enough { IfSome (S.seen random.old).content (λ s. seed_bytes ≤ length s.left
+        → ¬ Rose (S.seen random.old).faults (S.seen random.new).faults
         → IsOk result) }
-    ensures early { IfSome (S.content random.old) (λ s. length s.left < seed_bytes → ¬ Rose (S.count random.old) (S.count random.new)
+    ensures early { IfSome (S.seen random.old).content (λ s. length s.left < seed_bytes
+        → ¬ Rose (S.seen random.old).faults (S.seen random.new).faults
         → result ≡ Err (SeedFault.Early (length s.left))) }
-    ensures unfailed { OnOk result (S.count random.new ≡ S.count random.old) }
+    ensures unfailed { OnOk result ((S.seen random.new).faults ≡ (S.seen random.old).faults) }
 {
     let mut seed = [0u8; 32];
     let mut length = 0;

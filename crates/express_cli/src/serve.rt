@@ -3,7 +3,7 @@ ghost use Rattle.std.specs.Prelude.{◌≡◌, ◌≢◌, ◌≤◌, ◌++◌, I
 ghost use Rattle.express_words.specs.Limits.{KeepsLimits};
 ghost use Rattle.node_host.specs.Opening.{IsOpened};
 ghost use Rattle.node_host.specs.Tallies.{tally_text};
-ghost use Rattle.express_cli.specs.Around.{around, seen};
+ghost use Rattle.express_cli.specs.Around.{around};
 ghost use Rattle.express_cli.specs.Ends.{Prints};
 ghost use Rattle.express_cli.specs.Talking.{DoorMay, HostMay, ListeningMay, ServeMay, TalkMay};
 ghost use Rattle.express_cli.specs.declared.words.NetCommand.TheVariants.{Serve};
@@ -49,9 +49,9 @@ fn serve_all<K: Sink, N: Net>(
     net: &mut N,
 ) -> End
     ensures ends { Prints (HostMay connections node.old
-        (seen (N.calls net.old) (N.count net.old) (N.doors net.old)) (seen (N.calls net.new) (N.count net.new) (N.doors net.new)))
-        (K.written out.old) (K.written out.new) (K.count out.old) (K.count out.new) result }
-    ensures told { result ≢ End.WriteFault → K.count out.new ≡ K.count out.old }
+        (N.seen net.old) (N.seen net.new))
+        (K.seen out.old) (K.seen out.new) result }
+    ensures told { result ≢ End.WriteFault → (K.seen out.new).faults ≡ (K.seen out.old).faults }
     ensures settings { result ≢ End.BadKey }
 {
     let Ok(tally) = host(node, gather, connections, net) else {
@@ -73,9 +73,9 @@ fn tell_and_serve<K: Sink, N: Net>(
     net: &mut N,
 ) -> End
     ensures ends { Prints (ListeningMay connections node.old
-        (seen (N.calls net.old) (N.count net.old) (N.doors net.old)) (seen (N.calls net.new) (N.count net.new) (N.doors net.new)))
-        (K.written out.old) (K.written out.new) (K.count out.old) (K.count out.new) result }
-    ensures told { result ≢ End.WriteFault → K.count out.new ≡ K.count out.old }
+        (N.seen net.old) (N.seen net.new))
+        (K.seen out.old) (K.seen out.new) result }
+    ensures told { result ≢ End.WriteFault → (K.seen out.new).faults ≡ (K.seen out.old).faults }
     ensures settings { result ≢ End.BadKey }
 {
     match say(out, LISTENING, End::Done) {
@@ -94,9 +94,9 @@ fn listen_and_serve<K: Sink, N: Net>(
     net: &mut N,
 ) -> End
     ensures ends { Prints (DoorMay settings.now node.old
-        (seen (N.calls net.old) (N.count net.old) (N.doors net.old)) (seen (N.calls net.new) (N.count net.new) (N.doors net.new)))
-        (K.written out.old) (K.written out.new) (K.count out.old) (K.count out.new) result }
-    ensures told { result ≢ End.WriteFault → K.count out.new ≡ K.count out.old }
+        (N.seen net.old) (N.seen net.new))
+        (K.seen out.old) (K.seen out.new) result }
+    ensures told { result ≢ End.WriteFault → (K.seen out.new).faults ≡ (K.seen out.old).faults }
     ensures settings { result ≢ End.BadKey }
 {
     match net.listen(settings.listen.as_str()) {
@@ -116,9 +116,9 @@ fn serve_by<K: Sink, N: Net>(
     requires role { settings.now.role ≤ HELPER }
     requires limits { KeepsLimits settings.now.settings.width settings.now.settings.boxes settings.now.settings.lanes settings.now.settings.window }
     ensures ends { Prints (ServeMay settings.now
-        (around seed.now (seen (N.calls net.old) (N.count net.old) (N.doors net.old)) (seen (N.calls net.new) (N.count net.new) (N.doors net.new))))
-        (K.written out.old) (K.written out.new) (K.count out.old) (K.count out.new) result }
-    ensures told { result ≢ End.WriteFault → K.count out.new ≡ K.count out.old }
+        (around seed.now (N.seen net.old) (N.seen net.new)))
+        (K.seen out.old) (K.seen out.new) result }
+    ensures told { result ≢ End.WriteFault → (K.seen out.new).faults ≡ (K.seen out.old).faults }
     ensures settings { result ≢ End.BadKey }
 {
     match opened(alloc, settings, seed) {
@@ -139,9 +139,9 @@ pub fn serve<K: Sink, N: Net>(
     net: &mut N,
 ) -> End
     ensures ends { Prints (TalkMay Serve text.now
-        (around seed.now (seen (N.calls net.old) (N.count net.old) (N.doors net.old)) (seen (N.calls net.new) (N.count net.new) (N.doors net.new))))
-        (K.written out.old) (K.written out.new) (K.count out.old) (K.count out.new) result }
-    ensures told { result ≢ End.WriteFault → K.count out.new ≡ K.count out.old }
+        (around seed.now (N.seen net.old) (N.seen net.new)))
+        (K.seen out.old) (K.seen out.new) result }
+    ensures told { result ≢ End.WriteFault → (K.seen out.new).faults ≡ (K.seen out.old).faults }
     ensures waits { result ≡ End.BadKey → net.new ≡ net.old }
 {
     match read_serve(alloc, text) {

@@ -1,7 +1,7 @@
 //! The top call.
 ghost use Rattle.std.specs.Prelude.{◌≡◌, ◌≢◌, ◌≤◌, ◌∷◌, [], Contains, map, string_bytes};
 ghost use Rattle.express_cli.specs.CommandLine.{AskSome, AskTalk};
-ghost use Rattle.express_cli.specs.Around.{around, outside, seen};
+ghost use Rattle.express_cli.specs.Around.{around, outside};
 ghost use Rattle.express_cli.specs.Ends.{Prints};
 ghost use Rattle.express_cli.specs.Runs.{RunMay, SinkFailed, WaitsForNet};
 ghost use Rattle.express_cli.specs.Ran.{Ran};
@@ -30,15 +30,18 @@ fn finish<S: Source, K: Sink, N: Net>(
     out: &mut K,
     net: &mut N,
 ) -> End
-    ensures ends { Prints (RunMay (map string_bytes words.now.items) (S.content input.old) (S.content input.new) (S.count input.old) (S.count input.new)
-        (around seed.now (seen (N.calls net.old) (N.count net.old) (N.doors net.old)) (seen (N.calls net.new) (N.count net.new) (N.doors net.new))))
-        (K.written out.old) (K.written out.new) (K.count out.old) (K.count out.new) result }
-    ensures breaks { result ≡ End.WriteFault → SinkFailed (map string_bytes words.now.items) (S.content input.old) (S.content input.new)
-        (around seed.now (seen (N.calls net.old) (N.count net.old) (N.doors net.old)) (seen (N.calls net.new) (N.count net.new) (N.doors net.new)))
-        (K.written out.old) (K.written out.new) }
+    ensures ends { Prints (RunMay (map string_bytes words.now.items) (S.seen input.old).content
+        (S.seen input.new).content (S.seen input.old).faults (S.seen input.new).faults
+        (around seed.now (N.seen net.old) (N.seen net.new)))
+        (K.seen out.old) (K.seen out.new) result }
+    ensures breaks { result ≡ End.WriteFault
+        → SinkFailed (map string_bytes words.now.items) (S.seen input.old).content (S.seen input.new).content
+        (around seed.now (N.seen net.old) (N.seen net.new))
+        (K.seen out.old).written (K.seen out.new).written }
     // A fault of the input or of the sink is told as that, and as nothing else.
-    ensures source { result ≢ End.ReadFault → result ≢ End.WriteFault → S.count input.new ≡ S.count input.old }
-    ensures sink { result ≢ End.WriteFault → K.count out.new ≡ K.count out.old }
+    ensures source { result ≢ End.ReadFault → result ≢ End.WriteFault
+        → (S.seen input.new).faults ≡ (S.seen input.old).faults }
+    ensures sink { result ≢ End.WriteFault → (K.seen out.new).faults ≡ (K.seen out.old).faults }
     // The input is taken from only where the words ask for a command that works on it.
     ensures input_rests { (AskSome (map string_bytes words.now.items) → ⊥) → input.new ≡ input.old }
     // A call on the net is made only where the words ask for work over it.
@@ -76,9 +79,9 @@ pub fn run<S: Source, K: Sink, N: Net>(
     net: &mut N,
 ) -> u8
     ensures ran { Ran (map string_bytes words.now.items)
-        (outside (S.content input.old) (S.count input.old) (K.written out.old) (K.count out.old))
-        (outside (S.content input.new) (S.count input.new) (K.written out.new) (K.count out.new))
-        (around seed.now (seen (N.calls net.old) (N.count net.old) (N.doors net.old)) (seen (N.calls net.new) (N.count net.new) (N.doors net.new))) result }
+        (outside (S.seen input.old) (K.seen out.old))
+        (outside (S.seen input.new) (K.seen out.new))
+        (around seed.now (N.seen net.old) (N.seen net.new)) result }
     ensures laws { Laws }
     // The input is taken from only where the words ask for a command that works on it.
     ensures input_rests { (AskSome (map string_bytes words.now.items) → ⊥) → input.new ≡ input.old }

@@ -13,9 +13,9 @@ use std::alloc::Global;
 /// Does a command's work on the text of its input.
 pub fn work<K: Sink>(alloc: Global, command: Command, text: &[u8], out: &mut K) -> End
     ensures ends { Prints (WorkMay command text.now)
-        (K.written out.old) (K.written out.new) (K.count out.old) (K.count out.new) result }
-    ensures later { K.count out.old ≤ K.count out.new }
-    ensures told { result ≢ End.WriteFault → K.count out.new ≡ K.count out.old }
+        (K.seen out.old) (K.seen out.new) result }
+    ensures later { (K.seen out.old).faults ≤ (K.seen out.new).faults }
+    ensures told { result ≢ End.WriteFault → (K.seen out.new).faults ≡ (K.seen out.old).faults }
 {
     match command {
         Command::Replay => replay(alloc, text, out),

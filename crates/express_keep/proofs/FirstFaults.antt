@@ -1,5 +1,6 @@
 -- The first fault of a server that was opened: its journal isn't closed.
 use Rattle.std.proofs.Common.{◌≡◌, ℕ, ◌+◌, false, true, List, [], ◌∷◌, length, refl, sym, ◌∙◌, ap}
+use Rattle.node_journal.specs.Disk.{DiskSeen}
 use Rattle.node_journal.specs.Journal.{JournalState, longer}
 use Rattle.node_journal.specs.declared.fault.JournalFault.TheVariants.{Closed, NotEmpty, Full, Disk, Damaged}
 use Rattle.node_restart.specs.Frames.{Handed}
@@ -26,11 +27,10 @@ first_of (Journal (Damaged at)) bytes old new unclosed cause = absurd cause
 first_of NoMemory bytes old new unclosed cause = absurd cause
 first_of (Foreign n) bytes old new unclosed cause = absurd cause
 
-pub first_fault : {D : Type 0} (reads may_leave : D → List ℕ → Type 0) (moment : D → ℕ)
-    (left_since : D → ℕ → List ℕ → Type 0) (old new : KeptState D) (frames : List Handed) (refused : Handed)
+pub first_fault : {D : Type 0} (shows : D → DiskSeen) (old new : KeptState D) (frames : List Handed) (refused : Handed)
     (fault : KeepFault) → old.journal.closed ≡ false
-    → KeepsUpTo reads may_leave moment left_since old new frames refused fault → IsToldOf fault
-first_fault reads may_leave moment left_since old new frames refused fault unclosed upto =
+    → KeepsUpTo shows old new frames refused fault → IsToldOf fault
+first_fault shows old new frames refused fault unclosed upto =
     first_of fault _ upto.between new
     (ap (λ (j : JournalState). j.closed) upto.keeps.journal ∙ after_closed old.journal (kept_of frames) ∙ unclosed)
     upto.refuses.cause

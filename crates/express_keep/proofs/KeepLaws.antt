@@ -1,5 +1,6 @@
 -- What may come of a text, by what its settings may come to.
 use Rattle.std.proofs.Common.{◌≡◌, ◌⊎◌, inl, inr, ℕ, List, Err, string_bytes, false, refl, sym, ap, subst}
+use Rattle.node_journal.specs.Disk.{DiskSeen}
 use Rattle.express_texts.specs.declared.fault.TextFault.{TextFault}
 use Rattle.express_texts.specs.declared.fault.TextFault.TheVariants as fault
 use Rattle.settings_text.specs.Judging.{Gives}
@@ -26,39 +27,36 @@ use Rattle.express_keep.specs.Endings.{DiskCounts}
 use Rattle.express_keep.specs.Telling as told
 use Rattle.express_keep.specs.Keeping.{OpenFaultMay, TextMay}
 
-wanting : {D : Type 0} (reads may_leave : D → List ℕ → Type 0) (moment : D → ℕ)
-    (left_since : D → ℕ → List ℕ → Type 0) (bytes : List ℕ) (net : Around) (disk : D) → net.now ≡ net.before
+wanting : {D : Type 0} (shows : D → DiskSeen) (bytes : List ℕ) (net : Around) (disk : D) → net.now ≡ net.before
     → (text : List ℕ) → text ≡ out_of_memory_text
-    → TextMay reads may_leave moment left_since bytes net disk disk (Plain ends.OutOfMemory) text
-wanting reads may_leave moment left_since bytes net disk quiet text is =
+    → TextMay shows bytes net disk disk (Plain ends.OutOfMemory) text
+wanting shows bytes net disk quiet text is =
     inr (inr (record { stays = refl; quiet = quiet; says = (refl, is) }))
 
-misspelt : {D : Type 0} (reads may_leave : D → List ℕ → Type 0) (moment : D → ℕ)
-    (left_since : D → ℕ → List ℕ → Type 0) (bytes : List ℕ) (net : Around) (disk : D) → net.now ≡ net.before
+misspelt : {D : Type 0} (shows : D → DiskSeen) (bytes : List ℕ) (net : Around) (disk : D) → net.now ≡ net.before
     → (key : List ℕ) → IsBadKey Serve key bytes → (end : End) (text : List ℕ) → BadKeyMay key end text
-    → TextMay reads may_leave moment left_since bytes net disk disk (Plain end) text
-misspelt reads may_leave moment left_since bytes net disk quiet key bad ends.Done text may = absurd may
-misspelt reads may_leave moment left_since bytes net disk quiet key bad ends.Usage text may = absurd may
-misspelt reads may_leave moment left_since bytes net disk quiet key bad (ends.BadLine n) text may = absurd may
-misspelt reads may_leave moment left_since bytes net disk quiet key bad ends.BadKey text may =
+    → TextMay shows bytes net disk disk (Plain end) text
+misspelt shows bytes net disk quiet key bad ends.Done text may = absurd may
+misspelt shows bytes net disk quiet key bad ends.Usage text may = absurd may
+misspelt shows bytes net disk quiet key bad (ends.BadLine n) text may = absurd may
+misspelt shows bytes net disk quiet key bad ends.BadKey text may =
     inr (inl (record { key = key; bad = bad; stays = refl; quiet = quiet; says = (refl, may) }))
-misspelt reads may_leave moment left_since bytes net disk quiet key bad ends.ReadFault text may = absurd may
-misspelt reads may_leave moment left_since bytes net disk quiet key bad ends.WriteFault text may = absurd may
-misspelt reads may_leave moment left_since bytes net disk quiet key bad ends.NetFault text may = absurd may
-misspelt reads may_leave moment left_since bytes net disk quiet key bad ends.OutOfMemory text may =
-    wanting reads may_leave moment left_since bytes net disk quiet text may
-misspelt reads may_leave moment left_since bytes net disk quiet key bad ends.TooLong text may = absurd may
+misspelt shows bytes net disk quiet key bad ends.ReadFault text may = absurd may
+misspelt shows bytes net disk quiet key bad ends.WriteFault text may = absurd may
+misspelt shows bytes net disk quiet key bad ends.NetFault text may = absurd may
+misspelt shows bytes net disk quiet key bad ends.OutOfMemory text may =
+    wanting shows bytes net disk quiet text may
+misspelt shows bytes net disk quiet key bad ends.TooLong text may = absurd may
 
-pub bad_text : {D : Type 0} (reads may_leave : D → List ℕ → Type 0) (moment : D → ℕ)
-    (left_since : D → ℕ → List ℕ → Type 0) (bytes : List ℕ) (net : Around) (disk : D) → net.now ≡ net.before
+pub bad_text : {D : Type 0} (shows : D → DiskSeen) (bytes : List ℕ) (net : Around) (disk : D) → net.now ≡ net.before
     → (f : TextFault) → Gives (λ s. s) (Err f) (judged serve_of bytes) → (end : End) (text : List ℕ)
-    → FaultMay f end text → TextMay reads may_leave moment left_since bytes net disk disk (Plain end) text
-bad_text reads may_leave moment left_since bytes net disk quiet (fault.Wrong n) gives end text may = absurd gives
-bad_text reads may_leave moment left_since bytes net disk quiet (fault.WrongKey key) gives end text may =
-    misspelt reads may_leave moment left_since bytes net disk quiet (string_bytes key) gives end text may
-bad_text {D} reads may_leave moment left_since bytes net disk quiet fault.NoMemory gives end text may =
-    let Of : End → Type 0 = λ e. TextMay reads may_leave moment left_since bytes net disk disk (Plain e) text in
-    subst Of (sym may.0) (wanting reads may_leave moment left_since bytes net disk quiet text may.1)
+    → FaultMay f end text → TextMay shows bytes net disk disk (Plain end) text
+bad_text shows bytes net disk quiet (fault.Wrong n) gives end text may = absurd gives
+bad_text shows bytes net disk quiet (fault.WrongKey key) gives end text may =
+    misspelt shows bytes net disk quiet (string_bytes key) gives end text may
+bad_text {D} shows bytes net disk quiet fault.NoMemory gives end text may =
+    let Of : End → Type 0 = λ e. TextMay shows bytes net disk disk (Plain e) text in
+    subst Of (sym may.0) (wanting shows bytes net disk quiet text may.1)
 
 -- a setting that differs is told as a bad key
 pub differs_may : (key : SettingsKey) (end : End) (text : List ℕ) → BadKeyMay (key_text key) end text
@@ -97,12 +95,12 @@ counts_differ fault key before now is h =
     let Of : OpenFault → Type 0 = λ x. CountsOpen before now x in subst Of is h
 
 -- a server that was opened has a journal that isn't closed
-pub opened_unclosed : {D : Type 0} (reads may_leave : D → List ℕ → Type 0) (limit : ℕ) (o : Opening) (disk : D)
-    (k : KeptState D) → IsCreated reads may_leave limit o disk k ⊎ IsReopened reads may_leave limit o disk k
+pub opened_unclosed : {D : Type 0} (shows : D → DiskSeen) (limit : ℕ) (o : Opening) (disk : D)
+    (k : KeptState D) → IsCreated shows limit o disk k ⊎ IsReopened shows limit o disk k
     → k.journal.closed ≡ false
-opened_unclosed reads may_leave limit o disk k (inl created) =
+opened_unclosed shows limit o disk k (inl created) =
     ap (λ (j : JournalState). j.closed) created.journal
-opened_unclosed reads may_leave limit o disk k (inr reopened) = reopened.unclosed
+opened_unclosed shows limit o disk k (inr reopened) = reopened.unclosed
 
 -- the counts of the disk that was opened, and of the one that is handed back
 pub counts_between : {D : Type 0} (count : D → ℕ) (end : Ending) (disk opened left after : D)

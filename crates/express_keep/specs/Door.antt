@@ -2,6 +2,7 @@
 use Rattle.std.specs.Prelude.{◌≡◌, ◌⊎◌, ℕ, true, false, List, ◌++◌, codes}
 use Rattle.express_words.specs.Causes.{Rose}
 use Rattle.express_words.specs.Calls.{Listened, Adds}
+use Rattle.node_journal.specs.Disk.{DiskSeen}
 use Rattle.settings_text.specs.declared.serve.ServeSettings.{ServeSettings}
 use Rattle.node_host.specs.Visits.{Visit}
 use Rattle.node_host.specs.Tallies.{tally_text}
@@ -24,48 +25,44 @@ abbrev pub TallyMay : Tally → Ending → List ℕ → Type 0
 TallyMay tally end text = SaysOrWants (Plain Done) (tally_text tally ++ codes "\n") end text
 
 -- All connections of the settings were served.
-pub record Served {D : Type 0} (reads may_leave : D → List ℕ → Type 0) (moment : D → ℕ)
-    (left_since : D → ℕ → List ℕ → Type 0) (settings : ServeSettings) (old new : KeptState D)
+pub record Served {D : Type 0} (shows : D → DiskSeen) (settings : ServeSettings) (old new : KeptState D)
     (before now : Seen) (end : Ending) (text : List ℕ) : Type 0 where
   pub visits : List Visit
   pub tally : Tally
-  pub serves : ServesAll reads may_leave moment left_since settings.peer settings.connections tally visits
+  pub serves : ServesAll shows settings.peer settings.connections tally visits
       (standing old before.faults) (standing new now.faults) before.calls now.calls
   pub doors : now.doors ≡ before.doors
   pub says : TallyMay tally end text
 
 -- An accept failed.
-pub record DoorFailed {D : Type 0} (reads may_leave : D → List ℕ → Type 0) (moment : D → ℕ)
-    (left_since : D → ℕ → List ℕ → Type 0) (settings : ServeSettings) (old new : KeptState D)
+pub record DoorFailed {D : Type 0} (shows : D → DiskSeen) (settings : ServeSettings) (old new : KeptState D)
     (before now : Seen) (end : Ending) (text : List ℕ) : Type 0 where
   pub visits : List Visit
   pub tally : Tally
-  pub fails : DoorFails reads may_leave moment left_since settings.peer settings.connections tally visits
+  pub fails : DoorFails shows settings.peer settings.connections tally visits
       (standing old before.faults) (standing new now.faults) before.calls now.calls
   pub doors : Rose before.doors now.doors
   pub says : Says (Plain NetFault) net_fault_text end text
 
 -- A frame wasn't kept, which ended the run; no answer went out to its connection.
-pub record NotKept {D : Type 0} (reads may_leave : D → List ℕ → Type 0) (moment : D → ℕ)
-    (left_since : D → ℕ → List ℕ → Type 0) (settings : ServeSettings) (old new : KeptState D)
+pub record NotKept {D : Type 0} (shows : D → DiskSeen) (settings : ServeSettings) (old new : KeptState D)
     (before now : Seen) (end : Ending) (text : List ℕ) : Type 0 where
   pub visits : List Visit
   pub tally : Tally
   pub fault : KeepFault
   pub last : Broken
-  pub fails : KeepFails reads may_leave moment left_since settings.peer settings.connections tally fault
+  pub fails : KeepFails shows settings.peer settings.connections tally fault
       visits last (standing old before.faults) (standing new now.faults) before.calls now.calls
   pub doors : now.doors ≡ before.doors
   pub says : FaultMay fault end text
 
 -- what may come of serving at the open door
-abbrev pub ServedMay : {D : Type 0} → (reads may_leave : D → List ℕ → Type 0) → (moment : D → ℕ)
-    → (left_since : D → ℕ → List ℕ → Type 0) → ServeSettings → (old new : KeptState D) → (before now : Seen)
-    → Ending → List ℕ → Type 0
-ServedMay reads may_leave moment left_since settings old new before now end text =
-    Served reads may_leave moment left_since settings old new before now end text
-    ⊎ (DoorFailed reads may_leave moment left_since settings old new before now end text
-    ⊎ NotKept reads may_leave moment left_since settings old new before now end text)
+abbrev pub ServedMay : {D : Type 0} → (D → DiskSeen) → ServeSettings → (old new : KeptState D)
+    → (before now : Seen) → Ending → List ℕ → Type 0
+ServedMay shows settings old new before now end text =
+    Served shows settings old new before now end text
+    ⊎ (DoorFailed shows settings old new before now end text
+    ⊎ NotKept shows settings old new before now end text)
 
 -- The sink failed where it was to be told that it listens: nothing was served.
 pub record Unheard {D : Type 0} (old new : KeptState D) (before now : Seen) (end : Ending) (text : List ℕ)
@@ -75,29 +72,26 @@ pub record Unheard {D : Type 0} (old new : KeptState D) (before now : Seen) (end
   pub says : Says (Plain WriteFault) listening end text
 
 -- It told that it listens, and then serving came to this.
-abbrev pub Heard : {D : Type 0} → (reads may_leave : D → List ℕ → Type 0) → (moment : D → ℕ)
-    → (left_since : D → ℕ → List ℕ → Type 0) → ServeSettings → (old new : KeptState D) → (before now : Seen)
-    → Ending → List ℕ → Type 0
-Heard reads may_leave moment left_since settings old new before now end text =
-    (said : List ℕ) × ServedMay reads may_leave moment left_since settings old new before now end said
+abbrev pub Heard : {D : Type 0} → (D → DiskSeen) → ServeSettings → (old new : KeptState D)
+    → (before now : Seen) → Ending → List ℕ → Type 0
+Heard shows settings old new before now end text =
+    (said : List ℕ) × ServedMay shows settings old new before now end said
     × (text ≡ listening ++ said)
 
-abbrev pub ListeningMay : {D : Type 0} → (reads may_leave : D → List ℕ → Type 0) → (moment : D → ℕ)
-    → (left_since : D → ℕ → List ℕ → Type 0) → ServeSettings → (old new : KeptState D) → (before now : Seen)
-    → Ending → List ℕ → Type 0
-ListeningMay reads may_leave moment left_since settings old new before now end text =
-    Heard reads may_leave moment left_since settings old new before now end text
+abbrev pub ListeningMay : {D : Type 0} → (D → DiskSeen) → ServeSettings → (old new : KeptState D)
+    → (before now : Seen) → Ending → List ℕ → Type 0
+ListeningMay shows settings old new before now end text =
+    Heard shows settings old new before now end text
     ⊎ Unheard old new before now end text
 
 -- It listened where its settings say, was to tell so, and serving came to this.
-pub record Hosted {D : Type 0} (reads may_leave : D → List ℕ → Type 0) (moment : D → ℕ)
-    (left_since : D → ℕ → List ℕ → Type 0) (settings : ServeSettings) (old new : KeptState D)
+pub record Hosted {D : Type 0} (shows : D → DiskSeen) (settings : ServeSettings) (old new : KeptState D)
     (before now : Seen) (end : Ending) (text : List ℕ) : Type 0 where
   pub at_door : Seen
   pub listens : Adds before.calls at_door.calls (Listened settings.listen false)
   pub faults : at_door.faults ≡ before.faults
   pub doors : at_door.doors ≡ before.doors
-  pub served : ListeningMay reads may_leave moment left_since settings old new at_door now end text
+  pub served : ListeningMay shows settings old new at_door now end text
 
 -- Its listen failed: no other call was made, and nothing was kept.
 pub record ListenFailed {D : Type 0} (settings : ServeSettings) (old new : KeptState D) (before now : Seen)
@@ -107,9 +101,8 @@ pub record ListenFailed {D : Type 0} (settings : ServeSettings) (old new : KeptS
   pub ending_is : end ≡ Plain NetFault
 
 -- what may come of a server at its door
-abbrev pub DoorMay : {D : Type 0} → (reads may_leave : D → List ℕ → Type 0) → (moment : D → ℕ)
-    → (left_since : D → ℕ → List ℕ → Type 0) → ServeSettings → (old new : KeptState D) → (before now : Seen)
-    → Ending → List ℕ → Type 0
-DoorMay reads may_leave moment left_since settings old new before now end text =
-    Hosted reads may_leave moment left_since settings old new before now end text
+abbrev pub DoorMay : {D : Type 0} → (D → DiskSeen) → ServeSettings → (old new : KeptState D)
+    → (before now : Seen) → Ending → List ℕ → Type 0
+DoorMay shows settings old new before now end text =
+    Hosted shows settings old new before now end text
     ⊎ ListenFailed settings old new before now end text

@@ -1,6 +1,7 @@
 -- What one run of `keep` comes to.
 use Rattle.std.specs.Prelude.{◌≡◌, ◌≢◌, ◌⊎◌, ℕ, List, [], ◌∷◌, Contains}
 use Rattle.express_words.specs.Causes.{Rose}
+use Rattle.node_journal.specs.Disk.{DiskSeen}
 use Rattle.settings_text.specs.declared.serve.ServeSettings.{ServeSettings}
 use Rattle.node_restart.specs.declared.fault.KeepFault.{KeepFault}
 use Rattle.node_restart.specs.Kept.{KeptState}
@@ -20,7 +21,7 @@ use Rattle.express_cli.specs.declared.ends.End.TheVariants.{BadKey, ReadFault, W
 use Rattle.express_keep.specs.declared.ending.Ending.{Ending}
 use Rattle.express_keep.specs.declared.ending.Ending.TheVariants.{Plain}
 use Rattle.express_keep.specs.Endings.{status_of, DiskCounts}
-use Rattle.express_keep.specs.Telling.{FaultMay, Says, SaysOrWants, Tells, WantsMemory}
+use Rattle.express_keep.specs.Telling.{FaultMay, Says, SaysOrWants, TellsBy, WantsMemory}
 use Rattle.express_keep.specs.Door.{DoorMay}
 
 -- a journal uses so many bytes of its disk at most
@@ -29,14 +30,13 @@ limit = 1073741824
 
 -- A new server on a disk with no byte, or the one of the journal that stands there, was opened, and came to
 -- this at its door; its disk is handed back.
-pub record Opened {D : Type 0} (reads may_leave : D → List ℕ → Type 0) (moment : D → ℕ)
-    (left_since : D → ℕ → List ℕ → Type 0) (settings : ServeSettings) (net : Around) (disk after : D)
-    (end : Ending) (text : List ℕ) : Type 0 where
+pub record Opened {D : Type 0} (shows : D → DiskSeen) (settings : ServeSettings) (net : Around)
+    (disk after : D) (end : Ending) (text : List ℕ) : Type 0 where
   pub old : KeptState D
   pub new : KeptState D
-  pub opened : IsCreated reads may_leave limit (opening_of settings net.seed) disk old
-      ⊎ IsReopened reads may_leave limit (opening_of settings net.seed) disk old
-  pub served : DoorMay reads may_leave moment left_since settings old new net.before net.now end text
+  pub opened : IsCreated shows limit (opening_of settings net.seed) disk old
+      ⊎ IsReopened shows limit (opening_of settings net.seed) disk old
+  pub served : DoorMay shows settings old new net.before net.now end text
   pub handed_back : after ≡ new.disk
 
 -- what is said of a server that isn't opened
@@ -46,12 +46,12 @@ OpenFaultMay (opening.Differs key) end text =
     SaysOrWants (Plain BadKey) (bad_settings (key_text key)) end text
 
 -- The server wasn't opened; no call was made on the net.
-pub record Unopened {D : Type 0} (reads may_leave : D → List ℕ → Type 0) (settings : ServeSettings)
-    (net : Around) (disk after : D) (end : Ending) (text : List ℕ) : Type 0 where
+pub record Unopened {D : Type 0} (shows : D → DiskSeen) (settings : ServeSettings) (net : Around)
+    (disk after : D) (end : Ending) (text : List ℕ) : Type 0 where
   pub fault : OpenFault
   pub kind : IsOfOpening fault
-  pub cause : IsCauseOf fault limit (opening_of settings net.seed) (reads disk)
-  pub leaves : LeavesDisk fault reads may_leave disk after
+  pub cause : IsCauseOf fault limit (opening_of settings net.seed) (shows disk).reads
+  pub leaves : LeavesDisk fault shows disk after
   pub quiet : net.now ≡ net.before
   pub says : OpenFaultMay fault end text
 
@@ -62,12 +62,11 @@ pub record Wanting {D : Type 0} (net : Around) (disk after : D) (end : Ending) (
   pub says : WantsMemory end text
 
 -- what may come of a server of these settings
-abbrev pub SettingsMay : {D : Type 0} → (reads may_leave : D → List ℕ → Type 0) → (moment : D → ℕ)
-    → (left_since : D → ℕ → List ℕ → Type 0) → ServeSettings → Around → (disk after : D) → Ending → List ℕ
-    → Type 0
-SettingsMay reads may_leave moment left_since settings net disk after end text =
-    Opened reads may_leave moment left_since settings net disk after end text
-    ⊎ (Unopened reads may_leave settings net disk after end text ⊎ Wanting net disk after end text)
+abbrev pub SettingsMay : {D : Type 0} → (D → DiskSeen) → ServeSettings → Around → (disk after : D)
+    → Ending → List ℕ → Type 0
+SettingsMay shows settings net disk after end text =
+    Opened shows settings net disk after end text
+    ⊎ (Unopened shows settings net disk after end text ⊎ Wanting net disk after end text)
 
 -- The text spells no settings, of which the first bad key is named, unless memory is wanting. The disk wasn't
 -- asked.
@@ -80,17 +79,17 @@ pub record Misspelt {D : Type 0} (bytes : List ℕ) (net : Around) (disk after :
   pub says : Says (Plain BadKey) (bad_settings key) end text
 
 -- The settings that the text spells are those of the server.
-abbrev pub Spelt : {D : Type 0} → (reads may_leave : D → List ℕ → Type 0) → (moment : D → ℕ)
-    → (left_since : D → ℕ → List ℕ → Type 0) → List ℕ → Around → (disk after : D) → Ending → List ℕ → Type 0
-Spelt reads may_leave moment left_since bytes net disk after end text =
+abbrev pub Spelt : {D : Type 0} → (D → DiskSeen) → List ℕ → Around → (disk after : D) → Ending
+    → List ℕ → Type 0
+Spelt shows bytes net disk after end text =
     (settings : ServeSettings) × SpellsServe settings bytes
-    × SettingsMay reads may_leave moment left_since settings net disk after end text
+    × SettingsMay shows settings net disk after end text
 
 -- what may come of a text
-abbrev pub TextMay : {D : Type 0} → (reads may_leave : D → List ℕ → Type 0) → (moment : D → ℕ)
-    → (left_since : D → ℕ → List ℕ → Type 0) → List ℕ → Around → (disk after : D) → Ending → List ℕ → Type 0
-TextMay reads may_leave moment left_since bytes net disk after end text =
-    Spelt reads may_leave moment left_since bytes net disk after end text
+abbrev pub TextMay : {D : Type 0} → (D → DiskSeen) → List ℕ → Around → (disk after : D) → Ending
+    → List ℕ → Type 0
+TextMay shows bytes net disk after end text =
+    Spelt shows bytes net disk after end text
     ⊎ (Misspelt bytes net disk after end text ⊎ Wanting net disk after end text)
 
 -- The input wasn't read to its end, or memory was wanting for it. Neither disk nor net was asked.
@@ -103,19 +102,17 @@ pub record Unread {D : Type 0} (old new : Outside) (net : Around) (disk after : 
   pub quiet : net.now ≡ net.before
 
 -- The input gave all its bytes, and they came to this.
-abbrev pub Read : {D : Type 0} → (reads may_leave : D → List ℕ → Type 0) → (moment : D → ℕ)
-    → (left_since : D → ℕ → List ℕ → Type 0) → (old new : Outside) → Around → (disk after : D) → Ending
-    → List ℕ → Type 0
-Read reads may_leave moment left_since old new net disk after end text =
+abbrev pub Read : {D : Type 0} → (D → DiskSeen) → (old new : Outside) → Around → (disk after : D)
+    → Ending → List ℕ → Type 0
+Read shows old new net disk after end text =
     (bytes : List ℕ) × GaveAll old.content new.content bytes
-    × TextMay reads may_leave moment left_since bytes net disk after end text
+    × TextMay shows bytes net disk after end text
 
 -- what may come of a run of `keep`
-abbrev pub KeepMay : {D : Type 0} → (reads may_leave : D → List ℕ → Type 0) → (moment : D → ℕ)
-    → (left_since : D → ℕ → List ℕ → Type 0) → (old new : Outside) → Around → (disk after : D) → Ending
-    → List ℕ → Type 0
-KeepMay reads may_leave moment left_since old new net disk after end text =
-    Read reads may_leave moment left_since old new net disk after end text
+abbrev pub KeepMay : {D : Type 0} → (D → DiskSeen) → (old new : Outside) → Around → (disk after : D)
+    → Ending → List ℕ → Type 0
+KeepMay shows old new net disk after end text =
+    Read shows old new net disk after end text
     ⊎ Unread old new net disk after end text
 
 -- the input failed only where that is told, or where the sink failed and hides it
@@ -127,13 +124,12 @@ abbrev pub OutputCounts : Ending → Outside → Outside → Type 0
 OutputCounts end old new = end ≢ Plain WriteFault → new.output_faults ≡ old.output_faults
 
 -- What one run of `keep` promises, by its status; disk_before and disk_now are the disk's counts of faults.
-pub record KeepRan {D : Type 0} (reads may_leave : D → List ℕ → Type 0) (moment : D → ℕ)
-    (left_since : D → ℕ → List ℕ → Type 0) (old new : Outside) (net : Around) (disk after : D)
+pub record KeepRan {D : Type 0} (shows : D → DiskSeen) (old new : Outside) (net : Around) (disk after : D)
     (disk_before disk_now status : ℕ) : Type 0 where
   pub ending : Ending
   pub status_is : status ≡ status_of ending
   -- What came of it was written, or a front of that where the sink failed.
-  pub came : Tells (KeepMay reads may_leave moment left_since old new net disk after) old.written new.written
+  pub came : TellsBy (KeepMay shows old new net disk after) old.written new.written
       old.output_faults new.output_faults ending
   -- No fault is passed over.
   pub disk_counts : DiskCounts ending disk_before disk_now

@@ -1,6 +1,7 @@
 -- What is written at an ending.
 use Rattle.std.specs.Prelude.{◌≡◌, ◌⊎◌, ℕ, List, ◌++◌, codes, Option}
 use Rattle.express_words.specs.Causes.{Rose}
+use Rattle.express_words.specs.Seen.{Seen}
 use Rattle.express_words.specs.Streams.{Took, TookPrefix}
 use Rattle.node_restart.specs.declared.fault.KeepFault.{KeepFault}
 use Rattle.node_restart.specs.Texts.{fault_text}
@@ -25,9 +26,14 @@ pub record BrokeOff (May : Ending → List ℕ → Type 0) (old new : Option (Li
 
 -- Of the endings with their texts that may come, one came and its text was written; or the sink failed after
 -- a part of such a text.
-abbrev pub Tells : (Ending → List ℕ → Type 0) → Option (List ℕ) → Option (List ℕ) → (before now : ℕ) → Ending
+abbrev pub TellsBy : (Ending → List ℕ → Type 0) → Option (List ℕ) → Option (List ℕ) → (before now : ℕ)
+    → Ending
     → Type 0
-Tells May old new before now end = Wrote May old new end ⊎ BrokeOff May old new before now end
+TellsBy May old new before now end = Wrote May old new end ⊎ BrokeOff May old new before now end
+
+-- likewise of a sink that showed this before and shows that now
+abbrev pub Tells : (Ending → List ℕ → Type 0) → (old new : Seen) → Ending → Type 0
+Tells May old new end = TellsBy May old.written new.written old.faults new.faults end
 
 -- this ending with this text
 abbrev pub Says : Ending → List ℕ → Ending → List ℕ → Type 0

@@ -1,6 +1,5 @@
 //! A server with a journal at its door.
 ghost use Rattle.std.specs.Prelude.{◌≡◌, ◌≢◌, ◌≤◌, ℕ, false};
-ghost use Rattle.express_cli.specs.Around.{seen};
 ghost use Rattle.express_keep.specs.Endings.{DiskCounts};
 ghost use Rattle.express_keep.specs.Telling.{Tells};
 ghost use Rattle.express_keep.specs.Door.{DoorMay, ListeningMay, ServedMay, TallyMay};
@@ -26,8 +25,8 @@ pub(crate) struct Server<D: Disk> {
 
 // Tells how many connections had each answer.
 fn tell_tally<K: Sink>(alloc: Global, out: &mut K, tally: Tally) -> Ending
-    ensures tells { Tells (TallyMay tally) (K.written out.old) (K.written out.new) (K.count out.old) (K.count out.new) result }
-    ensures told { result ≢ Ending.Plain End.WriteFault → K.count out.new ≡ K.count out.old }
+    ensures tells { Tells (TallyMay tally) (K.seen out.old) (K.seen out.new) result }
+    ensures told { result ≢ Ending.Plain End.WriteFault → (K.seen out.new).faults ≡ (K.seen out.old).faults }
     ensures counts { (before now : ℕ) → now ≡ before → DiskCounts result before now }
 {
     match tally_line(alloc, tally) {
@@ -45,11 +44,11 @@ fn serve_all<K: Sink, N: Net, D: Disk>(
     net: &mut N,
 ) -> Ending
     requires unclosed { server.old.kept.journal.closed ≡ false }
-    ensures tells { Tells (ServedMay D.reads D.may_leave D.moment D.left_since settings.now server.old.kept server.new.kept
-        (seen (N.calls net.old) (N.count net.old) (N.doors net.old)) (seen (N.calls net.new) (N.count net.new) (N.doors net.new)))
-        (K.written out.old) (K.written out.new) (K.count out.old) (K.count out.new) result }
-    ensures told { result ≢ Ending.Plain End.WriteFault → K.count out.new ≡ K.count out.old }
-    ensures disk { DiskCounts result (D.Counted.count server.old.kept.disk) (D.Counted.count server.new.kept.disk) }
+    ensures tells { Tells (ServedMay D.disk settings.now server.old.kept server.new.kept
+        (N.seen net.old) (N.seen net.new))
+        (K.seen out.old) (K.seen out.new) result }
+    ensures told { result ≢ Ending.Plain End.WriteFault → (K.seen out.new).faults ≡ (K.seen out.old).faults }
+    ensures disk { DiskCounts result (D.Counted.seen server.old.kept.disk).faults (D.Counted.seen server.new.kept.disk).faults }
 {
     match host_kept(
         &mut server.kept,
@@ -75,11 +74,11 @@ fn tell_and_serve<K: Sink, N: Net, D: Disk>(
     net: &mut N,
 ) -> Ending
     requires unclosed { server.old.kept.journal.closed ≡ false }
-    ensures tells { Tells (ListeningMay D.reads D.may_leave D.moment D.left_since settings.now server.old.kept server.new.kept
-        (seen (N.calls net.old) (N.count net.old) (N.doors net.old)) (seen (N.calls net.new) (N.count net.new) (N.doors net.new)))
-        (K.written out.old) (K.written out.new) (K.count out.old) (K.count out.new) result }
-    ensures told { result ≢ Ending.Plain End.WriteFault → K.count out.new ≡ K.count out.old }
-    ensures disk { DiskCounts result (D.Counted.count server.old.kept.disk) (D.Counted.count server.new.kept.disk) }
+    ensures tells { Tells (ListeningMay D.disk settings.now server.old.kept server.new.kept
+        (N.seen net.old) (N.seen net.new))
+        (K.seen out.old) (K.seen out.new) result }
+    ensures told { result ≢ Ending.Plain End.WriteFault → (K.seen out.new).faults ≡ (K.seen out.old).faults }
+    ensures disk { DiskCounts result (D.Counted.seen server.old.kept.disk).faults (D.Counted.seen server.new.kept.disk).faults }
 {
     match out.put(LISTENING.as_bytes()) {
         Ok(()) => serve_all(alloc, settings, server, out, net),
@@ -96,11 +95,11 @@ pub(crate) fn listen_and_serve<K: Sink, N: Net, D: Disk>(
     net: &mut N,
 ) -> Ending
     requires unclosed { server.old.kept.journal.closed ≡ false }
-    ensures tells { Tells (DoorMay D.reads D.may_leave D.moment D.left_since settings.now server.old.kept server.new.kept
-        (seen (N.calls net.old) (N.count net.old) (N.doors net.old)) (seen (N.calls net.new) (N.count net.new) (N.doors net.new)))
-        (K.written out.old) (K.written out.new) (K.count out.old) (K.count out.new) result }
-    ensures told { result ≢ Ending.Plain End.WriteFault → K.count out.new ≡ K.count out.old }
-    ensures disk { DiskCounts result (D.Counted.count server.old.kept.disk) (D.Counted.count server.new.kept.disk) }
+    ensures tells { Tells (DoorMay D.disk settings.now server.old.kept server.new.kept
+        (N.seen net.old) (N.seen net.new))
+        (K.seen out.old) (K.seen out.new) result }
+    ensures told { result ≢ Ending.Plain End.WriteFault → (K.seen out.new).faults ≡ (K.seen out.old).faults }
+    ensures disk { DiskCounts result (D.Counted.seen server.old.kept.disk).faults (D.Counted.seen server.new.kept.disk).faults }
 {
     match net.listen(settings.listen.as_str()) {
         Ok(()) => tell_and_serve(alloc, settings, server, out, net),

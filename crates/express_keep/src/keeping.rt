@@ -1,7 +1,7 @@
 //! Is a server with a journal.
 ghost use Rattle.std.specs.Prelude.{◌≡◌, ◌≢◌, ◌≤◌};
 ghost use Rattle.express_words.specs.Limits.{KeepsLimits};
-ghost use Rattle.express_cli.specs.Around.{around, outside, seen};
+ghost use Rattle.express_cli.specs.Around.{around, outside};
 ghost use Rattle.express_keep.specs.Endings.{DiskCounts};
 ghost use Rattle.express_keep.specs.Keeping.{InputCounts, KeepMay, OutputCounts, SettingsMay, TextMay};
 ghost use Rattle.express_keep.specs.Telling.{Tells};
@@ -28,11 +28,12 @@ fn keep_by<K: Sink, N: Net, D: Disk>(
 ) -> (Ending, D)
     requires role { settings.now.role ≤ HELPER }
     requires limits { KeepsLimits settings.now.settings.width settings.now.settings.boxes settings.now.settings.lanes settings.now.settings.window }
-    ensures tells { Tells (SettingsMay D.reads D.may_leave D.moment D.left_since settings.now
-        (around seed.now (seen (N.calls net.old) (N.count net.old) (N.doors net.old)) (seen (N.calls net.new) (N.count net.new) (N.doors net.new)))
-        disk result.1) (K.written out.old) (K.written out.new) (K.count out.old) (K.count out.new) result.0 }
-    ensures told { result.0 ≢ Ending.Plain End.WriteFault → K.count out.new ≡ K.count out.old }
-    ensures disk { DiskCounts result.0 (D.Counted.count disk) (D.Counted.count result.1) }
+    ensures tells { Tells (SettingsMay D.disk settings.now
+        (around seed.now (N.seen net.old) (N.seen net.new))
+        disk result.1) (K.seen out.old) (K.seen out.new) result.0 }
+    ensures told { result.0 ≢ Ending.Plain End.WriteFault
+        → (K.seen out.new).faults ≡ (K.seen out.old).faults }
+    ensures disk { DiskCounts result.0 (D.Counted.seen disk).faults (D.Counted.seen result.1).faults }
 {
     let Ok(gather) = Gather::open(alloc) else {
         let ending = tell(out, OUT_OF_MEMORY, Ending::Plain(End::OutOfMemory));
@@ -57,11 +58,12 @@ fn keep_text<K: Sink, N: Net, D: Disk>(
     net: &mut N,
     disk: D,
 ) -> (Ending, D)
-    ensures tells { Tells (TextMay D.reads D.may_leave D.moment D.left_since text.now
-        (around seed.now (seen (N.calls net.old) (N.count net.old) (N.doors net.old)) (seen (N.calls net.new) (N.count net.new) (N.doors net.new)))
-        disk result.1) (K.written out.old) (K.written out.new) (K.count out.old) (K.count out.new) result.0 }
-    ensures told { result.0 ≢ Ending.Plain End.WriteFault → K.count out.new ≡ K.count out.old }
-    ensures disk { DiskCounts result.0 (D.Counted.count disk) (D.Counted.count result.1) }
+    ensures tells { Tells (TextMay D.disk text.now
+        (around seed.now (N.seen net.old) (N.seen net.new))
+        disk result.1) (K.seen out.old) (K.seen out.new) result.0 }
+    ensures told { result.0 ≢ Ending.Plain End.WriteFault
+        → (K.seen out.new).faults ≡ (K.seen out.old).faults }
+    ensures disk { DiskCounts result.0 (D.Counted.seen disk).faults (D.Counted.seen result.1).faults }
 {
     match read_serve(alloc, text) {
         Ok(settings) => keep_by(alloc, &settings, seed, out, net, disk),
@@ -79,14 +81,16 @@ pub(crate) fn keep<S: Source, K: Sink, N: Net, D: Disk>(
     net: &mut N,
     disk: D,
 ) -> (Ending, D)
-    ensures tells { Tells (KeepMay D.reads D.may_leave D.moment D.left_since
-        (outside (S.content input.old) (S.count input.old) (K.written out.old) (K.count out.old))
-        (outside (S.content input.new) (S.count input.new) (K.written out.new) (K.count out.new))
-        (around seed.now (seen (N.calls net.old) (N.count net.old) (N.doors net.old)) (seen (N.calls net.new) (N.count net.new) (N.doors net.new)))
-        disk result.1) (K.written out.old) (K.written out.new) (K.count out.old) (K.count out.new) result.0 }
-    ensures disk { DiskCounts result.0 (D.Counted.count disk) (D.Counted.count result.1) }
-    ensures input { result.0 ≢ Ending.Plain End.ReadFault → result.0 ≢ Ending.Plain End.WriteFault → S.count input.new ≡ S.count input.old }
-    ensures told { result.0 ≢ Ending.Plain End.WriteFault → K.count out.new ≡ K.count out.old }
+    ensures tells { Tells (KeepMay D.disk
+        (outside (S.seen input.old) (K.seen out.old))
+        (outside (S.seen input.new) (K.seen out.new))
+        (around seed.now (N.seen net.old) (N.seen net.new))
+        disk result.1) (K.seen out.old) (K.seen out.new) result.0 }
+    ensures disk { DiskCounts result.0 (D.Counted.seen disk).faults (D.Counted.seen result.1).faults }
+    ensures input { result.0 ≢ Ending.Plain End.ReadFault → result.0 ≢ Ending.Plain End.WriteFault
+        → (S.seen input.new).faults ≡ (S.seen input.old).faults }
+    ensures told { result.0 ≢ Ending.Plain End.WriteFault
+        → (K.seen out.new).faults ≡ (K.seen out.old).faults }
 {
     match input_of(alloc, input, out) {
         Ok(text) => keep_text(alloc, text.as_slice(), seed, out, net, disk),

@@ -21,8 +21,8 @@ const JOURNAL_FULL: &str = "journal full\n";
 /// Writes a text and comes to this ending, or to a fault of the sink.
 pub(crate) fn tell<K: Sink>(out: &mut K, text: &str, ending: Ending) -> Ending
     requires { ending ≢ Ending.Plain End.WriteFault }
-    ensures tells { Tells (Says ending text.now) (K.written out.old) (K.written out.new) (K.count out.old) (K.count out.new) result }
-    ensures told { result ≢ Ending.Plain End.WriteFault → K.count out.new ≡ K.count out.old }
+    ensures tells { Tells (Says ending text.now) (K.seen out.old) (K.seen out.new) result }
+    ensures told { result ≢ Ending.Plain End.WriteFault → (K.seen out.new).faults ≡ (K.seen out.old).faults }
     ensures only { (result ≡ ending) ⊎ (result ≡ Ending.Plain End.WriteFault) }
 {
     match out.put(text.as_bytes()) {
@@ -40,9 +40,10 @@ fn fault_line(alloc: Global, fault: KeepFault) -> Result<String, AllocError>
 // Says at which offset, or which record, a journal is bad, unless memory is wanting.
 fn tell_place<K: Sink>(alloc: Global, out: &mut K, fault: KeepFault, ending: Ending) -> Ending
     requires plain { ending ≢ Ending.Plain End.WriteFault }
-    ensures tells { Tells (SaysOrWants ending (fault_line fault)) (K.written out.old) (K.written out.new) (K.count out.old) (K.count out.new) result }
-    ensures told { result ≢ Ending.Plain End.WriteFault → K.count out.new ≡ K.count out.old }
-    ensures counts { (before now : ℕ) → now ≡ before → DiskCounts ending before now → DiskCounts result before now }
+    ensures tells { Tells (SaysOrWants ending (fault_line fault)) (K.seen out.old) (K.seen out.new) result }
+    ensures told { result ≢ Ending.Plain End.WriteFault → (K.seen out.new).faults ≡ (K.seen out.old).faults }
+    ensures counts { (before now : ℕ) → now ≡ before → DiskCounts ending before now
+        → DiskCounts result before now }
 {
     match fault_line(alloc, fault) {
         Ok(line) => tell(out, line.as_str(), ending),
@@ -53,9 +54,10 @@ fn tell_place<K: Sink>(alloc: Global, out: &mut K, fault: KeepFault, ending: End
 // Says which fault of its journal ended a server, or kept it from being opened, unless memory is wanting.
 fn tell_journal_fault<K: Sink>(alloc: Global, out: &mut K, why: JournalFault) -> Ending
     requires told_of { IsToldOf (KeepFault.Journal why) }
-    ensures tells { Tells (FaultMay (KeepFault.Journal why)) (K.written out.old) (K.written out.new) (K.count out.old) (K.count out.new) result }
-    ensures told { result ≢ Ending.Plain End.WriteFault → K.count out.new ≡ K.count out.old }
-    ensures counts { (before now : ℕ) → CountsFault before now (KeepFault.Journal why) → DiskCounts result before now }
+    ensures tells { Tells (FaultMay (KeepFault.Journal why)) (K.seen out.old) (K.seen out.new) result }
+    ensures told { result ≢ Ending.Plain End.WriteFault → (K.seen out.new).faults ≡ (K.seen out.old).faults }
+    ensures counts { (before now : ℕ) → CountsFault before now (KeepFault.Journal why)
+        → DiskCounts result before now }
 {
     match why {
         JournalFault::Full(_) => tell(out, JOURNAL_FULL, Ending::JournalFull),
@@ -73,8 +75,8 @@ fn tell_journal_fault<K: Sink>(alloc: Global, out: &mut K, why: JournalFault) ->
 /// Says which fault ended a server, or kept it from being opened, unless memory is wanting.
 pub(crate) fn tell_fault<K: Sink>(alloc: Global, out: &mut K, fault: KeepFault) -> Ending
     requires told_of { IsToldOf fault }
-    ensures tells { Tells (FaultMay fault) (K.written out.old) (K.written out.new) (K.count out.old) (K.count out.new) result }
-    ensures told { result ≢ Ending.Plain End.WriteFault → K.count out.new ≡ K.count out.old }
+    ensures tells { Tells (FaultMay fault) (K.seen out.old) (K.seen out.new) result }
+    ensures told { result ≢ Ending.Plain End.WriteFault → (K.seen out.new).faults ≡ (K.seen out.old).faults }
     ensures counts { (before now : ℕ) → CountsFault before now fault → DiskCounts result before now }
 {
     match fault {
@@ -101,8 +103,8 @@ fn name_of(key: SettingsKey) -> &'static str
 /// Says why a server wasn't opened, unless memory is wanting.
 pub(crate) fn tell_unopened<K: Sink>(alloc: Global, out: &mut K, fault: OpenFault) -> Ending
     requires { IsOfOpening fault }
-    ensures tells { Tells (OpenFaultMay fault) (K.written out.old) (K.written out.new) (K.count out.old) (K.count out.new) result }
-    ensures told { result ≢ Ending.Plain End.WriteFault → K.count out.new ≡ K.count out.old }
+    ensures tells { Tells (OpenFaultMay fault) (K.seen out.old) (K.seen out.new) result }
+    ensures told { result ≢ Ending.Plain End.WriteFault → (K.seen out.new).faults ≡ (K.seen out.old).faults }
     ensures counts { (before now : ℕ) → CountsOpen before now fault → DiskCounts result before now }
 {
     match fault {

@@ -1,7 +1,7 @@
 //! The top call with a journal.
 ghost use Rattle.std.specs.Prelude.{◌≡◌, ◌≢◌, ◌≤◌, [], ◌∷◌, Contains, map, string_bytes};
 ghost use Rattle.express_words.specs.Causes.{Rose};
-ghost use Rattle.express_cli.specs.Around.{around, outside, seen};
+ghost use Rattle.express_cli.specs.Around.{around, outside};
 ghost use Rattle.express_cli.specs.CommandLine.{AskSome, AskTalk};
 ghost use Rattle.express_cli.specs.Laws.{Laws};
 ghost use Rattle.express_cli.specs.Ran.{Ran};
@@ -33,21 +33,24 @@ pub fn run_kept<S: Source, K: Sink, N: Net, D: Disk>(
 ) -> (u8, D)
     // For all other words it is `run`, and no call is made on the disk.
     ensures ran { (AsksKeep (map string_bytes words.now.items) → ⊥) → Ran (map string_bytes words.now.items)
-        (outside (S.content input.old) (S.count input.old) (K.written out.old) (K.count out.old))
-        (outside (S.content input.new) (S.count input.new) (K.written out.new) (K.count out.new))
-        (around seed.now (seen (N.calls net.old) (N.count net.old) (N.doors net.old)) (seen (N.calls net.new) (N.count net.new) (N.doors net.new))) result.0 }
+        (outside (S.seen input.old) (K.seen out.old))
+        (outside (S.seen input.new) (K.seen out.new))
+        (around seed.now (N.seen net.old) (N.seen net.new)) result.0 }
     ensures disk_rests { (AsksKeep (map string_bytes words.now.items) → ⊥) → result.1 ≡ disk }
-    ensures input_rests { (AsksKeep (map string_bytes words.now.items) → ⊥) → (AskSome (map string_bytes words.now.items) → ⊥) → input.new ≡ input.old }
-    ensures net_rests { (AsksKeep (map string_bytes words.now.items) → ⊥) → (AskTalk (map string_bytes words.now.items) → ⊥) → net.new ≡ net.old }
-    ensures net_waits { (AsksKeep (map string_bytes words.now.items) → ⊥) → Contains (2 ∷ 3 ∷ 4 ∷ 8 ∷ []) result.0 → net.new ≡ net.old }
+    ensures input_rests { (AsksKeep (map string_bytes words.now.items) → ⊥)
+        → (AskSome (map string_bytes words.now.items) → ⊥) → input.new ≡ input.old }
+    ensures net_rests { (AsksKeep (map string_bytes words.now.items) → ⊥)
+        → (AskTalk (map string_bytes words.now.items) → ⊥) → net.new ≡ net.old }
+    ensures net_waits { (AsksKeep (map string_bytes words.now.items) → ⊥)
+        → Contains (2 ∷ 3 ∷ 4 ∷ 8 ∷ []) result.0 → net.new ≡ net.old }
     ensures laws { Laws }
-    ensures kept { AsksKeep (map string_bytes words.now.items) → KeepRan D.reads D.may_leave D.moment D.left_since
-        (outside (S.content input.old) (S.count input.old) (K.written out.old) (K.count out.old))
-        (outside (S.content input.new) (S.count input.new) (K.written out.new) (K.count out.new))
-        (around seed.now (seen (N.calls net.old) (N.count net.old) (N.doors net.old)) (seen (N.calls net.new) (N.count net.new) (N.doors net.new)))
-        disk result.1 (D.Counted.count disk) (D.Counted.count result.1) result.0 }
+    ensures kept { AsksKeep (map string_bytes words.now.items) → KeepRan D.disk
+        (outside (S.seen input.old) (K.seen out.old))
+        (outside (S.seen input.new) (K.seen out.new))
+        (around seed.now (N.seen net.old) (N.seen net.new))
+        disk result.1 (D.Counted.seen disk).faults (D.Counted.seen result.1).faults result.0 }
     // The disk failed only where its count rose.
-    ensures disk_fault { result.0 ≡ 10 → Rose (D.Counted.count disk) (D.Counted.count result.1) }
+    ensures disk_fault { result.0 ≡ 10 → Rose (D.Counted.seen disk).faults (D.Counted.seen result.1).faults }
     ensures statuses { Contains (0 ∷ 2 ∷ 3 ∷ 4 ∷ 5 ∷ 6 ∷ 7 ∷ 8 ∷ 10 ∷ 11 ∷ 12 ∷ 13 ∷ []) result.0 }
 {
     laws();

@@ -5,5 +5,6 @@ pub mod Limits
 pub mod Memory
 pub mod Noted
 pub mod Ranges
+pub mod Seen
 pub mod Streams
 pub mod Texts

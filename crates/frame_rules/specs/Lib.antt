@@ -4,6 +4,7 @@ pub mod Spelling
 pub mod Forms
 pub mod Bodies
 pub mod Reading
+pub mod Room
 pub mod Gathering
 pub mod Whole
 pub mod Texts

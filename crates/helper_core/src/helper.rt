@@ -4,6 +4,7 @@ ghost use Rattle.express_words.specs.Limits.{KeepsLimits};
 ghost use Rattle.frame_rules.specs.Spelling.{spelling, IsFrame};
 ghost use Rattle.frame_rules.specs.Frames.{plain, plain_body};
 ghost use Rattle.frame_rules.specs.Whole.{has_width, is_command};
+ghost use Rattle.frame_rules.specs.Room.{HasRoom};
 ghost use Rattle.step_rules.specs.Refusals.{IsRefusal, AnswerLeaves};
 ghost use Rattle.step_rules.specs.Helper.{opened_helper, written};
 ghost use Rattle.step_rules.specs.HelperClients.{on_client};
@@ -71,7 +72,7 @@ impl Helper {
 
     /// A frame of a client: writes one reply to the front of `out`, and gives its length. Any bytes get a reply.
     pub fn on_client(&mut self, frame: &[u8], out: &mut [u8]) -> usize
-        requires room { 8213 ≤ length out.old }
+        requires room { HasRoom out.old }
         ensures helper { self.new ≡ (on_client self.old frame.now).helper }
         ensures refused { IsRefusal (on_client self.old frame.now).reply.body → self.new ≡ self.old }
         ensures length { result ≡ length (spelling (on_client self.old frame.now).reply) }
@@ -90,12 +91,15 @@ impl Helper {
         out: &mut [u8],
         steps: &mut Steps<L>,
     ) -> LinkTurn
-        requires room { 8213 ≤ length out.old }
+        requires room { HasRoom out.old }
         ensures helper { self.new ≡ (on_link_bytes self.old frame.now).helper }
         ensures refused { AnswerLeaves (on_link_bytes self.old frame.now).answer self.old self.new }
         ensures answer { result ≡ turned (on_link_bytes self.old frame.now).answer }
-        ensures written { take (length (written (on_link_bytes self.old frame.now).answer)) out.new ≡ written (on_link_bytes self.old frame.now).answer }
-        ensures rest { drop (length (written (on_link_bytes self.old frame.now).answer)) out.new ≡ drop (length (written (on_link_bytes self.old frame.now).answer)) out.old }
+        ensures written { take (length (written
+            (on_link_bytes self.old frame.now).answer)) out.new ≡ written
+            (on_link_bytes self.old frame.now).answer }
+        ensures rest { drop (length (written (on_link_bytes self.old frame.now).answer)) out.new ≡ drop
+            (length (written (on_link_bytes self.old frame.now).answer)) out.old }
         ensures steps { steps.new ≡ steps.old + link_steps self.old frame.now }
         ensures settings { self.new.server.settings ≡ self.old.server.settings }
         // The reply to a command that is carried out now is a frame of the grammar.
@@ -122,14 +126,17 @@ impl Helper {
         out: &mut [u8],
         steps: &mut Steps<L>,
     ) -> usize
-        requires room { 8213 ≤ length out.old }
+        requires room { HasRoom out.old }
         requires is_frame { IsFrame (plain command.now) }
         requires class { is_command (plain_body command.now.body) ≡ true }
         requires width { has_width self.old.server.settings.width (plain_body command.now.body) ≡ true }
         requires next { command.now.link ≡ self.old.carried + 1 }
-        ensures helper { self.new ≡ (carried_with self.old (plain command.now) (carries_out self.old.server (plain command.now))).helper }
-        ensures length { result ≡ length (written (carried_with self.old (plain command.now) (carries_out self.old.server (plain command.now))).answer) }
-        ensures written { take result out.new ≡ written (carried_with self.old (plain command.now) (carries_out self.old.server (plain command.now))).answer }
+        ensures helper { self.new ≡ (carried_with self.old (plain command.now) (carries_out self.old.server
+            (plain command.now))).helper }
+        ensures length { result ≡ length (written (carried_with self.old (plain command.now)
+            (carries_out self.old.server (plain command.now))).answer) }
+        ensures written { take result out.new ≡ written (carried_with self.old (plain command.now)
+            (carries_out self.old.server (plain command.now))).answer }
         ensures rest { drop result out.new ≡ drop result out.old }
         ensures steps { steps.new ≡ steps.old + carry_steps self.old.server (plain command.now) }
         ensures settings { self.new.server.settings ≡ self.old.server.settings }
@@ -154,7 +161,8 @@ impl Helper {
     /// The address of a box.
     pub fn address_of(&self, box_number: u32) -> u128
         requires { box_number < length self.now.server.boxes }
-        ensures { option_map (λ found. found.address) (slice_get self.now.server.boxes box_number) ≡ Some result }
+        ensures { option_map (λ found. found.address)
+            (slice_get self.now.server.boxes box_number) ≡ Some result }
     {
         self.server.address_of(box_number)
     }

@@ -2,6 +2,7 @@
 ghost use Rattle.std.specs.Prelude.{◌≡◌, ◌<◌, ◌≤◌, IfOk, Some, length, take, drop, option_map, slice_get};
 ghost use Rattle.express_words.specs.Limits.{KeepsLimits};
 ghost use Rattle.frame_rules.specs.Spelling.{spelling};
+ghost use Rattle.frame_rules.specs.Room.{HasRoom};
 ghost use Rattle.step_rules.specs.Helper.{opened_server};
 ghost use Rattle.step_rules.specs.HelperClients.{client_turn};
 ghost use Rattle.helper_core.specs.State.{share_in};
@@ -58,7 +59,7 @@ impl Server {
 
     /// A frame of a client: writes one reply to the front of `out`, and gives its length.
     pub(crate) fn on_client(&mut self, frame: &[u8], out: &mut [u8]) -> usize
-        requires room { 8213 ≤ length out.old }
+        requires room { HasRoom out.old }
         ensures server { self.new ≡ (client_turn self.old frame.now).server }
         ensures settings { self.new.settings ≡ self.old.settings }
         ensures draws { self.new.draws ≡ self.old.draws }

@@ -1,6 +1,7 @@
 //! The helper of a recording. Its contracts hide what it holds, since only what it prints is compared.
 ghost use Rattle.std.specs.Prelude.{◌≤◌, length};
 ghost use Rattle.express_words.specs.Limits.{KeepsLimits};
+ghost use Rattle.frame_rules.specs.Room.{HasRoom};
 
 use express_words::Settings;
 use frame_rules::FRAME_MAX;
@@ -32,13 +33,13 @@ impl AtHelper {
     }
 
     fn reply_to(&mut self, frame: &[u8], out: &mut [u8]) -> usize
-        requires room { 8213 ≤ length out.old }
+        requires room { HasRoom out.old }
     {
         self.helper.on_client(frame, out)
     }
 
     fn carry(&mut self, frame: &[u8], out: &mut [u8]) -> LinkTurn
-        requires room { 8213 ≤ length out.old }
+        requires room { HasRoom out.old }
     {
         carry_command(&mut self.helper, frame, out)
     }

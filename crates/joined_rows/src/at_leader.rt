@@ -1,6 +1,7 @@
 //! The leader of a recording. Its contracts hide what it holds, since only what it prints is compared.
 ghost use Rattle.std.specs.Prelude.{◌≤◌, length};
 ghost use Rattle.express_words.specs.Limits.{KeepsLimits};
+ghost use Rattle.frame_rules.specs.Room.{HasRoom};
 
 use express_words::Settings;
 use frame_rules::FRAME_MAX;
@@ -32,13 +33,13 @@ impl AtLeader {
     }
 
     fn take(&mut self, frame: &[u8], out: &mut [u8]) -> Turn
-        requires room { 8213 ≤ length out.old }
+        requires room { HasRoom out.old }
     {
         take_request(&mut self.leader, frame, out)
     }
 
     fn acknowledge(&mut self, frame: &[u8], out: &mut [u8]) -> Ack
-        requires room { 8213 ≤ length out.old }
+        requires room { HasRoom out.old }
     {
         self.leader.on_link_reply(frame, out)
     }

@@ -30,14 +30,14 @@ struct Walk {
 impl Model for Walk {
     ghost use Rattle.std.specs.Prelude.{◌≡◌, false};
     ghost use Rattle.node_journal.specs.Journal.{IsInPlace};
-    ghost use Rattle.node_journal.specs.History.{Reads, MayLeave};
+    ghost use Rattle.node_journal.specs.History.{seen_of};
 
     ghost Value = { Unit {0} };
 
     ghost view = { λ _. tt };
 
     ghost invariant = { λ w. w.journal.closed ≡ false
-        → IsInPlace w.journal (Reads w.disk.log.history) (MayLeave w.disk.log.history) };
+        → IsInPlace w.journal (seen_of w.disk.log.history) };
 }
 
 // Written out, so that a function that lets one go sees one call and not the drop of each part.

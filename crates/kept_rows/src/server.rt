@@ -1,6 +1,7 @@
 //! A kept server. Its contracts hide what it holds, since only what it prints is compared.
 ghost use Rattle.std.specs.Prelude.{◌≤◌, length};
 ghost use Rattle.express_words.specs.Limits.{KeepsLimits};
+ghost use Rattle.frame_rules.specs.Room.{HasRoom};
 
 use crate::texts::written;
 use frame_rules::FRAME_MAX;
@@ -72,7 +73,7 @@ impl Server {
     }
 
     fn take(&mut self, sender: Sender, frame: &[u8], out: &mut [u8]) -> Result<Did, KeepFault>
-        requires room { 8213 ≤ length out.old }
+        requires room { HasRoom out.old }
     {
         match sender {
             Sender::Client => self.kept.on_client(frame, out),

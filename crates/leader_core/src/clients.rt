@@ -5,6 +5,7 @@ ghost use Rattle.dpf_rules.specs.Evaluation.{prefix_count};
 ghost use Rattle.frame_rules.specs.Frames.{PlainFrame, plain, plain_body};
 ghost use Rattle.frame_rules.specs.Spelling.{IsFrame};
 ghost use Rattle.frame_rules.specs.Whole.{is_from_client};
+ghost use Rattle.frame_rules.specs.Room.{HasRoom};
 ghost use Rattle.server_boxes.specs.Held.{write_in};
 ghost use Rattle.step_rules.specs.Boxes.{addresses_of};
 ghost use Rattle.step_rules.specs.Leader.{Leader, Asked as Asks, Turn as Turned, want_in};
@@ -34,7 +35,8 @@ const LAST_NUMBER: u64 = u64::MAX - 64;
 
 /// What is said where a read or a retire names no box, or not by its token.
 fn named_box(boxes: &ServerBoxes, frame: &Frame<'_>, named: Option<Named>) -> Option<Said<'static>>
-    ensures turn { (a : Leader) (issued : Turned) → a.boxes ≡ boxes.now.boxes → if_named a (plain frame.now) (named_in named) issued ≡ or_said a (plain frame.now) result issued }
+    ensures turn { (a : Leader) (issued : Turned) → a.boxes ≡ boxes.now.boxes
+        → if_named a (plain frame.now) (named_in named) issued ≡ or_said a (plain frame.now) result issued }
     ensures said { IfSome result IsSaid }
 {
     let Some(named) = named else {
@@ -59,7 +61,10 @@ impl Core {
         named: Option<Named>,
     ) -> Option<Said<'_>>
         requires is { IsCore self.now }
-        ensures turn { (asked : Asks) → want ≡ want_in asked → on_submission (leader_in self.now) (plain frame.now) asked (named_in named) ≡ or_said (leader_in self.now) (plain frame.now) result (if_room (leader_in self.now) (plain frame.now) (issued_for (leader_in self.now) (plain frame.now) asked)) }
+        ensures turn { (asked : Asks) → want ≡ want_in asked
+            → on_submission (leader_in self.now) (plain frame.now) asked (named_in named) ≡ or_said
+            (leader_in self.now) (plain frame.now) result (if_room (leader_in self.now) (plain frame.now)
+            (issued_for (leader_in self.now) (plain frame.now) asked)) }
         ensures said { IfSome result IsSaid }
         ensures lane { IsNone result → frame.now.lane < self.now.settings.lanes }
     {
@@ -75,7 +80,8 @@ impl Core {
     /// What is said where no command can be issued: the numbers are used up, or the window is full.
     pub(crate) fn room(&self) -> Option<Said<'static>>
         requires is { IsCore self.now }
-        ensures turn { (f : PlainFrame) (issued : Turned) → if_room (leader_in self.now) f issued ≡ or_said (leader_in self.now) f result issued }
+        ensures turn { (f : PlainFrame) (issued : Turned)
+            → if_room (leader_in self.now) f issued ≡ or_said (leader_in self.now) f result issued }
         ensures said { IfSome result IsSaid }
         ensures next { IsNone result → self.now.link.next ≤ 2 ^ 64 - 65 }
         ensures free { IsNone result → length self.now.link.frames < self.now.link.window }
@@ -98,9 +104,10 @@ impl Core {
         requires part { IsAsked self.old.settings.width asked part.now }
         requires next { self.old.link.next ≤ 2 ^ 64 - 65 }
         requires free { length self.old.link.frames < self.old.link.window }
-        requires room { 8213 ≤ length out.old }
+        requires room { HasRoom out.old }
         ensures does { Does (issued_for (leader_in self.old) (plain frame.now) (asked_with asked part.now)) self.new result out.old out.new }
-        ensures none { turn_steps (leader_in self.old) (issued_for (leader_in self.old) (plain frame.now) (asked_with asked part.now)).answer ≡ 0 }
+        ensures none { turn_steps (leader_in self.old) (issued_for (leader_in self.old) (plain frame.now)
+            (asked_with asked part.now)).answer ≡ 0 }
         ensures settings { self.new.settings ≡ self.old.settings }
     {
         let number = self.link.next();
@@ -124,9 +131,10 @@ impl Core {
         requires is_frame { IsFrame (plain frame.now) }
         requires class { is_from_client (plain_body frame.now.body) ≡ true }
         requires part { IsAsked self.old.settings.width asked part.now }
-        requires room { 8213 ≤ length out.old }
+        requires room { HasRoom out.old }
         ensures does { Does (on_submission (leader_in self.old) (plain frame.now) (asked_with asked part.now) (named_in named)) self.new result out.old out.new }
-        ensures none { turn_steps (leader_in self.old) (on_submission (leader_in self.old) (plain frame.now) (asked_with asked part.now) (named_in named)).answer ≡ 0 }
+        ensures none { turn_steps (leader_in self.old) (on_submission (leader_in self.old)
+            (plain frame.now) (asked_with asked part.now) (named_in named)).answer ≡ 0 }
         ensures settings { self.new.settings ≡ self.old.settings }
     {
         if let Some(said) = self.admit(frame, asked.want(), named) {
@@ -151,12 +159,16 @@ impl Core {
         requires is_frame { IsFrame (plain frame.now) }
         requires class { is_from_client (plain_body frame.now.body) ≡ true }
         requires lane { frame.now.lane < self.old.settings.lanes }
-        requires held { (d : Slot) → (slice_index_or self.old.slots.items frame.now.lane d).stage ≡ Stage.Challenged begun.now }
+        requires held { (d : Slot)
+            → (slice_index_or self.old.slots.items frame.now.lane d).stage ≡ Stage.Challenged begun.now }
         requires next { self.old.link.next ≤ 2 ^ 64 - 65 }
         requires free { length self.old.link.frames < self.old.link.window }
-        requires room { 8213 ≤ length out.old }
-        ensures does { (d : Slot) → Does (audits (leader_in self.old) (plain frame.now) (write_in begun.now (slice_index_or self.old.slots.items frame.now.lane d).room.part.items) share.now) self.new result out.old out.new }
-        ensures steps { steps.new ≡ steps.old + prefix_count (take begun.now.count (addresses_of self.old.boxes.boxes)) }
+        requires room { HasRoom out.old }
+        ensures does { (d : Slot)
+            → Does (audits (leader_in self.old) (plain frame.now) (write_in begun.now
+            (slice_index_or self.old.slots.items frame.now.lane d).room.part.items) share.now) self.new result out.old out.new }
+        ensures steps { steps.new ≡ steps.old + prefix_count (take begun.now.count
+            (addresses_of self.old.boxes.boxes)) }
         ensures settings { self.new.settings ≡ self.old.settings }
     {
         let number = self.link.next();
@@ -185,9 +197,10 @@ impl Core {
         requires is { IsCore self.old }
         requires is_frame { IsFrame (plain frame.now) }
         requires class { is_from_client (plain_body frame.now.body) ≡ true }
-        requires room { 8213 ≤ length out.old }
+        requires room { HasRoom out.old }
         ensures does { Does (on_proof (leader_in self.old) (plain frame.now) share.now) self.new result out.old out.new }
-        ensures steps { steps.new ≡ steps.old + turn_steps (leader_in self.old) (on_proof (leader_in self.old) (plain frame.now) share.now).answer }
+        ensures steps { steps.new ≡ steps.old + turn_steps (leader_in self.old) (on_proof
+            (leader_in self.old) (plain frame.now) share.now).answer }
         ensures settings { self.new.settings ≡ self.old.settings }
     {
         if frame.lane >= self.settings.lanes {

@@ -3,6 +3,7 @@ ghost use Rattle.std.specs.Prelude.{◌≡◌, ◌+◌, ◌≤◌, true, length}
 ghost use Rattle.frame_rules.specs.Frames.{plain, plain_body, Write as Writes};
 ghost use Rattle.frame_rules.specs.Spelling.{IsFrame};
 ghost use Rattle.frame_rules.specs.Whole.{is_from_client};
+ghost use Rattle.frame_rules.specs.Room.{HasRoom};
 ghost use Rattle.step_rules.specs.LeaderClients.{by_kind, on_client};
 ghost use Rattle.leader_core.specs.State.{leader_in, IsCore};
 ghost use Rattle.leader_core.specs.Told.{turn_steps, Does};
@@ -26,9 +27,10 @@ impl Core {
         requires is { IsCore self.old }
         requires is_frame { IsFrame (plain frame.now) }
         requires class { is_from_client (plain_body frame.now.body) ≡ true }
-        requires room { 8213 ≤ length out.old }
+        requires room { HasRoom out.old }
         ensures does { Does (by_kind (leader_in self.old) (plain frame.now) (Writes root part.now)) self.new result out.old out.new }
-        ensures none { turn_steps (leader_in self.old) (by_kind (leader_in self.old) (plain frame.now) (Writes root part.now)).answer ≡ 0 }
+        ensures none { turn_steps (leader_in self.old) (by_kind (leader_in self.old) (plain frame.now)
+            (Writes root part.now)).answer ≡ 0 }
         ensures settings { self.new.settings ≡ self.old.settings }
     {
         if part.len() != LEVELS_LEN + self.settings.width as usize {
@@ -47,9 +49,10 @@ impl Core {
         steps: &mut Steps<L>,
     ) -> Turn
         requires is { IsCore self.old }
-        requires room { 8213 ≤ length out.old }
+        requires room { HasRoom out.old }
         ensures does { Does (on_client (leader_in self.old) bytes.now) self.new result out.old out.new }
-        ensures steps { steps.new ≡ steps.old + turn_steps (leader_in self.old) (on_client (leader_in self.old) bytes.now).answer }
+        ensures steps { steps.new ≡ steps.old + turn_steps (leader_in self.old) (on_client
+            (leader_in self.old) bytes.now).answer }
         ensures settings { self.new.settings ≡ self.old.settings }
     {
         let frame = match whole(bytes) {

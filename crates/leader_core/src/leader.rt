@@ -2,6 +2,7 @@
 ghost use Rattle.std.specs.Prelude.{◌≡◌, ◌↔◌, ◌+◌, ◌<◌, ◌≤◌, IfOk, IfSome, IsNone, None, Some, length, option_map, take, drop};
 ghost use Rattle.express_words.specs.Limits.{KeepsLimits};
 ghost use Rattle.frame_rules.specs.Spelling.{spelling};
+ghost use Rattle.frame_rules.specs.Room.{HasRoom};
 ghost use Rattle.step_rules.specs.Refusals.{TurnLeaves, AckLeaves};
 ghost use Rattle.step_rules.specs.Leader.{opened_leader, written};
 ghost use Rattle.step_rules.specs.LeaderClients.{on_client};
@@ -71,12 +72,14 @@ impl Leader {
         out: &mut [u8],
         steps: &mut Steps<L>,
     ) -> Turn
-        requires room { 8213 ≤ length out.old }
+        requires room { HasRoom out.old }
         ensures leader { self.new ≡ (on_client self.old frame.now).leader }
         ensures refused { TurnLeaves (on_client self.old frame.now).answer self.old self.new }
         ensures answer { result ≡ turned (on_client self.old frame.now).answer }
-        ensures written { take (length (written (on_client self.old frame.now).answer)) out.new ≡ written (on_client self.old frame.now).answer }
-        ensures rest { drop (length (written (on_client self.old frame.now).answer)) out.new ≡ drop (length (written (on_client self.old frame.now).answer)) out.old }
+        ensures written { take (length (written (on_client self.old frame.now).answer)) out.new ≡ written
+            (on_client self.old frame.now).answer }
+        ensures rest { drop (length (written (on_client self.old frame.now).answer)) out.new ≡ drop (length
+            (written (on_client self.old frame.now).answer)) out.old }
         ensures steps { steps.new ≡ steps.old + turn_steps self.old (on_client self.old frame.now).answer }
         // The command that a client is told to wait for is outstanding.
         ensures awaits { TellsAwaited self.old frame.now result }
@@ -89,12 +92,15 @@ impl Leader {
     /// Bytes of the helper: where they are one reply that has the oldest outstanding number and fits its command, what
     /// it says is done, and a reply for the lane's client, or the settle of an audit, is written to the front of `out`.
     pub fn on_link_reply(&mut self, frame: &[u8], out: &mut [u8]) -> Ack
-        requires room { 8213 ≤ length out.old }
+        requires room { HasRoom out.old }
         ensures leader { self.new ≡ (on_reply_bytes self.old frame.now).leader }
         ensures refused { AckLeaves (on_reply_bytes self.old frame.now).ack self.old self.new }
         ensures answer { result ≡ acked (on_reply_bytes self.old frame.now).ack }
-        ensures written { take (length (acked_bytes (on_reply_bytes self.old frame.now).ack)) out.new ≡ acked_bytes (on_reply_bytes self.old frame.now).ack }
-        ensures rest { drop (length (acked_bytes (on_reply_bytes self.old frame.now).ack)) out.new ≡ drop (length (acked_bytes (on_reply_bytes self.old frame.now).ack)) out.old }
+        ensures written { take (length (acked_bytes
+            (on_reply_bytes self.old frame.now).ack)) out.new ≡ acked_bytes
+            (on_reply_bytes self.old frame.now).ack }
+        ensures rest { drop (length (acked_bytes (on_reply_bytes self.old frame.now).ack)) out.new ≡ drop
+            (length (acked_bytes (on_reply_bytes self.old frame.now).ack)) out.old }
         ensures rows { RowsAwait self.new }
         ensures settings { self.new.settings ≡ self.old.settings }
     {
@@ -104,12 +110,14 @@ impl Leader {
     /// Writes the oldest outstanding command to the front of `out` again, and gives its number and its length; None
     /// exactly where none is outstanding, and then nothing is written.
     pub fn resend(&self, out: &mut [u8]) -> Option<(u64, usize)>
-        requires room { 8213 ≤ length out.old }
+        requires room { HasRoom out.old }
         ensures none { IsNone result ↔ (resent self.now ≡ None) }
         ensures number { IfSome result (λ x. x.0 + length self.now.outstanding ≡ self.now.next) }
         ensures link { IfSome result (λ x. option_map (λ c. c.link) (resent self.now) ≡ Some x.0) }
-        ensures length { IfSome result (λ x. option_map (λ c. length (spelling c)) (resent self.now) ≡ Some x.1) }
-        ensures written { IfSome result (λ x. option_map spelling (resent self.now) ≡ Some (take x.1 out.new)) }
+        ensures length { IfSome result (λ x. option_map (λ c. length (spelling c))
+            (resent self.now) ≡ Some x.1) }
+        ensures written { IfSome result (λ x. option_map spelling (resent self.now) ≡ Some
+            (take x.1 out.new)) }
         ensures rest { drop (sent_length result) out.new ≡ drop (sent_length result) out.old }
     {
         self.core.resend(out)

@@ -2,6 +2,7 @@
 ghost use Rattle.std.specs.Prelude.{true, ◌≡◌, ◌↔◌, ◌<◌, ◌≤◌, ◌+◌, Some, None, IfSome, IsSome, IsNone, [], length, option_map, take, drop};
 ghost use Rattle.frame_rules.specs.Frames.{PlainFrame};
 ghost use Rattle.frame_rules.specs.Spelling.{spelling};
+ghost use Rattle.frame_rules.specs.Room.{HasRoom};
 ghost use Rattle.link_order.specs.Link.{IsOutstanding};
 ghost use Rattle.step_rules.specs.LeaderReplies.{on_reply_bytes, resent};
 ghost use Rattle.leader_core.specs.Replies.{settled_with, told, IsIssued};
@@ -60,8 +61,9 @@ impl Core {
         requires lane { command.now.lane < self.old.settings.lanes }
         requires serial { 1 ≤ command.now.serial }
         requires some { 0 < length self.old.link.frames }
-        requires room { 8213 ≤ length out.old }
-        ensures does { (c : PlainFrame) → IsIssued c command.now → DoesAck (told (leader_in self.old) c) self.new result out.old out.new }
+        requires room { HasRoom out.old }
+        ensures does { (c : PlainFrame) → IsIssued c command.now
+            → DoesAck (told (leader_in self.old) c) self.new result out.old out.new }
         ensures settings { self.new.settings ≡ self.old.settings }
     {
         drop_oldest(&mut self.link);
@@ -78,8 +80,9 @@ impl Core {
         requires serial { 1 ≤ command.now.serial }
         requires some { 0 < length self.old.link.frames }
         requires audit { is_audit (oldest_in self.old).body ≡ true }
-        requires room { 8213 ≤ length out.old }
-        ensures does { (c : PlainFrame) → IsIssued c command.now → DoesAck (settled_with (leader_in self.old) c own) self.new result out.old out.new }
+        requires room { HasRoom out.old }
+        ensures does { (c : PlainFrame) → IsIssued c command.now
+            → DoesAck (settled_with (leader_in self.old) c own) self.new result out.old out.new }
         ensures settings { self.new.settings ≡ self.old.settings }
     {
         drop_oldest(&mut self.link);
@@ -92,7 +95,7 @@ impl Core {
     /// Bytes of the helper.
     pub(crate) fn on_reply(&mut self, bytes: &[u8], out: &mut [u8]) -> Ack
         requires is { IsCore self.old }
-        requires room { 8213 ≤ length out.old }
+        requires room { HasRoom out.old }
         ensures does { DoesAck (on_reply_bytes (leader_in self.old) bytes.now) self.new result out.old out.new }
         ensures settings { self.new.settings ≡ self.old.settings }
     {
@@ -127,11 +130,14 @@ impl Core {
     /// Writes the oldest outstanding command again.
     pub(crate) fn resend(&self, out: &mut [u8]) -> Option<(u64, usize)>
         requires is { IsCore self.now }
-        requires room { 8213 ≤ length out.old }
+        requires room { HasRoom out.old }
         ensures none { IsNone result ↔ (resent (leader_in self.now) ≡ None) }
-        ensures number { IfSome result (λ x. x.0 + length (leader_in self.now).outstanding ≡ self.now.link.next) }
-        ensures length { IfSome result (λ x. option_map (λ c. length (spelling c)) (resent (leader_in self.now)) ≡ Some x.1) }
-        ensures written { IfSome result (λ x. option_map spelling (resent (leader_in self.now)) ≡ Some (take x.1 out.new)) }
+        ensures number { IfSome result (λ x. x.0 + length
+            (leader_in self.now).outstanding ≡ self.now.link.next) }
+        ensures length { IfSome result (λ x. option_map (λ c. length (spelling c)) (resent
+            (leader_in self.now)) ≡ Some x.1) }
+        ensures written { IfSome result (λ x. option_map spelling (resent (leader_in self.now)) ≡ Some
+            (take x.1 out.new)) }
         ensures rest { drop (sent_length result) out.new ≡ drop (sent_length result) out.old }
     {
         let (number, bytes) = self.link.oldest()?;

@@ -4,6 +4,7 @@ ghost use Rattle.frame_rules.specs.Frames.{plain, plain_body};
 ghost use Rattle.frame_rules.specs.Kinds.{is_linked};
 ghost use Rattle.frame_rules.specs.Spelling.{kind_of, spelling, IsBody, IsFrame, Spells};
 ghost use Rattle.frame_rules.specs.Whole.{is_from_client, on_link};
+ghost use Rattle.frame_rules.specs.Room.{HasRoom};
 ghost use Rattle.link_order.specs.Link.{IsOutstanding};
 ghost use Rattle.step_rules.specs.Leader.{Leader, Reply};
 ghost use Rattle.leader_core.specs.Slots.{said_in, IsSaid};
@@ -19,7 +20,7 @@ use wire_frames::{answer, encode_into, on_link};
 /// Writes a frame, and gives its length.
 pub(crate) fn put_frame(frame: &Frame<'_>, out: &mut [u8]) -> usize
     requires is_frame { IsFrame (plain frame.now) }
-    requires room { 8213 ≤ length out.old }
+    requires room { HasRoom out.old }
     ensures length { result ≡ length (spelling (plain frame.now)) }
     ensures front { IsFront (spelling (plain frame.now)) out.old out.new }
 {
@@ -29,7 +30,7 @@ pub(crate) fn put_frame(frame: &Frame<'_>, out: &mut [u8]) -> usize
 /// Writes the reply to a client's bytes.
 pub(crate) fn reply(reply: &Frame<'_>, out: &mut [u8]) -> Turn
     requires is_frame { IsFrame (plain reply.now) }
-    requires room { 8213 ≤ length out.old }
+    requires room { HasRoom out.old }
     ensures { IsTold (Reply (plain reply.now)) result out.old out.new }
 {
     Turn::Reply(put_frame(reply, out))
@@ -40,7 +41,7 @@ pub(crate) fn tell(frame: &Frame<'_>, said: &Said<'_>, out: &mut [u8]) -> Turn
     requires is_frame { IsFrame (plain frame.now) }
     requires class { is_from_client (plain_body frame.now.body) ≡ true }
     requires said { IsSaid said.now }
-    requires room { 8213 ≤ length out.old }
+    requires room { HasRoom out.old }
     ensures { (a : Leader) → IsTold (said_in a (plain frame.now) said.now).answer result out.old out.new }
 {
     match said {
@@ -63,11 +64,13 @@ pub(crate) fn issue(
     requires free { length link.old.frames < link.old.window }
     requires size { link.old.size ≡ 8213 }
     requires next { link.old.next < 2 ^ 64 - 1 }
-    requires room { 8213 ≤ length out.old }
-    ensures link { link.new ≡ with_command link.old (spelling (on_link (plain frame.now) link.old.next (plain_body body.now))) }
+    requires room { HasRoom out.old }
+    ensures link { link.new ≡ with_command link.old (spelling (on_link (plain frame.now) link.old.next
+        (plain_body body.now))) }
     ensures order { IsOutstanding link.new }
     ensures is_frame { IsFrame (on_link (plain frame.now) link.old.next (plain_body body.now)) }
-    ensures length { result ≡ length (spelling (on_link (plain frame.now) link.old.next (plain_body body.now))) }
+    ensures length { result ≡ length (spelling (on_link (plain frame.now) link.old.next
+        (plain_body body.now))) }
     ensures front { IsFront (spelling (on_link (plain frame.now) link.old.next (plain_body body.now))) out.old out.new }
 {
     let number = link.next();

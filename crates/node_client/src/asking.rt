@@ -24,13 +24,13 @@ pub fn one_request<N: Net>(
     requires width { length message.old ≡ client.old.width }
     requires fits { Fits client.old.width (plain_request request.now) }
     ensures came { Came peers.now client.old (plain_request request.now) client.new message.new result
-        (N.calls net.old) (N.calls net.new) }
+        (N.seen net.old).calls (N.seen net.new).calls }
     ensures idle { OnOk result (client.new.current ≡ None) }
     ensures width { client.new.width ≡ client.old.width }
     ensures early { IfErr result (λ why. why ≡ Stop.Answer
-        → EarlyAtEnd (N.calls net.new) N.Conn.content N.Conn.written N.Conn.count) }
-    ensures fault { FaultBy result (N.count net.old) (N.count net.new) }
-    ensures door { N.doors net.new ≡ N.doors net.old }
+        → EarlyAtEnd (N.seen net.new).calls N.Conn.seen) }
+    ensures fault { FaultBy result (N.seen net.old).faults (N.seen net.new).faults }
+    ensures door { (N.seen net.new).doors ≡ (N.seen net.old).doors }
 {
     match client.ask(request) {
         Ok(()) => walk(client, peers, net, message),

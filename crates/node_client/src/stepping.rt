@@ -23,12 +23,12 @@ fn one_step<N: Net>(
     requires width { length message.old ≡ client.old.width }
     requires sends { sends client.old ≢ None }
     ensures step { Stepped peers.now client.old client.new message.old message.new result
-        (N.calls net.old) (N.calls net.new) }
+        (N.seen net.old).calls (N.seen net.new).calls }
     ensures width { client.new.width ≡ client.old.width }
     ensures early { IfErr result (λ why. why ≡ Stop.Answer
-        → EarlyAtEnd (N.calls net.new) N.Conn.content N.Conn.written N.Conn.count) }
-    ensures fault { FaultBy result (N.count net.old) (N.count net.new) }
-    ensures door { N.doors net.new ≡ N.doors net.old }
+        → EarlyAtEnd (N.seen net.new).calls N.Conn.seen) }
+    ensures fault { FaultBy result (N.seen net.old).faults (N.seen net.new).faults }
+    ensures door { (N.seen net.new).doors ≡ (N.seen net.old).doors }
 {
     let mut frame = [0u8; FRAME_MAX];
     let mut reply = [0u8; FRAME_MAX];
@@ -54,12 +54,12 @@ pub fn walk<N: Net>(
     requires width { length message.old ≡ client.old.width }
     requires sends { sends client.old ≢ None }
     ensures walked { Walked peers.now client.old client.new message.new result
-        (N.calls net.old) (N.calls net.new) }
+        (N.seen net.old).calls (N.seen net.new).calls }
     ensures width { client.new.width ≡ client.old.width }
     ensures early { IfErr result (λ why. why ≡ Stop.Answer
-        → EarlyAtEnd (N.calls net.new) N.Conn.content N.Conn.written N.Conn.count) }
-    ensures fault { FaultBy result (N.count net.old) (N.count net.new) }
-    ensures door { N.doors net.new ≡ N.doors net.old }
+        → EarlyAtEnd (N.seen net.new).calls N.Conn.seen) }
+    ensures fault { FaultBy result (N.seen net.old).faults (N.seen net.new).faults }
+    ensures door { (N.seen net.new).doors ≡ (N.seen net.old).doors }
 {
     'steps: loop {
         match one_step(client, peers, net, message) {

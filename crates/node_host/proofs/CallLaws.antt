@@ -9,7 +9,7 @@ use Rattle.node_serve.specs.Serving.{IsHelper, Serves}
 use Rattle.node_serve.specs.declared.node.Node.{Node}
 use Rattle.node_serve.specs.declared.node.Node.TheVariants as node
 use Rattle.node_serve.specs.declared.node.Served.{Served}
-use Rattle.node_host.specs.Visits.{Visit, visit_calls, IsOf}
+use Rattle.node_host.specs.Visits.{Visit, visit_calls, IsOfTold}
 
 pub makes_none : (a : Option (List Call)) → Makes a a []
 makes_none None = tt
@@ -66,7 +66,7 @@ same_stream a b x y given left = cc
 
 pub visit_made : (a b c d : Option (List Call)) (s t : Option Stream) (w x : Option (List ℕ)) (v : Visit)
     → Adds a b (Accepted false) → GivesTelling b s w → Gave s t v.given → v.left ≡ left_in t → (w ≢ None → x ≡ Some v.taken)
-    → Makes b c v.calls → AddsClose c d t x v.faults → Makes a d (visit_calls v) × IsOf d v t x v.faults
+    → Makes b c v.calls → AddsClose c d t x v.faults → Makes a d (visit_calls v) × IsOfTold d v t x v.faults
 visit_made a b c None s t w x v accept tells gave left took makes close = (tt, tt)
 visit_made a b c (Some d) s None w x v accept tells gave left took makes close = absurd close
 visit_made a b c (Some d) s (Some t) w None v accept tells gave left took makes close = absurd close

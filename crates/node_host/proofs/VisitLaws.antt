@@ -10,11 +10,11 @@ use Rattle.frame_rules.specs.declared.fault.FrameFault.TheVariants.{Short, Malfo
 use Rattle.node_serve.specs.Taking.{IsWanted}
 use Rattle.node_serve.specs.Exchanging.{Makes}
 use Rattle.node_serve.specs.Draining.{FaultIn}
-use Rattle.node_serve.specs.Serving.{Brings, IsCut, IsHelper, Serves, WritesReply}
+use Rattle.node_serve.specs.Serving.{Brings, IsCut, IsHelper, Serves, WritesTold}
 use Rattle.node_serve.specs.declared.node.Node.{Node}
 use Rattle.node_serve.specs.declared.node.Served.{Served}
 use Rattle.node_serve.specs.declared.node.Served.TheVariants as served
-use Rattle.node_host.specs.Visits.{Visit, visit_calls, standing, IsCutOff, IsStepped, ClosesWith, IsVisit, IsOf}
+use Rattle.node_host.specs.Visits.{Visit, visit_calls, standing, IsCutOff, IsStepped, ClosesWith, IsVisit, IsOfTold}
 use Rattle.node_host.proofs.CallLaws.{makes_none, serves_told, left_in, visit_made}
 
 pub is_short_or_not : (r : Result (PlainFrame × ℕ) FrameFault) → (r ≡ Err Short) ⊎ (r ≢ Err Short)
@@ -41,9 +41,9 @@ took_all (Some w) (Some x) bytes blank took some = ap Some (took ∙ ap (λ (y :
 
 -- these bytes were taken
 abbrev pub Wrote : Served → (w x : Option (List ℕ)) → ℕ → List ℕ → Type 0
-Wrote why w x n reply = (taken : List ℕ) × WritesReply why (Some []) (Some taken) 0 n reply × (w ≢ None → x ≡ Some taken)
+Wrote why w x n reply = (taken : List ℕ) × WritesTold why (Some []) (Some taken) 0 n reply × (w ≢ None → x ≡ Some taken)
 
-pub wrote : (why : Served) (w x : Option (List ℕ)) (n : ℕ) (reply : List ℕ) → IsBlank w → WritesReply why w x 0 n reply → Wrote why w x n reply
+pub wrote : (why : Served) (w x : Option (List ℕ)) (n : ℕ) (reply : List ℕ) → IsBlank w → WritesTold why w x 0 n reply → Wrote why w x n reply
 wrote served.Answered w x n reply blank (took, whole) = (reply, (refl, whole), took_all w x reply blank took)
 wrote (served.ConnFault count) w x n reply blank ((front, rest, is, took), rose, told) =
     (front, ((front, rest, is, refl), rose, told), took_all w x front blank took)
@@ -65,13 +65,13 @@ pub record Serving (old new : Node) (answer : Served) (b c : Option (List Call))
   pub stays : decoded held ≡ Err Short → new ≡ old
   pub rests : decoded held ≡ Err Short → c ≡ b
   pub untold : decoded held ≡ Err Short → x ≡ w
-  pub serves : decoded held ≢ Err Short → (reply : List ℕ) × Serves old held new b c count answer reply × WritesReply answer w x before now reply
+  pub serves : decoded held ≢ Err Short → (reply : List ℕ) × Serves old held new b c count answer reply × WritesTold answer w x before now reply
   pub alone : IsHelper old → c ≡ b
 
 -- a visit of a connection that ended so
 abbrev Visited : (old new : Node) → Served → (a d : Option (List Call)) → (before after : ℕ) → Option Stream → Option (List ℕ) → ℕ → Type 0
 Visited old new answer a d before after t x n =
-    (v : Visit) × (v.answer ≡ answer) × IsVisit v (standing old before) (standing new after) × Makes a d (visit_calls v) × IsOf d v t x n
+    (v : Visit) × (v.answer ≡ answer) × IsVisit v (standing old before) (standing new after) × Makes a d (visit_calls v) × IsOfTold d v t x n
 
 pub untouched : (w x : Option (List ℕ)) → IsBlank w → x ≡ w → w ≢ None → x ≡ Some []
 untouched None x blank is some = absurd (some refl)

@@ -1,6 +1,7 @@
 -- Visits: connections at a server's door, each from its accept to its close.
 use Rattle.std.specs.Prelude.{◌≡◌, ◌≢◌, ℕ, ◌==◌, false, List, [], ◌∷◌, ◌++◌, Option, Some, None, Err}
 use Rattle.express_words.specs.Causes.{Rose}
+use Rattle.express_words.specs.Seen.{Seen}
 use Rattle.express_words.specs.Streams.{Stream}
 use Rattle.express_words.specs.Calls.{Call, Accepted, Closed}
 use Rattle.frame_rules.specs.Gathering.{gathered}
@@ -8,7 +9,7 @@ use Rattle.frame_rules.specs.Reading.{decoded}
 use Rattle.frame_rules.specs.declared.fault.FrameFault.TheVariants.{Short}
 use Rattle.node_serve.specs.Taking.{IsWanted}
 use Rattle.node_serve.specs.Draining.{FaultIn}
-use Rattle.node_serve.specs.Serving.{IsCut, IsHelper, Serves, WritesReply}
+use Rattle.node_serve.specs.Serving.{IsCut, IsHelper, Serves, WritesTold}
 use Rattle.node_serve.specs.declared.node.Node.{Node}
 use Rattle.node_serve.specs.declared.node.Served.{Served}
 
@@ -51,7 +52,7 @@ pub record IsCutOff (v : Visit) (old new : Node) : Type 0 where
 pub record IsStepped (v : Visit) (old new : Node) (count : ℕ) : Type 0 where
   pub reply : List ℕ
   pub serves : Serves old (handed v) new (Some []) (Some v.calls) count v.answer reply
-  pub writes : WritesReply v.answer (Some []) (Some v.taken) 0 v.faults reply
+  pub writes : WritesTold v.answer (Some []) (Some v.taken) 0 v.faults reply
   pub alone : IsHelper old → v.calls ≡ []
 
 -- the net's count rises at the close of a connection that failed, and only then
@@ -76,8 +77,12 @@ pub data Visits (start : Standing) : List Visit → Standing → Type 0 where
 
 -- It was a connection of this content at its close, which took these bytes and had this count of faults.
 -- Where the net doesn't tell its calls now nothing is said.
-abbrev pub IsOf : Option (List Call) → Visit → Option Stream → Option (List ℕ) → ℕ → Type 0
-IsOf None v content written faults = Unit {0}
-IsOf (Some calls) v content written faults =
+abbrev pub IsOfTold : Option (List Call) → Visit → Option Stream → Option (List ℕ) → ℕ → Type 0
+IsOfTold None v content written faults = Unit {0}
+IsOfTold (Some calls) v content written faults =
     (content ≡ Some (record { given = v.given; left = v.left })) × (written ≡ Some v.taken)
     × (faults ≡ v.faults)
+
+-- it was a connection that showed this at its close
+abbrev pub IsOf : Option (List Call) → Visit → Seen → Type 0
+IsOf calls v conn = IsOfTold calls v conn.content conn.written conn.faults

@@ -20,13 +20,13 @@ pub fn host<N: Net>(
     net: &mut N,
 ) -> Result<Tally, Failed>
     ensures hosts { (visits : List Visit)
-        × Hosts connections result visits (standing node.old (N.count net.old)) (standing node.new (N.count net.new))
-        (N.calls net.old) (N.calls net.new)
-        × All (λ v. (conn : N.Conn) × IsOf (N.calls net.new) v (N.Conn.content conn) (N.Conn.written conn)
-        (N.Conn.count conn)) visits }
+        × Hosts connections result visits (standing node.old (N.seen net.old).faults) (standing node.new
+        (N.seen net.new).faults)
+        (N.seen net.old).calls (N.seen net.new).calls
+        × All (λ v. (conn : N.Conn) × IsOf (N.seen net.new).calls v (N.Conn.seen conn)) visits }
     ensures sum { IfOk result (λ tally. total tally ≡ connections) }
-    ensures door { CountsFailure (N.doors net.old) (N.doors net.new) result }
-    ensures later { N.count net.old ≤ N.count net.new }
+    ensures door { CountsFailure (N.seen net.old).doors (N.seen net.new).doors result }
+    ensures later { (N.seen net.old).faults ≤ (N.seen net.new).faults }
 {
     let mut tally = Tally::new();
     for _ in 0..connections {

@@ -12,15 +12,16 @@ use wire_frames::Gather;
 /// Accepts the next connection, serves it with `gather`, and closes it.
 pub fn visit<N: Net>(node: &mut Node, gather: &mut Gather, net: &mut N) -> Result<Served, Failed>
     ensures visit { IfOk result (λ answer. (v : Visit) × (v.answer ≡ answer)
-        × IsVisit v (standing node.old (N.count net.old)) (standing node.new (N.count net.new))
-        × Makes (N.calls net.old) (N.calls net.new) (visit_calls v)
+        × IsVisit v (standing node.old (N.seen net.old).faults) (standing node.new (N.seen net.new).faults)
+        × Makes (N.seen net.old).calls (N.seen net.new).calls (visit_calls v)
         × ((conn : N.Conn)
-        × IsOf (N.calls net.new) v (N.Conn.content conn) (N.Conn.written conn) (N.Conn.count conn))) }
-    ensures refused { OnErr result (Makes (N.calls net.old) (N.calls net.new) (Accepted true ∷ [])) }
+        × IsOf (N.seen net.new).calls v (N.Conn.seen conn))) }
+    ensures refused { OnErr result (Makes (N.seen net.old).calls (N.seen net.new).calls
+        (Accepted true ∷ [])) }
     ensures stays { OnErr result (node.new ≡ node.old) }
-    ensures one_more { OnErr result (N.count net.new ≡ next (N.count net.old)) }
-    ensures door { CountsFailure (N.doors net.old) (N.doors net.new) result }
-    ensures later { N.count net.old ≤ N.count net.new }
+    ensures one_more { OnErr result ((N.seen net.new).faults ≡ next (N.seen net.old).faults) }
+    ensures door { CountsFailure (N.seen net.old).doors (N.seen net.new).doors result }
+    ensures later { (N.seen net.old).faults ≤ (N.seen net.new).faults }
 {
     let mut conn = net.accept()?;
     // A count that was read is known to have 64 bits.

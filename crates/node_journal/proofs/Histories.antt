@@ -4,7 +4,7 @@ use Rattle.std.proofs.lemmas.List.{take_at, drop_at}
 use Rattle.std.proofs.lemmas.Bool.{cases_lt}
 use Rattle.std.proofs.lemmas.Bool.Decides.{nat_tests}
 use Rattle.node_journal.specs.Disk.{Torn, Holds, Follows, Within, IsUntouched, Elapses}
-use Rattle.node_journal.specs.History.{History, Change, Wrote, Synced, wrote, synced, overwritten, bytes_after, bytes_of, left_after, left_of, Reads, MayLeave, MayLeaveAfter, LeftSince, moment_of}
+use Rattle.node_journal.specs.History.{History, Change, Wrote, Synced, wrote, synced, overwritten, bytes_after, bytes_of, left_after, left_of, seen_of, Reads, MayLeave, MayLeaveAfter, LeftSince, moment_of}
 use Rattle.node_journal.proofs.Found.{drop_both}
 
 -- where the offset isn't past the end
@@ -67,7 +67,7 @@ left_may_after arriving first (Synced ∷ before) = refl
 pub left_may : (arriving : List ℕ) (h : History) → MayLeave h (left_of arriving h)
 left_may arriving h = left_may_after arriving h.first h.changes
 
-pub same_time : (h : History) → Elapses (moment_of h) (moment_of h) (LeftSince h) (LeftSince h) (MayLeave h)
+pub same_time : (h : History) → Elapses (seen_of h) (seen_of h)
 same_time h = record { later = omega arith; nothing_else = λ t c le since. inl since; keeps = λ t c le past. past }
 
 -- a moment of a longer history is now, or one of the history before
@@ -102,23 +102,23 @@ one_later first change before t c le (m, from, left) = elim (cases_lt (length be
 ]
 
 change_time : (h : History) (change : Change) (new : History) → new ≡ record { first = h.first; changes = change ∷ h.changes }
-    → Elapses (moment_of h) (moment_of new) (LeftSince h) (LeftSince new) (MayLeave new)
-change_time h change new is = subst (λ n. Elapses (moment_of h) (moment_of n) (LeftSince h) (LeftSince n) (MayLeave n)) (sym is) record {
+    → Elapses (seen_of h) (seen_of new)
+change_time h change new is = subst (λ n. Elapses (seen_of h) (seen_of n)) (sym is) record {
   later = omega arith;
   nothing_else = λ t c le since. ⊎_elim (λ past. inl (since.0, since.1, past)) (λ now. inr now) (one_earlier h.first change h.changes since.0 c since.2);
   keeps = λ t c le past. one_later h.first change h.changes t c le past;
 }
 
-pub write_time : (h : History) (at : ℕ) (bytes : List ℕ) → Elapses (moment_of h) (moment_of (wrote at bytes h)) (LeftSince h) (LeftSince (wrote at bytes h)) (MayLeave (wrote at bytes h))
+pub write_time : (h : History) (at : ℕ) (bytes : List ℕ) → Elapses (seen_of h) (seen_of (wrote at bytes h))
 write_time h at bytes = change_time h (Wrote at bytes) (wrote at bytes h) refl
 
-pub sync_time : (h : History) → Elapses (moment_of h) (moment_of (synced h)) (LeftSince h) (LeftSince (synced h)) (MayLeave (synced h))
+pub sync_time : (h : History) → Elapses (seen_of h) (seen_of (synced h))
 sync_time h = change_time h Synced (synced h) refl
 
-pub same_content : (h : History) → IsUntouched (Reads h) (Reads h) (MayLeave h) (MayLeave h)
+pub same_content : (h : History) → IsUntouched (seen_of h) (seen_of h)
 same_content h = record { gives = λ c is. is; still = λ c is. is; crash = λ c left. left }
 
-pub sync_content : (h : History) → IsUntouched (Reads h) (Reads (synced h)) (MayLeave h) (MayLeave (synced h))
+pub sync_content : (h : History) → IsUntouched (seen_of h) (seen_of (synced h))
 sync_content h = record { gives = λ c is. is; still = λ c is. is; crash = λ c is. subst (MayLeave h) (sym is) (reads_may h) }
 
 pub sync_durable : (h : History) → Within (MayLeave (synced h)) (Reads (synced h))

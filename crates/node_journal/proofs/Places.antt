@@ -3,7 +3,7 @@ use Rattle.std.proofs.Common.{◌≡◌, ◌≢◌, ◌⊎◌, inl, inr, ℕ, �
 use Rattle.std.proofs.lemmas.List.{drop_at}
 use Rattle.std.specs.Int.{w32, to_be_bytes}
 use Rattle.node_journal.specs.Records.{content, records_from, opened, body, AllSized, IsBehind, EndsAt, IsUndamaged, IsBeforeOrAfter, RestsBeforeOrAfter, LeavesBeforeOrAfter, LeavesNoByte, RestsNoneOrFirst, LeavesNoneOrFirst}
-use Rattle.node_journal.specs.Disk.{Within, IsUntouched}
+use Rattle.node_journal.specs.Disk.{DiskSeen, Within, IsUntouched}
 use Rattle.node_journal.specs.Journal.{JournalState, IsInPlace}
 use Rattle.node_journal.specs.Next.{found}
 use Rattle.node_journal.specs.declared.fault.JournalFault.TheVariants.{Damaged}
@@ -150,13 +150,13 @@ module _ (end limit n : ℕ) (out : List ℕ) (held : n ≤ length out) where
       subst (λ (at : ℕ). IsBehind at c) past (behind_found end limit (take n out) c b is (spelled ∙ ap (λ (k : ℕ). to_be_bytes w32 k) (sym size)))
 
 -- the journal after it
-pub read_in_place : (j k : JournalState) (reads reads_now may may_now : List ℕ → Type 0) (n : ℕ) (out : List ℕ) → n ≤ length out
-    → IsInPlace j reads may → IsUntouched reads reads_now may may_now
+pub read_in_place : (j k : JournalState) (disk disk_now : DiskSeen) (n : ℕ) (out : List ℕ) → n ≤ length out
+    → IsInPlace j disk → IsUntouched disk disk_now
     → k.end ≡ j.end + (5 + n) → k.limit ≡ j.limit → k.ready ≡ j.ready → j.end + 5 + n + 1 ≤ j.limit
-    → ((c : List ℕ) → reads c → found j.end j.limit (drop j.end c) ≡ Ok (Some (take n out)))
-    → ((c : List ℕ) → reads c → take 4 (drop 1 (drop j.end c)) ≡ to_be_bytes w32 n)
-    → IsInPlace k reads_now may_now
-read_in_place j k reads reads_now may may_now n out held old same end_is limit_is ready_is fits some spelled = record {
+    → ((c : List ℕ) → disk.reads c → found j.end j.limit (drop j.end c) ≡ Ok (Some (take n out)))
+    → ((c : List ℕ) → disk.reads c → take 4 (drop 1 (drop j.end c)) ≡ to_be_bytes w32 n)
+    → IsInPlace k disk_now
+read_in_place j k disk disk_now n out held old same end_is limit_is ready_is fits some spelled = record {
   behind = λ c read.
       let before = same.gives c read in
       subst (λ (at : ℕ). IsBehind at c) (sym end_is) (behind_read j.end j.limit n out held c (some c before) (spelled c before) (old.behind c before));

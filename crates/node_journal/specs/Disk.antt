@@ -30,23 +30,31 @@ Follows step old new = (c : List ℕ) → new c → (d : List ℕ) × old d × s
 abbrev pub Within : (List ℕ → Type 0) → (List ℕ → Type 0) → Type 0
 Within some others = (c : List ℕ) → some c → others c
 
+-- What a disk shows: the contents that a read may give and those that a crash now may leave, this moment as a
+-- number that doesn't fall, and what a crash at some moment since that one might have left, during a call or
+-- between two.
+pub record DiskSeen : Type 1 where
+  pub reads : List ℕ → Type 0
+  pub may_leave : List ℕ → Type 0
+  pub moment : ℕ
+  pub left_since : ℕ → List ℕ → Type 0
+
 -- A read gives the same content as before, and a crash leaves nothing that it mightn't have left before.
-pub record IsUntouched (reads reads_now may_leave may_leave_now : List ℕ → Type 0) : Type 0 where
-  pub gives : Within reads_now reads
-  pub still : Within reads reads_now
-  pub crash : Within may_leave_now may_leave
+pub record IsUntouched (old new : DiskSeen) : Type 0 where
+  pub gives : Within new.reads old.reads
+  pub still : Within old.reads new.reads
+  pub crash : Within new.may_leave old.may_leave
 
 -- Time goes on: a crash since t might have left what it might have left before, or what it may leave now.
-pub record Elapses (before now : ℕ) (past since : ℕ → List ℕ → Type 0) (may_leave : List ℕ → Type 0)
-    : Type 0 where
-  pub later : before ≤ now
-  pub nothing_else : (t : ℕ) (c : List ℕ) → t ≤ before → since t c → past t c ⊎ may_leave c
-  pub keeps : (t : ℕ) (c : List ℕ) → t ≤ before → past t c → since t c
+pub record Elapses (old new : DiskSeen) : Type 0 where
+  pub later : old.moment ≤ new.moment
+  pub nothing_else : (t : ℕ) (c : List ℕ) → t ≤ old.moment → new.left_since t c
+      → old.left_since t c ⊎ new.may_leave c
+  pub keeps : (t : ℕ) (c : List ℕ) → t ≤ old.moment → old.left_since t c → new.left_since t c
 
 -- A crash at any moment since old leaves a content that has P.
-pub record LeavesOnly {D : Type 0} (moment : D → ℕ) (left_since : D → ℕ → List ℕ → Type 0) (old new : D)
-    (P : List ℕ → Type 0) : Type 0 where
-  pub later : moment old ≤ moment new
-  pub each : (c : List ℕ) → left_since new (moment old) c → P c
+pub record LeavesOnly (old new : DiskSeen) (P : List ℕ → Type 0) : Type 0 where
+  pub later : old.moment ≤ new.moment
+  pub each : (c : List ℕ) → new.left_since old.moment c → P c
   -- for a run that began earlier
-  pub before : (t : ℕ) (c : List ℕ) → t ≤ moment old → left_since new t c → left_since old t c ⊎ P c
+  pub before : (t : ℕ) (c : List ℕ) → t ≤ old.moment → new.left_since t c → old.left_since t c ⊎ P c

@@ -1,7 +1,7 @@
 -- What was done to a disk in memory, and what a crash may leave of it.
 use Rattle.std.specs.Prelude.{◌≡◌, ℕ, ◌+◌, ◌-◌, ◌≤◌, nat_le, List, [], ◌∷◌, ◌++◌, length, take, drop}
 use Rattle.std.specs.Prelude.{if◌then◌else◌}
-use Rattle.node_journal.specs.Disk.{Torn}
+use Rattle.node_journal.specs.Disk.{DiskSeen, Torn}
 
 -- a write at an offset, or a sync
 pub data Change : Type 0 where
@@ -58,6 +58,10 @@ moment_of h = length h.changes
 abbrev pub LeftSince : History → ℕ → List ℕ → Type 0
 LeftSince h t c =
     (m : ℕ) × (t ≤ m) × MayLeaveAfter h.first (drop (moment_of h - m) h.changes) c
+
+-- what a disk with this history shows
+abbrev pub seen_of : History → DiskSeen
+seen_of h = record { reads = Reads h; may_leave = MayLeave h; moment = moment_of h; left_since = LeftSince h }
 
 -- What a crash leaves of what it may leave: of each write since the last sync these bytes arrive, from the
 -- first on.

@@ -1,7 +1,7 @@
 -- What a journal knows of its disk.
 use Rattle.std.specs.Prelude.{◌≡◌, ℕ, ◌+◌, ◌-◌, ◌^◌, ◌<◌, ◌≤◌, min, nat_lt, ◌||◌, Bool, true, List, Result}
 use Rattle.std.specs.Prelude.{Ok, Err}
-use Rattle.node_journal.specs.Disk.{Within}
+use Rattle.node_journal.specs.Disk.{DiskSeen, Within}
 use Rattle.node_journal.specs.Records.{IsBehind, EndsAt}
 use Rattle.node_journal.specs.declared.fault.JournalFault.{JournalFault}
 use Rattle.node_journal.specs.declared.fault.JournalFault.TheVariants.{Closed, NotEmpty, Full, Disk, Damaged}
@@ -16,11 +16,11 @@ pub record JournalState : Type 0 where
 
 -- The disk reads as the journal left it: whole records up to the journal's end, and once it is ready a closed
 -- gate there, within the limit. A crash now leaves what a read gives.
-pub record IsInPlace (journal : JournalState) (reads may_leave : List ℕ → Type 0) : Type 0 where
-  pub behind : (c : List ℕ) → reads c → IsBehind journal.end c
-  pub at_rest : journal.ready ≡ true → (c : List ℕ) → reads c → EndsAt journal.end c
+pub record IsInPlace (journal : JournalState) (disk : DiskSeen) : Type 0 where
+  pub behind : (c : List ℕ) → disk.reads c → IsBehind journal.end c
+  pub at_rest : journal.ready ≡ true → (c : List ℕ) → disk.reads c → EndsAt journal.end c
   pub fits : journal.ready ≡ true → journal.end + 1 ≤ journal.limit
-  pub durable : Within may_leave reads
+  pub durable : Within disk.may_leave disk.reads
 
 -- The disk's count of faults rose by one, up to the end of a 64-bit counter, where the answer is Disk,
 -- which tells it; else it stayed.

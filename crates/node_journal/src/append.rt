@@ -24,14 +24,15 @@ fn stage<'a>(bytes: &[u8], room: &'a mut [u8; ROOM]) -> &'a [u8]
 pub(crate) fn put_record<D: Disk>(disk: &mut D, end: u64, bytes: &[u8]) -> Result<(), Failed>
     requires sized { IsSized bytes.now }
     requires bound { end ≤ 2 ^ 62 }
-    requires ends { (c : List ℕ) → D.reads disk.old c → EndsAt end c }
-    requires durable { Within (D.may_leave disk.old) (D.reads disk.old) }
-    ensures added { OnOk result ((c : List ℕ) → D.reads disk.new c → EndsAt (end + 5 + length bytes.now) c
-        × Appended (D.reads disk.old) bytes.now c) }
-    ensures durable { OnOk result (Within (D.may_leave disk.new) (D.reads disk.new)) }
-    ensures any_moment { LeavesOnly D.moment D.left_since disk.old disk.new
-        (RestsBeforeOrAfter (D.reads disk.old) end bytes.now) }
-    ensures counts { CountsFault (D.Counted.count disk.old) (D.Counted.count disk.new) result }
+    requires ends { (c : List ℕ) → (D.disk disk.old).reads c → EndsAt end c }
+    requires durable { Within (D.disk disk.old).may_leave (D.disk disk.old).reads }
+    ensures added { OnOk result ((c : List ℕ) → (D.disk disk.new).reads c
+        → EndsAt (end + 5 + length bytes.now) c
+        × Appended (D.disk disk.old).reads bytes.now c) }
+    ensures durable { OnOk result (Within (D.disk disk.new).may_leave (D.disk disk.new).reads) }
+    ensures any_moment { LeavesOnly (D.disk disk.old) (D.disk disk.new)
+        (RestsBeforeOrAfter (D.disk disk.old).reads end bytes.now) }
+    ensures counts { CountsFault (D.Counted.seen disk.old).faults (D.Counted.seen disk.new).faults result }
 {
     let mut room = [0; ROOM];
     let staged = stage(bytes, &mut room);
@@ -45,13 +46,14 @@ pub(crate) fn put_record<D: Disk>(disk: &mut D, end: u64, bytes: &[u8]) -> Resul
 /// The first record, on a disk with no byte. Its closed gate is on the disk before the record is written.
 pub(crate) fn put_first<D: Disk>(disk: &mut D, bytes: &[u8]) -> Result<(), Failed>
     requires sized { IsSized bytes.now }
-    requires empty { (c : List ℕ) → D.reads disk.old c → c ≡ [] }
-    ensures added { OnOk result ((c : List ℕ) → D.reads disk.new c → EndsAt (0 + 5 + length bytes.now) c
+    requires empty { (c : List ℕ) → (D.disk disk.old).reads c → c ≡ [] }
+    ensures added { OnOk result ((c : List ℕ) → (D.disk disk.new).reads c
+        → EndsAt (0 + 5 + length bytes.now) c
         × (content c ≡ bytes.now ∷ [])) }
-    ensures durable { OnOk result (Within (D.may_leave disk.new) (D.reads disk.new)) }
-    ensures any_moment { LeavesNoByte (D.may_leave disk.old)
-        → LeavesOnly D.moment D.left_since disk.old disk.new (RestsNoneOrFirst bytes.now) }
-    ensures counts { CountsFault (D.Counted.count disk.old) (D.Counted.count disk.new) result }
+    ensures durable { OnOk result (Within (D.disk disk.new).may_leave (D.disk disk.new).reads) }
+    ensures any_moment { LeavesNoByte (D.disk disk.old).may_leave
+        → LeavesOnly (D.disk disk.old) (D.disk disk.new) (RestsNoneOrFirst bytes.now) }
+    ensures counts { CountsFault (D.Counted.seen disk.old).faults (D.Counted.seen disk.new).faults result }
 {
     disk.write(0, &[0])?;
     disk.sync()?;

@@ -19,19 +19,18 @@ fn length_in(first: u8, second: u8, third: u8, fourth: u8) -> u32
 /// The length behind an open gate, None at a gate that is missing or closed.
 fn read_head<D: Disk>(disk: &mut D, end: u64) -> Result<Option<u32>, JournalFault>
     requires { end ≤ 2 ^ 62 }
-    ensures none { result ≡ Ok None → (c : List ℕ) → D.reads disk.old c → (limit : ℕ)
+    ensures none { result ≡ Ok None → (c : List ℕ) → (D.disk disk.old).reads c → (limit : ℕ)
         → found end limit (drop end c) ≡ Ok None }
-    ensures some { (n : ℕ) → result ≡ Ok (Some n) → (c : List ℕ) → D.reads disk.old c → (limit : ℕ)
+    ensures some { (n : ℕ) → result ≡ Ok (Some n) → (c : List ℕ) → (D.disk disk.old).reads c → (limit : ℕ)
         → found end limit (drop end c) ≡ judged end limit n (drop 5 (drop end c)) }
-    ensures spelled { (n : ℕ) → result ≡ Ok (Some n) → (c : List ℕ) → D.reads disk.old c
+    ensures spelled { (n : ℕ) → result ≡ Ok (Some n) → (c : List ℕ) → (D.disk disk.old).reads c
         → take 4 (drop 1 (drop end c)) ≡ to_be_bytes w32 n }
     ensures damaged { (n : ℕ) → IsErrOf result (JournalFault.Damaged n) → (n ≡ end)
-        × ((c : List ℕ) → D.reads disk.old c → (limit : ℕ)
+        × ((c : List ℕ) → (D.disk disk.old).reads c → (limit : ℕ)
         → found end limit (drop end c) ≡ Err (JournalFault.Damaged end)) }
     ensures only { IsOkDiskOrDamaged result }
-    ensures counts { CountsDisk (D.Counted.count disk.old) (D.Counted.count disk.new) result }
-    ensures untouched { IsUntouched (D.reads disk.old) (D.reads disk.new) (D.may_leave disk.old)
-        (D.may_leave disk.new) }
+    ensures counts { CountsDisk (D.Counted.seen disk.old).faults (D.Counted.seen disk.new).faults result }
+    ensures untouched { IsUntouched (D.disk disk.old) (D.disk disk.new) }
 {
     let mut head = [0; HEAD_LEN];
     match disk.read(end, &mut head) {
@@ -58,18 +57,17 @@ fn read_record<D: Disk>(
 ) -> Result<(), JournalFault>
     requires limits { (end ≤ limit) × (limit ≤ 2 ^ 62) }
     requires room { record_max ≤ length out.old }
-    ensures some { OnOk result ((c : List ℕ) → D.reads disk.old c
+    ensures some { OnOk result ((c : List ℕ) → (D.disk disk.old).reads c
         → judged end limit len (drop (end + 5) c) ≡ Ok (Some (take len out.new))) }
     ensures fits { OnOk result (end + 5 + len + 1 ≤ limit) }
     ensures sized { OnOk result ((1 ≤ len) × (len ≤ record_max)) }
     ensures length { length out.new ≡ length out.old }
     ensures damaged { (n : ℕ) → IsErrOf result (JournalFault.Damaged n) → (n ≡ end)
-        × ((c : List ℕ) → D.reads disk.old c
+        × ((c : List ℕ) → (D.disk disk.old).reads c
         → judged end limit len (drop (end + 5) c) ≡ Err (JournalFault.Damaged end)) }
     ensures only { IsOkDiskOrDamaged result }
-    ensures counts { CountsDisk (D.Counted.count disk.old) (D.Counted.count disk.new) result }
-    ensures untouched { IsUntouched (D.reads disk.old) (D.reads disk.new) (D.may_leave disk.old)
-        (D.may_leave disk.new) }
+    ensures counts { CountsDisk (D.Counted.seen disk.old).faults (D.Counted.seen disk.new).faults result }
+    ensures untouched { IsUntouched (D.disk disk.old) (D.disk disk.new) }
 {
     if len < 1 || len as usize > RECORD_MAX || limit - end < HEAD_LEN as u64 + len as u64 + 1 {
         return Err(JournalFault::Damaged(end));
@@ -101,22 +99,21 @@ pub(crate) fn find<D: Disk>(
 ) -> Result<Option<u32>, JournalFault>
     requires limits { (end ≤ limit) × (limit ≤ 2 ^ 62) }
     requires room { record_max ≤ length out.old }
-    ensures none { result ≡ Ok None → (c : List ℕ) → D.reads disk.old c
+    ensures none { result ≡ Ok None → (c : List ℕ) → (D.disk disk.old).reads c
         → found end limit (drop end c) ≡ Ok None }
-    ensures some { (n : ℕ) → result ≡ Ok (Some n) → (c : List ℕ) → D.reads disk.old c
+    ensures some { (n : ℕ) → result ≡ Ok (Some n) → (c : List ℕ) → (D.disk disk.old).reads c
         → found end limit (drop end c) ≡ Ok (Some (take n out.new)) }
-    ensures spelled { (n : ℕ) → result ≡ Ok (Some n) → (c : List ℕ) → D.reads disk.old c
+    ensures spelled { (n : ℕ) → result ≡ Ok (Some n) → (c : List ℕ) → (D.disk disk.old).reads c
         → take 4 (drop 1 (drop end c)) ≡ to_be_bytes w32 n }
     ensures fits { (n : ℕ) → result ≡ Ok (Some n) → end + 5 + n + 1 ≤ limit }
     ensures sized { (n : ℕ) → result ≡ Ok (Some n) → (1 ≤ n) × (n ≤ record_max) }
     ensures length { length out.new ≡ length out.old }
     ensures damaged { (n : ℕ) → IsErrOf result (JournalFault.Damaged n) → (n ≡ end)
-        × ((c : List ℕ) → D.reads disk.old c
+        × ((c : List ℕ) → (D.disk disk.old).reads c
         → found end limit (drop end c) ≡ Err (JournalFault.Damaged end)) }
     ensures only { IsOkDiskOrDamaged result }
-    ensures counts { CountsDisk (D.Counted.count disk.old) (D.Counted.count disk.new) result }
-    ensures untouched { IsUntouched (D.reads disk.old) (D.reads disk.new) (D.may_leave disk.old)
-        (D.may_leave disk.new) }
+    ensures counts { CountsDisk (D.Counted.seen disk.old).faults (D.Counted.seen disk.new).faults result }
+    ensures untouched { IsUntouched (D.disk disk.old) (D.disk disk.new) }
 {
     match read_head(disk, end)? {
         Some(len) => {

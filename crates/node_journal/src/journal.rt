@@ -37,31 +37,30 @@ impl Journal {
     pub fn create<D: Disk>(disk: &mut D, limit: u64, first: &[u8]) -> Result<Journal, JournalFault>
         requires sized { IsSized first.now }
         requires limit { limit ≤ 2 ^ 62 }
-        ensures not_empty { IsErrOf result JournalFault.NotEmpty → (c : List ℕ) → D.reads disk.old c
+        ensures not_empty { IsErrOf result JournalFault.NotEmpty → (c : List ℕ) → (D.disk disk.old).reads c
             → c ≢ [] }
         ensures not_empty_stays { IsErrOf result JournalFault.NotEmpty
-            → IsUntouched (D.reads disk.old) (D.reads disk.new) (D.may_leave disk.old)
-            (D.may_leave disk.new) }
-        ensures empty { OnOk result ((c : List ℕ) → D.reads disk.old c → c ≡ []) }
+            → IsUntouched (D.disk disk.old) (D.disk disk.new) }
+        ensures empty { OnOk result ((c : List ℕ) → (D.disk disk.old).reads c → c ≡ []) }
         ensures full { (n : ℕ) → IsErrOf result (JournalFault.Full n) → (n ≡ 0)
-            × Passes 0 (length first.now) limit × ((c : List ℕ) → D.reads disk.old c → c ≡ []) }
+            × Passes 0 (length first.now) limit × ((c : List ℕ) → (D.disk disk.old).reads c → c ≡ []) }
         ensures full_stays { (n : ℕ) → IsErrOf result (JournalFault.Full n)
-            → IsUntouched (D.reads disk.old) (D.reads disk.new) (D.may_leave disk.old)
-            (D.may_leave disk.new) }
+            → IsUntouched (D.disk disk.old) (D.disk disk.new) }
         ensures fits { OnOk result (0 + 5 + length first.now + 1 ≤ limit) }
-        ensures counts { CountsDisk (D.Counted.count disk.old) (D.Counted.count disk.new) result }
+        ensures counts { CountsDisk (D.Counted.seen disk.old).faults (D.Counted.seen disk.new).faults result }
         ensures not_damaged { (n : ℕ) → IsErrOf result (JournalFault.Damaged n) → ⊥ }
         ensures not_closed { IsErrOf result JournalFault.Closed → ⊥ }
         ensures made { IfOk result (λ j.
             j ≡ record { end = 5 + length first.now; limit = limit; ready = true; closed = false }) }
-        ensures content { OnOk result ((c : List ℕ) → D.reads disk.new c → content c ≡ first.now ∷ []) }
-        ensures undamaged { OnOk result ((c : List ℕ) → D.reads disk.new c → IsUndamaged limit 0 c) }
-        ensures in_place { IfOk result (λ j. IsInPlace j (D.reads disk.new) (D.may_leave disk.new)) }
+        ensures content { OnOk result ((c : List ℕ) → (D.disk disk.new).reads c
+            → content c ≡ first.now ∷ []) }
+        ensures undamaged { OnOk result ((c : List ℕ) → (D.disk disk.new).reads c → IsUndamaged limit 0 c) }
+        ensures in_place { IfOk result (λ j. IsInPlace j (D.disk disk.new)) }
 
         // Where a crash before the call leaves no byte, a crash at any moment of it leaves no record, or
         // exactly the first.
-        ensures any_moment { LeavesNoByte (D.may_leave disk.old)
-            → LeavesOnly D.moment D.left_since disk.old disk.new (LeavesNoneOrFirst limit first.now) }
+        ensures any_moment { LeavesNoByte (D.disk disk.old).may_leave
+            → LeavesOnly (D.disk disk.old) (D.disk disk.new) (LeavesNoneOrFirst limit first.now) }
     {
         let mut probe = [0; 1];
         match disk.read(0, &mut probe) {
@@ -88,12 +87,11 @@ impl Journal {
     pub fn open<D: Disk>(disk: &mut D, limit: u64) -> Result<Journal, JournalFault>
         requires limit { limit ≤ 2 ^ 62 }
         ensures cause { IsOkOrDisk result }
-        ensures counts { CountsDisk (D.Counted.count disk.old) (D.Counted.count disk.new) result }
+        ensures counts { CountsDisk (D.Counted.seen disk.old).faults (D.Counted.seen disk.new).faults result }
         ensures made { IfOk result (λ j.
             j ≡ record { end = 0; limit = limit; ready = false; closed = false }) }
-        ensures untouched { IsUntouched (D.reads disk.old) (D.reads disk.new) (D.may_leave disk.old)
-            (D.may_leave disk.new) }
-        ensures in_place { IfOk result (λ j. IsInPlace j (D.reads disk.new) (D.may_leave disk.new)) }
+        ensures untouched { IsUntouched (D.disk disk.old) (D.disk disk.new) }
+        ensures in_place { IfOk result (λ j. IsInPlace j (D.disk disk.new)) }
     {
         match disk.sync() {
             Ok(()) => Ok(Journal {
@@ -115,34 +113,33 @@ impl Journal {
     ) -> Result<Option<usize>, JournalFault>
         requires room { record_max ≤ length out.old }
         requires in_place { self.old.closed ≡ false
-            → IsInPlace self.old (D.reads disk.old) (D.may_leave disk.old) }
+            → IsInPlace self.old (D.disk disk.old) }
         ensures closed { self.old.closed ≡ true → (result ≡ Err JournalFault.Closed)
             × (self.new ≡ self.old) × (disk.new ≡ disk.old) }
         ensures cause { self.old.closed ≡ false → IsOkDiskOrDamaged result }
-        ensures counts { CountsDisk (D.Counted.count disk.old) (D.Counted.count disk.new) result }
-        ensures untouched { IsUntouched (D.reads disk.old) (D.reads disk.new) (D.may_leave disk.old)
-            (D.may_leave disk.new) }
+        ensures counts { CountsDisk (D.Counted.seen disk.old).faults (D.Counted.seen disk.new).faults result }
+        ensures untouched { IsUntouched (D.disk disk.old) (D.disk disk.new) }
         ensures length { length out.new ≡ length out.old }
         ensures sized { (n : ℕ) → result ≡ Ok (Some n) → (1 ≤ n) × (n ≤ record_max) }
 
         // What stands at the journal's end, which is the first of the records from there on.
-        ensures none { result ≡ Ok None → (c : List ℕ) → D.reads disk.old c
+        ensures none { result ≡ Ok None → (c : List ℕ) → (D.disk disk.old).reads c
             → found self.old.end self.old.limit (drop self.old.end c) ≡ Ok None }
-        ensures no_more { result ≡ Ok None → (c : List ℕ) → D.reads disk.old c
+        ensures no_more { result ≡ Ok None → (c : List ℕ) → (D.disk disk.old).reads c
             → records_from self.old.end c ≡ [] }
-        ensures some { (n : ℕ) → result ≡ Ok (Some n) → (c : List ℕ) → D.reads disk.old c
+        ensures some { (n : ℕ) → result ≡ Ok (Some n) → (c : List ℕ) → (D.disk disk.old).reads c
             → found self.old.end self.old.limit (drop self.old.end c) ≡ Ok (Some (take n out.new)) }
-        ensures first_of_more { (n : ℕ) → result ≡ Ok (Some n) → (c : List ℕ) → D.reads disk.old c
+        ensures first_of_more { (n : ℕ) → result ≡ Ok (Some n) → (c : List ℕ) → (D.disk disk.old).reads c
             → records_from self.old.end c ≡ take n out.new ∷ records_from self.new.end c }
         ensures damaged { (n : ℕ) → IsErrOf result (JournalFault.Damaged n) → (n ≡ self.old.end)
-            × ((c : List ℕ) → D.reads disk.old c
+            × ((c : List ℕ) → (D.disk disk.old).reads c
             → found self.old.end self.old.limit (drop self.old.end c) ≡ Err
             (JournalFault.Damaged self.old.end)) }
 
         // `Damaged` never comes where nothing is damaged, and then the rest isn't either.
         ensures never_damaged { (n : ℕ) → IsErrOf result (JournalFault.Damaged n) → (c : List ℕ)
-            → D.reads disk.old c → IsUndamaged self.old.limit self.old.end c → ⊥ }
-        ensures still_undamaged { (n : ℕ) → result ≡ Ok (Some n) → (c : List ℕ) → D.reads disk.old c
+            → (D.disk disk.old).reads c → IsUndamaged self.old.limit self.old.end c → ⊥ }
+        ensures still_undamaged { (n : ℕ) → result ≡ Ok (Some n) → (c : List ℕ) → (D.disk disk.old).reads c
             → IsUndamaged self.old.limit self.old.end c → IsUndamaged self.old.limit self.new.end c }
 
         ensures moved { (n : ℕ) → result ≡ Ok (Some n) → self.new ≡ longer n self.old }
@@ -151,7 +148,7 @@ impl Journal {
         ensures stays { (n : ℕ) → IsErrOf result (JournalFault.Damaged n) → self.new ≡ self.old }
         ensures broken { (n : ℕ) → IsErrOf result (JournalFault.Disk n) → self.new ≡ broken self.old }
         ensures in_place { self.new.closed ≡ false
-            → IsInPlace self.new (D.reads disk.new) (D.may_leave disk.new) }
+            → IsInPlace self.new (D.disk disk.new) }
     {
         if self.closed {
             return Err(JournalFault::Closed);
@@ -182,7 +179,7 @@ impl Journal {
         requires sized { IsSized bytes.now }
         requires ready { self.old.ready ≡ true }
         requires in_place { self.old.closed ≡ false
-            → IsInPlace self.old (D.reads disk.old) (D.may_leave disk.old) }
+            → IsInPlace self.old (D.disk disk.old) }
         ensures closed { self.old.closed ≡ true → (result ≡ Err JournalFault.Closed)
             × (self.new ≡ self.old) × (disk.new ≡ disk.old) }
         ensures full { self.old.closed ≡ false → Passes self.old.end (length bytes.now) self.old.limit
@@ -190,19 +187,20 @@ impl Journal {
             × (disk.new ≡ disk.old) }
         ensures fits { self.old.closed ≡ false → self.old.end + 5 + length bytes.now + 1 ≤ self.old.limit
             → IsOkOrDisk result × OnErr result (self.new ≡ broken self.old) }
-        ensures counts { CountsDisk (D.Counted.count disk.old) (D.Counted.count disk.new) result }
+        ensures counts { CountsDisk (D.Counted.seen disk.old).faults (D.Counted.seen disk.new).faults result }
         ensures longer { OnOk result (self.new ≡ longer (length bytes.now) self.old) }
-        ensures added { OnOk result ((c : List ℕ) → D.reads disk.new c
-            → Appended (D.reads disk.old) bytes.now c) }
-        ensures undamaged { OnOk result ((c : List ℕ) → D.reads disk.new c → IsUndamaged self.old.limit 0 c) }
+        ensures added { OnOk result ((c : List ℕ) → (D.disk disk.new).reads c
+            → Appended (D.disk disk.old).reads bytes.now c) }
+        ensures undamaged { OnOk result ((c : List ℕ) → (D.disk disk.new).reads c
+            → IsUndamaged self.old.limit 0 c) }
         ensures in_place { self.new.closed ≡ false
-            → IsInPlace self.new (D.reads disk.new) (D.may_leave disk.new) }
+            → IsInPlace self.new (D.disk disk.new) }
 
         // A crash at any moment of the call leaves the records from before it, with the new one or without,
         // and nothing that a journal under the same limit would find damaged.
         ensures any_moment { self.old.closed ≡ false
-            → LeavesOnly D.moment D.left_since disk.old disk.new
-            (LeavesBeforeOrAfter self.old.limit (D.reads disk.old) bytes.now) }
+            → LeavesOnly (D.disk disk.old) (D.disk disk.new)
+            (LeavesBeforeOrAfter self.old.limit (D.disk disk.old).reads bytes.now) }
     {
         // A closed journal writes nothing.
         if self.closed {

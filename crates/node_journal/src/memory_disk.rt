@@ -2,9 +2,10 @@
 ghost use Rattle.std.specs.Prelude.{◌≡◌, ℕ, List, ◌≤◌, ◌↔◌, ◌⊎◌, ◌+◌, drop, length, IfOk, OnOk, OnErr, IsErr, vec_len, vec_capacity};
 ghost use Rattle.std.proofs.Common.{sym, subst, ◌∙◌};
 ghost use Rattle.express_words.specs.Causes.{HasCause};
+ghost use Rattle.express_words.specs.Seen.{silent};
 ghost use Rattle.express_words.specs.Memory.{IsListed, started, passed, failed};
 ghost use Rattle.node_journal.specs.Disk.{CountsFault, Holds, Torn, Copies, Follows, Within, IsUntouched, Elapses};
-ghost use Rattle.node_journal.specs.History.{began, bytes_of, left_of, Reads, MayLeave, MayLeaveAfter, LeftSince, moment_of};
+ghost use Rattle.node_journal.specs.History.{began, bytes_of, left_of, seen_of, Reads, MayLeave, MayLeaveAfter, moment_of};
 ghost use Rattle.std.proofs.Math.Nat.{sub_self, sub-eq-zero_of_le};
 ghost use Rattle.node_journal.specs.Memory.{DiskState, LacksRoom, write_noted, sync_noted};
 
@@ -108,7 +109,7 @@ impl MemoryDisk {
 }
 
 impl Counted for MemoryDisk {
-    ghost count = { λ d. d.tally.faults };
+    ghost seen = { λ d. silent d.tally.faults };
 
     fn faults(&self) -> u64 {
         self.calls.faults()
@@ -116,13 +117,7 @@ impl Counted for MemoryDisk {
 }
 
 impl Disk for MemoryDisk {
-    ghost reads = { λ d c. Reads d.log.history c };
-
-    ghost may_leave = { λ d c. MayLeave d.log.history c };
-
-    ghost moment = { λ d. moment_of d.log.history };
-
-    ghost left_since = { λ d t c. LeftSince d.log.history t c };
+    ghost disk = { λ d. seen_of d.log.history };
 
     ghost one_content = { λ d b c is also. is ∙ sym also };
 
@@ -142,11 +137,8 @@ impl Disk for MemoryDisk {
         ensures length { length out.new ≡ length out.old }
         ensures bytes { IfOk result (λ n. (c : List ℕ) → Reads self.old.log.history c
             → Copies at n out.old out.new c) }
-        ensures untouched { IsUntouched (Reads self.old.log.history) (Reads self.new.log.history)
-            (MayLeave self.old.log.history) (MayLeave self.new.log.history) }
-        ensures time { Elapses (moment_of self.old.log.history) (moment_of self.new.log.history)
-            (LeftSince self.old.log.history) (LeftSince self.new.log.history)
-            (MayLeave self.new.log.history) }
+        ensures untouched { IsUntouched (seen_of self.old.log.history) (seen_of self.new.log.history) }
+        ensures time { Elapses (seen_of self.old.log.history) (seen_of self.new.log.history) }
         ensures cause { HasCause self.old.tally.faults self.new.tally.faults result }
         ensures counts { CountsFault self.old.tally.faults self.new.tally.faults result }
         ensures fails { IsErr result ↔ IsListed self.old.tally }
@@ -174,9 +166,7 @@ impl Disk for MemoryDisk {
             (Follows (Holds at bytes.now) (Reads self.old.log.history) (Reads self.new.log.history)) }
         ensures crash { Follows (Torn at (length bytes.now)) (MayLeave self.old.log.history)
             (MayLeave self.new.log.history) }
-        ensures time { Elapses (moment_of self.old.log.history) (moment_of self.new.log.history)
-            (LeftSince self.old.log.history) (LeftSince self.new.log.history)
-            (MayLeave self.new.log.history) }
+        ensures time { Elapses (seen_of self.old.log.history) (seen_of self.new.log.history) }
         ensures cause { HasCause self.old.tally.faults self.new.tally.faults result }
         ensures counts { CountsFault self.old.tally.faults self.new.tally.faults result }
         ensures fails { IsErr result ↔ (IsListed self.old.tally ⊎ LacksRoom self.old.log (length bytes.now)) }
@@ -204,11 +194,8 @@ impl Disk for MemoryDisk {
 
     fn sync(&mut self) -> Result<(), Failed>
         ensures durable { OnOk result (Within (MayLeave self.new.log.history) (Reads self.new.log.history)) }
-        ensures untouched { IsUntouched (Reads self.old.log.history) (Reads self.new.log.history)
-            (MayLeave self.old.log.history) (MayLeave self.new.log.history) }
-        ensures time { Elapses (moment_of self.old.log.history) (moment_of self.new.log.history)
-            (LeftSince self.old.log.history) (LeftSince self.new.log.history)
-            (MayLeave self.new.log.history) }
+        ensures untouched { IsUntouched (seen_of self.old.log.history) (seen_of self.new.log.history) }
+        ensures time { Elapses (seen_of self.old.log.history) (seen_of self.new.log.history) }
         ensures cause { HasCause self.old.tally.faults self.new.tally.faults result }
         ensures counts { CountsFault self.old.tally.faults self.new.tally.faults result }
         ensures fails { IsErr result ↔ (IsListed self.old.tally ⊎ LacksRoom self.old.log 0) }

@@ -4,7 +4,7 @@ use Rattle.std.specs.Prelude.{is_ok, IsOk, IfOk, IfErr, OnOk, OnErr}
 use Rattle.std.proofs.lemmas.List.{append-nil}
 use Rattle.std.proofs.lemmas.Bool.Decides.{nat_tests}
 use Rattle.frame_rules.specs.Whole.{whole}
-use Rattle.node_journal.specs.Disk.{Within, LeavesOnly}
+use Rattle.node_journal.specs.Disk.{DiskSeen, Within, LeavesOnly}
 use Rattle.node_journal.specs.Journal.{JournalState, Passes, longer, broken}
 use Rattle.node_journal.specs.declared.fault.JournalFault.{JournalFault}
 use Rattle.node_journal.specs.declared.fault.JournalFault.TheVariants.{Closed, NotEmpty, Full, Disk, Damaged}
@@ -22,19 +22,19 @@ use Rattle.node_keep.specs.Keeping.{kept_of, journal_after, LeavesFirst, Keeps, 
 use Rattle.node_keep.proofs.KeepLaws.{leaves_more}
 
 -- the clauses of the call
-pub record IsHanded {D : Type 0} (reads may_leave : D → List ℕ → Type 0) (moment : D → ℕ) (left_since : D → ℕ → List ℕ → Type 0)
+pub record IsHanded {D : Type 0} (shows : D → DiskSeen)
     (old new : KeptState D) (sender : Sender) (frame out_old out_new : List ℕ) (r : Result Did KeepFault) : Type 0 where
   pub step : IfOk r (λ did. Takes (step_of old.core sender frame) new.core did out_old out_new)
   pub no_step : OnErr r ((new.core ≡ old.core) × (out_new ≡ out_old))
   pub opening : new.opening ≡ old.opening
   pub no_frame : (IsOneFrame frame → ⊥) → IsOk r × (new ≡ old)
-  pub added : IsOneFrame frame → OnOk r ((frames : List Handed) → HoldsFrames old.opening frames (reads old.disk)
-      → HoldsFrames new.opening (frames ++ handed sender frame ∷ []) (reads new.disk))
+  pub added : IsOneFrame frame → OnOk r ((frames : List Handed) → HoldsFrames old.opening frames (shows old.disk).reads
+      → HoldsFrames new.opening (frames ++ handed sender frame ∷ []) (shows new.disk).reads)
   pub longer : IsOneFrame frame → OnOk r (new.journal ≡ longer (length frame + 1) old.journal)
-  pub durable : new.journal.closed ≡ false → Within (may_leave new.disk) (reads new.disk)
+  pub durable : new.journal.closed ≡ false → Within (shows new.disk).may_leave (shows new.disk).reads
   pub any_moment : IsOneFrame frame → old.journal.closed ≡ false → (frames : List Handed)
-      → HoldsFrames old.opening frames (reads old.disk)
-      → LeavesOnly moment left_since old.disk new.disk (LeavesFrames old.journal.limit old.opening frames (handed sender frame))
+      → HoldsFrames old.opening frames (shows old.disk).reads
+      → LeavesOnly (shows old.disk) (shows new.disk) (LeavesFrames old.journal.limit old.opening frames (handed sender frame))
   pub closed : IsOneFrame frame → old.journal.closed ≡ true → (r ≡ Err (Journal Closed)) × (new ≡ old)
   pub full : IsOneFrame frame → old.journal.closed ≡ false → Passes old.journal.end (length frame + 1) old.journal.limit
       → (r ≡ Err (Journal (Full old.journal.end))) × (new ≡ old)
@@ -73,10 +73,10 @@ first_frames limit o before h c (inl same, undamaged) = record {
 }
 first_frames limit o before h c (inr more, undamaged) = record { first = h ∷ []; rest = []; split = refl; content = more; undamaged = undamaged }
 
-still : {D : Type 0} (reads may_leave : D → List ℕ → Type 0) (moment : D → ℕ) (left_since : D → ℕ → List ℕ → Type 0)
+still : {D : Type 0} (shows : D → DiskSeen)
     (old new : KeptState D) (sender : Sender) (frame out_old out_new : List ℕ) (did : Did)
-    → IsHanded reads may_leave moment left_since old new sender frame out_old out_new (Ok did) → IsOneFrame frame → old.journal.closed ≡ false
-still reads may_leave moment left_since old new sender frame out_old out_new did h one = elim (true_or_false old.journal.closed) [
+    → IsHanded shows old new sender frame out_old out_new (Ok did) → IsOneFrame frame → old.journal.closed ≡ false
+still shows old new sender frame out_old out_new did h one = elim (true_or_false old.journal.closed) [
   | inl is ↦ absurd (clash (h.closed one is).0)
   | inr is ↦ is
 ]
@@ -84,14 +84,14 @@ still reads may_leave moment left_since old new sender frame out_old out_new did
     clash : (let r : Result Did KeepFault = Ok did in r) ≡ Err (Journal Closed) → ⊥
     clash e = cc
 
-keeps_frame : {D : Type 0} (reads may_leave : D → List ℕ → Type 0) (moment : D → ℕ) (left_since : D → ℕ → List ℕ → Type 0)
+keeps_frame : {D : Type 0} (shows : D → DiskSeen)
     (old new : KeptState D) (sender : Sender) (frame out_old out_new : List ℕ) (did : Did)
-    → IsHanded reads may_leave moment left_since old new sender frame out_old out_new (Ok did) → IsOneFrame frame
-    → Keeps reads may_leave moment left_since old new (handed sender frame ∷ [])
-keeps_frame reads may_leave moment left_since old new sender frame out_old out_new did h one =
+    → IsHanded shows old new sender frame out_old out_new (Ok did) → IsOneFrame frame
+    → Keeps shows old new (handed sender frame ∷ [])
+keeps_frame shows old new sender frame out_old out_new did h one =
     let x : Handed = handed sender frame in
     let k : kept_of (x ∷ []) ≡ x ∷ [] = kept_one x one in
-    let unclosed : old.journal.closed ≡ false = still reads may_leave moment left_since old new sender frame out_old out_new did h one in
+    let unclosed : old.journal.closed ≡ false = still shows old new sender frame out_old out_new did h one in
     let more : new.journal ≡ longer (length frame + 1) old.journal = h.longer one in
     record {
       opening = h.opening;
@@ -100,19 +100,19 @@ keeps_frame reads may_leave moment left_since old new sender frame out_old out_n
       quiet = λ e. absurd (cc (sym k ∙ e));
       unclosed = λ n. unclosed;
       held = λ before holds.
-          subst (λ (l : List Handed). HoldsFrames old.opening (before ++ l) (reads new.disk)) (sym k)
-          (subst (λ (o : Opening). HoldsFrames o (before ++ x ∷ []) (reads new.disk)) h.opening (h.added one before holds));
+          subst (λ (l : List Handed). HoldsFrames old.opening (before ++ l) (shows new.disk).reads) (sym k)
+          (subst (λ (o : Opening). HoldsFrames o (before ++ x ∷ []) (shows new.disk).reads) h.opening (h.added one before holds));
       durable = λ d. h.durable (ap (λ (j : JournalState). j.closed) more ∙ unclosed);
       any_moment = λ n before holds.
-          subst (λ (l : List Handed). LeavesOnly moment left_since old.disk new.disk (LeavesFirst old.journal.limit old.opening before l)) (sym k)
-          (leaves_more moment left_since old.disk new.disk _ _ (first_frames old.journal.limit old.opening before x) (h.any_moment one unclosed before holds));
+          subst (λ (l : List Handed). LeavesOnly (shows old.disk) (shows new.disk) (LeavesFirst old.journal.limit old.opening before l)) (sym k)
+          (leaves_more shows old.disk new.disk _ _ (first_frames old.journal.limit old.opening before x) (h.any_moment one unclosed before holds));
     }
 
-keeps_apart : {D : Type 0} (reads may_leave : D → List ℕ → Type 0) (moment : D → ℕ) (left_since : D → ℕ → List ℕ → Type 0)
+keeps_apart : {D : Type 0} (shows : D → DiskSeen)
     (old new : KeptState D) (sender : Sender) (frame out_old out_new : List ℕ) (did : Did)
-    → IsHanded reads may_leave moment left_since old new sender frame out_old out_new (Ok did) → (IsOneFrame frame → ⊥)
-    → Keeps reads may_leave moment left_since old new (handed sender frame ∷ [])
-keeps_apart {D} reads may_leave moment left_since old new sender frame out_old out_new did h apart =
+    → IsHanded shows old new sender frame out_old out_new (Ok did) → (IsOneFrame frame → ⊥)
+    → Keeps shows old new (handed sender frame ∷ [])
+keeps_apart {D} shows old new sender frame out_old out_new did h apart =
     let x : Handed = handed sender frame in
     let k : kept_of (x ∷ []) ≡ [] = kept_apart x apart in
     let same : new ≡ old = (h.no_frame apart).1 in
@@ -123,21 +123,21 @@ keeps_apart {D} reads may_leave moment left_since old new sender frame out_old o
       quiet = λ e. same;
       unclosed = λ n. absurd (n k);
       held = λ before holds.
-          subst (λ (l : List Handed). HoldsFrames old.opening l (reads new.disk)) (sym (append-nil before) ∙ ap (λ (l : List Handed). before ++ l) (sym k))
-          (subst (λ (s : KeptState D). HoldsFrames old.opening before (reads s.disk)) (sym same) holds);
-      durable = λ d. subst (λ (s : KeptState D). Within (may_leave s.disk) (reads s.disk)) (sym same) d;
+          subst (λ (l : List Handed). HoldsFrames old.opening l (shows new.disk).reads) (sym (append-nil before) ∙ ap (λ (l : List Handed). before ++ l) (sym k))
+          (subst (λ (s : KeptState D). HoldsFrames old.opening before (shows s.disk).reads) (sym same) holds);
+      durable = λ d. subst (λ (s : KeptState D). Within (shows s.disk).may_leave (shows s.disk).reads) (sym same) d;
       any_moment = λ n. absurd (n k);
     }
 
-pub keeps_handed : {D : Type 0} (reads may_leave : D → List ℕ → Type 0) (moment : D → ℕ) (left_since : D → ℕ → List ℕ → Type 0)
+pub keeps_handed : {D : Type 0} (shows : D → DiskSeen)
     (old new : KeptState D) (sender : Sender) (frame out_old out_new : List ℕ) (r : Result Did KeepFault)
-    → IsHanded reads may_leave moment left_since old new sender frame out_old out_new r
-    → OnOk r (Keeps reads may_leave moment left_since old new (handed sender frame ∷ []))
-keeps_handed reads may_leave moment left_since old new sender frame out_old out_new (Ok did) h = elim (one_or_not frame) [
-  | inl one ↦ keeps_frame reads may_leave moment left_since old new sender frame out_old out_new did h one
-  | inr apart ↦ keeps_apart reads may_leave moment left_since old new sender frame out_old out_new did h apart
+    → IsHanded shows old new sender frame out_old out_new r
+    → OnOk r (Keeps shows old new (handed sender frame ∷ []))
+keeps_handed shows old new sender frame out_old out_new (Ok did) h = elim (one_or_not frame) [
+  | inl one ↦ keeps_frame shows old new sender frame out_old out_new did h one
+  | inr apart ↦ keeps_apart shows old new sender frame out_old out_new did h apart
 ]
-keeps_handed reads may_leave moment left_since old new sender frame out_old out_new (Err fault) h = tt
+keeps_handed shows old new sender frame out_old out_new (Err fault) h = tt
 
 -- ---- where it didn't
 
@@ -164,12 +164,12 @@ le_or_more a b = either (nat_le a b) refl
     either true e = inl (grind (arith, nat_tests))
     either false e = inr (grind (arith, nat_tests))
 
-pub refuses_handed : {D : Type 0} (reads may_leave : D → List ℕ → Type 0) (moment : D → ℕ) (left_since : D → ℕ → List ℕ → Type 0)
+pub refuses_handed : {D : Type 0} (shows : D → DiskSeen)
     (old new : KeptState D) (sender : Sender) (frame out_old out_new : List ℕ) (r : Result Did KeepFault)
-    → IsHanded reads may_leave moment left_since old new sender frame out_old out_new r
-    → IfErr r (Refuses reads moment left_since old new (handed sender frame))
-refuses_handed reads may_leave moment left_since old new sender frame out_old out_new (Ok did) h = tt
-refuses_handed {D} reads may_leave moment left_since old new sender frame out_old out_new (Err fault) h =
+    → IsHanded shows old new sender frame out_old out_new r
+    → IfErr r (Refuses shows old new (handed sender frame))
+refuses_handed shows old new sender frame out_old out_new (Ok did) h = tt
+refuses_handed {D} shows old new sender frame out_old out_new (Err fault) h =
     let bytes : ℕ = length frame + 1 in
     let one : IsOneFrame frame = is_frame frame fault (λ apart. (h.no_frame apart).0) in
     let cause : IsCause fault bytes old new = elim (true_or_false old.journal.closed) [

@@ -3,9 +3,11 @@ use Rattle.std.proofs.Common.{◌≡◌, ℕ, ◌+◌, ◌<◌, ◌≤◌, true,
 use Rattle.std.specs.Prelude.{All, flat_map}
 use Rattle.std.proofs.lemmas.List.{length-append, flat_map_more}
 use Rattle.std.proofs.lemmas.List.Elements.{All-nil, All-push, All-weaker}
+use Rattle.express_words.specs.Seen.{Seen}
 use Rattle.express_words.specs.Streams.{Stream}
 use Rattle.express_words.specs.Causes.{next}
 use Rattle.express_words.specs.Calls.{Call, Accepted}
+use Rattle.node_journal.specs.Disk.{DiskSeen}
 use Rattle.node_serve.specs.Exchanging.{Makes}
 use Rattle.node_serve.specs.declared.node.Served.{Served}
 use Rattle.node_host.specs.declared.tally.Tally.{Tally}
@@ -19,7 +21,7 @@ use Rattle.node_restart.specs.Kept.{KeptState}
 use Rattle.node_keep.specs.declared.stop.Halt.{Halt}
 use Rattle.node_keep.specs.declared.stop.Halt.TheVariants as halt
 use Rattle.node_keep.specs.Keeping.{Keeps, KeepsUpTo}
-use Rattle.node_keep.specs.Visits.{Standing, standing, IsVisit, Visits, none, then, Broken, broken_calls, IsBroken, IsOfBroken}
+use Rattle.node_keep.specs.Visits.{Standing, standing, IsVisit, Visits, none, then, Broken, broken_calls, IsBroken, IsOfBrokenTold}
 use Rattle.node_keep.specs.Hosting.{ServesAll, DoorFails, KeepFails, OnDoor, OnFault}
 use Rattle.node_keep.proofs.KeepLaws.{keeps_none, keeps_both}
 use Rattle.node_keep.proofs.UpToLaws.{keeps_then}
@@ -34,84 +36,84 @@ on_fault halt.Door P Q follows p = tt
 on_fault (halt.Keep fault) P Q follows p = follows fault p
 
 -- where a server stands after so many visits
-pub record Hosting {D C : Type 0} (reads may_leave : D → List ℕ → Type 0) (moment : D → ℕ) (left_since : D → ℕ → List ℕ → Type 0) (peer : List ℕ)
-    (content : C → Option Stream) (written : C → Option (List ℕ)) (faults : C → ℕ)
+pub record Hosting {D C : Type 0} (shows : D → DiskSeen) (peer : List ℕ)
+    (shown : C → Seen)
     (start now : Standing D) (number : ℕ) (tally : Tally) (a b : Option (List Call)) : Type 0 where
   pub visits : List Visit
   pub all : length visits ≡ number
   pub frames : List Handed
-  pub made : Visits reads may_leave moment left_since peer start visits frames now
-  pub keeps : Keeps reads may_leave moment left_since start.kept now.kept frames
+  pub made : Visits shows peer start visits frames now
+  pub keeps : Keeps shows start.kept now.kept frames
   pub tally_is : tally ≡ tally_of visits
   pub calls : Makes a b (flat_map visit_calls visits)
-  pub conns : All (Of content written faults b) visits
+  pub conns : All (Of shown b) visits
 
-pub hosting : {D C : Type 0} (reads may_leave : D → List ℕ → Type 0) (moment : D → ℕ) (left_since : D → ℕ → List ℕ → Type 0) (peer : List ℕ)
-    (content : C → Option Stream) (written : C → Option (List ℕ)) (faults : C → ℕ) (start : Standing D) (tally : Tally) (a : Option (List Call))
-    → tally ≡ tally_of [] → Hosting reads may_leave moment left_since peer content written faults start start 0 tally a a
-hosting reads may_leave moment left_since peer content written faults start tally a is = record {
+pub hosting : {D C : Type 0} (shows : D → DiskSeen) (peer : List ℕ)
+    (shown : C → Seen) (start : Standing D) (tally : Tally) (a : Option (List Call))
+    → tally ≡ tally_of [] → Hosting shows peer shown start start 0 tally a a
+hosting shows peer shown start tally a is = record {
   visits = [];
   all = refl;
   frames = [];
   made = none;
-  keeps = keeps_none reads may_leave moment left_since start.kept;
+  keeps = keeps_none shows start.kept;
   tally_is = is;
   calls = makes_none a;
-  conns = All-nil (Of content written faults a);
+  conns = All-nil (Of shown a);
 }
 
-still_all : {C : Type 0} (content : C → Option Stream) (written : C → Option (List ℕ)) (faults : C → ℕ) (a b : Option (List Call)) (calls : List Call) (visits : List Visit)
-    → Makes a b calls → All (Of content written faults a) visits → All (Of content written faults b) visits
-still_all content written faults a b calls visits makes conns =
-    All-weaker (Of content written faults a) (Of content written faults b)
-    (λ (u : Visit) known. (known.0, still_of a b calls u (content known.0) (written known.0) (faults known.0) makes known.1)) visits conns
+still_all : {C : Type 0} (shown : C → Seen) (a b : Option (List Call)) (calls : List Call) (visits : List Visit)
+    → Makes a b calls → All (Of shown a) visits → All (Of shown b) visits
+still_all shown a b calls visits makes conns =
+    All-weaker (Of shown a) (Of shown b)
+    (λ (u : Visit) known. (known.0, still_of a b calls u (shown known.0).content (shown known.0).written (shown known.0).faults makes known.1)) visits conns
 
-pub hosting_more : {D C : Type 0} (reads may_leave : D → List ℕ → Type 0) (moment : D → ℕ) (left_since : D → ℕ → List ℕ → Type 0) (peer : List ℕ)
-    (content : C → Option Stream) (written : C → Option (List ℕ)) (faults : C → ℕ) (start old new : Standing D) (number : ℕ) (tally more : Tally) (answer : Served) (a b c : Option (List Call))
-    → Hosting reads may_leave moment left_since peer content written faults start old number tally a b
-    → (v : Visit) × (v.answer ≡ answer) × ((frames : List Handed) × IsVisit reads may_leave moment left_since peer v frames old new × Makes b c (visit_calls v) × Of content written faults c v)
-    → CountsMore tally more answer → Hosting reads may_leave moment left_since peer content written faults start new (number + 1) more a c
-hosting_more reads may_leave moment left_since peer content written faults start old new number tally more answer a b c h (v, same, (frames, is, makes, of)) counts = record {
+pub hosting_more : {D C : Type 0} (shows : D → DiskSeen) (peer : List ℕ)
+    (shown : C → Seen) (start old new : Standing D) (number : ℕ) (tally more : Tally) (answer : Served) (a b c : Option (List Call))
+    → Hosting shows peer shown start old number tally a b
+    → (v : Visit) × (v.answer ≡ answer) × ((frames : List Handed) × IsVisit shows peer v frames old new × Makes b c (visit_calls v) × Of shown c v)
+    → CountsMore tally more answer → Hosting shows peer shown start new (number + 1) more a c
+hosting_more shows peer shown start old new number tally more answer a b c h (v, same, (frames, is, makes, of)) counts = record {
   visits = h.visits ++ v ∷ [];
   all = omega (arith, h.all, length-append h.visits (v ∷ []));
   frames = h.frames ++ frames;
   made = then h.visits h.frames old v frames new h.made is;
-  keeps = keeps_both reads may_leave moment left_since start.kept old.kept new.kept h.frames frames h.keeps (visit_keeps reads may_leave moment left_since peer v frames old new is);
+  keeps = keeps_both shows start.kept old.kept new.kept h.frames frames h.keeps (visit_keeps shows peer v frames old new is);
   tally_is = tally_more tally more h.visits v answer same h.tally_is counts;
   calls = subst (Makes a c) (flat_map_more visit_calls [] h.visits v) (makes_both a b c (flat_map visit_calls h.visits) (visit_calls v) h.calls makes);
-  conns = All-push (Of content written faults c) h.visits v (still_all content written faults b c (visit_calls v) h.visits makes h.conns) of;
+  conns = All-push (Of shown c) h.visits v (still_all shown b c (visit_calls v) h.visits makes h.conns) of;
 }
 
 -- ---- how it ends
 
-pub door_failed : {D C : Type 0} (reads may_leave : D → List ℕ → Type 0) (moment : D → ℕ) (left_since : D → ℕ → List ℕ → Type 0) (peer : List ℕ)
-    (content : C → Option Stream) (written : C → Option (List ℕ)) (faults : C → ℕ) (start : Standing D) (old new : KeptState D) (before now : ℕ) (number connections : ℕ) (tally : Tally) (a b c : Option (List Call))
-    → Hosting reads may_leave moment left_since peer content written faults start (standing old before) number tally a b → number < connections
+pub door_failed : {D C : Type 0} (shows : D → DiskSeen) (peer : List ℕ)
+    (shown : C → Seen) (start : Standing D) (old new : KeptState D) (before now : ℕ) (number connections : ℕ) (tally : Tally) (a b c : Option (List Call))
+    → Hosting shows peer shown start (standing old before) number tally a b → number < connections
     → Makes b c (Accepted true ∷ []) × (new ≡ old) × (now ≡ next before)
-    → (visits : List Visit) × DoorFails reads may_leave moment left_since peer connections tally visits start (standing new now) a c × All (Of content written faults c) visits
-door_failed {D} reads may_leave moment left_since peer content written faults start old new before now number connections tally a b c h less (makes, stays, one_more) = (
+    → (visits : List Visit) × DoorFails shows peer connections tally visits start (standing new now) a c × All (Of shown c) visits
+door_failed {D} shows peer shown start old new before now number connections tally a b c h less (makes, stays, one_more) = (
   h.visits,
   record {
     fewer = omega (arith, h.all, less);
     faults = before;
     frames = h.frames;
-    made = subst (λ (k : KeptState D). Visits reads may_leave moment left_since peer start h.visits h.frames (standing k before)) (sym stays) h.made;
-    keeps = subst (λ (k : KeptState D). Keeps reads may_leave moment left_since start.kept k h.frames) (sym stays) h.keeps;
+    made = subst (λ (k : KeptState D). Visits shows peer start h.visits h.frames (standing k before)) (sym stays) h.made;
+    keeps = subst (λ (k : KeptState D). Keeps shows start.kept k h.frames) (sym stays) h.keeps;
     one_more = one_more;
     tally_is = h.tally_is;
     calls = makes_both a b c (flat_map visit_calls h.visits) (Accepted true ∷ []) h.calls makes;
   },
-  still_all content written faults b c (Accepted true ∷ []) h.visits makes h.conns,
+  still_all shown b c (Accepted true ∷ []) h.visits makes h.conns,
 )
 
-pub keep_failed : {D C : Type 0} (reads may_leave : D → List ℕ → Type 0) (moment : D → ℕ) (left_since : D → ℕ → List ℕ → Type 0) (peer : List ℕ)
-    (content : C → Option Stream) (written : C → Option (List ℕ)) (faults : C → ℕ) (start old new : Standing D) (number connections : ℕ) (tally : Tally) (fault : KeepFault) (a b c : Option (List Call))
-    → Hosting reads may_leave moment left_since peer content written faults start old number tally a b → number < connections
-    → (v : Broken) × ((more : List Handed) × ((refused : Handed) × IsBroken reads may_leave moment left_since peer v more refused fault old new
-    × Makes b c (broken_calls v) × ((conn : C) × IsOfBroken c v (content conn) (written conn) (faults conn))))
-    → (visits : List Visit) × ((last : Broken) × KeepFails reads may_leave moment left_since peer connections tally fault visits last start new a c
-    × All (Of content written faults c) visits × ((conn : C) × IsOfBroken c last (content conn) (written conn) (faults conn)))
-keep_failed reads may_leave moment left_since peer content written faults start old new number connections tally fault a b c h less (v, (more, (refused, is, makes, of))) = (
+pub keep_failed : {D C : Type 0} (shows : D → DiskSeen) (peer : List ℕ)
+    (shown : C → Seen) (start old new : Standing D) (number connections : ℕ) (tally : Tally) (fault : KeepFault) (a b c : Option (List Call))
+    → Hosting shows peer shown start old number tally a b → number < connections
+    → (v : Broken) × ((more : List Handed) × ((refused : Handed) × IsBroken shows peer v more refused fault old new
+    × Makes b c (broken_calls v) × ((conn : C) × IsOfBrokenTold c v (shown conn).content (shown conn).written (shown conn).faults)))
+    → (visits : List Visit) × ((last : Broken) × KeepFails shows peer connections tally fault visits last start new a c
+    × All (Of shown c) visits × ((conn : C) × IsOfBrokenTold c last (shown conn).content (shown conn).written (shown conn).faults))
+keep_failed shows peer shown start old new number connections tally fault a b c h less (v, (more, (refused, is, makes, of))) = (
   h.visits,
   (
     v,
@@ -123,11 +125,11 @@ keep_failed reads may_leave moment left_since peer content written faults start 
       more = more;
       refused = refused;
       broken = is;
-      keeps = keeps_then reads may_leave moment left_since start.kept old.kept new.kept h.frames more refused fault h.keeps is.keeps;
+      keeps = keeps_then shows start.kept old.kept new.kept h.frames more refused fault h.keeps is.keeps;
       tally_is = h.tally_is;
       calls = makes_both a b c (flat_map visit_calls h.visits) (broken_calls v) h.calls makes;
     },
-    still_all content written faults b c (broken_calls v) h.visits makes h.conns,
+    still_all shown b c (broken_calls v) h.visits makes h.conns,
     of,
   ),
 )

@@ -1,6 +1,6 @@
 -- What is said of a disk that was handed back is said of the disk before.
 use Rattle.std.proofs.Common.{◌≡◌, ◌≢◌, ℕ, List, [], refl, sym, ap, ◌∙◌, subst}
-use Rattle.node_journal.specs.Disk.{Within, IsUntouched}
+use Rattle.node_journal.specs.Disk.{DiskSeen, Within, IsUntouched}
 use Rattle.node_journal.specs.Records.{content}
 use Rattle.node_journal.specs.declared.fault.JournalFault.TheVariants.{Closed, NotEmpty, Full, Disk, Damaged}
 use Rattle.node_restart.specs.declared.opening.Opening.{Opening}
@@ -15,8 +15,8 @@ use Rattle.node_keep.specs.declared.fault.OpenFault.{OpenFault}
 use Rattle.node_keep.specs.declared.fault.OpenFault.TheVariants as opens
 use Rattle.node_keep.specs.Opening.{IsReopened, StandsOther, IsCauseOf, LeavesDisk, CountsOpen}
 
-pub untouched_both : (a b c p q r : List ℕ → Type 0) → IsUntouched a b p q → IsUntouched b c q r → IsUntouched a c p r
-untouched_both a b c p q r one two = record {
+pub untouched_both : (a b c : DiskSeen) → IsUntouched a b → IsUntouched b c → IsUntouched a c
+untouched_both a b c one two = record {
   gives = λ x read. one.gives x (two.gives x read);
   still = λ x read. two.still x (one.still x read);
   crash = λ x left. one.crash x (two.crash x left);
@@ -25,20 +25,20 @@ untouched_both a b c p q r one two = record {
 stands_before : (o : Opening) (core : Core) (a b : List ℕ → Type 0) → Within a b → Stands o core b → Stands o core a
 stands_before o core a b still s = record { frames = s.frames; whole = s.whole; folded = s.folded; held = λ x read. s.held x (still x read) }
 
-pub reopened_before : {D : Type 0} (reads may_leave : D → List ℕ → Type 0) (limit : ℕ) (o : Opening) (first disk : D) (k : KeptState D)
-    → IsUntouched (reads first) (reads disk) (may_leave first) (may_leave disk)
-    → IsReopened reads may_leave limit o disk k → IsReopened reads may_leave limit o first k
-reopened_before reads may_leave limit o first disk k same r = record {
+pub reopened_before : {D : Type 0} (shows : D → DiskSeen) (limit : ℕ) (o : Opening) (first disk : D) (k : KeptState D)
+    → IsUntouched (shows first) (shows disk)
+    → IsReopened shows limit o disk k → IsReopened shows limit o first k
+reopened_before shows limit o first disk k same r = record {
   some = λ x read. r.some x (same.still x read);
   is_opening = r.is_opening;
   same = r.same;
-  stands = stands_before k.opening k.core (reads first) (reads disk) same.still r.stands;
+  stands = stands_before k.opening k.core (shows first).reads (shows disk).reads same.still r.stands;
   told = λ p frames x read is held. r.told p frames x (same.still x read) is (λ y other. held y (same.gives y other));
   same_limit = r.same_limit;
   unclosed = r.unclosed;
   undamaged = r.undamaged;
   durable = r.durable;
-  untouched = untouched_both (reads first) (reads disk) (reads k.disk) (may_leave first) (may_leave disk) (may_leave k.disk) same r.untouched;
+  untouched = untouched_both (shows first) (shows disk) (shows k.disk) same r.untouched;
 }
 
 pub cause_before : (fault : OpenFault) (limit : ℕ) (o : Opening) (a b : List ℕ → Type 0) → Within a b → IsCauseOf fault limit o b → IsCauseOf fault limit o a
@@ -60,16 +60,16 @@ cause_before (opens.Differs key) limit o a b still cause = (
   },
 )
 
-pub leaves_all : {D : Type 0} (fault : OpenFault) (reads may_leave : D → List ℕ → Type 0) (old new : D) → IsUntouched (reads old) (reads new) (may_leave old) (may_leave new)
-    → LeavesDisk fault reads may_leave old new
-leaves_all (opens.Keep (Journal (Damaged at))) reads may_leave old new same = same
-leaves_all (opens.Keep (Foreign n)) reads may_leave old new same = same
-leaves_all (opens.Keep (Journal Closed)) reads may_leave old new same = tt
-leaves_all (opens.Keep (Journal NotEmpty)) reads may_leave old new same = tt
-leaves_all (opens.Keep (Journal (Full end))) reads may_leave old new same = tt
-leaves_all (opens.Keep (Journal (Disk faults))) reads may_leave old new same = tt
-leaves_all (opens.Keep NoMemory) reads may_leave old new same = same
-leaves_all (opens.Differs key) reads may_leave old new same = same
+pub leaves_all : {D : Type 0} (fault : OpenFault) (shows : D → DiskSeen) (old new : D) → IsUntouched (shows old) (shows new)
+    → LeavesDisk fault shows old new
+leaves_all (opens.Keep (Journal (Damaged at))) shows old new same = same
+leaves_all (opens.Keep (Foreign n)) shows old new same = same
+leaves_all (opens.Keep (Journal Closed)) shows old new same = tt
+leaves_all (opens.Keep (Journal NotEmpty)) shows old new same = tt
+leaves_all (opens.Keep (Journal (Full end))) shows old new same = tt
+leaves_all (opens.Keep (Journal (Disk faults))) shows old new same = tt
+leaves_all (opens.Keep NoMemory) shows old new same = same
+leaves_all (opens.Differs key) shows old new same = same
 
 pub counts_before : (fault : OpenFault) (first before now : ℕ) → before ≡ first → CountsOpen before now fault → CountsOpen first now fault
 counts_before fault first before now same counts = subst (λ n. CountsOpen n now fault) same counts

@@ -4,6 +4,7 @@ use Rattle.std.specs.Prelude.{Option, Result, Ok, Err}
 use Rattle.express_words.specs.Causes.{Rose, next}
 use Rattle.express_words.specs.Streams.{Stream}
 use Rattle.express_words.specs.Calls.{Call, Accepted}
+use Rattle.node_journal.specs.Disk.{DiskSeen}
 use Rattle.node_serve.specs.Exchanging.{Makes}
 use Rattle.node_host.specs.declared.tally.Tally.{Tally}
 use Rattle.node_host.specs.Tallies.{tally_of, total}
@@ -15,45 +16,42 @@ use Rattle.node_keep.specs.declared.stop.Halt.{Halt}
 use Rattle.node_keep.specs.declared.stop.Halt.TheVariants as halt
 use Rattle.node_keep.specs.declared.stop.Stop.{Stop}
 use Rattle.node_keep.specs.Keeping.{Keeps, KeepsUpTo}
-use Rattle.node_keep.specs.Visits.{Standing, standing, Visits, Broken, broken_calls, IsBroken, IsOfBroken}
+use Rattle.node_keep.specs.Visits.{Standing, standing, Visits, Broken, broken_calls, IsBroken, IsOfBrokenTold}
 
 -- so many visits were made, and no other call
-pub record ServesAll {D : Type 0} (reads may_leave : D → List ℕ → Type 0) (moment : D → ℕ)
-    (left_since : D → ℕ → List ℕ → Type 0) (peer : List ℕ) (connections : ℕ) (tally : Tally)
+pub record ServesAll {D : Type 0} (shows : D → DiskSeen) (peer : List ℕ) (connections : ℕ) (tally : Tally)
     (visits : List Visit) (start end : Standing D) (before now : Option (List Call)) : Type 0 where
   pub all : length visits ≡ connections
   pub frames : List Handed
-  pub made : Visits reads may_leave moment left_since peer start visits frames end
-  pub keeps : Keeps reads may_leave moment left_since start.kept end.kept frames
+  pub made : Visits shows peer start visits frames end
+  pub keeps : Keeps shows start.kept end.kept frames
   pub tally_is : tally ≡ tally_of visits
   pub calls : Makes before now (flat_map visit_calls visits)
 
 -- fewer visits were made, then an accept failed, which is a fault of the net, and no other call was made
-pub record DoorFails {D : Type 0} (reads may_leave : D → List ℕ → Type 0) (moment : D → ℕ)
-    (left_since : D → ℕ → List ℕ → Type 0) (peer : List ℕ) (connections : ℕ) (tally : Tally)
+pub record DoorFails {D : Type 0} (shows : D → DiskSeen) (peer : List ℕ) (connections : ℕ) (tally : Tally)
     (visits : List Visit) (start end : Standing D) (before now : Option (List Call)) : Type 0 where
   pub fewer : length visits < connections
   pub faults : ℕ
   pub frames : List Handed
-  pub made : Visits reads may_leave moment left_since peer start visits frames (standing end.kept faults)
-  pub keeps : Keeps reads may_leave moment left_since start.kept end.kept frames
+  pub made : Visits shows peer start visits frames (standing end.kept faults)
+  pub keeps : Keeps shows start.kept end.kept frames
   pub one_more : end.faults ≡ next faults
   pub tally_is : tally ≡ tally_of visits
   pub calls : Makes before now (flat_map visit_calls visits ++ Accepted true ∷ [])
 
 -- fewer visits were made, then one at which a frame wasn't kept, and no other call was made
-pub record KeepFails {D : Type 0} (reads may_leave : D → List ℕ → Type 0) (moment : D → ℕ)
-    (left_since : D → ℕ → List ℕ → Type 0) (peer : List ℕ) (connections : ℕ) (tally : Tally)
+pub record KeepFails {D : Type 0} (shows : D → DiskSeen) (peer : List ℕ) (connections : ℕ) (tally : Tally)
     (fault : KeepFault) (visits : List Visit) (last : Broken) (start end : Standing D)
     (before now : Option (List Call)) : Type 0 where
   pub fewer : length visits < connections
   pub frames : List Handed
   pub between : Standing D
-  pub made : Visits reads may_leave moment left_since peer start visits frames between
+  pub made : Visits shows peer start visits frames between
   pub more : List Handed
   pub refused : Handed
-  pub broken : IsBroken reads may_leave moment left_since peer last more refused fault between end
-  pub keeps : KeepsUpTo reads may_leave moment left_since start.kept end.kept (frames ++ more) refused fault
+  pub broken : IsBroken shows peer last more refused fault between end
+  pub keeps : KeepsUpTo shows start.kept end.kept (frames ++ more) refused fault
   pub tally_is : tally ≡ tally_of visits
   pub calls : Makes before now (flat_map visit_calls visits ++ broken_calls last)
 

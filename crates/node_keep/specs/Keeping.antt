@@ -1,7 +1,7 @@
 -- Frames that a server was handed one after another, each on its disk before its step.
 use Rattle.std.specs.Prelude.{◌≡◌, ◌≢◌, ℕ, ◌+◌, ◌≤◌, true, false, List, [], ◌∷◌, ◌++◌, length, filter, is_ok}
 use Rattle.frame_rules.specs.Whole.{whole}
-use Rattle.node_journal.specs.Disk.{Within, LeavesOnly}
+use Rattle.node_journal.specs.Disk.{DiskSeen, Within, LeavesOnly}
 use Rattle.node_journal.specs.Records.{content, IsUndamaged}
 use Rattle.node_journal.specs.Journal.{JournalState, Passes, longer, broken}
 use Rattle.node_journal.specs.declared.fault.JournalFault.TheVariants.{Closed, NotEmpty, Full, Disk, Damaged}
@@ -33,18 +33,19 @@ pub record LeavesFirst (limit : ℕ) (o : Opening) (before frames : List Handed)
 -- From old to new a server was handed these frames, in this order. It took the step of each, and those that
 -- are frames stand on its disk behind those from before. A crash at any moment on the way leaves the first
 -- of them.
-pub record Keeps {D : Type 0} (reads may_leave : D → List ℕ → Type 0) (moment : D → ℕ)
-    (left_since : D → ℕ → List ℕ → Type 0) (old new : KeptState D) (frames : List Handed) : Type 0 where
+pub record Keeps {D : Type 0} (shows : D → DiskSeen) (old new : KeptState D) (frames : List Handed)
+    : Type 0 where
   pub opening : new.opening ≡ old.opening
   pub steps : new.core ≡ fold_from old.core frames
   pub journal : new.journal ≡ journal_after old.journal (kept_of frames)
   pub quiet : kept_of frames ≡ [] → new ≡ old
   pub unclosed : kept_of frames ≢ [] → old.journal.closed ≡ false
-  pub held : (before : List Handed) → HoldsFrames old.opening before (reads old.disk)
-      → HoldsFrames old.opening (before ++ kept_of frames) (reads new.disk)
-  pub durable : Within (may_leave old.disk) (reads old.disk) → Within (may_leave new.disk) (reads new.disk)
+  pub held : (before : List Handed) → HoldsFrames old.opening before (shows old.disk).reads
+      → HoldsFrames old.opening (before ++ kept_of frames) (shows new.disk).reads
+  pub durable : Within (shows old.disk).may_leave (shows old.disk).reads
+      → Within (shows new.disk).may_leave (shows new.disk).reads
   pub any_moment : kept_of frames ≢ [] → (before : List Handed)
-      → HoldsFrames old.opening before (reads old.disk) → LeavesOnly moment left_since old.disk new.disk
+      → HoldsFrames old.opening before (shows old.disk).reads → LeavesOnly (shows old.disk) (shows new.disk)
       (LeavesFirst old.journal.limit old.opening before (kept_of frames))
 
 -- What a fault says of the journal before a record of so many bytes, and what it leaves: Closed and Full
@@ -64,15 +65,15 @@ IsCause (Foreign n) bytes old new = ⊥
 
 -- From old to new a server was handed this frame, which wasn't kept for this fault, and took no step. A
 -- crash at any moment on the way leaves the frames from before, with it or without.
-pub record Refuses {D : Type 0} (reads : D → List ℕ → Type 0) (moment : D → ℕ)
-    (left_since : D → ℕ → List ℕ → Type 0) (old new : KeptState D) (h : Handed) (fault : KeepFault)
+pub record Refuses {D : Type 0} (shows : D
+    → DiskSeen) (old new : KeptState D) (h : Handed) (fault : KeepFault)
     : Type 0 where
   pub whole : IsOneFrame h.frame
   pub cause : IsCause fault (length h.frame + 1) old new
   pub opening : new.opening ≡ old.opening
   pub no_step : new.core ≡ old.core
   pub any_moment : old.journal.closed ≡ false → (before : List Handed)
-      → HoldsFrames old.opening before (reads old.disk) → LeavesOnly moment left_since old.disk new.disk
+      → HoldsFrames old.opening before (shows old.disk).reads → LeavesOnly (shows old.disk) (shows new.disk)
       (LeavesFrames old.journal.limit old.opening before h)
 
 -- what a crash may leave of a frame that wasn't kept: the frame itself, where a call on the disk failed
@@ -88,13 +89,12 @@ begun (Foreign n) h = []
 -- From old to new a server was handed these frames and took their steps, and then this one, which wasn't
 -- kept. A crash at any moment on the way leaves the first of all these, the last among them where a call on
 -- the disk failed.
-pub record KeepsUpTo {D : Type 0} (reads may_leave : D → List ℕ → Type 0) (moment : D → ℕ)
-    (left_since : D → ℕ → List ℕ → Type 0) (old new : KeptState D) (frames : List Handed) (refused : Handed)
-    (fault : KeepFault) : Type 0 where
+pub record KeepsUpTo {D : Type 0} (shows : D → DiskSeen) (old new : KeptState D) (frames : List Handed)
+    (refused : Handed) (fault : KeepFault) : Type 0 where
   pub between : KeptState D
-  pub keeps : Keeps reads may_leave moment left_since old between frames
-  pub refuses : Refuses reads moment left_since between new refused fault
+  pub keeps : Keeps shows old between frames
+  pub refuses : Refuses shows between new refused fault
   pub quiet : kept_of frames ++ begun fault refused ≡ [] → new ≡ old
   pub any_moment : kept_of frames ++ begun fault refused ≢ [] → (before : List Handed)
-      → HoldsFrames old.opening before (reads old.disk) → LeavesOnly moment left_since old.disk new.disk
+      → HoldsFrames old.opening before (shows old.disk).reads → LeavesOnly (shows old.disk) (shows new.disk)
       (LeavesFirst old.journal.limit old.opening before (kept_of frames ++ begun fault refused))

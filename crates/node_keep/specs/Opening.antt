@@ -1,7 +1,7 @@
 -- How a server is opened, from its settings or from its journal.
 use Rattle.std.specs.Prelude.{◌≡◌, ◌≢◌, ℕ, ◌≤◌, nat_eq, cond, true, false, List, [], ◌++◌, codes}
 use Rattle.express_words.specs.declared.settings.Settings.{Settings}
-use Rattle.node_journal.specs.Disk.{Within, IsUntouched}
+use Rattle.node_journal.specs.Disk.{DiskSeen, Within, IsUntouched}
 use Rattle.node_journal.specs.Records.{content, IsUndamaged}
 use Rattle.node_journal.specs.declared.fault.JournalFault.TheVariants.{Closed, NotEmpty, Full, Disk, Damaged}
 use Rattle.node_restart.specs.declared.opening.Opening.{Opening}
@@ -54,30 +54,30 @@ DiffersAt key.Window a b =
 -- ---- a server that was opened
 
 -- on a disk with no byte: a server before its first frame
-pub record IsCreated {D : Type 0} (reads may_leave : D → List ℕ → Type 0) (limit : ℕ) (o : Opening) (disk : D)
-    (k : KeptState D) : Type 0 where
-  pub empty : (c : List ℕ) → reads disk c → c ≡ []
+pub record IsCreated {D : Type 0} (shows : D → DiskSeen) (limit : ℕ) (o : Opening)
+    (disk : D) (k : KeptState D) : Type 0 where
+  pub empty : (c : List ℕ) → (shows disk).reads c → c ≡ []
   pub opening : k.opening ≡ o
   pub core : k.core ≡ fold o []
   pub journal : k.journal ≡ record { end = 50; limit = limit; ready = true; closed = false }
-  pub held : HoldsFrames o [] (reads k.disk)
-  pub undamaged : (c : List ℕ) → reads k.disk c → IsUndamaged limit 0 c
-  pub durable : Within (may_leave k.disk) (reads k.disk)
+  pub held : HoldsFrames o [] (shows k.disk).reads
+  pub undamaged : (c : List ℕ) → (shows k.disk).reads c → IsUndamaged limit 0 c
+  pub durable : Within (shows k.disk).may_leave (shows k.disk).reads
 
 -- on a disk with a journal, of a server with the same role and settings: the fold of what stands there
-pub record IsReopened {D : Type 0} (reads may_leave : D → List ℕ → Type 0) (limit : ℕ) (o : Opening)
+pub record IsReopened {D : Type 0} (shows : D → DiskSeen) (limit : ℕ) (o : Opening)
     (disk : D) (k : KeptState D) : Type 0 where
-  pub some : (c : List ℕ) → reads disk c → c ≢ []
+  pub some : (c : List ℕ) → (shows disk).reads c → c ≢ []
   pub is_opening : IsOpening k.opening
   pub same : IsSame k.opening o
-  pub stands : Stands k.opening k.core (reads disk)
-  pub told : (p : Opening) (frames : List Handed) (c : List ℕ) → reads disk c → IsOpening p
-      → HoldsFrames p frames (reads disk) → (k.opening ≡ p) × (k.core ≡ fold p frames)
+  pub stands : Stands k.opening k.core (shows disk).reads
+  pub told : (p : Opening) (frames : List Handed) (c : List ℕ) → (shows disk).reads c → IsOpening p
+      → HoldsFrames p frames (shows disk).reads → (k.opening ≡ p) × (k.core ≡ fold p frames)
   pub same_limit : k.journal.limit ≡ limit
   pub unclosed : k.journal.closed ≡ false
-  pub undamaged : (c : List ℕ) → reads k.disk c → IsUndamaged limit 0 c
-  pub durable : Within (may_leave k.disk) (reads k.disk)
-  pub untouched : IsUntouched (reads disk) (reads k.disk) (may_leave disk) (may_leave k.disk)
+  pub undamaged : (c : List ℕ) → (shows k.disk).reads c → IsUndamaged limit 0 c
+  pub durable : Within (shows k.disk).may_leave (shows k.disk).reads
+  pub untouched : IsUntouched (shows disk) (shows k.disk)
 
 -- ---- a server that wasn't
 
@@ -113,20 +113,15 @@ IsCauseOf (opens.Keep NoMemory) limit o reads = Unit {0}
 IsCauseOf (opens.Differs key) limit o reads = ((c : List ℕ) → reads c → c ≢ []) × StandsOther key o reads
 
 -- but where a call on the disk failed, it is as it was
-abbrev pub LeavesDisk : {D : Type 0} → OpenFault → (reads may_leave : D → List ℕ → Type 0) →
-    (old new : D) → Type 0
-LeavesDisk (opens.Keep (Journal (Disk faults))) reads may_leave old new = Unit {0}
-LeavesDisk (opens.Keep (Journal Closed)) reads may_leave old new = Unit {0}
-LeavesDisk (opens.Keep (Journal NotEmpty)) reads may_leave old new = Unit {0}
-LeavesDisk (opens.Keep (Journal (Full end))) reads may_leave old new = Unit {0}
-LeavesDisk (opens.Keep (Journal (Damaged at))) reads may_leave old new =
-    IsUntouched (reads old) (reads new) (may_leave old) (may_leave new)
-LeavesDisk (opens.Keep (Foreign n)) reads may_leave old new =
-    IsUntouched (reads old) (reads new) (may_leave old) (may_leave new)
-LeavesDisk (opens.Keep NoMemory) reads may_leave old new =
-    IsUntouched (reads old) (reads new) (may_leave old) (may_leave new)
-LeavesDisk (opens.Differs key) reads may_leave old new =
-    IsUntouched (reads old) (reads new) (may_leave old) (may_leave new)
+abbrev pub LeavesDisk : {D : Type 0} → OpenFault → (D → DiskSeen) → (old new : D) → Type 0
+LeavesDisk (opens.Keep (Journal (Disk faults))) shows old new = Unit {0}
+LeavesDisk (opens.Keep (Journal Closed)) shows old new = Unit {0}
+LeavesDisk (opens.Keep (Journal NotEmpty)) shows old new = Unit {0}
+LeavesDisk (opens.Keep (Journal (Full end))) shows old new = Unit {0}
+LeavesDisk (opens.Keep (Journal (Damaged at))) shows old new = IsUntouched (shows old) (shows new)
+LeavesDisk (opens.Keep (Foreign n)) shows old new = IsUntouched (shows old) (shows new)
+LeavesDisk (opens.Keep NoMemory) shows old new = IsUntouched (shows old) (shows new)
+LeavesDisk (opens.Differs key) shows old new = IsUntouched (shows old) (shows new)
 
 abbrev pub CountsOpen : (before now : ℕ) → OpenFault → Type 0
 CountsOpen before now (opens.Keep fault) = CountsFault before now fault

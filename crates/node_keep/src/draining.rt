@@ -1,6 +1,7 @@
 //! The leader exchanges its outstanding commands with the helper, and each answer is kept before its step.
 ghost use Rattle.std.specs.Prelude.{◌≡◌, ◌<◌, ◌≤◌, List, ℕ, length, take, option_map, Some, IfOk, IfErr};
 ghost use Rattle.frame_rules.specs.Spelling.{spelling};
+ghost use Rattle.frame_rules.specs.Room.{HasRoom};
 ghost use Rattle.node_serve.specs.Exchanging.{EarlyAtEnd};
 ghost use Rattle.node_restart.specs.Frames.{Handed};
 ghost use Rattle.node_restart.specs.Steps.{resent_by};
@@ -27,26 +28,26 @@ fn exchange_one<N: Net, D: Disk>(
     size: usize,
     answer: &mut [u8],
 ) -> Result<usize, Broke>
-    requires room { 8213 ≤ length out.old }
-    requires answer_room { 8213 ≤ length answer.old }
+    requires room { HasRoom out.old }
+    requires answer_room { HasRoom answer.old }
     requires within { size ≤ length out.old }
     requires lead { IsLead kept.old.core }
     ensures replied { IfOk result (λ n. (frames : List Handed) × Replies peer.now kept.old.core kept.new.core
-        (take size out.old) (take n out.new) frames (N.calls net.old) (N.calls net.new)
-        × Keeps D.reads D.may_leave D.moment D.left_since kept.old kept.new frames) }
+        (take size out.old) (take n out.new) frames (N.seen net.old).calls (N.seen net.new).calls
+        × Keeps D.disk kept.old kept.new frames) }
     ensures within { IfOk result (λ n. n ≤ length out.new) }
     ensures nearer { IfOk result (λ n. rounds_of kept.new.core < rounds_of kept.old.core) }
     ensures failed { IfErr result (λ why. OnLink why (λ link. (frames : List Handed) × Fails peer.now
-        kept.old.core kept.new.core (take size out.old) frames (N.calls net.old) (N.calls net.new) link
-        × Keeps D.reads D.may_leave D.moment D.left_since kept.old kept.new frames)) }
+        kept.old.core kept.new.core (take size out.old) frames (N.seen net.old).calls (N.seen net.new).calls link
+        × Keeps D.disk kept.old kept.new frames)) }
     ensures unkept { IfErr result (λ why. OnKeep why (λ fault. (refused : Handed) × Unkept peer.now
-        kept.old.core kept.new.core (take size out.old) refused (N.calls net.old) (N.calls net.new)
-        × Refuses D.reads D.moment D.left_since kept.old kept.new refused fault)) }
+        kept.old.core kept.new.core (take size out.old) refused (N.seen net.old).calls (N.seen net.new).calls
+        × Refuses D.disk kept.old kept.new refused fault)) }
     ensures early { IfErr result (λ why. OnLink why (λ link. link ≡ Served.LinkBad
-        → EarlyAtEnd (N.calls net.new) N.Conn.content N.Conn.written N.Conn.count)) }
-    ensures fault { NetFault result (N.count net.old) (N.count net.new) }
-    ensures counts { DiskFault result (D.Counted.count kept.old.disk) (D.Counted.count kept.new.disk) }
-    ensures door { N.doors net.new ≡ N.doors net.old }
+        → EarlyAtEnd (N.seen net.new).calls N.Conn.seen)) }
+    ensures fault { NetFault result (N.seen net.old).faults (N.seen net.new).faults }
+    ensures counts { DiskFault result (D.Counted.seen kept.old.disk).faults (D.Counted.seen kept.new.disk).faults }
+    ensures door { (N.seen net.new).doors ≡ (N.seen net.old).doors }
 {
     let count = match exchange(net, peer, &out[..size], answer) {
         Ok(count) => count,
@@ -77,26 +78,27 @@ pub(crate) fn drain<N: Net, D: Disk>(
     told: usize,
     answer: &mut [u8],
 ) -> Result<usize, Broke>
-    requires room { 8213 ≤ length out.old }
-    requires answer_room { 8213 ≤ length answer.old }
+    requires room { HasRoom out.old }
+    requires answer_room { HasRoom answer.old }
     requires within { told ≤ length out.old }
     requires lead { IsLead kept.old.core }
     ensures drained { IfOk result (λ n. (frames : List Handed) × Drains peer.now kept.old.core
-        (take told out.old) kept.new.core frames (take n out.new) (N.calls net.old) (N.calls net.new)
-        × Keeps D.reads D.may_leave D.moment D.left_since kept.old kept.new frames) }
+        (take told out.old) kept.new.core frames (take n out.new) (N.seen net.old).calls (N.seen net.new).calls
+        × Keeps D.disk kept.old kept.new frames) }
     ensures within { IfOk result (λ n. n ≤ length out.new) }
     ensures broken { IfErr result (λ why. OnLink why (λ link. (frames : List Handed) × DrainBreaks peer.now
-        kept.old.core (take told out.old) kept.new.core frames (N.calls net.old) (N.calls net.new) link
-        × Keeps D.reads D.may_leave D.moment D.left_since kept.old kept.new frames)) }
+        kept.old.core (take told out.old) kept.new.core frames (N.seen net.old).calls (N.seen net.new).calls link
+        × Keeps D.disk kept.old kept.new frames)) }
     ensures stopped { IfErr result (λ why. OnKeep why (λ fault. (frames : List Handed) × ((refused : Handed)
-        × DrainStops peer.now kept.old.core (take told out.old) kept.new.core frames refused (N.calls net.old)
-        (N.calls net.new) × KeepsUpTo D.reads D.may_leave D.moment D.left_since kept.old kept.new frames
+        × DrainStops peer.now kept.old.core (take told out.old) kept.new.core frames refused
+        (N.seen net.old).calls
+        (N.seen net.new).calls × KeepsUpTo D.disk kept.old kept.new frames
         refused fault))) }
     ensures early { IfErr result (λ why. OnLink why (λ link. link ≡ Served.LinkBad
-        → EarlyAtEnd (N.calls net.new) N.Conn.content N.Conn.written N.Conn.count)) }
-    ensures fault { NetFault result (N.count net.old) (N.count net.new) }
-    ensures counts { DiskFault result (D.Counted.count kept.old.disk) (D.Counted.count kept.new.disk) }
-    ensures door { N.doors net.new ≡ N.doors net.old }
+        → EarlyAtEnd (N.seen net.new).calls N.Conn.seen)) }
+    ensures fault { NetFault result (N.seen net.old).faults (N.seen net.new).faults }
+    ensures counts { DiskFault result (D.Counted.seen kept.old.disk).faults (D.Counted.seen kept.new.disk).faults }
+    ensures door { (N.seen net.new).doors ≡ (N.seen net.old).doors }
 {
     let mut reply = told;
     'draining: while let Some((_, size)) = kept.resend(out) {

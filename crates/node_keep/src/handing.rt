@@ -1,5 +1,6 @@
 //! One frame is handed to a server whose frames are kept.
 ghost use Rattle.std.specs.Prelude.{◌≡◌, ◌≤◌, ◌∷◌, [], length, IfOk, IfErr, OnOk, OnErr};
+ghost use Rattle.frame_rules.specs.Room.{HasRoom};
 ghost use Rattle.node_restart.specs.Faults.{Counts};
 ghost use Rattle.node_restart.specs.Frames.{handed};
 ghost use Rattle.node_restart.specs.Steps.{step_of, Takes};
@@ -50,14 +51,14 @@ pub(crate) fn hand<D: Disk>(
     frame: &[u8],
     out: &mut [u8],
 ) -> Result<Did, KeepFault>
-    requires room { 8213 ≤ length out.old }
+    requires room { HasRoom out.old }
     ensures step { IfOk result (λ did. Takes (step_of kept.old.core sender frame.now) kept.new.core did
         out.old out.new) }
-    ensures keeps { OnOk result (Keeps D.reads D.may_leave D.moment D.left_since kept.old kept.new
+    ensures keeps { OnOk result (Keeps D.disk kept.old kept.new
         (handed sender frame.now ∷ [])) }
-    ensures refuses { IfErr result (Refuses D.reads D.moment D.left_since kept.old kept.new
+    ensures refuses { IfErr result (Refuses D.disk kept.old kept.new
         (handed sender frame.now)) }
-    ensures counts { Counts (D.Counted.count kept.old.disk) (D.Counted.count kept.new.disk) result }
+    ensures counts { Counts (D.Counted.seen kept.old.disk).faults (D.Counted.seen kept.new.disk).faults result }
 {
     match sender {
         Sender::Client => kept.on_client(frame, out),

@@ -1,5 +1,6 @@
 //! The helper takes its step.
 ghost use Rattle.std.specs.Prelude.{◌≡◌, ◌≤◌, List, [], ◌∷◌, length, take, IfOk, IfErr, OnOk};
+ghost use Rattle.frame_rules.specs.Room.{HasRoom};
 ghost use Rattle.step_rules.specs.Helper.{Helper as HelperState};
 ghost use Rattle.node_restart.specs.declared.server.Core.{Core};
 ghost use Rattle.node_restart.specs.Faults.{Counts};
@@ -31,15 +32,15 @@ pub(crate) fn step_helper<D: Disk>(
     frame: &[u8],
     out: &mut [u8],
 ) -> Result<usize, KeepFault>
-    requires room { 8213 ≤ length out.old }
+    requires room { HasRoom out.old }
     requires help { IsHelp kept.old.core }
     ensures helps { IfOk result (λ n. Helps kept.old.core frame.now kept.new.core (take n out.new)) }
     ensures within { IfOk result (λ n. n ≤ length out.new) }
-    ensures keeps { OnOk result (Keeps D.reads D.may_leave D.moment D.left_since kept.old kept.new
+    ensures keeps { OnOk result (Keeps D.disk kept.old kept.new
         (handed (sender_at_helper frame.now) frame.now ∷ [])) }
-    ensures refuses { IfErr result (Refuses D.reads D.moment D.left_since kept.old kept.new
+    ensures refuses { IfErr result (Refuses D.disk kept.old kept.new
         (handed (sender_at_helper frame.now) frame.now)) }
-    ensures counts { Counts (D.Counted.count kept.old.disk) (D.Counted.count kept.new.disk) result }
+    ensures counts { Counts (D.Counted.seen kept.old.disk).faults (D.Counted.seen kept.new.disk).faults result }
 {
     match hand(kept, sender_of(frame), frame, out) {
         Ok(did) => Ok(told(did)),

@@ -26,30 +26,26 @@ pub fn host_kept<N: Net, D: Disk>(
     net: &mut N,
 ) -> Result<Tally, Stop>
     ensures served { IfOk result (λ tally. (visits : List Visit)
-        × ServesAll D.reads D.may_leave D.moment D.left_since peer.now connections tally visits
-        (standing kept.old (N.count net.old)) (standing kept.new (N.count net.new))
-        (N.calls net.old) (N.calls net.new)
-        × All (λ v. (conn : N.Conn) × IsOf (N.calls net.new) v (N.Conn.content conn) (N.Conn.written conn)
-        (N.Conn.count conn)) visits) }
+        × ServesAll D.disk peer.now connections tally visits
+        (standing kept.old (N.seen net.old).faults) (standing kept.new (N.seen net.new).faults)
+        (N.seen net.old).calls (N.seen net.new).calls
+        × All (λ v. (conn : N.Conn) × IsOf (N.seen net.new).calls v (N.Conn.seen conn)) visits) }
     ensures door_failed { IfErr result (λ stop. OnDoor stop.halt ((visits : List Visit)
-        × DoorFails D.reads D.may_leave D.moment D.left_since peer.now connections stop.tally visits
-        (standing kept.old (N.count net.old)) (standing kept.new (N.count net.new))
-        (N.calls net.old) (N.calls net.new)
-        × All (λ v. (conn : N.Conn) × IsOf (N.calls net.new) v (N.Conn.content conn) (N.Conn.written conn)
-        (N.Conn.count conn)) visits)) }
+        × DoorFails D.disk peer.now connections stop.tally visits
+        (standing kept.old (N.seen net.old).faults) (standing kept.new (N.seen net.new).faults)
+        (N.seen net.old).calls (N.seen net.new).calls
+        × All (λ v. (conn : N.Conn) × IsOf (N.seen net.new).calls v (N.Conn.seen conn)) visits)) }
     ensures keep_failed { IfErr result (λ stop. OnFault stop.halt (λ fault. (visits : List Visit)
-        × ((last : Broken) × KeepFails D.reads D.may_leave D.moment D.left_since peer.now connections
-        stop.tally fault visits last (standing kept.old (N.count net.old))
-        (standing kept.new (N.count net.new))
-        (N.calls net.old) (N.calls net.new)
-        × All (λ v. (conn : N.Conn) × IsOf (N.calls net.new) v (N.Conn.content conn) (N.Conn.written conn)
-        (N.Conn.count conn)) visits
-        × ((conn : N.Conn) × IsOfBroken (N.calls net.new) last (N.Conn.content conn) (N.Conn.written conn)
-        (N.Conn.count conn))))) }
+        × ((last : Broken) × KeepFails D.disk peer.now connections
+        stop.tally fault visits last (standing kept.old (N.seen net.old).faults)
+        (standing kept.new (N.seen net.new).faults)
+        (N.seen net.old).calls (N.seen net.new).calls
+        × All (λ v. (conn : N.Conn) × IsOf (N.seen net.new).calls v (N.Conn.seen conn)) visits
+        × ((conn : N.Conn) × IsOfBroken (N.seen net.new).calls last (N.Conn.seen conn))))) }
     ensures sum { IfOk result (λ tally. total tally ≡ connections) }
-    ensures door { DoorBy (halt_in result) (N.doors net.old) (N.doors net.new) }
-    ensures later { N.count net.old ≤ N.count net.new }
-    ensures counts { DiskBy (halt_in result) (D.Counted.count kept.old.disk) (D.Counted.count kept.new.disk) }
+    ensures door { DoorBy (halt_in result) (N.seen net.old).doors (N.seen net.new).doors }
+    ensures later { (N.seen net.old).faults ≤ (N.seen net.new).faults }
+    ensures counts { DiskBy (halt_in result) (D.Counted.seen kept.old.disk).faults (D.Counted.seen kept.new.disk).faults }
 {
     let mut tally = Tally::new();
     for _ in 0..connections {

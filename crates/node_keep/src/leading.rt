@@ -1,5 +1,6 @@
 //! The leader takes its step, between two drains.
 ghost use Rattle.std.specs.Prelude.{◌≡◌, ◌≤◌, List, ℕ, [], ◌∷◌, length, take, IfOk, IfErr, OnOk};
+ghost use Rattle.frame_rules.specs.Room.{HasRoom};
 ghost use Rattle.node_serve.specs.Exchanging.{EarlyAtEnd};
 ghost use Rattle.node_restart.specs.Faults.{Counts};
 ghost use Rattle.node_restart.specs.Frames.{Handed, handed};
@@ -25,15 +26,15 @@ pub(crate) fn step_leader<D: Disk>(
     frame: &[u8],
     out: &mut [u8],
 ) -> Result<usize, KeepFault>
-    requires room { 8213 ≤ length out.old }
+    requires room { HasRoom out.old }
     requires lead { IsLead kept.old.core }
     ensures steps { IfOk result (λ n. Steps kept.old.core frame.now kept.new.core (take n out.new)) }
     ensures within { IfOk result (λ n. n ≤ length out.new) }
-    ensures keeps { OnOk result (Keeps D.reads D.may_leave D.moment D.left_since kept.old kept.new
+    ensures keeps { OnOk result (Keeps D.disk kept.old kept.new
         (handed Client frame.now ∷ [])) }
-    ensures refuses { IfErr result (Refuses D.reads D.moment D.left_since kept.old kept.new
+    ensures refuses { IfErr result (Refuses D.disk kept.old kept.new
         (handed Client frame.now)) }
-    ensures counts { Counts (D.Counted.count kept.old.disk) (D.Counted.count kept.new.disk) result }
+    ensures counts { Counts (D.Counted.seen kept.old.disk).faults (D.Counted.seen kept.new.disk).faults result }
 {
     match hand(kept, Sender::Client, frame, out) {
         Ok(did) => Ok(told(did)),
@@ -50,24 +51,24 @@ pub(crate) fn handle<N: Net, D: Disk>(
     net: &mut N,
     out: &mut [u8],
 ) -> Result<usize, Broke>
-    requires room { 8213 ≤ length out.old }
+    requires room { HasRoom out.old }
     requires lead { IsLead kept.old.core }
     ensures handled { IfOk result (λ n. (frames : List Handed) × HandlesAll peer.now kept.old.core frame.now
-        kept.new.core frames (take n out.new) (N.calls net.old) (N.calls net.new)
-        × Keeps D.reads D.may_leave D.moment D.left_since kept.old kept.new frames) }
+        kept.new.core frames (take n out.new) (N.seen net.old).calls (N.seen net.new).calls
+        × Keeps D.disk kept.old kept.new frames) }
     ensures within { IfOk result (λ n. n ≤ length out.new) }
     ensures broken { IfErr result (λ why. OnLink why (λ link. (frames : List Handed) × HandleBreaks peer.now
-        kept.old.core frame.now kept.new.core frames (N.calls net.old) (N.calls net.new) link
-        × Keeps D.reads D.may_leave D.moment D.left_since kept.old kept.new frames)) }
+        kept.old.core frame.now kept.new.core frames (N.seen net.old).calls (N.seen net.new).calls link
+        × Keeps D.disk kept.old kept.new frames)) }
     ensures stopped { IfErr result (λ why. OnKeep why (λ fault. (frames : List Handed) × ((refused : Handed)
-        × HandleStops peer.now kept.old.core frame.now kept.new.core frames refused (N.calls net.old)
-        (N.calls net.new) × KeepsUpTo D.reads D.may_leave D.moment D.left_since kept.old kept.new frames
+        × HandleStops peer.now kept.old.core frame.now kept.new.core frames refused (N.seen net.old).calls
+        (N.seen net.new).calls × KeepsUpTo D.disk kept.old kept.new frames
         refused fault))) }
     ensures early { IfErr result (λ why. OnLink why (λ link. link ≡ Served.LinkBad
-        → EarlyAtEnd (N.calls net.new) N.Conn.content N.Conn.written N.Conn.count)) }
-    ensures fault { NetFault result (N.count net.old) (N.count net.new) }
-    ensures counts { DiskFault result (D.Counted.count kept.old.disk) (D.Counted.count kept.new.disk) }
-    ensures door { N.doors net.new ≡ N.doors net.old }
+        → EarlyAtEnd (N.seen net.new).calls N.Conn.seen)) }
+    ensures fault { NetFault result (N.seen net.old).faults (N.seen net.new).faults }
+    ensures counts { DiskFault result (D.Counted.seen kept.old.disk).faults (D.Counted.seen kept.new.disk).faults }
+    ensures door { (N.seen net.new).doors ≡ (N.seen net.old).doors }
 {
     let mut answer = [0u8; FRAME_MAX];
     match drain(kept, peer, net, out, 0, &mut answer) {

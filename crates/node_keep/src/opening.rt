@@ -34,14 +34,13 @@ fn opening_of(settings: &ServeSettings, seed: &[u8; 32]) -> Opening
 
 /// The server of the journal on a disk, if it was opened with the same role and settings.
 fn open_again<D: Disk>(alloc: Global, opening: &Opening, disk: D) -> Result<Kept<D>, (OpenFault, D)>
-    requires some { (c : List ℕ) → D.reads disk c → c ≢ [] }
-    ensures reopened { IfOk result (IsReopened D.reads D.may_leave JOURNAL_LIMIT opening.now disk) }
+    requires some { (c : List ℕ) → (D.disk disk).reads c → c ≢ [] }
+    ensures reopened { IfOk result (IsReopened D.disk JOURNAL_LIMIT opening.now disk) }
     ensures cause { IfErr result (λ x. IsOfOpening x.0) }
-    ensures why { IfErr result (λ x. IsCauseOf x.0 JOURNAL_LIMIT opening.now (D.reads disk)) }
-    ensures leaves { IfErr result (λ x. IsUntouched (D.reads disk) (D.reads x.1) (D.may_leave disk)
-        (D.may_leave x.1)) }
-    ensures counts_ok { IfOk result (λ k. D.Counted.count k.disk ≡ D.Counted.count disk) }
-    ensures counts { IfErr result (λ x. CountsOpen (D.Counted.count disk) (D.Counted.count x.1) x.0) }
+    ensures why { IfErr result (λ x. IsCauseOf x.0 JOURNAL_LIMIT opening.now (D.disk disk).reads) }
+    ensures leaves { IfErr result (λ x. IsUntouched (D.disk disk) (D.disk x.1)) }
+    ensures counts_ok { IfOk result (λ k. (D.Counted.seen k.disk).faults ≡ (D.Counted.seen disk).faults) }
+    ensures counts { IfErr result (λ x. CountsOpen (D.Counted.seen disk).faults (D.Counted.seen x.1).faults x.0) }
 {
     let kept = match Kept::reopen(alloc, disk, JOURNAL_LIMIT) {
         Ok(kept) => kept,
@@ -67,16 +66,16 @@ pub fn open_kept<D: Disk>(
         settings.now.settings.lanes settings.now.settings.window }
     // A disk with no byte gives a new server, and another one its journal's.
     ensures opened { IfOk result (λ k.
-        IsCreated D.reads D.may_leave JOURNAL_LIMIT (opening_of settings.now seed.now) disk k
-        ⊎ IsReopened D.reads D.may_leave JOURNAL_LIMIT (opening_of settings.now seed.now) disk k) }
+        IsCreated D.disk JOURNAL_LIMIT (opening_of settings.now seed.now) disk k
+        ⊎ IsReopened D.disk JOURNAL_LIMIT (opening_of settings.now seed.now) disk k) }
 
     ensures cause { IfErr result (λ x. IsOfOpening x.0) }
     ensures why { IfErr result (λ x. IsCauseOf x.0 JOURNAL_LIMIT (opening_of settings.now seed.now)
-        (D.reads disk)) }
-    ensures leaves { IfErr result (λ x. LeavesDisk x.0 D.reads D.may_leave disk x.1) }
+        (D.disk disk).reads) }
+    ensures leaves { IfErr result (λ x. LeavesDisk x.0 D.disk disk x.1) }
     // The disk's count rose exactly where its fault is told.
-    ensures counts_ok { IfOk result (λ k. D.Counted.count k.disk ≡ D.Counted.count disk) }
-    ensures counts { IfErr result (λ x. CountsOpen (D.Counted.count disk) (D.Counted.count x.1) x.0) }
+    ensures counts_ok { IfOk result (λ k. (D.Counted.seen k.disk).faults ≡ (D.Counted.seen disk).faults) }
+    ensures counts { IfErr result (λ x. CountsOpen (D.Counted.seen disk).faults (D.Counted.seen x.1).faults x.0) }
 {
     let opening = opening_of(settings, seed);
     match Kept::create(alloc, &opening, disk, JOURNAL_LIMIT) {

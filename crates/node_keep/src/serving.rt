@@ -34,16 +34,16 @@ fn serve_helper<C: Conn, D: Disk>(
     ensures serves { (peer : List ℕ) (calls : Option (List Call)) (count : ℕ) → IfOk result (λ why.
         (reply : List ℕ) × ((frames : List Handed)
         × Serves peer kept.old.core frame.now kept.new.core frames calls calls count why reply
-        × WritesReply why (C.written conn.old) (C.written conn.new) (C.count conn.old) (C.count conn.new) reply
-        × Keeps D.reads D.may_leave D.moment D.left_since kept.old kept.new frames)) }
+        × WritesReply why (C.seen conn.old) (C.seen conn.new) reply
+        × Keeps D.disk kept.old kept.new frames)) }
     ensures stops { (peer : List ℕ) (calls : Option (List Call)) → IfErr result (λ fault.
         (frames : List Handed) × ((refused : Handed)
         × Stops peer kept.old.core frame.now kept.new.core frames refused calls calls
-        × KeepsUpTo D.reads D.may_leave D.moment D.left_since kept.old kept.new frames refused fault)) }
+        × KeepsUpTo D.disk kept.old kept.new frames refused fault)) }
     ensures sent { IfOk result IsSent }
     ensures untouched { OnErr result (conn.new ≡ conn.old) }
-    ensures content { C.content conn.new ≡ C.content conn.old }
-    ensures counts { Counts (D.Counted.count kept.old.disk) (D.Counted.count kept.new.disk) result }
+    ensures content { (C.seen conn.new).content ≡ (C.seen conn.old).content }
+    ensures counts { Counts (D.Counted.seen kept.old.disk).faults (D.Counted.seen kept.new.disk).faults result }
 {
     let mut out = [0u8; FRAME_MAX];
     match step_helper(kept, frame, &mut out) {
@@ -63,16 +63,16 @@ fn refuse<C: Conn, D: Disk>(
     ensures serves { (peer : List ℕ) (calls : Option (List Call)) (count : ℕ) → IfOk result (λ why.
         (reply : List ℕ) × ((frames : List Handed)
         × Serves peer kept.old.core frame.now kept.new.core frames calls calls count why reply
-        × WritesReply why (C.written conn.old) (C.written conn.new) (C.count conn.old) (C.count conn.new) reply
-        × Keeps D.reads D.may_leave D.moment D.left_since kept.old kept.new frames)) }
+        × WritesReply why (C.seen conn.old) (C.seen conn.new) reply
+        × Keeps D.disk kept.old kept.new frames)) }
     ensures stops { (peer : List ℕ) (calls : Option (List Call)) → IfErr result (λ fault.
         (frames : List Handed) × ((refused : Handed)
         × Stops peer kept.old.core frame.now kept.new.core frames refused calls calls
-        × KeepsUpTo D.reads D.may_leave D.moment D.left_since kept.old kept.new frames refused fault)) }
+        × KeepsUpTo D.disk kept.old kept.new frames refused fault)) }
     ensures sent { IfOk result IsSent }
     ensures untouched { OnErr result (conn.new ≡ conn.old) }
-    ensures content { C.content conn.new ≡ C.content conn.old }
-    ensures counts { Counts (D.Counted.count kept.old.disk) (D.Counted.count kept.new.disk) result }
+    ensures content { (C.seen conn.new).content ≡ (C.seen conn.old).content }
+    ensures counts { Counts (D.Counted.seen kept.old.disk).faults (D.Counted.seen kept.new.disk).faults result }
 {
     let mut out = [0u8; FRAME_MAX];
     match step_leader(kept, frame, &mut out) {
@@ -90,22 +90,23 @@ fn serve_leader<C: Conn, N: Net, D: Disk>(
 ) -> Result<Served, KeepFault>
     requires lead { IsLead kept.old.core }
     ensures serves { IfOk result (λ why. (reply : List ℕ) × ((frames : List Handed)
-        × Serves peer.now kept.old.core frame.now kept.new.core frames (N.calls net.old) (N.calls net.new)
-        (N.count net.new) why reply
-        × WritesReply why (C.written conn.old) (C.written conn.new) (C.count conn.old) (C.count conn.new) reply
-        × Keeps D.reads D.may_leave D.moment D.left_since kept.old kept.new frames)) }
+        × Serves peer.now kept.old.core frame.now kept.new.core frames (N.seen net.old).calls
+        (N.seen net.new).calls
+        (N.seen net.new).faults why reply
+        × WritesReply why (C.seen conn.old) (C.seen conn.new) reply
+        × Keeps D.disk kept.old kept.new frames)) }
     ensures stops { IfErr result (λ fault. (frames : List Handed) × ((refused : Handed)
-        × Stops peer.now kept.old.core frame.now kept.new.core frames refused (N.calls net.old)
-        (N.calls net.new)
-        × KeepsUpTo D.reads D.may_leave D.moment D.left_since kept.old kept.new frames refused fault)) }
+        × Stops peer.now kept.old.core frame.now kept.new.core frames refused (N.seen net.old).calls
+        (N.seen net.new).calls
+        × KeepsUpTo D.disk kept.old kept.new frames refused fault)) }
     ensures early { IfOk result (λ why. why ≡ Served.LinkBad
-        → EarlyAtEnd (N.calls net.new) N.Conn.content N.Conn.written N.Conn.count) }
-    ensures fault { IfOk result (λ why. FaultIn why (N.count net.old) (N.count net.new)) }
-    ensures unfailed { OnErr result (N.count net.new ≡ N.count net.old) }
-    ensures door { N.doors net.new ≡ N.doors net.old }
+        → EarlyAtEnd (N.seen net.new).calls N.Conn.seen) }
+    ensures fault { IfOk result (λ why. FaultIn why (N.seen net.old).faults (N.seen net.new).faults) }
+    ensures unfailed { OnErr result ((N.seen net.new).faults ≡ (N.seen net.old).faults) }
+    ensures door { (N.seen net.new).doors ≡ (N.seen net.old).doors }
     ensures untouched { OnErr result (conn.new ≡ conn.old) }
-    ensures content { C.content conn.new ≡ C.content conn.old }
-    ensures counts { Counts (D.Counted.count kept.old.disk) (D.Counted.count kept.new.disk) result }
+    ensures content { (C.seen conn.new).content ≡ (C.seen conn.old).content }
+    ensures counts { Counts (D.Counted.seen kept.old.disk).faults (D.Counted.seen kept.new.disk).faults result }
 {
     let client = match taken_in(frame) {
         Some(client) => client,
@@ -132,23 +133,24 @@ fn answer<C: Conn, N: Net, D: Disk>(
     net: &mut N,
 ) -> Result<Served, KeepFault>
     ensures serves { IfOk result (λ why. (reply : List ℕ) × ((frames : List Handed)
-        × Serves peer.now kept.old.core frame.now kept.new.core frames (N.calls net.old) (N.calls net.new)
-        (N.count net.new) why reply
-        × WritesReply why (C.written conn.old) (C.written conn.new) (C.count conn.old) (C.count conn.new) reply
-        × Keeps D.reads D.may_leave D.moment D.left_since kept.old kept.new frames)) }
+        × Serves peer.now kept.old.core frame.now kept.new.core frames (N.seen net.old).calls
+        (N.seen net.new).calls
+        (N.seen net.new).faults why reply
+        × WritesReply why (C.seen conn.old) (C.seen conn.new) reply
+        × Keeps D.disk kept.old kept.new frames)) }
     ensures stops { IfErr result (λ fault. (frames : List Handed) × ((refused : Handed)
-        × Stops peer.now kept.old.core frame.now kept.new.core frames refused (N.calls net.old)
-        (N.calls net.new)
-        × KeepsUpTo D.reads D.may_leave D.moment D.left_since kept.old kept.new frames refused fault)) }
+        × Stops peer.now kept.old.core frame.now kept.new.core frames refused (N.seen net.old).calls
+        (N.seen net.new).calls
+        × KeepsUpTo D.disk kept.old kept.new frames refused fault)) }
     ensures early { IfOk result (λ why. why ≡ Served.LinkBad
-        → EarlyAtEnd (N.calls net.new) N.Conn.content N.Conn.written N.Conn.count) }
-    ensures fault { IfOk result (λ why. FaultIn why (N.count net.old) (N.count net.new)) }
-    ensures unfailed { OnErr result (N.count net.new ≡ N.count net.old) }
-    ensures door { N.doors net.new ≡ N.doors net.old }
+        → EarlyAtEnd (N.seen net.new).calls N.Conn.seen) }
+    ensures fault { IfOk result (λ why. FaultIn why (N.seen net.old).faults (N.seen net.new).faults) }
+    ensures unfailed { OnErr result ((N.seen net.new).faults ≡ (N.seen net.old).faults) }
+    ensures door { (N.seen net.new).doors ≡ (N.seen net.old).doors }
     ensures untouched { OnErr result (conn.new ≡ conn.old) }
-    ensures content { C.content conn.new ≡ C.content conn.old }
+    ensures content { (C.seen conn.new).content ≡ (C.seen conn.old).content }
     ensures helper_rests { IsHelp kept.old.core → net.new ≡ net.old }
-    ensures counts { Counts (D.Counted.count kept.old.disk) (D.Counted.count kept.new.disk) result }
+    ensures counts { Counts (D.Counted.seen kept.old.disk).faults (D.Counted.seen kept.new.disk).faults result }
 {
     match kept.opening().role {
         Role::Leader => serve_leader(kept, peer, frame, conn, net),
@@ -170,43 +172,45 @@ pub fn serve_kept<C: Conn, N: Net, D: Disk>(
 ) -> Result<Served, KeepFault>
     // What is handed on is what was taken of the connection, up to the end of a frame or the byte at which
     // it is wrong.
-    ensures brings { Brings (C.content conn.old) (C.content conn.new) gather.new }
+    ensures brings { Brings (C.seen conn.old).content (C.seen conn.new).content gather.new }
 
     // Where it ended or failed before that, nothing moves and nothing is written.
-    ensures cut { decoded gather.new ≡ Err Short → IfOk result (λ why. IsCut why (C.content conn.new)
-        (C.count conn.old) (C.count conn.new)) }
+    ensures cut { decoded gather.new ≡ Err Short → IfOk result (λ why. IsCut why (C.seen conn.new).content
+        (C.seen conn.old).faults (C.seen conn.new).faults) }
     ensures cut_is_ok { decoded gather.new ≡ Err Short → IsOk result }
     ensures stays { decoded gather.new ≡ Err Short → kept.new ≡ kept.old }
     ensures net_rests { decoded gather.new ≡ Err Short → net.new ≡ net.old }
-    ensures writes_nothing { decoded gather.new ≡ Err Short → C.written conn.new ≡ C.written conn.old }
+    ensures writes_nothing { decoded gather.new ≡ Err Short
+        → (C.seen conn.new).written ≡ (C.seen conn.old).written }
 
     // Else the server takes its step, and its reply is written. All frames that it was handed on the way
     // were kept, each before its step.
     ensures serves { decoded gather.new ≢ Err Short → IfOk result (λ why. (reply : List ℕ)
         × ((frames : List Handed)
-        × Serves peer.now kept.old.core gather.new kept.new.core frames (N.calls net.old) (N.calls net.new)
-        (N.count net.new) why reply
-        × WritesReply why (C.written conn.old) (C.written conn.new) (C.count conn.old) (C.count conn.new) reply
-        × Keeps D.reads D.may_leave D.moment D.left_since kept.old kept.new frames)) }
+        × Serves peer.now kept.old.core gather.new kept.new.core frames (N.seen net.old).calls
+        (N.seen net.new).calls
+        (N.seen net.new).faults why reply
+        × WritesReply why (C.seen conn.old) (C.seen conn.new) reply
+        × Keeps D.disk kept.old kept.new frames)) }
 
     // Or a frame that it was handed on the way wasn't kept: then it took no step at it, and nothing is
     // written.
     ensures stops { IfErr result (λ fault. (frames : List Handed) × ((refused : Handed)
-        × Stops peer.now kept.old.core gather.new kept.new.core frames refused (N.calls net.old)
-        (N.calls net.new)
-        × KeepsUpTo D.reads D.may_leave D.moment D.left_since kept.old kept.new frames refused fault)) }
-    ensures unanswered { OnErr result ((C.written conn.new ≡ C.written conn.old)
-        × (C.count conn.new ≡ C.count conn.old)) }
+        × Stops peer.now kept.old.core gather.new kept.new.core frames refused (N.seen net.old).calls
+        (N.seen net.new).calls
+        × KeepsUpTo D.disk kept.old kept.new frames refused fault)) }
+    ensures unanswered { OnErr result (((C.seen conn.new).written ≡ (C.seen conn.old).written)
+        × ((C.seen conn.new).faults ≡ (C.seen conn.old).faults)) }
 
     // LinkBad for an answer that ended early comes only where its connection has nothing left.
     ensures early { IfOk result (λ why. why ≡ Served.LinkBad
-        → EarlyAtEnd (N.calls net.new) N.Conn.content N.Conn.written N.Conn.count) }
+        → EarlyAtEnd (N.seen net.new).calls N.Conn.seen) }
     ensures helper_rests { IsHelp kept.old.core → net.new ≡ net.old }
     // The net's count rose exactly where its fault is told, and the disk's where its own is.
-    ensures fault { IfOk result (λ why. FaultIn why (N.count net.old) (N.count net.new)) }
-    ensures unfailed { OnErr result (N.count net.new ≡ N.count net.old) }
-    ensures counts { Counts (D.Counted.count kept.old.disk) (D.Counted.count kept.new.disk) result }
-    ensures door { N.doors net.new ≡ N.doors net.old }
+    ensures fault { IfOk result (λ why. FaultIn why (N.seen net.old).faults (N.seen net.new).faults) }
+    ensures unfailed { OnErr result ((N.seen net.new).faults ≡ (N.seen net.old).faults) }
+    ensures counts { Counts (D.Counted.seen kept.old.disk).faults (D.Counted.seen kept.new.disk).faults result }
+    ensures door { (N.seen net.new).doors ≡ (N.seen net.old).doors }
 {
     match gather_frame(conn, gather) {
         Reading::Failed => Ok(Served::ConnFault(conn.faults())),

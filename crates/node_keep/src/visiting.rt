@@ -24,20 +24,21 @@ pub(crate) fn visit<N: Net, D: Disk>(
     net: &mut N,
 ) -> Result<Served, Halt>
     ensures visit { IfOk result (λ answer. (v : Visit) × (v.answer ≡ answer) × ((frames : List Handed)
-        × IsVisit D.reads D.may_leave D.moment D.left_since peer.now v frames
-        (standing kept.old (N.count net.old)) (standing kept.new (N.count net.new))
-        × Makes (N.calls net.old) (N.calls net.new) (visit_calls v) × ((conn : N.Conn)
-        × IsOf (N.calls net.new) v (N.Conn.content conn) (N.Conn.written conn) (N.Conn.count conn)))) }
-    ensures refused { IfErr result (λ halt. OnDoor halt (Makes (N.calls net.old) (N.calls net.new)
-        (Accepted true ∷ []) × (kept.new ≡ kept.old) × (N.count net.new ≡ next (N.count net.old)))) }
+        × IsVisit D.disk peer.now v frames
+        (standing kept.old (N.seen net.old).faults) (standing kept.new (N.seen net.new).faults)
+        × Makes (N.seen net.old).calls (N.seen net.new).calls (visit_calls v) × ((conn : N.Conn)
+        × IsOf (N.seen net.new).calls v (N.Conn.seen conn)))) }
+    ensures refused { IfErr result (λ halt. OnDoor halt (Makes (N.seen net.old).calls (N.seen net.new).calls
+        (Accepted true ∷ []) × (kept.new ≡ kept.old)
+        × ((N.seen net.new).faults ≡ next (N.seen net.old).faults))) }
     ensures broken { IfErr result (λ halt. OnFault halt (λ fault. (v : Broken) × ((frames : List Handed)
-        × ((refused : Handed) × IsBroken D.reads D.may_leave D.moment D.left_since peer.now v frames refused
-        fault (standing kept.old (N.count net.old)) (standing kept.new (N.count net.new))
-        × Makes (N.calls net.old) (N.calls net.new) (broken_calls v) × ((conn : N.Conn) × IsOfBroken
-        (N.calls net.new) v (N.Conn.content conn) (N.Conn.written conn) (N.Conn.count conn)))))) }
-    ensures door { DoorBy result (N.doors net.old) (N.doors net.new) }
-    ensures later { N.count net.old ≤ N.count net.new }
-    ensures counts { DiskBy result (D.Counted.count kept.old.disk) (D.Counted.count kept.new.disk) }
+        × ((refused : Handed) × IsBroken D.disk peer.now v frames refused
+        fault (standing kept.old (N.seen net.old).faults) (standing kept.new (N.seen net.new).faults)
+        × Makes (N.seen net.old).calls (N.seen net.new).calls (broken_calls v) × ((conn : N.Conn) × IsOfBroken
+        (N.seen net.new).calls v (N.Conn.seen conn)))))) }
+    ensures door { DoorBy result (N.seen net.old).doors (N.seen net.new).doors }
+    ensures later { (N.seen net.old).faults ≤ (N.seen net.new).faults }
+    ensures counts { DiskBy result (D.Counted.seen kept.old.disk).faults (D.Counted.seen kept.new.disk).faults }
 {
     let mut conn = match net.accept() {
         Ok(conn) => conn,

@@ -1,6 +1,6 @@
 -- What stands on a disk, before and after a frame.
 use Rattle.std.proofs.Common.{◌≡◌, ◌⊎◌, inl, inr, ℕ, ◌+◌, ◌≤◌, List, [], ◌∷◌, ◌++◌, map, drop, sym, ◌∙◌, ap, subst, arith, true, false}
-use Rattle.node_journal.specs.Disk.{LeavesOnly}
+use Rattle.node_journal.specs.Disk.{DiskSeen, LeavesOnly}
 use Rattle.node_journal.specs.Records.{content, records_from, EndsAt, IsUndamaged, Appended, LeavesBeforeOrAfter, IsBeforeOrAfter}
 use Rattle.node_journal.specs.Journal.{JournalState, IsInPlace}
 use Rattle.node_restart.specs.declared.server.Core.{Core}
@@ -72,9 +72,9 @@ undamaged_end : (limit end : ℕ) (d : List ℕ) → EndsAt end d → end + 1 �
 undamaged_end limit end d e fits =
     record { records = e.records; sized = e.sized; gate = e.gate; closed = e.closed; tail = e.tail; split = e.split; fits = omega (arith, e.place, fits) }
 
-pub undamaged_now : (limit : ℕ) (j : JournalState) (reads may_leave : List ℕ → Type 0) → IsInPlace j reads may_leave → j.ready ≡ true → j.limit ≡ limit
-    → (d : List ℕ) → reads d → IsUndamaged limit 0 d
-undamaged_now limit j reads may_leave place ready same d read =
+pub undamaged_now : (limit : ℕ) (j : JournalState) (disk : DiskSeen) → IsInPlace j disk → j.ready ≡ true → j.limit ≡ limit
+    → (d : List ℕ) → disk.reads d → IsUndamaged limit 0 d
+undamaged_now limit j disk place ready same d read =
     subst (λ (n : ℕ). IsUndamaged n 0 d) same (undamaged_end j.limit j.end d (place.at_rest ready d read) (place.fits ready))
 
 -- ---- one frame more
@@ -128,9 +128,9 @@ leaves_frames limit o frames h reads held d left =
     either was (inl same) = inl (same ∙ was)
     either was (inr more) = inr (more ∙ ap (λ (l : List (List ℕ)). l ++ frame_record h ∷ []) was ∙ sym (records_push o frames h))
 
-pub leaves_only : {D : Type 0} (moment : D → ℕ) (left_since : D → ℕ → List ℕ → Type 0) (old new : D) (P Q : List ℕ → Type 0)
-    → ((d : List ℕ) → P d → Q d) → LeavesOnly moment left_since old new P → LeavesOnly moment left_since old new Q
-leaves_only moment left_since old new P Q follows leaves = record {
+pub leaves_only : (old new : DiskSeen) (P Q : List ℕ → Type 0)
+    → ((d : List ℕ) → P d → Q d) → LeavesOnly old new P → LeavesOnly old new Q
+leaves_only old new P Q follows leaves = record {
   later = leaves.later;
   each = λ d left. follows d (leaves.each d left);
   before = λ t d earlier left. elim (leaves.before t d earlier left) [ inl past ↦ inl past | inr now ↦ inr (follows d now) ];

@@ -1,6 +1,6 @@
 -- The frames of a journal, taken one after another.
 use Rattle.std.proofs.Common.{◌≡◌, ℕ, ◌+◌, ◌≤◌, ◌<◌, List, [], ◌∷◌, ◌++◌, length, map, refl, sym, ◌∙◌, ap, subst, arith, append_assoc, length-append}
-use Rattle.node_journal.specs.Disk.{IsUntouched}
+use Rattle.node_journal.specs.Disk.{DiskSeen, IsUntouched}
 use Rattle.node_journal.specs.Records.{records_from, IsUndamaged}
 use Rattle.node_journal.specs.Journal.{JournalState}
 use Rattle.node_restart.specs.declared.server.Core.{Core}
@@ -10,8 +10,8 @@ use Rattle.node_restart.specs.Replays.{IsReading, StepsBy, StepsOnce, StepsThrou
 use Rattle.node_restart.proofs.FrameLaws.{all_push, map_push}
 use Rattle.node_restart.proofs.StepLaws.{fold_push}
 
-pub untouched_trans : {reads reads_then reads_now may_leave may_leave_then may_leave_now : List ℕ → Type 0}
-    → IsUntouched reads reads_then may_leave may_leave_then → IsUntouched reads_then reads_now may_leave_then may_leave_now → IsUntouched reads reads_now may_leave may_leave_now
+pub untouched_trans : {disk disk_then disk_now : DiskSeen}
+    → IsUntouched disk disk_then → IsUntouched disk_then disk_now → IsUntouched disk disk_now
 untouched_trans first second = record {
   gives = λ d read. first.gives d (second.gives d read);
   still = λ d read. second.still d (first.still d read);
@@ -19,20 +19,20 @@ untouched_trans first second = record {
 }
 
 -- so far these frames were read and their steps taken
-pub record Replays (limit start number : ℕ) (j : JournalState) (before now : Core) (reads reads_now may_leave may_leave_now : List ℕ → Type 0) : Type 0 where
+pub record Replays (limit start number : ℕ) (j : JournalState) (before now : Core) (disk disk_now : DiskSeen) : Type 0 where
   pub frames : List Handed
-  pub steps : StepsThrough frames start j.end before now reads
+  pub steps : StepsThrough frames start j.end before now disk.reads
   pub place : number ≡ length frames + 1
-  pub reading : IsReading limit j reads_now may_leave_now
-  pub untouched : IsUntouched reads reads_now may_leave may_leave_now
-  pub undamaged : (d : List ℕ) → reads d → IsUndamaged limit start d → IsUndamaged limit j.end d
+  pub reading : IsReading limit j disk_now
+  pub untouched : IsUntouched disk disk_now
+  pub undamaged : (d : List ℕ) → disk.reads d → IsUndamaged limit start d → IsUndamaged limit j.end d
   pub settings : settings_of now ≡ settings_of before
   pub role : role_of now ≡ role_of before
   pub below : number ≤ j.end
 
-pub replays_start : (j : JournalState) (before : Core) (reads may_leave : List ℕ → Type 0)
-    → IsReading j.limit j reads may_leave → 1 ≤ j.end → Replays j.limit j.end 1 j before before reads reads may_leave may_leave
-replays_start j before reads may_leave reading some = record {
+pub replays_start : (j : JournalState) (before : Core) (disk : DiskSeen)
+    → IsReading j.limit j disk → 1 ≤ j.end → Replays j.limit j.end 1 j before before disk disk
+replays_start j before disk reading some = record {
   frames = [];
   steps = record { whole = tt; folded = refl; split = λ d read. refl };
   place = refl;
@@ -44,11 +44,11 @@ replays_start j before reads may_leave reading some = record {
   below = some;
 }
 
-push_through : (frames : List Handed) (start end more : ℕ) (before then now : Core) (reads reads_now : List ℕ → Type 0)
+push_through : (frames : List Handed) (start end more : ℕ) (before then now : Core) (reads : List ℕ → Type 0)
     → StepsThrough frames start end before then reads → (r : List ℕ) → (s : StepsBy r then now)
     → ((d : List ℕ) → reads d → records_from end d ≡ r ∷ records_from more d)
     → StepsThrough (frames ++ s.frame ∷ []) start more before now reads
-push_through frames start end more before then now reads reads_now through r s split =
+push_through frames start end more before then now reads through r s split =
     let h = s.frame in
     record {
       whole = all_push frames h through.whole s.whole;
@@ -60,18 +60,18 @@ push_through frames start end more before then now reads reads_now through r s s
           ∙ ap (λ (l : List (List ℕ)). l ++ records_from more d) (sym (map_push frames h));
     }
 
-pub replays_on : (limit start number : ℕ) (j k : JournalState) (before then now : Core) (reads reads_then reads_now may_leave may_leave_then may_leave_now : List ℕ → Type 0)
-    → Replays limit start number j before then reads reads_then may_leave may_leave_then
-    → StepsOnce j.end k.end then now reads_then → IsReading j.limit k reads_now may_leave_now
-    → IsUntouched reads_then reads_now may_leave_then may_leave_now
-    → ((d : List ℕ) → reads_then d → IsUndamaged j.limit j.end d → IsUndamaged j.limit k.end d)
+pub replays_on : (limit start number : ℕ) (j k : JournalState) (before then now : Core) (disk disk_then disk_now : DiskSeen)
+    → Replays limit start number j before then disk disk_then
+    → StepsOnce j.end k.end then now disk_then.reads → IsReading j.limit k disk_now
+    → IsUntouched disk_then disk_now
+    → ((d : List ℕ) → disk_then.reads d → IsUndamaged j.limit j.end d → IsUndamaged j.limit k.end d)
     → j.end < k.end → settings_of now ≡ settings_of then → role_of now ≡ role_of then
-    → Replays limit start (number + 1) k before now reads reads_now may_leave may_leave_now
-replays_on limit start number j k before then now reads reads_then reads_now may_leave may_leave_then may_leave_now so once reading untouched undamaged longer settings role =
+    → Replays limit start (number + 1) k before now disk disk_now
+replays_on limit start number j k before then now disk disk_then disk_now so once reading untouched undamaged longer settings role =
     let same : j.limit ≡ limit = so.reading.same_limit in
     record {
       frames = so.frames ++ once.1.frame ∷ [];
-      steps = push_through so.frames start j.end k.end before then now reads reads_now so.steps once.0 once.1 (λ d read. once.2 d (so.untouched.still d read));
+      steps = push_through so.frames start j.end k.end before then now disk.reads so.steps once.0 once.1 (λ d read. once.2 d (so.untouched.still d read));
       place = omega (arith, so.place, length-append so.frames (once.1.frame ∷ []));
       reading = record { still_open = reading.still_open; same_limit = reading.same_limit ∙ same; in_place = reading.in_place };
       untouched = untouched_trans so.untouched untouched;
@@ -83,10 +83,10 @@ replays_on limit start number j k before then now reads reads_then reads_now may
       below = omega (arith, so.below, longer);
     }
 
-pub replays_foreign : (limit start number n : ℕ) (j : JournalState) (before now : Core) (reads reads_now may_leave may_leave_now : List ℕ → Type 0)
-    → Replays limit start number j before now reads reads_now may_leave may_leave_now
-    → n ≡ number → StandsForeign j.end reads_now → EndsForeign n start reads
-replays_foreign limit start number n j before now reads reads_now may_leave may_leave_now so is stands = (
+pub replays_foreign : (limit start number n : ℕ) (j : JournalState) (before now : Core) (disk disk_now : DiskSeen)
+    → Replays limit start number j before now disk disk_now
+    → n ≡ number → StandsForeign j.end disk_now.reads → EndsForeign n start disk.reads
+replays_foreign limit start number n j before now disk disk_now so is stands = (
   so.frames,
   so.steps.whole,
   is ∙ so.place,
@@ -99,13 +99,13 @@ replays_foreign limit start number n j before now reads reads_now may_leave may_
   ),
 )
 
-pub replays_damaged : (limit start number n : ℕ) (j : JournalState) (before now : Core) (reads reads_now may_leave may_leave_now : List ℕ → Type 0)
-    → Replays limit start number j before now reads reads_now may_leave may_leave_now
-    → n ≡ j.end → StandsDamaged j.limit j.end reads_now → EndsDamaged limit n start reads
-replays_damaged limit start number n j before now reads reads_now may_leave may_leave_now so is stands =
-    let at : StandsDamaged limit n reads_now =
-    subst (λ (e : ℕ). StandsDamaged limit e reads_now) (sym is) (subst (λ (l : ℕ). StandsDamaged l j.end reads_now) so.reading.same_limit stands) in
-    let place : (e : ℕ) → e ≡ j.end → ((d : List ℕ) → reads d → records_from start d ≡ map frame_record so.frames ++ records_from e d) =
+pub replays_damaged : (limit start number n : ℕ) (j : JournalState) (before now : Core) (disk disk_now : DiskSeen)
+    → Replays limit start number j before now disk disk_now
+    → n ≡ j.end → StandsDamaged j.limit j.end disk_now.reads → EndsDamaged limit n start disk.reads
+replays_damaged limit start number n j before now disk disk_now so is stands =
+    let at : StandsDamaged limit n disk_now.reads =
+    subst (λ (e : ℕ). StandsDamaged limit e disk_now.reads) (sym is) (subst (λ (l : ℕ). StandsDamaged l j.end disk_now.reads) so.reading.same_limit stands) in
+    let place : (e : ℕ) → e ≡ j.end → ((d : List ℕ) → disk.reads d → records_from start d ≡ map frame_record so.frames ++ records_from e d) =
     λ (e : ℕ) same d read. so.steps.split d read ∙ ap (λ (x : ℕ). map frame_record so.frames ++ records_from x d) (sym same) in (
       so.frames,
       so.steps.whole,

@@ -1,5 +1,6 @@
 -- A server with its journal, and what stands on its disk.
 use Rattle.std.specs.Prelude.{◌≡◌, ◌⊎◌, ℕ, List, [], ◌∷◌, ◌++◌, drop, true, false, Err}
+use Rattle.node_journal.specs.Disk.{DiskSeen}
 use Rattle.node_journal.specs.Records.{content, records_from, IsUndamaged}
 use Rattle.node_journal.specs.Next.{found}
 use Rattle.node_journal.specs.Journal.{JournalState, IsInPlace}
@@ -36,14 +37,13 @@ LeavesFrames limit o frames added c =
     × IsUndamaged limit 0 c
 
 -- until a call on the disk fails, the journal is in place and what stands on its disk gives the server
-pub record IsKept (o : Opening) (core : Core) (journal : JournalState) (reads may_leave : List ℕ → Type 0)
-    : Type 0 where
+pub record IsKept (o : Opening) (core : Core) (journal : JournalState) (disk : DiskSeen) : Type 0 where
   pub is_opening : IsOpening o
   pub settings : settings_of core ≡ o.settings
   pub role : role_of core ≡ o.role
   pub ready : journal.ready ≡ true
-  pub in_place : journal.closed ≡ false → IsInPlace journal reads may_leave
-  pub stands : journal.closed ≡ false → Stands o core reads
+  pub in_place : journal.closed ≡ false → IsInPlace journal disk
+  pub stands : journal.closed ≡ false → Stands o core disk.reads
 
 -- Records of the form stand before byte n.
 pub record HasBefore (n : ℕ) (c : List ℕ) : Type 0 where

@@ -1,5 +1,6 @@
 -- What is read of a journal on the way to its end.
 use Rattle.std.specs.Prelude.{◌≡◌, ◌+◌, ℕ, List, ◌∷◌, ◌++◌, length, map, drop, false, Err}
+use Rattle.node_journal.specs.Disk.{DiskSeen}
 use Rattle.node_journal.specs.Records.{records_from, IsUndamaged}
 use Rattle.node_journal.specs.Next.{found}
 use Rattle.node_journal.specs.Journal.{JournalState, IsInPlace}
@@ -9,10 +10,10 @@ use Rattle.node_restart.specs.Frames.{Handed, AllFrames, IsOneFrame, IsNoFrame, 
 use Rattle.node_restart.specs.Steps.{step_of, fold_from}
 
 -- no call on the disk has failed, and the journal is in place
-pub record IsReading (limit : ℕ) (j : JournalState) (reads may_leave : List ℕ → Type 0) : Type 0 where
+pub record IsReading (limit : ℕ) (j : JournalState) (disk : DiskSeen) : Type 0 where
   pub still_open : j.closed ≡ false
   pub same_limit : j.limit ≡ limit
-  pub in_place : IsInPlace j reads may_leave
+  pub in_place : IsInPlace j disk
 
 -- The record is a frame's, and its step was taken.
 pub record StepsBy (r : List ℕ) (before now : Core) : Type 0 where

@@ -17,7 +17,7 @@ pub(crate) fn keep<D: Disk>(
 ) -> Result<(), JournalFault>
     requires ready { journal.old.ready ≡ true }
     requires in_place { journal.old.closed ≡ false
-        → IsInPlace journal.old (D.reads disk.old) (D.may_leave disk.old) }
+        → IsInPlace journal.old (D.disk disk.old) }
     ensures no_frame { (IsOneFrame frame.now → ⊥) → IsOk result × (journal.new ≡ journal.old)
         × (disk.new ≡ disk.old) }
     ensures closed { IsOneFrame frame.now → journal.old.closed ≡ true → (result ≡ Err JournalFault.Closed)
@@ -31,20 +31,20 @@ pub(crate) fn keep<D: Disk>(
     ensures broken { IsOneFrame frame.now → journal.old.closed ≡ false
         → journal.old.end + 5 + (length frame.now + 1) + 1 ≤ journal.old.limit
         → OnErr result (journal.new ≡ broken journal.old) }
-    ensures counts { CountsDisk (D.Counted.count disk.old) (D.Counted.count disk.new) result }
+    ensures counts { CountsDisk (D.Counted.seen disk.old).faults (D.Counted.seen disk.new).faults result }
     ensures longer { IsOneFrame frame.now
         → OnOk result (journal.new ≡ longer (length frame.now + 1) journal.old) }
-    ensures added { IsOneFrame frame.now → OnOk result ((c : List ℕ) → D.reads disk.new c
-        → Appended (D.reads disk.old) (frame_record (handed sender frame.now)) c) }
+    ensures added { IsOneFrame frame.now → OnOk result ((c : List ℕ) → (D.disk disk.new).reads c
+        → Appended (D.disk disk.old).reads (frame_record (handed sender frame.now)) c) }
     ensures unbroken { OnErr result (journal.new.closed ≡ false → (journal.new ≡ journal.old)
         × (disk.new ≡ disk.old)) }
     ensures ready { journal.new.ready ≡ true }
     ensures limit { journal.new.limit ≡ journal.old.limit }
     ensures in_place { journal.new.closed ≡ false
-        → IsInPlace journal.new (D.reads disk.new) (D.may_leave disk.new) }
+        → IsInPlace journal.new (D.disk disk.new) }
     ensures any_moment { IsOneFrame frame.now → journal.old.closed ≡ false
-        → LeavesOnly D.moment D.left_since disk.old disk.new
-        (LeavesBeforeOrAfter journal.old.limit (D.reads disk.old) (frame_record (handed sender frame.now))) }
+        → LeavesOnly (D.disk disk.old) (D.disk disk.new)
+        (LeavesBeforeOrAfter journal.old.limit (D.disk disk.old).reads (frame_record (handed sender frame.now))) }
 {
     if !is_one_frame(frame) {
         return Ok(());

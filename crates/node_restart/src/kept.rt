@@ -6,6 +6,7 @@ ghost use Rattle.leader_core.specs.Told.{sent_length};
 ghost use Rattle.node_journal.specs.Disk.{IsUntouched, Within, LeavesOnly};
 ghost use Rattle.node_journal.specs.Records.{content, IsUndamaged};
 ghost use Rattle.node_journal.specs.Journal.{Passes, longer, broken};
+ghost use Rattle.frame_rules.specs.Room.{HasRoom};
 ghost use Rattle.node_restart.specs.Openings.{IsOpening};
 ghost use Rattle.node_restart.specs.Frames.{Handed, AllFrames, IsForeign, IsOneFrame, handed, records_of};
 ghost use Rattle.node_restart.specs.Steps.{fold, share_in, resent_by, IsOldest, settings_of, role_of, step_of, Takes};
@@ -38,7 +39,7 @@ impl<D: Disk> Model for Kept<D> {
 
     ghost view = { λ k. record { opening = k.opening; core = k.core; journal = k.journal; disk = k.disk } };
 
-    ghost invariant = { λ k. IsKept k.opening k.core k.journal (D.reads k.disk) (D.may_leave k.disk) };
+    ghost invariant = { λ k. IsKept k.opening k.core k.journal (D.disk k.disk) };
 }
 
 impl<D: Disk> Kept<D> {
@@ -59,23 +60,23 @@ impl<D: Disk> Kept<D> {
         ensures core { IfOk result (λ k. k.core ≡ fold opening.now []) }
         ensures journal { IfOk result (λ k.
             k.journal ≡ record { end = 50; limit = limit; ready = true; closed = false }) }
-        ensures held { IfOk result (λ k. HoldsFrames opening.now [] (D.reads k.disk)) }
-        ensures undamaged { IfOk result (λ k. (c : List ℕ) → D.reads k.disk c → IsUndamaged limit 0 c) }
-        ensures durable { IfOk result (λ k. Within (D.may_leave k.disk) (D.reads k.disk)) }
-        ensures empty { OnOk result ((c : List ℕ) → D.reads disk c → c ≡ []) }
+        ensures held { IfOk result (λ k. HoldsFrames opening.now [] (D.disk k.disk).reads) }
+        ensures undamaged { IfOk result (λ k. (c : List ℕ) → (D.disk k.disk).reads c
+            → IsUndamaged limit 0 c) }
+        ensures durable { IfOk result (λ k. Within (D.disk k.disk).may_leave (D.disk k.disk).reads) }
+        ensures empty { OnOk result ((c : List ℕ) → (D.disk disk).reads c → c ≡ []) }
         ensures fits { OnOk result (51 ≤ limit) }
 
         ensures cause { IfErr result (λ x. IsOfCreate x.0) }
-        ensures not_empty { IfErr result (λ x. OnNotEmpty x.0 ((c : List ℕ) → D.reads disk c → c ≢ [])) }
+        ensures not_empty { IfErr result (λ x. OnNotEmpty x.0 ((c : List ℕ) → (D.disk disk).reads c
+            → c ≢ [])) }
         ensures full { IfErr result (λ x. OnFull x.0 (λ n. (n ≡ 0) × (limit < 51)
-            × ((c : List ℕ) → D.reads disk c → c ≡ []))) }
-        ensures not_empty_stays { IfErr result (λ x. OnNotEmpty x.0 (IsUntouched (D.reads disk) (D.reads x.1)
-            (D.may_leave disk) (D.may_leave x.1))) }
-        ensures full_stays { IfErr result (λ x. OnFull x.0 (λ n. IsUntouched (D.reads disk) (D.reads x.1)
-            (D.may_leave disk) (D.may_leave x.1))) }
+            × ((c : List ℕ) → (D.disk disk).reads c → c ≡ []))) }
+        ensures not_empty_stays { IfErr result (λ x. OnNotEmpty x.0 (IsUntouched (D.disk disk) (D.disk x.1))) }
+        ensures full_stays { IfErr result (λ x. OnFull x.0 (λ n. IsUntouched (D.disk disk) (D.disk x.1))) }
         ensures no_memory_stays { IfErr result (λ x. OnNoMemory x.0 (x.1 ≡ disk)) }
-        ensures counts_ok { IfOk result (λ k. D.Counted.count k.disk ≡ D.Counted.count disk) }
-        ensures counts { IfErr result (λ x. CountsFault (D.Counted.count disk) (D.Counted.count x.1) x.0) }
+        ensures counts_ok { IfOk result (λ k. (D.Counted.seen k.disk).faults ≡ (D.Counted.seen disk).faults) }
+        ensures counts { IfErr result (λ x. CountsFault (D.Counted.seen disk).faults (D.Counted.seen x.1).faults x.0) }
     {
         let Ok(core) = Core::open(alloc, opening) else {
             return Err((KeepFault::NoMemory, disk));
@@ -97,31 +98,31 @@ impl<D: Disk> Kept<D> {
         requires limit { limit ≤ 2 ^ 62 }
         // What stands on the disk is an opening and frames, and the server is their fold.
         ensures is_opening { IfOk result (λ k. IsOpening k.opening) }
-        ensures stands { IfOk result (λ k. Stands k.opening k.core (D.reads disk)) }
-        ensures told { IfOk result (λ k. (o : Opening) (frames : List Handed) (c : List ℕ) → D.reads disk c
-            → IsOpening o → HoldsFrames o frames (D.reads disk)
+        ensures stands { IfOk result (λ k. Stands k.opening k.core (D.disk disk).reads) }
+        ensures told { IfOk result (λ k. (o : Opening) (frames : List Handed) (c : List ℕ)
+            → (D.disk disk).reads c
+            → IsOpening o → HoldsFrames o frames (D.disk disk).reads
             → (k.opening ≡ o) × (k.core ≡ fold o frames)) }
-        ensures undamaged { IfOk result (λ k. (c : List ℕ) → D.reads k.disk c → IsUndamaged limit 0 c) }
-        ensures durable { IfOk result (λ k. Within (D.may_leave k.disk) (D.reads k.disk)) }
+        ensures undamaged { IfOk result (λ k. (c : List ℕ) → (D.disk k.disk).reads c
+            → IsUndamaged limit 0 c) }
+        ensures durable { IfOk result (λ k. Within (D.disk k.disk).may_leave (D.disk k.disk).reads) }
         ensures limit { IfOk result (λ k. k.journal.limit ≡ limit) }
         ensures still_open { IfOk result (λ k. k.journal.closed ≡ false) }
-        ensures untouched_ok { IfOk result (λ k. IsUntouched (D.reads disk) (D.reads k.disk)
-            (D.may_leave disk) (D.may_leave k.disk)) }
+        ensures untouched_ok { IfOk result (λ k. IsUntouched (D.disk disk) (D.disk k.disk)) }
 
         ensures cause { IfErr result (λ x. IsOfReopen x.0) }
-        ensures foreign { IfErr result (λ x. OnForeign x.0 (λ n. (c : List ℕ) → D.reads disk c
+        ensures foreign { IfErr result (λ x. OnForeign x.0 (λ n. (c : List ℕ) → (D.disk disk).reads c
             → IsForeign n (content c))) }
         ensures never_foreign { IfErr result (λ x. OnForeign x.0 (λ n. (o : Opening) (frames : List Handed)
-            (c : List ℕ) → D.reads disk c → IsOpening o → AllFrames frames
-            → HoldsFrames o frames (D.reads disk) → ⊥)) }
-        ensures damaged { IfErr result (λ x. OnDamaged x.0 (λ n. (c : List ℕ) → D.reads disk c
+            (c : List ℕ) → (D.disk disk).reads c → IsOpening o → AllFrames frames
+            → HoldsFrames o frames (D.disk disk).reads → ⊥)) }
+        ensures damaged { IfErr result (λ x. OnDamaged x.0 (λ n. (c : List ℕ) → (D.disk disk).reads c
             → IsDamagedAt limit n c)) }
-        ensures never_damaged { IfErr result (λ x. OnDamaged x.0 (λ n. (c : List ℕ) → D.reads disk c
+        ensures never_damaged { IfErr result (λ x. OnDamaged x.0 (λ n. (c : List ℕ) → (D.disk disk).reads c
             → IsUndamaged limit 0 c → ⊥)) }
-        ensures untouched { IfErr result (λ x. IsUntouched (D.reads disk) (D.reads x.1) (D.may_leave disk)
-            (D.may_leave x.1)) }
-        ensures counts_ok { IfOk result (λ k. D.Counted.count k.disk ≡ D.Counted.count disk) }
-        ensures counts { IfErr result (λ x. CountsFault (D.Counted.count disk) (D.Counted.count x.1) x.0) }
+        ensures untouched { IfErr result (λ x. IsUntouched (D.disk disk) (D.disk x.1)) }
+        ensures counts_ok { IfOk result (λ k. (D.Counted.seen k.disk).faults ≡ (D.Counted.seen disk).faults) }
+        ensures counts { IfErr result (λ x. CountsFault (D.Counted.seen disk).faults (D.Counted.seen x.1).faults x.0) }
     {
         let mut disk = disk;
         match find(alloc, &mut disk, limit) {
@@ -144,7 +145,7 @@ impl<D: Disk> Kept<D> {
 
     /// A client's frame. Where the bytes are exactly one frame they are on the disk before the server's step.
     pub fn on_client(&mut self, frame: &[u8], out: &mut [u8]) -> Result<Did, KeepFault>
-        requires room { 8213 ≤ length out.old }
+        requires room { HasRoom out.old }
         // The step is that of the tables. Where the answer is a fault no step was taken and nothing written.
         ensures step { IfOk result (λ did. Takes (step_of self.old.core Sender.Client frame.now)
             self.new.core did out.old out.new) }
@@ -156,19 +157,20 @@ impl<D: Disk> Kept<D> {
 
         // Before its step the frame is on the disk, and a crash from then on leaves it there.
         ensures added { IsOneFrame frame.now → OnOk result ((frames : List Handed)
-            → HoldsFrames self.old.opening frames (D.reads self.old.disk)
-            → HoldsFrames self.new.opening (frames ++ handed Sender.Client frame.now ∷ []) (D.reads self.new.disk)) }
+            → HoldsFrames self.old.opening frames (D.disk self.old.disk).reads
+            → HoldsFrames self.new.opening (frames ++ handed Sender.Client frame.now ∷ [])
+            (D.disk self.new.disk).reads) }
         ensures longer { IsOneFrame frame.now
             → OnOk result (self.new.journal ≡ longer (length frame.now + 1) self.old.journal) }
         ensures stands { self.new.journal.closed ≡ false
-            → Stands self.new.opening self.new.core (D.reads self.new.disk) }
+            → Stands self.new.opening self.new.core (D.disk self.new.disk).reads }
         ensures durable { self.new.journal.closed ≡ false
-            → Within (D.may_leave self.new.disk) (D.reads self.new.disk) }
+            → Within (D.disk self.new.disk).may_leave (D.disk self.new.disk).reads }
 
         // A crash at any moment of the call leaves the frames from before it, with its own or without.
         ensures any_moment { IsOneFrame frame.now → self.old.journal.closed ≡ false → (frames : List Handed)
-            → HoldsFrames self.old.opening frames (D.reads self.old.disk)
-            → LeavesOnly D.moment D.left_since self.old.disk self.new.disk
+            → HoldsFrames self.old.opening frames (D.disk self.old.disk).reads
+            → LeavesOnly (D.disk self.old.disk) (D.disk self.new.disk)
             (LeavesFrames self.old.journal.limit self.old.opening frames (handed Sender.Client frame.now)) }
 
         // The faults of a frame, in the order in which they are judged. Closed and Full change nothing.
@@ -184,14 +186,14 @@ impl<D: Disk> Kept<D> {
         ensures broken { IsOneFrame frame.now → self.old.journal.closed ≡ false
             → self.old.journal.end + 5 + (length frame.now + 1) + 1 ≤ self.old.journal.limit
             → OnErr result (self.new.journal ≡ broken self.old.journal) }
-        ensures counts { Counts (D.Counted.count self.old.disk) (D.Counted.count self.new.disk) result }
+        ensures counts { Counts (D.Counted.seen self.old.disk).faults (D.Counted.seen self.new.disk).faults result }
     {
         self.take(Sender::Client, frame, out)
     }
 
     /// Bytes of the other server. Where they are exactly one frame they are on the disk before the step.
     pub fn on_peer(&mut self, frame: &[u8], out: &mut [u8]) -> Result<Did, KeepFault>
-        requires room { 8213 ≤ length out.old }
+        requires room { HasRoom out.old }
         // The step is that of the tables. Where the answer is a fault no step was taken and nothing written.
         ensures step { IfOk result (λ did. Takes (step_of self.old.core Sender.Peer frame.now)
             self.new.core did out.old out.new) }
@@ -203,19 +205,20 @@ impl<D: Disk> Kept<D> {
 
         // Before its step the frame is on the disk, and a crash from then on leaves it there.
         ensures added { IsOneFrame frame.now → OnOk result ((frames : List Handed)
-            → HoldsFrames self.old.opening frames (D.reads self.old.disk)
-            → HoldsFrames self.new.opening (frames ++ handed Sender.Peer frame.now ∷ []) (D.reads self.new.disk)) }
+            → HoldsFrames self.old.opening frames (D.disk self.old.disk).reads
+            → HoldsFrames self.new.opening (frames ++ handed Sender.Peer frame.now ∷ [])
+            (D.disk self.new.disk).reads) }
         ensures longer { IsOneFrame frame.now
             → OnOk result (self.new.journal ≡ longer (length frame.now + 1) self.old.journal) }
         ensures stands { self.new.journal.closed ≡ false
-            → Stands self.new.opening self.new.core (D.reads self.new.disk) }
+            → Stands self.new.opening self.new.core (D.disk self.new.disk).reads }
         ensures durable { self.new.journal.closed ≡ false
-            → Within (D.may_leave self.new.disk) (D.reads self.new.disk) }
+            → Within (D.disk self.new.disk).may_leave (D.disk self.new.disk).reads }
 
         // A crash at any moment of the call leaves the frames from before it, with its own or without.
         ensures any_moment { IsOneFrame frame.now → self.old.journal.closed ≡ false → (frames : List Handed)
-            → HoldsFrames self.old.opening frames (D.reads self.old.disk)
-            → LeavesOnly D.moment D.left_since self.old.disk self.new.disk
+            → HoldsFrames self.old.opening frames (D.disk self.old.disk).reads
+            → LeavesOnly (D.disk self.old.disk) (D.disk self.new.disk)
             (LeavesFrames self.old.journal.limit self.old.opening frames (handed Sender.Peer frame.now)) }
 
         // The faults of a frame, in the order in which they are judged. Closed and Full change nothing.
@@ -231,14 +234,14 @@ impl<D: Disk> Kept<D> {
         ensures broken { IsOneFrame frame.now → self.old.journal.closed ≡ false
             → self.old.journal.end + 5 + (length frame.now + 1) + 1 ≤ self.old.journal.limit
             → OnErr result (self.new.journal ≡ broken self.old.journal) }
-        ensures counts { Counts (D.Counted.count self.old.disk) (D.Counted.count self.new.disk) result }
+        ensures counts { Counts (D.Counted.seen self.old.disk).faults (D.Counted.seen self.new.disk).faults result }
     {
         self.take(Sender::Peer, frame, out)
     }
 
     // A frame, of whichever sender.
     fn take(&mut self, sender: Sender, frame: &[u8], out: &mut [u8]) -> Result<Did, KeepFault>
-        requires room { 8213 ≤ length out.old }
+        requires room { HasRoom out.old }
         // The step is that of the tables. Where the answer is a fault no step was taken and nothing written.
         ensures step { IfOk result (λ did. Takes (step_of self.old.core sender frame.now)
             self.new.core did out.old out.new) }
@@ -250,19 +253,20 @@ impl<D: Disk> Kept<D> {
 
         // Before its step the frame is on the disk, and a crash from then on leaves it there.
         ensures added { IsOneFrame frame.now → OnOk result ((frames : List Handed)
-            → HoldsFrames self.old.opening frames (D.reads self.old.disk)
-            → HoldsFrames self.new.opening (frames ++ handed sender frame.now ∷ []) (D.reads self.new.disk)) }
+            → HoldsFrames self.old.opening frames (D.disk self.old.disk).reads
+            → HoldsFrames self.new.opening (frames ++ handed sender frame.now ∷ [])
+            (D.disk self.new.disk).reads) }
         ensures longer { IsOneFrame frame.now
             → OnOk result (self.new.journal ≡ longer (length frame.now + 1) self.old.journal) }
         ensures stands { self.new.journal.closed ≡ false
-            → Stands self.new.opening self.new.core (D.reads self.new.disk) }
+            → Stands self.new.opening self.new.core (D.disk self.new.disk).reads }
         ensures durable { self.new.journal.closed ≡ false
-            → Within (D.may_leave self.new.disk) (D.reads self.new.disk) }
+            → Within (D.disk self.new.disk).may_leave (D.disk self.new.disk).reads }
 
         // A crash at any moment of the call leaves the frames from before it, with its own or without.
         ensures any_moment { IsOneFrame frame.now → self.old.journal.closed ≡ false → (frames : List Handed)
-            → HoldsFrames self.old.opening frames (D.reads self.old.disk)
-            → LeavesOnly D.moment D.left_since self.old.disk self.new.disk
+            → HoldsFrames self.old.opening frames (D.disk self.old.disk).reads
+            → LeavesOnly (D.disk self.old.disk) (D.disk self.new.disk)
             (LeavesFrames self.old.journal.limit self.old.opening frames (handed sender frame.now)) }
 
         // The faults of a frame, in the order in which they are judged. Closed and Full change nothing.
@@ -278,7 +282,7 @@ impl<D: Disk> Kept<D> {
         ensures broken { IsOneFrame frame.now → self.old.journal.closed ≡ false
             → self.old.journal.end + 5 + (length frame.now + 1) + 1 ≤ self.old.journal.limit
             → OnErr result (self.new.journal ≡ broken self.old.journal) }
-        ensures counts { Counts (D.Counted.count self.old.disk) (D.Counted.count self.new.disk) result }
+        ensures counts { Counts (D.Counted.seen self.old.disk).faults (D.Counted.seen self.new.disk).faults result }
     {
         match keep(&mut self.journal, &mut self.disk, sender, frame) {
             Ok(()) => Ok(self.core.step(sender, frame, out)),
@@ -319,7 +323,7 @@ impl<D: Disk> Kept<D> {
     /// Writes the leader's oldest outstanding command to the front of `out` again, and gives its number and
     /// its length; None exactly where none is outstanding, as at a helper, and then nothing is written.
     pub fn resend(&self, out: &mut [u8]) -> Option<(u64, usize)>
-        requires room { 8213 ≤ length out.old }
+        requires room { HasRoom out.old }
         ensures none { IsNone result ↔ (resent_by self.now.core ≡ None) }
         ensures number { IfSome result (λ x. IsOldest self.now.core x.0) }
         ensures length { IfSome result (λ x. option_map (λ c. length (spelling c)) (resent_by self.now.core)

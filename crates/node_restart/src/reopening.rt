@@ -30,19 +30,18 @@ pub(crate) fn find<D: Disk>(alloc: Global, disk: &mut D, limit: u64) -> Result<F
     ensures is_opening { IfOk result (λ f. IsOpening f.opening) }
     ensures settings { IfOk result (λ f. settings_of f.core ≡ f.opening.settings) }
     ensures role { IfOk result (λ f. role_of f.core ≡ f.opening.role) }
-    ensures stands { IfOk result (λ f. Stands f.opening f.core (D.reads disk.old)) }
+    ensures stands { IfOk result (λ f. Stands f.opening f.core (D.disk disk.old).reads) }
     ensures ready { IfOk result (λ f. f.journal.ready ≡ true) }
-    ensures reading { IfOk result (λ f. IsReading limit f.journal (D.reads disk.new) (D.may_leave disk.new)) }
+    ensures reading { IfOk result (λ f. IsReading limit f.journal (D.disk disk.new)) }
     ensures cause { IfErr result IsOfReopen }
-    ensures foreign { IfErr result (λ why. OnForeign why (λ n. (c : List ℕ) → D.reads disk.old c
+    ensures foreign { IfErr result (λ why. OnForeign why (λ n. (c : List ℕ) → (D.disk disk.old).reads c
         → IsForeign n (content c))) }
-    ensures damaged { IfErr result (λ why. OnDamaged why (λ n. (c : List ℕ) → D.reads disk.old c
+    ensures damaged { IfErr result (λ why. OnDamaged why (λ n. (c : List ℕ) → (D.disk disk.old).reads c
         → IsDamagedAt limit n c)) }
-    ensures never_damaged { IfErr result (λ why. OnDamaged why (λ n. (c : List ℕ) → D.reads disk.old c
+    ensures never_damaged { IfErr result (λ why. OnDamaged why (λ n. (c : List ℕ) → (D.disk disk.old).reads c
         → IsUndamaged limit 0 c → ⊥)) }
-    ensures untouched { IsUntouched (D.reads disk.old) (D.reads disk.new) (D.may_leave disk.old)
-        (D.may_leave disk.new) }
-    ensures counts { Counts (D.Counted.count disk.old) (D.Counted.count disk.new) result }
+    ensures untouched { IsUntouched (D.disk disk.old) (D.disk disk.new) }
+    ensures counts { Counts (D.Counted.seen disk.old).faults (D.Counted.seen disk.new).faults result }
 {
     let mut journal = match Journal::open(disk, limit) {
         Ok(journal) => journal,

@@ -21,24 +21,24 @@ pub(crate) fn first_opening<D: Disk>(
     journal: &mut Journal,
     disk: &mut D,
 ) -> Result<Opening, KeepFault>
-    requires reading { IsReading journal.old.limit journal.old (D.reads disk.old) (D.may_leave disk.old) }
+    requires reading { IsReading journal.old.limit journal.old (D.disk disk.old) }
     requires front { journal.old.end ≡ 0 }
     ensures opening { IfOk result IsOpening }
-    ensures first { IfOk result (λ o. (c : List ℕ) → D.reads disk.old c
+    ensures first { IfOk result (λ o. (c : List ℕ) → (D.disk disk.old).reads c
         → content c ≡ opening_record o ∷ records_from journal.new.end c) }
-    ensures undamaged { OnOk result ((c : List ℕ) → D.reads disk.old c → IsUndamaged journal.old.limit 0 c
+    ensures undamaged { OnOk result ((c : List ℕ) → (D.disk disk.old).reads c
+        → IsUndamaged journal.old.limit 0 c
         → IsUndamaged journal.old.limit journal.new.end c) }
     ensures behind { OnOk result (1 ≤ journal.new.end) }
-    ensures reading { OnOk result (IsReading journal.old.limit journal.new (D.reads disk.new)
-        (D.may_leave disk.new)) }
-    ensures foreign { IfErr result (λ why. OnForeign why (λ n. (n ≡ 0) × ((c : List ℕ) → D.reads disk.old c
+    ensures reading { OnOk result (IsReading journal.old.limit journal.new (D.disk disk.new)) }
+    ensures foreign { IfErr result (λ why. OnForeign why (λ n. (n ≡ 0) × ((c : List ℕ)
+        → (D.disk disk.old).reads c
         → LacksOpening (content c)))) }
     ensures damaged { IfErr result (λ why. OnDamaged why (λ n. (n ≡ 0)
-        × StandsDamaged journal.old.limit 0 (D.reads disk.old))) }
+        × StandsDamaged journal.old.limit 0 (D.disk disk.old).reads)) }
     ensures cause { IfErr result IsOfReopen }
-    ensures counts { Counts (D.Counted.count disk.old) (D.Counted.count disk.new) result }
-    ensures untouched { IsUntouched (D.reads disk.old) (D.reads disk.new) (D.may_leave disk.old)
-        (D.may_leave disk.new) }
+    ensures counts { Counts (D.Counted.seen disk.old).faults (D.Counted.seen disk.new).faults result }
+    ensures untouched { IsUntouched (D.disk disk.old) (D.disk disk.new) }
 {
     let mut room = [0; RECORD_MAX];
     match journal.next(disk, &mut room) {
@@ -71,25 +71,23 @@ fn replay_next<D: Disk>(
     core: &mut Core,
     number: u64,
 ) -> Result<bool, KeepFault>
-    requires reading { IsReading journal.old.limit journal.old (D.reads disk.old) (D.may_leave disk.old) }
+    requires reading { IsReading journal.old.limit journal.old (D.disk disk.old) }
     ensures stepped { result ≡ Ok true
-        → StepsOnce journal.old.end journal.new.end core.old core.new (D.reads disk.old) }
+        → StepsOnce journal.old.end journal.new.end core.old core.new (D.disk disk.old).reads }
     ensures longer { result ≡ Ok true → journal.old.end < journal.new.end }
     ensures within { result ≡ Ok true → journal.new.end < journal.old.limit }
-    ensures undamaged { result ≡ Ok true → (c : List ℕ) → D.reads disk.old c
+    ensures undamaged { result ≡ Ok true → (c : List ℕ) → (D.disk disk.old).reads c
         → IsUndamaged journal.old.limit journal.old.end c → IsUndamaged journal.old.limit journal.new.end c }
     ensures ended { result ≡ Ok false → (core.new ≡ core.old) × (journal.new ≡ at_end journal.old)
-        × ((c : List ℕ) → D.reads disk.old c → records_from journal.old.end c ≡ []) }
-    ensures reading { OnOk result (IsReading journal.old.limit journal.new (D.reads disk.new)
-        (D.may_leave disk.new)) }
+        × ((c : List ℕ) → (D.disk disk.old).reads c → records_from journal.old.end c ≡ []) }
+    ensures reading { OnOk result (IsReading journal.old.limit journal.new (D.disk disk.new)) }
     ensures foreign { IfErr result (λ why. OnForeign why (λ n. (n ≡ number)
-        × StandsForeign journal.old.end (D.reads disk.old))) }
+        × StandsForeign journal.old.end (D.disk disk.old).reads)) }
     ensures damaged { IfErr result (λ why. OnDamaged why (λ n. (n ≡ journal.old.end)
-        × StandsDamaged journal.old.limit journal.old.end (D.reads disk.old))) }
+        × StandsDamaged journal.old.limit journal.old.end (D.disk disk.old).reads)) }
     ensures cause { IfErr result IsOfReopen }
-    ensures counts { Counts (D.Counted.count disk.old) (D.Counted.count disk.new) result }
-    ensures untouched { IsUntouched (D.reads disk.old) (D.reads disk.new) (D.may_leave disk.old)
-        (D.may_leave disk.new) }
+    ensures counts { Counts (D.Counted.seen disk.old).faults (D.Counted.seen disk.new).faults result }
+    ensures untouched { IsUntouched (D.disk disk.old) (D.disk disk.new) }
     ensures settings { settings_of core.new ≡ settings_of core.old }
     ensures role { role_of core.new ≡ role_of core.old }
 {
@@ -110,23 +108,21 @@ pub(crate) fn replay<D: Disk>(
     disk: &mut D,
     core: &mut Core,
 ) -> Result<(), KeepFault>
-    requires reading { IsReading journal.old.limit journal.old (D.reads disk.old) (D.may_leave disk.old) }
+    requires reading { IsReading journal.old.limit journal.old (D.disk disk.old) }
     requires behind { 1 ≤ journal.old.end }
     requires limit { journal.old.limit ≤ 2 ^ 62 }
     ensures all { OnOk result ((frames : List Handed) × AllFrames frames
-        × (core.new ≡ fold_from core.old frames) × ((c : List ℕ) → D.reads disk.old c
+        × (core.new ≡ fold_from core.old frames) × ((c : List ℕ) → (D.disk disk.old).reads c
         → records_from journal.old.end c ≡ map frame_record frames)) }
     ensures ready { OnOk result (journal.new.ready ≡ true) }
-    ensures reading { OnOk result (IsReading journal.old.limit journal.new (D.reads disk.new)
-        (D.may_leave disk.new)) }
+    ensures reading { OnOk result (IsReading journal.old.limit journal.new (D.disk disk.new)) }
     ensures foreign { IfErr result (λ why. OnForeign why (λ n.
-        EndsForeign n journal.old.end (D.reads disk.old))) }
+        EndsForeign n journal.old.end (D.disk disk.old).reads)) }
     ensures damaged { IfErr result (λ why. OnDamaged why (λ n.
-        EndsDamaged journal.old.limit n journal.old.end (D.reads disk.old))) }
+        EndsDamaged journal.old.limit n journal.old.end (D.disk disk.old).reads)) }
     ensures cause { IfErr result IsOfReopen }
-    ensures counts { Counts (D.Counted.count disk.old) (D.Counted.count disk.new) result }
-    ensures untouched { IsUntouched (D.reads disk.old) (D.reads disk.new) (D.may_leave disk.old)
-        (D.may_leave disk.new) }
+    ensures counts { Counts (D.Counted.seen disk.old).faults (D.Counted.seen disk.new).faults result }
+    ensures untouched { IsUntouched (D.disk disk.old) (D.disk disk.new) }
     ensures settings { settings_of core.new ≡ settings_of core.old }
     ensures role { role_of core.new ≡ role_of core.old }
 {

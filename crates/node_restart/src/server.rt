@@ -2,6 +2,7 @@
 ghost use Rattle.std.specs.Prelude.{◌≡◌, ◌↔◌, ◌<◌, ◌≤◌, IfOk, IfSome, IsNone, Some, None, length, take, drop, option_map};
 ghost use Rattle.express_words.specs.Limits.{KeepsLimits};
 ghost use Rattle.frame_rules.specs.Spelling.{spelling};
+ghost use Rattle.frame_rules.specs.Room.{HasRoom};
 ghost use Rattle.leader_core.specs.Told.{sent_length};
 ghost use Rattle.node_restart.specs.Openings.{IsOpening};
 ghost use Rattle.node_restart.specs.Steps.{opened, step_of, settings_of, role_of, share_in, resent_by, IsOldest, Takes};
@@ -43,7 +44,7 @@ impl Core {
 
     /// Takes one step.
     pub(crate) fn step(&mut self, sender: Sender, frame: &[u8], out: &mut [u8]) -> Did
-        requires room { 8213 ≤ length out.old }
+        requires room { HasRoom out.old }
         ensures takes { Takes (step_of self.old sender frame.now) self.new result out.old out.new }
         ensures settings { settings_of self.new ≡ settings_of self.old }
         ensures role { role_of self.new ≡ role_of self.old }
@@ -62,7 +63,7 @@ impl Core {
 
     /// Writes the leader's oldest outstanding command again.
     pub(crate) fn resend(&self, out: &mut [u8]) -> Option<(u64, usize)>
-        requires room { 8213 ≤ length out.old }
+        requires room { HasRoom out.old }
         ensures none { IsNone result ↔ (resent_by self.now ≡ None) }
         ensures number { IfSome result (λ x. IsOldest self.now x.0) }
         ensures length { IfSome result (λ x. option_map (λ c. length (spelling c)) (resent_by self.now)

@@ -1,5 +1,6 @@
 //! One step of the leader or of the helper.
 ghost use Rattle.std.specs.Prelude.{◌≡◌, ◌≤◌, length};
+ghost use Rattle.frame_rules.specs.Room.{HasRoom};
 ghost use Rattle.node_restart.specs.Steps.{lead_client, lead_peer, help_client, help_peer, Takes};
 
 use crate::did::Did;
@@ -11,7 +12,7 @@ use server_steps::{carry_command, take_request};
 /// A client's frame at the leader.
 #[tactic(auto, unfolding(crate::specs::Steps::lead_client))]
 pub(crate) fn lead_client(leader: &mut Leader, frame: &[u8], out: &mut [u8]) -> Did
-    requires room { 8213 ≤ length out.old }
+    requires room { HasRoom out.old }
     ensures takes { Takes (lead_client leader.old frame.now) (Core.Lead leader.new) result out.old out.new }
     ensures settings { leader.new.settings ≡ leader.old.settings }
 {
@@ -21,7 +22,7 @@ pub(crate) fn lead_client(leader: &mut Leader, frame: &[u8], out: &mut [u8]) -> 
 /// Bytes of the helper at the leader.
 #[tactic(auto, unfolding(crate::specs::Steps::lead_peer))]
 pub(crate) fn lead_peer(leader: &mut Leader, frame: &[u8], out: &mut [u8]) -> Did
-    requires room { 8213 ≤ length out.old }
+    requires room { HasRoom out.old }
     ensures takes { Takes (lead_peer leader.old frame.now) (Core.Lead leader.new) result out.old out.new }
     ensures settings { leader.new.settings ≡ leader.old.settings }
 {
@@ -31,7 +32,7 @@ pub(crate) fn lead_peer(leader: &mut Leader, frame: &[u8], out: &mut [u8]) -> Di
 /// A client's frame at the helper.
 #[tactic(auto, unfolding(crate::specs::Steps::help_client))]
 pub(crate) fn help_client(helper: &mut Helper, frame: &[u8], out: &mut [u8]) -> Did
-    requires room { 8213 ≤ length out.old }
+    requires room { HasRoom out.old }
     ensures takes { Takes (help_client helper.old frame.now) (Core.Help helper.new) result out.old out.new }
     ensures settings { helper.new.server.settings ≡ helper.old.server.settings }
 {
@@ -41,7 +42,7 @@ pub(crate) fn help_client(helper: &mut Helper, frame: &[u8], out: &mut [u8]) -> 
 /// Bytes of the leader at the helper.
 #[tactic(auto, unfolding(crate::specs::Steps::help_peer))]
 pub(crate) fn help_peer(helper: &mut Helper, frame: &[u8], out: &mut [u8]) -> Did
-    requires room { 8213 ≤ length out.old }
+    requires room { HasRoom out.old }
     ensures takes { Takes (help_peer helper.old frame.now) (Core.Help helper.new) result out.old out.new }
     ensures settings { helper.new.server.settings ≡ helper.old.server.settings }
 {

@@ -6,7 +6,7 @@ use Rattle.step_rules.specs.Leader.{Leader}
 use Rattle.node_serve.specs.Exchanging.{Exchange}
 use Rattle.node_serve.specs.Draining.{Breaks}
 use Rattle.node_serve.specs.Leading.{BreaksDown, IsSent, Leads, link_down}
-use Rattle.node_serve.specs.Serving.{IsPut, WritesReply}
+use Rattle.node_serve.specs.Serving.{IsPut, WritesTold}
 use Rattle.node_serve.specs.declared.exchanging.Broken.{Broken}
 use Rattle.node_serve.specs.declared.exchanging.Broken.TheVariants as broken
 use Rattle.node_serve.specs.declared.node.Served.{Served}
@@ -35,14 +35,14 @@ leads_down f a bytes b made count served.Ended reply down is = absurd (down_link
 leads_down f a bytes b made count (served.LinkFault n) reply down is = (down, is)
 leads_down f a bytes b made count served.LinkBad reply down is = (down, is)
 
-put_is : (sent : Served) (old new : Option (List ℕ)) (before now : ℕ) (reply : List ℕ) → IsSent sent → WritesReply sent old new before now reply → IsPut old new before now reply
+put_is : (sent : Served) (old new : Option (List ℕ)) (before now : ℕ) (reply : List ℕ) → IsSent sent → WritesTold sent old new before now reply → IsPut old new before now reply
 put_is served.Answered old new before now reply is w = inl w
 put_is (served.ConnFault count) old new before now reply is w = inr (w.0, w.1)
 put_is served.Ended old new before now reply is w = absurd is
 put_is (served.LinkFault count) old new before now reply is w = absurd is
 put_is served.LinkBad old new before now reply is w = absurd is
 
-pub writes_down : (why sent : Served) (old new : Option (List ℕ)) (before now : ℕ) (reply : List ℕ) → IsLink why → IsSent sent → WritesReply sent old new before now reply → WritesReply why old new before now reply
+pub writes_down : (why sent : Served) (old new : Option (List ℕ)) (before now : ℕ) (reply : List ℕ) → IsLink why → IsSent sent → WritesTold sent old new before now reply → WritesTold why old new before now reply
 writes_down served.Answered sent old new before now reply link is w = absurd link
 writes_down (served.ConnFault count) sent old new before now reply link is w = absurd link
 writes_down served.Ended sent old new before now reply link is w = absurd link

@@ -1,6 +1,7 @@
 -- One exchange with a peer, and the calls that it makes on a net.
 use Rattle.std.specs.Prelude.{◌≡◌, ◌⊎◌, ℕ, Bool, true, false, List, [], ◌∷◌, ◌++◌, length, take}
 use Rattle.std.specs.Prelude.{Option, Some, None, Result, Ok, Err}
+use Rattle.express_words.specs.Seen.{Seen}
 use Rattle.express_words.specs.Causes.{Rose}
 use Rattle.express_words.specs.Streams.{Stream, IsAtEnd, Took, TookPrefix}
 use Rattle.express_words.specs.Calls.{Call, Dialled, Closed, AddsClose}
@@ -62,9 +63,13 @@ CountBy (Err (broken.Fault count)) before now = Rose before now × (count ≡ no
 CountBy other before now = now ≡ before
 
 -- the last call closed a connection of which this is the content at its end
-abbrev pub ClosedAtEnd : Option (List Call) → Option Stream → Option (List ℕ) → ℕ → Type 0
-ClosedAtEnd calls content written count =
+abbrev pub ClosedAtEndTold : Option (List Call) → Option Stream → Option (List ℕ) → ℕ → Type 0
+ClosedAtEndTold calls content written count =
     IsAtEnd content × ((before : Option (List Call)) × AddsClose before calls content written count)
+
+-- the last call closed a connection that showed this, at the end of its content
+abbrev pub ClosedAtEnd : Option (List Call) → Seen → Type 0
+ClosedAtEnd calls conn = ClosedAtEndTold calls conn.content conn.written conn.faults
 
 -- the last call closed a whole connection whose bytes are only the front of a frame
 abbrev pub EndsShort : Option (List Call) → Type 0
@@ -73,7 +78,6 @@ EndsShort (Some calls) = (before : List Call) × (given : List ℕ) × (taken : 
     × (calls ≡ before ++ Closed given taken true ∷ []) × (decoded given ≡ Err Short)
 
 -- if so, that connection was at its end
-abbrev pub EarlyAtEnd : {C : Type 0} → Option (List Call) → (content : C → Option Stream) →
-    (written : C → Option (List ℕ)) → (count : C → ℕ) → Type 0
-EarlyAtEnd {C} calls content written count =
-    EndsShort calls → (conn : C) × ClosedAtEnd calls (content conn) (written conn) (count conn)
+abbrev pub EarlyAtEnd : {C : Type 0} → Option (List Call) → (C → Seen) → Type 0
+EarlyAtEnd {C} calls shown = EndsShort calls
+    → (conn : C) × ClosedAtEnd calls (shown conn)

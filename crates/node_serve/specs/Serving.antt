@@ -1,6 +1,7 @@
 -- One connection of a server.
 use Rattle.std.specs.Prelude.{◌≡◌, ◌⊎◌, ℕ, List, [], Option}
 use Rattle.express_words.specs.Causes.{Rose}
+use Rattle.express_words.specs.Seen.{Seen}
 use Rattle.express_words.specs.Streams.{Stream, Gave, IsAtEnd, Took, TookPrefix}
 use Rattle.express_words.specs.Calls.{Call}
 use Rattle.frame_rules.specs.Gathering.{gathered}
@@ -33,13 +34,17 @@ IsPut old new before now bytes =
     (Took old new bytes × (now ≡ before)) ⊎ (TookPrefix old new bytes × Rose before now)
 
 -- what was written of a reply, by the answer
-abbrev pub WritesReply : Served → Option (List ℕ) → Option (List ℕ) → (before now : ℕ) → List ℕ → Type 0
-WritesReply served.Answered old new before now reply = Took old new reply × (now ≡ before)
-WritesReply (served.ConnFault count) old new before now reply =
+abbrev pub WritesTold : Served → Option (List ℕ) → Option (List ℕ) → (before now : ℕ) → List ℕ → Type 0
+WritesTold served.Answered old new before now reply = Took old new reply × (now ≡ before)
+WritesTold (served.ConnFault count) old new before now reply =
     TookPrefix old new reply × Rose before now × (count ≡ now)
-WritesReply served.Ended old new before now reply = ⊥
-WritesReply (served.LinkFault count) old new before now reply = IsPut old new before now reply
-WritesReply served.LinkBad old new before now reply = IsPut old new before now reply
+WritesTold served.Ended old new before now reply = ⊥
+WritesTold (served.LinkFault count) old new before now reply = IsPut old new before now reply
+WritesTold served.LinkBad old new before now reply = IsPut old new before now reply
+
+-- likewise to a connection that showed this before and shows that now
+abbrev pub WritesReply : Served → (old new : Seen) → List ℕ → Type 0
+WritesReply why old new reply = WritesTold why old.written new.written old.faults new.faults reply
 
 abbrev pub IsHelper : Node → Type 0
 IsHelper (node.Help h) = Unit {0}

@@ -1,6 +1,7 @@
 //! The leader exchanges its outstanding commands with the helper.
 ghost use Rattle.std.specs.Prelude.{◌≡◌, ◌≢◌, ◌+◌, ◌<◌, ◌≤◌, List, ℕ, ◌∷◌, ◌++◌, [], length, take, drop, option_map, Some, None, Ok, IfOk, IfErr};
 ghost use Rattle.frame_rules.specs.Spelling.{spelling};
+ghost use Rattle.frame_rules.specs.Room.{HasRoom};
 ghost use Rattle.step_rules.specs.Leader.{Ignored};
 ghost use Rattle.step_rules.specs.LeaderReplies.{on_reply_bytes, resent};
 ghost use Rattle.node_serve.specs.Draining.{Drained, BreaksOff, ExchangesOn, Stand, stand, IsOldest, Replied, Unanswered, rounds_left, FaultBy};
@@ -21,17 +22,20 @@ fn exchange_one<N: Net>(
     size: usize,
     answer: &mut [u8],
 ) -> Result<usize, Served>
-    requires room { 8213 ≤ length out.old }
-    requires answer_room { 8213 ≤ length answer.old }
+    requires room { HasRoom out.old }
+    requires answer_room { HasRoom answer.old }
     requires within { size ≤ length out.old }
     requires oldest { IsOldest leader.old (take size out.old) }
-    ensures replied { IfOk result (λ n. Replied peer.now leader.old leader.new (take size out.old) (take n out.new) (N.calls net.old) (N.calls net.new)) }
+    ensures replied { IfOk result (λ n. Replied peer.now leader.old leader.new (take size out.old)
+        (take n out.new) (N.seen net.old).calls (N.seen net.new).calls) }
     ensures within { IfOk result (λ n. n ≤ length out.new) }
-    ensures nearer { IfOk result (λ n. rounds_left leader.new.outstanding < rounds_left leader.old.outstanding) }
-    ensures unanswered { IfErr result (Unanswered peer.now leader.old leader.new (take size out.old) (N.calls net.old) (N.calls net.new)) }
-    ensures early { IfErr result (λ why. why ≡ Served.LinkBad → EarlyAtEnd (N.calls net.new) N.Conn.content N.Conn.written N.Conn.count) }
-    ensures fault { FaultBy result (N.count net.old) (N.count net.new) }
-    ensures door { N.doors net.new ≡ N.doors net.old }
+    ensures nearer { IfOk result
+        (λ n. rounds_left leader.new.outstanding < rounds_left leader.old.outstanding) }
+    ensures unanswered { IfErr result (Unanswered peer.now leader.old leader.new (take size out.old) (N.seen net.old).calls (N.seen net.new).calls) }
+    ensures early { IfErr result (λ why. why ≡ Served.LinkBad
+        → EarlyAtEnd (N.seen net.new).calls N.Conn.seen) }
+    ensures fault { FaultBy result (N.seen net.old).faults (N.seen net.new).faults }
+    ensures door { (N.seen net.new).doors ≡ (N.seen net.old).doors }
 {
     let count = match exchange(net, peer, &out[..size], answer) {
         Ok(count) => count,
@@ -57,15 +61,20 @@ pub fn drain<N: Net>(
     told: usize,
     answer: &mut [u8],
 ) -> Result<usize, Served>
-    requires room { 8213 ≤ length out.old }
-    requires answer_room { 8213 ≤ length answer.old }
+    requires room { HasRoom out.old }
+    requires answer_room { HasRoom answer.old }
     requires within { told ≤ length out.old }
-    ensures drained { IfOk result (λ n. (end : Stand) × Drained (stand leader.old (take told out.old)) end × (leader.new ≡ end.leader) × (take n out.new ≡ end.reply) × ExchangesOn peer.now end.made (N.calls net.old) (N.calls net.new)) }
+    ensures drained { IfOk result (λ n. (end : Stand) × Drained (stand leader.old (take told out.old)) end
+        × (leader.new ≡ end.leader) × (take n out.new ≡ end.reply)
+        × ExchangesOn peer.now end.made (N.seen net.old).calls (N.seen net.new).calls) }
     ensures within { IfOk result (λ n. n ≤ length out.new) }
-    ensures broken { IfErr result (λ why. (made : List Exchange) × BreaksOff (stand leader.old (take told out.old)) leader.new made why × ExchangesOn peer.now made (N.calls net.old) (N.calls net.new)) }
-    ensures early { IfErr result (λ why. why ≡ Served.LinkBad → EarlyAtEnd (N.calls net.new) N.Conn.content N.Conn.written N.Conn.count) }
-    ensures fault { FaultBy result (N.count net.old) (N.count net.new) }
-    ensures door { N.doors net.new ≡ N.doors net.old }
+    ensures broken { IfErr result (λ why. (made : List Exchange)
+        × BreaksOff (stand leader.old (take told out.old)) leader.new made why
+        × ExchangesOn peer.now made (N.seen net.old).calls (N.seen net.new).calls) }
+    ensures early { IfErr result (λ why. why ≡ Served.LinkBad
+        → EarlyAtEnd (N.seen net.new).calls N.Conn.seen) }
+    ensures fault { FaultBy result (N.seen net.old).faults (N.seen net.new).faults }
+    ensures door { (N.seen net.new).doors ≡ (N.seen net.old).doors }
 {
     let mut reply = told;
     'draining: while let Some((_, size)) = leader.resend(out) {

@@ -3,6 +3,7 @@ ghost use Rattle.std.specs.Prelude.{◌≡◌, ◌≢◌, ℕ, ◌≤◌, List, 
 ghost use Rattle.express_words.specs.Causes.{Rose};
 ghost use Rattle.express_words.specs.Streams.{Gave, IsAtEnd, Took};
 ghost use Rattle.express_words.specs.Calls.{Call};
+ghost use Rattle.frame_rules.specs.Room.{HasRoom};
 ghost use Rattle.node_serve.specs.Exchanging.{Makes, IsExchange, Exchange, answer_in, CountBy, ClosedAtEnd, TakesFirst};
 ghost use Rattle.node_serve.specs.Texts.{broken_text};
 ghost use Rattle.node_serve.specs.Taking.{EndsBy, IsOneFrame, IsWanted};
@@ -37,17 +38,18 @@ impl fmt::Display for Broken {
 
 /// Sends the frame, and reads one.
 fn converse<C: Conn>(conn: &mut C, frame: &[u8], reply: &mut [u8]) -> (usize, Reading)
-    requires room { 8213 ≤ length reply.old }
+    requires room { HasRoom reply.old }
     ensures within { result.0 ≤ length reply.new }
     ensures small { result.0 ≤ 8213 }
-    ensures gave { Gave (C.content conn.old) (C.content conn.new) (take result.0 reply.new) }
+    ensures gave { Gave (C.seen conn.old).content (C.seen conn.new).content (take result.0 reply.new) }
     ensures wanted { IsWanted (take result.0 reply.new) }
     ensures ends { result.1 ≢ Reading.Failed → EndsBy result.1 (take result.0 reply.new) }
-    ensures end { result.1 ≡ Reading.Ended → IsAtEnd (C.content conn.new) }
-    ensures took { result.1 ≢ Reading.Failed → Took (C.written conn.old) (C.written conn.new) frame.now }
-    ensures first { TakesFirst (C.written conn.old) (C.written conn.new) frame.now (take result.0 reply.new) }
-    ensures cause { result.1 ≡ Reading.Failed → Rose (C.count conn.old) (C.count conn.new) }
-    ensures unfailed { result.1 ≢ Reading.Failed → C.count conn.new ≡ C.count conn.old }
+    ensures end { result.1 ≡ Reading.Ended → IsAtEnd (C.seen conn.new).content }
+    ensures took { result.1 ≢ Reading.Failed
+        → Took (C.seen conn.old).written (C.seen conn.new).written frame.now }
+    ensures first { TakesFirst (C.seen conn.old).written (C.seen conn.new).written frame.now (take result.0 reply.new) }
+    ensures cause { result.1 ≡ Reading.Failed → Rose (C.seen conn.old).faults (C.seen conn.new).faults }
+    ensures unfailed { result.1 ≢ Reading.Failed → (C.seen conn.new).faults ≡ (C.seen conn.old).faults }
 {
     if conn.put(frame).is_err() {
         return (0, Reading::Failed);
@@ -63,13 +65,15 @@ pub fn exchange<N: Net>(
     frame: &[u8],
     reply: &mut [u8],
 ) -> Result<usize, Broken>
-    requires room { 8213 ≤ length reply.old }
+    requires room { HasRoom reply.old }
     ensures frame { IfOk result (λ n. (n ≤ length reply.new) × IsOneFrame (take n reply.new)) }
     // One dial, and where it succeeded one close of its connection, after what that took and gave.
-    ensures calls { (calls : List Call) × Makes (N.calls net.old) (N.calls net.new) calls × IsExchange peer.now (record { sent = frame.now; answer = answer_in result reply.new }) calls }
-    ensures early { (n : ℕ) → result ≡ Err (Broken.Early n) → (conn : N.Conn) × ClosedAtEnd (N.calls net.new) (N.Conn.content conn) (N.Conn.written conn) (N.Conn.count conn) }
-    ensures fault { CountBy result (N.count net.old) (N.count net.new) }
-    ensures door { N.doors net.new ≡ N.doors net.old }
+    ensures calls { (calls : List Call) × Makes (N.seen net.old).calls (N.seen net.new).calls calls
+        × IsExchange peer.now (record { sent = frame.now; answer = answer_in result reply.new }) calls }
+    ensures early { (n : ℕ) → result ≡ Err (Broken.Early n) → (conn : N.Conn)
+        × ClosedAtEnd (N.seen net.new).calls (N.Conn.seen conn) }
+    ensures fault { CountBy result (N.seen net.old).faults (N.seen net.new).faults }
+    ensures door { (N.seen net.new).doors ≡ (N.seen net.old).doors }
 {
     let mut conn = match net.dial(peer) {
         Ok(conn) => conn,

@@ -1,6 +1,7 @@
 //! The helper takes its step.
 ghost use Rattle.std.specs.Prelude.{◌≡◌, ◌≤◌, length, take};
 ghost use Rattle.frame_rules.specs.Whole.{whole as whole_bytes};
+ghost use Rattle.frame_rules.specs.Room.{HasRoom};
 ghost use Rattle.node_serve.specs.Helping.{helper_step, is_from_leader};
 
 use helper_core::{Helper, LinkTurn};
@@ -20,7 +21,7 @@ pub fn is_from_leader(frame: &[u8]) -> bool
 /// Steps the helper with what a connection brought. Its answer stands at the front of `out`; its length is given, 0
 /// where a command is ignored.
 pub fn step_helper(helper: &mut Helper, frame: &[u8], out: &mut [u8]) -> usize
-    requires room { 8213 ≤ length out.old }
+    requires room { HasRoom out.old }
     ensures helper { helper.new ≡ (helper_step helper.old frame.now).helper }
     ensures within { result ≤ length out.new }
     ensures answer { take result out.new ≡ (helper_step helper.old frame.now).answer }

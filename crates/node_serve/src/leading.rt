@@ -3,6 +3,7 @@ ghost use Rattle.std.specs.Prelude.{◌≡◌, ◌+◌, ◌≤◌, List, ℕ, []
 ghost use Rattle.frame_rules.specs.Frames.{plain, plain_body};
 ghost use Rattle.frame_rules.specs.Spelling.{spelling, IsFrame};
 ghost use Rattle.frame_rules.specs.Whole.{whole as whole_bytes, is_from_client};
+ghost use Rattle.frame_rules.specs.Room.{HasRoom};
 ghost use Rattle.step_rules.specs.LeaderClients.{on_client};
 ghost use Rattle.node_serve.specs.Draining.{ExchangesOn, FaultBy};
 ghost use Rattle.node_serve.specs.Exchanging.{Exchange, EarlyAtEnd};
@@ -53,7 +54,7 @@ pub fn taken_in(bytes: &[u8]) -> Option<Frame<'_>>
 /// Steps the leader with what a connection brought. A reply that it gives at once stands at the front of `out`; its
 /// length is given, 0 where there is none yet.
 pub fn step_leader(leader: &mut Leader, frame: &[u8], out: &mut [u8]) -> usize
-    requires room { 8213 ≤ length out.old }
+    requires room { HasRoom out.old }
     ensures leader { leader.new ≡ (on_client leader.old frame.now).leader }
     ensures within { result ≤ length out.new }
     ensures reply { take result out.new ≡ reply_to (on_client leader.old frame.now).answer }
@@ -74,13 +75,18 @@ pub fn handle<N: Net>(
     net: &mut N,
     out: &mut [u8],
 ) -> Result<usize, Served>
-    requires room { 8213 ≤ length out.old }
-    ensures handled { IfOk result (λ n. (made : List Exchange) × Handles leader.old frame.now leader.new (take n out.new) made × ExchangesOn peer.now made (N.calls net.old) (N.calls net.new)) }
+    requires room { HasRoom out.old }
+    ensures handled { IfOk result (λ n. (made : List Exchange)
+        × Handles leader.old frame.now leader.new (take n out.new) made
+        × ExchangesOn peer.now made (N.seen net.old).calls (N.seen net.new).calls) }
     ensures within { IfOk result (λ n. n ≤ length out.new) }
-    ensures broken { IfErr result (λ why. (made : List Exchange) × BreaksDown leader.old frame.now leader.new made why × ExchangesOn peer.now made (N.calls net.old) (N.calls net.new)) }
-    ensures early { IfErr result (λ why. why ≡ Served.LinkBad → EarlyAtEnd (N.calls net.new) N.Conn.content N.Conn.written N.Conn.count) }
-    ensures fault { FaultBy result (N.count net.old) (N.count net.new) }
-    ensures door { N.doors net.new ≡ N.doors net.old }
+    ensures broken { IfErr result (λ why. (made : List Exchange)
+        × BreaksDown leader.old frame.now leader.new made why
+        × ExchangesOn peer.now made (N.seen net.old).calls (N.seen net.new).calls) }
+    ensures early { IfErr result (λ why. why ≡ Served.LinkBad
+        → EarlyAtEnd (N.seen net.new).calls N.Conn.seen) }
+    ensures fault { FaultBy result (N.seen net.old).faults (N.seen net.new).faults }
+    ensures door { (N.seen net.new).doors ≡ (N.seen net.old).doors }
 {
     let mut answer = [0u8; FRAME_MAX];
     match drain(leader, peer, net, out, 0, &mut answer) {
@@ -95,7 +101,7 @@ pub fn handle<N: Net>(
 /// written to the front of `out`.
 #[tactic(auto, using(frame_rules::proofs::GrammarLaws::spelling_limit))]
 pub fn say_link_down(frame: &Frame<'_>, count: u64, out: &mut [u8]) -> usize
-    requires room { 8213 ≤ length out.old }
+    requires room { HasRoom out.old }
     requires is_frame { IsFrame (plain frame.now) }
     requires class { is_from_client (plain_body frame.now.body) ≡ true }
     ensures within { result ≤ length out.new }

@@ -2,6 +2,7 @@
 ghost use Rattle.std.specs.Prelude.{◌≡◌, ◌≢◌, ◌+◌, ◌<◌, ◌≤◌, length, take, drop, IfOk, OnErr, []};
 ghost use Rattle.express_words.specs.Causes.{Rose, HasCause, CountsFault};
 ghost use Rattle.express_words.specs.Streams.{Gave, IsAtEnd};
+ghost use Rattle.frame_rules.specs.Room.{HasRoom};
 ghost use Rattle.node_serve.specs.Taking.{EndsBy, IsWanted};
 
 use crate::wanting::{Judged, judge};
@@ -32,29 +33,30 @@ fn take_behind<S: Source>(
     requires room { count + want ≤ length into.old }
     ensures bound { IfOk result (λ n. n ≤ want) }
     ensures stays { take count into.new ≡ take count into.old }
-    ensures gave { IfOk result (λ n. Gave (S.content source.old) (S.content source.new) (take n (drop count into.new))) }
-    ensures end { IfOk result (λ n. n ≡ 0 → IsAtEnd (S.content source.new)) }
-    ensures failed { OnErr result (Gave (S.content source.old) (S.content source.new) []) }
-    ensures writes_nothing { S.written source.new ≡ S.written source.old }
-    ensures cause { HasCause (S.count source.old) (S.count source.new) result }
-    ensures counts { CountsFault (S.count source.old) (S.count source.new) result }
+    ensures gave { IfOk result (λ n. Gave (S.seen source.old).content (S.seen source.new).content (take n
+        (drop count into.new))) }
+    ensures end { IfOk result (λ n. n ≡ 0 → IsAtEnd (S.seen source.new).content) }
+    ensures failed { OnErr result (Gave (S.seen source.old).content (S.seen source.new).content []) }
+    ensures writes_nothing { (S.seen source.new).written ≡ (S.seen source.old).written }
+    ensures cause { HasCause (S.seen source.old).faults (S.seen source.new).faults result }
+    ensures counts { CountsFault (S.seen source.old).faults (S.seen source.new).faults result }
 {
     source.take(&mut into[count..count + want])
 }
 
 /// Takes bytes into the front of `into` until they are a frame or known to be none. Gives how many were taken.
 pub fn read_frame<S: Source>(source: &mut S, into: &mut [u8]) -> (usize, Reading)
-    requires room { 8213 ≤ length into.old }
+    requires room { HasRoom into.old }
     ensures within { result.0 ≤ length into.new }
-    ensures gave { Gave (S.content source.old) (S.content source.new) (take result.0 into.new) }
+    ensures gave { Gave (S.seen source.old).content (S.seen source.new).content (take result.0 into.new) }
     ensures small { result.0 ≤ 8213 }
     ensures wanted { IsWanted (take result.0 into.new) }
     ensures ends { EndsBy result.1 (take result.0 into.new) }
-    ensures end { result.1 ≡ Reading.Ended → IsAtEnd (S.content source.new) }
-    ensures cause { result.1 ≡ Reading.Failed → Rose (S.count source.old) (S.count source.new) }
-    ensures unfailed { result.1 ≢ Reading.Failed → S.count source.new ≡ S.count source.old }
-    ensures later { S.count source.old ≤ S.count source.new }
-    ensures writes_nothing { S.written source.new ≡ S.written source.old }
+    ensures end { result.1 ≡ Reading.Ended → IsAtEnd (S.seen source.new).content }
+    ensures cause { result.1 ≡ Reading.Failed → Rose (S.seen source.old).faults (S.seen source.new).faults }
+    ensures unfailed { result.1 ≢ Reading.Failed → (S.seen source.new).faults ≡ (S.seen source.old).faults }
+    ensures later { (S.seen source.old).faults ≤ (S.seen source.new).faults }
+    ensures writes_nothing { (S.seen source.new).written ≡ (S.seen source.old).written }
 {
     let mut count = 0;
     'reading: loop {

@@ -25,12 +25,12 @@ use wire_frames::Gather;
 /// Reads one frame, of which `gather` holds then what is handed on.
 #[tactic(auto, using(crate::proofs::HeldLaws::ends_fed))]
 pub fn gather_frame<S: Source>(source: &mut S, gather: &mut Gather) -> Reading
-    ensures brings { Brings (S.content source.old) (S.content source.new) gather.new }
+    ensures brings { Brings (S.seen source.old).content (S.seen source.new).content gather.new }
     ensures ends { EndsBy result gather.new }
-    ensures end { result ≡ Reading.Ended → IsAtEnd (S.content source.new) }
-    ensures cause { result ≡ Reading.Failed → Rose (S.count source.old) (S.count source.new) }
-    ensures unfailed { result ≢ Reading.Failed → S.count source.new ≡ S.count source.old }
-    ensures writes_nothing { S.written source.new ≡ S.written source.old }
+    ensures end { result ≡ Reading.Ended → IsAtEnd (S.seen source.new).content }
+    ensures cause { result ≡ Reading.Failed → Rose (S.seen source.old).faults (S.seen source.new).faults }
+    ensures unfailed { result ≢ Reading.Failed → (S.seen source.new).faults ≡ (S.seen source.old).faults }
+    ensures writes_nothing { (S.seen source.new).written ≡ (S.seen source.old).written }
 {
     let mut taken = [0u8; FRAME_MAX];
     let (count, reading) = read_frame(source, &mut taken);
@@ -41,9 +41,9 @@ pub fn gather_frame<S: Source>(source: &mut S, gather: &mut Gather) -> Reading
 
 /// Writes a reply, if there is one. ConnFault has the connection's count of faults where that failed.
 pub fn send<C: Conn>(conn: &mut C, reply: &[u8]) -> Served
-    ensures writes { WritesReply result (C.written conn.old) (C.written conn.new) (C.count conn.old) (C.count conn.new) reply.now }
+    ensures writes { WritesReply result (C.seen conn.old) (C.seen conn.new) reply.now }
     ensures sent { IsSent result }
-    ensures content { C.content conn.new ≡ C.content conn.old }
+    ensures content { (C.seen conn.new).content ≡ (C.seen conn.old).content }
 {
     if reply.is_empty() {
         return Served::Answered;
@@ -56,9 +56,9 @@ pub fn send<C: Conn>(conn: &mut C, reply: &[u8]) -> Served
 
 fn serve_helper<C: Conn>(helper: &mut Helper, frame: &[u8], conn: &mut C) -> Served
     ensures helper { helper.new ≡ (helper_step helper.old frame.now).helper }
-    ensures writes { WritesReply result (C.written conn.old) (C.written conn.new) (C.count conn.old) (C.count conn.new) (helper_step helper.old frame.now).answer }
+    ensures writes { WritesReply result (C.seen conn.old) (C.seen conn.new) (helper_step helper.old frame.now).answer }
     ensures sent { IsSent result }
-    ensures content { C.content conn.new ≡ C.content conn.old }
+    ensures content { (C.seen conn.new).content ≡ (C.seen conn.old).content }
 {
     let mut out = [0u8; FRAME_MAX];
     let told = step_helper(helper, frame, &mut out);
@@ -72,11 +72,15 @@ fn serve_leader<C: Conn, N: Net>(
     conn: &mut C,
     net: &mut N,
 ) -> Served
-    ensures leads { (made : List Exchange) × ExchangesOn peer.now made (N.calls net.old) (N.calls net.new) × ((reply : List ℕ) × Leads (taken_in (whole frame.now)) leader.old frame.now leader.new made (N.count net.new) result reply × WritesReply result (C.written conn.old) (C.written conn.new) (C.count conn.old) (C.count conn.new) reply) }
-    ensures early { result ≡ Served.LinkBad → EarlyAtEnd (N.calls net.new) N.Conn.content N.Conn.written N.Conn.count }
-    ensures fault { FaultIn result (N.count net.old) (N.count net.new) }
-    ensures door { N.doors net.new ≡ N.doors net.old }
-    ensures content { C.content conn.new ≡ C.content conn.old }
+    ensures leads { (made : List Exchange)
+        × ExchangesOn peer.now made (N.seen net.old).calls (N.seen net.new).calls × ((reply : List ℕ)
+        × Leads (taken_in (whole frame.now)) leader.old frame.now leader.new made
+        (N.seen net.new).faults result reply
+        × WritesReply result (C.seen conn.old) (C.seen conn.new) reply) }
+    ensures early { result ≡ Served.LinkBad → EarlyAtEnd (N.seen net.new).calls N.Conn.seen }
+    ensures fault { FaultIn result (N.seen net.old).faults (N.seen net.new).faults }
+    ensures door { (N.seen net.new).doors ≡ (N.seen net.old).doors }
+    ensures content { (C.seen conn.new).content ≡ (C.seen conn.old).content }
 {
     let mut out = [0u8; FRAME_MAX];
     let client = match taken_in(frame) {
@@ -99,13 +103,17 @@ fn serve_leader<C: Conn, N: Net>(
 /// The server takes its step at bytes that are a frame, or known to be none.
 #[tactic(auto, using(crate::proofs::CompleteLaws::completed))]
 fn answer<C: Conn, N: Net>(node: &mut Node, frame: &[u8], conn: &mut C, net: &mut N) -> Served
-    ensures serves { (reply : List ℕ) × Serves node.old frame.now node.new (N.calls net.old) (N.calls net.new) (N.count net.new) result reply × WritesReply result (C.written conn.old) (C.written conn.new) (C.count conn.old) (C.count conn.new) reply }
-    ensures early { result ≡ Served.LinkBad → EarlyAtEnd (N.calls net.new) N.Conn.content N.Conn.written N.Conn.count }
-    ensures fault { FaultIn result (N.count net.old) (N.count net.new) }
-    ensures door { N.doors net.new ≡ N.doors net.old }
-    ensures content { C.content conn.new ≡ C.content conn.old }
+    ensures serves { (reply : List ℕ)
+        × Serves node.old frame.now node.new (N.seen net.old).calls (N.seen net.new).calls
+        (N.seen net.new).faults result reply
+        × WritesReply result (C.seen conn.old) (C.seen conn.new) reply }
+    ensures early { result ≡ Served.LinkBad → EarlyAtEnd (N.seen net.new).calls N.Conn.seen }
+    ensures fault { FaultIn result (N.seen net.old).faults (N.seen net.new).faults }
+    ensures door { (N.seen net.new).doors ≡ (N.seen net.old).doors }
+    ensures content { (C.seen conn.new).content ≡ (C.seen conn.old).content }
     ensures helper_rests { IsHelper node.old → net.new ≡ net.old }
-    ensures completes { NoneFailed (C.count conn.old) (C.count conn.new) → NoneFailed (N.count net.old) (N.count net.new) → IsComplete node.old result }
+    ensures completes { NoneFailed (C.seen conn.old).faults (C.seen conn.new).faults
+        → NoneFailed (N.seen net.old).faults (N.seen net.new).faults → IsComplete node.old result }
 {
     match node {
         Node::Lead(leader, peer) => serve_leader(leader, peer.as_str(), frame, conn, net),
@@ -122,23 +130,30 @@ pub fn serve_one<C: Conn, N: Net>(
     net: &mut N,
 ) -> Served
     // What is handed on is what was taken of the connection, up to the end of a frame or the byte at which it is wrong.
-    ensures brings { Brings (C.content conn.old) (C.content conn.new) gather.new }
+    ensures brings { Brings (C.seen conn.old).content (C.seen conn.new).content gather.new }
     // Where it ended or failed before that, nothing moves and nothing is written.
-    ensures cut { decoded gather.new ≡ Err Short → IsCut result (C.content conn.new) (C.count conn.old) (C.count conn.new) }
+    ensures cut { decoded gather.new ≡ Err Short
+        → IsCut result (C.seen conn.new).content (C.seen conn.old).faults (C.seen conn.new).faults }
     ensures stays { decoded gather.new ≡ Err Short → node.new ≡ node.old }
     ensures net_rests { decoded gather.new ≡ Err Short → net.new ≡ net.old }
-    ensures writes_nothing { decoded gather.new ≡ Err Short → C.written conn.new ≡ C.written conn.old }
+    ensures writes_nothing { decoded gather.new ≡ Err Short
+        → (C.seen conn.new).written ≡ (C.seen conn.old).written }
     // Else the server takes its step, and its reply is written.
-    ensures serves { decoded gather.new ≢ Err Short → (reply : List ℕ) × Serves node.old gather.new node.new (N.calls net.old) (N.calls net.new) (N.count net.new) result reply × WritesReply result (C.written conn.old) (C.written conn.new) (C.count conn.old) (C.count conn.new) reply }
+    ensures serves { decoded gather.new ≢ Err Short → (reply : List ℕ)
+        × Serves node.old gather.new node.new (N.seen net.old).calls (N.seen net.new).calls
+        (N.seen net.new).faults result reply
+        × WritesReply result (C.seen conn.old) (C.seen conn.new) reply }
     // LinkBad for an answer that ended early comes only where its connection has nothing left.
-    ensures early { result ≡ Served.LinkBad → EarlyAtEnd (N.calls net.new) N.Conn.content N.Conn.written N.Conn.count }
+    ensures early { result ≡ Served.LinkBad → EarlyAtEnd (N.seen net.new).calls N.Conn.seen }
     ensures helper_rests { IsHelper node.old → net.new ≡ net.old }
     // Where no call of the connection or the net failed, its frame is answered, unless a helper answered its leader
     // with what is no reply that fits.
-    ensures completes { decoded gather.new ≢ Err Short → NoneFailed (C.count conn.old) (C.count conn.new) → NoneFailed (N.count net.old) (N.count net.new) → IsComplete node.old result }
+    ensures completes { decoded gather.new ≢ Err Short
+        → NoneFailed (C.seen conn.old).faults (C.seen conn.new).faults
+        → NoneFailed (N.seen net.old).faults (N.seen net.new).faults → IsComplete node.old result }
     // The net's count rose exactly where its fault is told.
-    ensures fault { FaultIn result (N.count net.old) (N.count net.new) }
-    ensures door { N.doors net.new ≡ N.doors net.old }
+    ensures fault { FaultIn result (N.seen net.old).faults (N.seen net.new).faults }
+    ensures door { (N.seen net.new).doors ≡ (N.seen net.old).doors }
 {
     match gather_frame(conn, gather) {
         Reading::Failed => Served::ConnFault(conn.faults()),

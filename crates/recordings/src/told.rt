@@ -1,6 +1,7 @@
 //! A client, and what it says of the last frame that came to it. Its contracts hide what it holds.
 ghost use Rattle.std.specs.Prelude.{◌≡◌, ◌≤◌, length};
 ghost use Rattle.express_words.specs.Limits.{IsWidth};
+ghost use Rattle.frame_rules.specs.Room.{HasRoom};
 
 use crate::fault::Fault;
 use crate::fields::{address_of, bytes_of, first_of, number_of};
@@ -109,7 +110,7 @@ impl ToldClient {
     }
 
     fn sent(&self, out: &mut [u8]) -> Option<(u8, usize)>
-        requires room { 8213 ≤ length out.old }
+        requires room { HasRoom out.old }
     {
         self.client.send(out)
     }

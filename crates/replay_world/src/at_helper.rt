@@ -1,6 +1,7 @@
 //! Frames come to the helper.
 ghost use Rattle.std.specs.Prelude.{◌≡◌, ◌≤◌, [], ◌∷◌, ◌++◌, length, OnOk};
 ghost use Rattle.frame_rules.specs.Spelling.{spelling};
+ghost use Rattle.frame_rules.specs.Room.{HasRoom};
 ghost use Rattle.run_rules.specs.Letters.{letter, ToClient};
 ghost use Rattle.step_rules.specs.HelperClients.{on_client};
 ghost use Rattle.step_rules.specs.HelperCommands.{on_link_bytes};
@@ -24,7 +25,7 @@ pub fn frame_comes(
     frame: &[u8],
     out: &mut [u8],
 ) -> Result<(), NoMemory>
-    requires room { 8213 ≤ length out.old }
+    requires room { HasRoom out.old }
     ensures helper { helper.new ≡ (on_client helper.old frame.now).helper }
     ensures pool { OnOk result (pool_in pool.new.items ≡ pool_in pool.old.items
         ++ letter (ToClient (on_client helper.old frame.now).reply.lane) (spelling (on_client helper.old frame.now).reply) ∷ []) }
@@ -44,10 +45,13 @@ pub fn command_comes(
     frame: &[u8],
     out: &mut [u8],
 ) -> Result<(), NoMemory>
-    requires room { 8213 ≤ length out.old }
+    requires room { HasRoom out.old }
     ensures helper { helper.new ≡ (on_link_bytes helper.old frame.now).helper }
-    ensures journal { OnOk result (journal_in journal.new.items ≡ journal_in journal.old.items ++ noted frame.now (on_link_bytes helper.old frame.now).answer) }
-    ensures pool { OnOk result (pool_in pool.new.items ≡ pool_in pool.old.items ++ replied (on_link_bytes helper.old frame.now).answer) }
+    ensures journal { OnOk result
+        (journal_in journal.new.items ≡ journal_in journal.old.items ++ noted frame.now
+        (on_link_bytes helper.old frame.now).answer) }
+    ensures pool { OnOk result (pool_in pool.new.items ≡ pool_in pool.old.items ++ replied
+        (on_link_bytes helper.old frame.now).answer) }
     ensures settings { helper.new.server.settings ≡ helper.old.server.settings }
 {
     match carry_command(helper, frame, out) {

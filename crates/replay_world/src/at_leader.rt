@@ -1,5 +1,6 @@
 //! Frames come to the leader.
 ghost use Rattle.std.specs.Prelude.{◌≡◌, ◌≤◌, ◌++◌, length, OnOk};
+ghost use Rattle.frame_rules.specs.Room.{HasRoom};
 ghost use Rattle.run_rules.specs.Run.{answer_letters, ack_letters, command_letters};
 ghost use Rattle.step_rules.specs.LeaderClients.{on_client};
 ghost use Rattle.step_rules.specs.LeaderReplies.{on_reply_bytes, resent};
@@ -20,9 +21,10 @@ pub fn frame_comes(
     frame: &[u8],
     out: &mut [u8],
 ) -> Result<(), NoMemory>
-    requires room { 8213 ≤ length out.old }
+    requires room { HasRoom out.old }
     ensures leader { leader.new ≡ (on_client leader.old frame.now).leader }
-    ensures pool { OnOk result (pool_in pool.new.items ≡ pool_in pool.old.items ++ answer_letters (on_client leader.old frame.now).answer) }
+    ensures pool { OnOk result (pool_in pool.new.items ≡ pool_in pool.old.items ++ answer_letters
+        (on_client leader.old frame.now).answer) }
     ensures settings { leader.new.settings ≡ leader.old.settings }
 {
     match take_request(leader, frame, out) {
@@ -43,9 +45,10 @@ pub fn reply_comes(
     frame: &[u8],
     out: &mut [u8],
 ) -> Result<(), NoMemory>
-    requires room { 8213 ≤ length out.old }
+    requires room { HasRoom out.old }
     ensures leader { leader.new ≡ (on_reply_bytes leader.old frame.now).leader }
-    ensures pool { OnOk result (pool_in pool.new.items ≡ pool_in pool.old.items ++ ack_letters (on_reply_bytes leader.old frame.now).ack) }
+    ensures pool { OnOk result (pool_in pool.new.items ≡ pool_in pool.old.items ++ ack_letters
+        (on_reply_bytes leader.old frame.now).ack) }
     ensures settings { leader.new.settings ≡ leader.old.settings }
 {
     match leader.on_link_reply(frame, out) {
@@ -62,8 +65,9 @@ pub fn tick(
     pool: &mut Vec<Letter>,
     out: &mut [u8],
 ) -> Result<(), NoMemory>
-    requires room { 8213 ≤ length out.old }
-    ensures pool { OnOk result (pool_in pool.new.items ≡ pool_in pool.old.items ++ command_letters (resent leader.now)) }
+    requires room { HasRoom out.old }
+    ensures pool { OnOk result (pool_in pool.new.items ≡ pool_in pool.old.items ++ command_letters
+        (resent leader.now)) }
 {
     match leader.resend(out) {
         None => Ok(()),

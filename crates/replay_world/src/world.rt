@@ -58,7 +58,8 @@ impl World {
     /// One more event. The servers, the clients and the pool move by the step of the run that it is.
     pub fn event(&mut self, alloc: Global, event: &Event) -> Result<(), NoMemory>
         requires whole { IsWhole self.old }
-        requires rules { KeepsRulesAfter (played self.old).header.settings (played self.old).events event.now }
+        requires rules { KeepsRulesAfter (played self.old).header.settings
+            (played self.old).events event.now }
         ensures schedule { OnOk result (played self.new ≡ with_event (played self.old) event.now) }
         ensures moved { OnOk result (stands self.new ≡ happens (stands self.old) (event_in event.now)) }
         ensures whole { OnOk result (IsWhole self.new) }
@@ -108,12 +109,13 @@ impl World {
     /// was.
     pub fn put<K: Sink>(&self, alloc: Global, out: &mut K) -> Result<(), PutFault>
         requires { IsWhole self.now }
-        ensures ok { OnOk result (Took (K.written out.old) (K.written out.new) (output_of (played self.now))) }
-        ensures failed { result ≡ Err PutFault.Failed → TookPrefix (K.written out.old) (K.written out.new) (output_of (played self.now)) }
+        ensures ok { OnOk result (Took (K.seen out.old).written (K.seen out.new).written (output_of (played self.now))) }
+        ensures failed { result ≡ Err PutFault.Failed
+            → TookPrefix (K.seen out.old).written (K.seen out.new).written (output_of (played self.now)) }
         ensures memory { result ≡ Err PutFault.NoMemory → out.new ≡ out.old }
-        ensures later { K.count out.old ≤ K.count out.new }
-        ensures cause { result ≡ Err PutFault.Failed → Rose (K.count out.old) (K.count out.new) }
-        ensures unfailed { OnOk result (K.count out.new ≡ K.count out.old) }
+        ensures later { (K.seen out.old).faults ≤ (K.seen out.new).faults }
+        ensures cause { result ≡ Err PutFault.Failed → Rose (K.seen out.old).faults (K.seen out.new).faults }
+        ensures unfailed { OnOk result ((K.seen out.new).faults ≡ (K.seen out.old).faults) }
     {
         match self.text(alloc) {
             Err(_) => Err(PutFault::NoMemory),

@@ -1,5 +1,6 @@
 //! A leader or a helper. Its contracts hide what it holds, since only what it writes is compared.
 ghost use Rattle.std.specs.Prelude.{◌≤◌, length};
+ghost use Rattle.frame_rules.specs.Room.{HasRoom};
 
 use express_words::outside::{MemoryConn, MemoryNet};
 use express_words::{Settings, Text};
@@ -66,7 +67,7 @@ impl Server {
     }
 
     fn resend(&self, out: &mut [u8]) -> usize
-        requires room { 8213 ≤ length out.old }
+        requires room { HasRoom out.old }
     {
         match &self.node {
             Node::Help(_) => 0,

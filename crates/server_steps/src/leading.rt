@@ -1,5 +1,6 @@
 //! The leader takes a client's frame.
 ghost use Rattle.std.specs.Prelude.{◌≡◌, ◌<◌, ◌≤◌, length, take, drop};
+ghost use Rattle.frame_rules.specs.Room.{HasRoom};
 ghost use Rattle.step_rules.specs.Leader.{written};
 ghost use Rattle.step_rules.specs.LeaderClients.{on_client};
 ghost use Rattle.leader_core.specs.Awaited.{RowsAwait, TellsAwaited};
@@ -15,11 +16,13 @@ fn take_counted<L: Ledger>(blank: Blank, leader: &mut Leader, frame: &[u8], out:
     requires name { blank.name ≡ L.name }
     requires parts { blank.parts ≡ L.parts }
     requires shared { 0 < blank.parts }
-    requires room { 8213 ≤ length out.old }
+    requires room { HasRoom out.old }
     ensures leader { leader.new ≡ (on_client leader.old frame.now).leader }
     ensures turn { result ≡ turned (on_client leader.old frame.now).answer }
-    ensures written { take (length (written (on_client leader.old frame.now).answer)) out.new ≡ written (on_client leader.old frame.now).answer }
-    ensures rest { drop (length (written (on_client leader.old frame.now).answer)) out.new ≡ drop (length (written (on_client leader.old frame.now).answer)) out.old }
+    ensures written { take (length (written (on_client leader.old frame.now).answer)) out.new ≡ written
+        (on_client leader.old frame.now).answer }
+    ensures rest { drop (length (written (on_client leader.old frame.now).answer)) out.new ≡ drop (length
+        (written (on_client leader.old frame.now).answer)) out.old }
     ensures settings { leader.new.settings ≡ leader.old.settings }
     ensures awaits { TellsAwaited leader.old frame.now result }
     ensures rows { RowsAwait leader.new }
@@ -31,11 +34,13 @@ fn take_counted<L: Ledger>(blank: Blank, leader: &mut Leader, frame: &[u8], out:
 /// A client's frame: writes one reply or one new command to the front of `out`, or nothing where the lane's own command
 /// is outstanding. Any bytes get an answer.
 pub fn take_request(leader: &mut Leader, frame: &[u8], out: &mut [u8]) -> Turn
-    requires room { 8213 ≤ length out.old }
+    requires room { HasRoom out.old }
     ensures leader { leader.new ≡ (on_client leader.old frame.now).leader }
     ensures turn { result ≡ turned (on_client leader.old frame.now).answer }
-    ensures written { take (length (written (on_client leader.old frame.now).answer)) out.new ≡ written (on_client leader.old frame.now).answer }
-    ensures rest { drop (length (written (on_client leader.old frame.now).answer)) out.new ≡ drop (length (written (on_client leader.old frame.now).answer)) out.old }
+    ensures written { take (length (written (on_client leader.old frame.now).answer)) out.new ≡ written
+        (on_client leader.old frame.now).answer }
+    ensures rest { drop (length (written (on_client leader.old frame.now).answer)) out.new ≡ drop (length
+        (written (on_client leader.old frame.now).answer)) out.old }
     ensures settings { leader.new.settings ≡ leader.old.settings }
     // The command that a client is told to wait for is outstanding.
     ensures awaits { TellsAwaited leader.old frame.now result }

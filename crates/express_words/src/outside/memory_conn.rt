@@ -2,6 +2,7 @@
 ghost use Rattle.std.specs.Prelude.{◌≡◌, ℕ, ◌-◌, ◌<◌, ◌≤◌, ◌⊎◌, ◌↔◌, min, [], ◌++◌, length, take, drop, Some, IfOk, OnOk, OnErr, IsErr};
 ghost use Rattle.express_words.specs.Causes.{HasCause, CountsFault};
 ghost use Rattle.express_words.specs.Streams.{Gave, IsAtEnd, Took, TookPrefix};
+ghost use Rattle.express_words.specs.Seen.{streaming};
 ghost use Rattle.express_words.specs.Memory.{ConnState, IsListed, started, advanced, passed, failed, fresh};
 
 use crate::NoMemory;
@@ -35,7 +36,8 @@ impl MemoryConn {
         room: usize,
         failing: &[u64],
     ) -> Result<MemoryConn, NoMemory>
-        ensures { IfOk result (λ c. c ≡ record { content = record { given = []; left = bytes.now }; written = []; room = room; tally = started failing.now }) }
+        ensures { IfOk result
+            (λ c. c ≡ record { content = record { given = []; left = bytes.now }; written = []; room = room; tally = started failing.now }) }
     {
         Ok(MemoryConn {
             input: Input::new(alloc, bytes)?,
@@ -69,11 +71,7 @@ impl MemoryConn {
 }
 
 impl Counted for MemoryConn {
-    ghost count = { λ c. c.tally.faults };
-
-    ghost content = { λ c. Some c.content };
-
-    ghost written = { λ c. Some c.written };
+    ghost seen = { λ c. streaming (Some c.content) (Some c.written) c.tally.faults };
 
     fn faults(&self) -> u64 {
         self.calls.faults()
@@ -84,7 +82,8 @@ impl Source for MemoryConn {
     /// Gives as many bytes as are left and fit. A call that fails changes nothing but the counts.
     fn take(&mut self, buf: &mut [u8]) -> Result<usize, Failed>
         ensures bound { IfOk result (λ n. n ≤ length buf.new) }
-        ensures gave { IfOk result (λ n. Gave (Some self.old.content) (Some self.new.content) (take n buf.new)) }
+        ensures gave { IfOk result (λ n. Gave (Some self.old.content) (Some self.new.content)
+            (take n buf.new)) }
         ensures end { IfOk result (λ n. n ≡ 0 → 0 < length buf.old → IsAtEnd (Some self.new.content)) }
         ensures failed { OnErr result (Gave (Some self.old.content) (Some self.new.content) []) }
         ensures writes_nothing { self.new.written ≡ self.old.written }
@@ -93,8 +92,10 @@ impl Source for MemoryConn {
         ensures fails { IsErr result ↔ IsListed self.old.tally }
         ensures amount { IfOk result (λ n. n ≡ min (length self.old.content.left) (length buf.old)) }
         ensures copied { IfOk result (λ n. buf.new ≡ take n self.old.content.left ++ drop n buf.old) }
-        ensures after { IfOk result (λ n. self.new ≡ record { content = advanced n self.old.content; written = self.old.written; room = self.old.room; tally = passed self.old.tally }) }
-        ensures stays { OnErr result ((self.new ≡ record { content = self.old.content; written = self.old.written; room = self.old.room; tally = failed self.old.tally }) × (buf.new ≡ buf.old)) }
+        ensures after { IfOk result
+            (λ n. self.new ≡ record { content = advanced n self.old.content; written = self.old.written; room = self.old.room; tally = passed self.old.tally }) }
+        ensures stays { OnErr result
+            ((self.new ≡ record { content = self.old.content; written = self.old.written; room = self.old.room; tally = failed self.old.tally }) × (buf.new ≡ buf.old)) }
     {
         if self.calls.begin() {
             self.calls.fail();
@@ -113,8 +114,10 @@ impl Sink for MemoryConn {
         ensures cause { HasCause self.old.tally.faults self.new.tally.faults result }
         ensures counts { CountsFault self.old.tally.faults self.new.tally.faults result }
         ensures fails { IsErr result ↔ (IsListed self.old.tally ⊎ (self.old.room < length bytes.now)) }
-        ensures after { OnOk result (self.new ≡ record { content = self.old.content; written = self.old.written ++ bytes.now; room = self.old.room - length bytes.now; tally = passed self.old.tally }) }
-        ensures stays { OnErr result (self.new ≡ record { content = self.old.content; written = self.old.written; room = self.old.room; tally = failed self.old.tally }) }
+        ensures after { OnOk result
+            (self.new ≡ record { content = self.old.content; written = self.old.written ++ bytes.now; room = self.old.room - length bytes.now; tally = passed self.old.tally }) }
+        ensures stays { OnErr result
+            (self.new ≡ record { content = self.old.content; written = self.old.written; room = self.old.room; tally = failed self.old.tally }) }
     {
         if self.calls.begin() || !self.output.hold(bytes) {
             self.calls.fail();

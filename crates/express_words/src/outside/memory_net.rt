@@ -3,6 +3,7 @@ ghost use Rattle.std.specs.Prelude.{◌≡◌, ◌≢◌, ℕ, ◌<◌, ◌≤�
 ghost use Rattle.express_words.specs.Causes.{HasCause, CountsFault, CountsFailure, Rose, next};
 ghost use Rattle.express_words.specs.Streams.{Stream};
 ghost use Rattle.express_words.specs.Calls.{Call, Listened, Accepted, Dialled, Adds, GivesTelling, AddsClose};
+ghost use Rattle.express_words.specs.Seen.{netted};
 ghost use Rattle.express_words.specs.Memory.{NetState, ConnState, Ledger, LacksRoom, IsListed, started, passed, failed, faulted, noted, unnoted, NotesIfRoom, GivesFirst, lending, closing, told};
 
 use crate::NoMemory;
@@ -47,7 +48,8 @@ impl MemoryNet {
         text_bytes: usize,
         failing: &[u64],
     ) -> Result<MemoryNet, NoMemory>
-        ensures { IfOk result (λ n. n ≡ record { waiting = conns.items; ledger = record { calls = []; whole = true; room = calls; text_room = text_bytes; lent = 0; closed = [] }; tally = started failing.now; doors = 0 }) }
+        ensures { IfOk result
+            (λ n. n ≡ record { waiting = conns.items; ledger = record { calls = []; whole = true; room = calls; text_room = text_bytes; lent = 0; closed = [] }; tally = started failing.now; doors = 0 }) }
     {
         let mut waiting = conns;
         waiting.reverse();
@@ -75,11 +77,15 @@ impl MemoryNet {
 
     // An accept or a dial, but for the count at the door.
     fn connect(&mut self, door: Door, text: &str) -> Option<MemoryConn>
-        ensures fails { IsNone result ↔ (IsListed self.old.tally ⊎ (LacksRoom self.old.ledger 2 (length text.now) ⊎ (self.old.waiting ≡ []))) }
+        ensures fails { IsNone result ↔ (IsListed self.old.tally
+            ⊎ (LacksRoom self.old.ledger 2 (length text.now) ⊎ (self.old.waiting ≡ []))) }
         ensures gives { IfSome result (GivesFirst self.old.waiting self.new.waiting) }
-        ensures noted { OnSome result (self.new.ledger ≡ lending (noted (call_of door text.now false) (length text.now) self.old.ledger)) }
-        ensures passed { OnSome result ((self.new.tally ≡ passed self.old.tally) × (self.new.doors ≡ self.old.doors)) }
-        ensures failed { IfNone result (self.new ≡ record { waiting = self.old.waiting; ledger = self.new.ledger; tally = failed self.old.tally; doors = self.old.doors }) }
+        ensures noted { OnSome result (self.new.ledger ≡ lending (noted (call_of door text.now false)
+            (length text.now) self.old.ledger)) }
+        ensures passed { OnSome result ((self.new.tally ≡ passed self.old.tally)
+            × (self.new.doors ≡ self.old.doors)) }
+        ensures failed { IfNone result
+            (self.new ≡ record { waiting = self.old.waiting; ledger = self.new.ledger; tally = failed self.old.tally; doors = self.old.doors }) }
         ensures later { self.old.tally.faults ≤ self.new.tally.faults }
         ensures notes_failure { IfNone result (NotesIfRoom (call_of door text.now true) (length text.now) self.old.ledger self.new.ledger) }
     {
@@ -97,7 +103,7 @@ impl MemoryNet {
 }
 
 impl Counted for MemoryNet {
-    ghost count = { λ n. n.tally.faults };
+    ghost seen = { λ n. netted (told n.ledger) n.tally.faults n.doors };
 
     fn faults(&self) -> u64 {
         self.calls.faults()
@@ -107,10 +113,6 @@ impl Counted for MemoryNet {
 impl Net for MemoryNet {
     type Conn = MemoryConn;
 
-    ghost calls = { λ n. told n.ledger };
-
-    ghost doors = { λ n. n.doors };
-
     /// A call that fails changes nothing but the counts and the notes.
     fn listen(&mut self, at: &str) -> Result<(), Failed>
         ensures call { Adds (told self.old.ledger) (told self.new.ledger) (Listened at.now (is_err result)) }
@@ -118,9 +120,18 @@ impl Net for MemoryNet {
         ensures cause { HasCause self.old.tally.faults self.new.tally.faults result }
         ensures counts { CountsFault self.old.tally.faults self.new.tally.faults result }
         ensures fails { IsErr result ↔ (IsListed self.old.tally ⊎ LacksRoom self.old.ledger 1 (length at.now)) }
-        ensures after { OnOk result (self.new ≡ record { waiting = self.old.waiting; ledger = noted (Listened at.now false) (length at.now) self.old.ledger; tally = passed self.old.tally; doors = self.old.doors }) }
-        ensures stays { OnErr result (self.new ≡ record { waiting = self.old.waiting; ledger = self.new.ledger; tally = failed self.old.tally; doors = next self.old.doors }) }
-        ensures notes_failure { OnErr result (NotesIfRoom (Listened at.now true) (length at.now) self.old.ledger self.new.ledger) }
+        ensures after { OnOk result (self.new ≡ record {
+          waiting = self.old.waiting;
+          ledger = noted
+              (Listened at.now false)
+              (length at.now) self.old.ledger;
+          tally = passed self.old.tally;
+          doors = self.old.doors;
+        }) }
+        ensures stays { OnErr result
+            (self.new ≡ record { waiting = self.old.waiting; ledger = self.new.ledger; tally = failed self.old.tally; doors = next self.old.doors }) }
+        ensures notes_failure { OnErr result (NotesIfRoom (Listened at.now true)
+            (length at.now) self.old.ledger self.new.ledger) }
     {
         if self.calls.begin() || self.ledger.lacks_room(1, at) {
             self.calls.fail();
@@ -137,15 +148,24 @@ impl Net for MemoryNet {
         ensures whole { IfOk result (λ conn. conn.tally.faults ≡ 0) }
         ensures unread { IfOk result (λ conn. conn.content.given ≡ []) }
         ensures unwritten { IfOk result (λ conn. conn.written ≡ []) }
-        ensures tells { IfOk result (λ conn. GivesTelling (told self.new.ledger) (Some conn.content) (Some conn.written)) }
+        ensures tells { IfOk result (λ conn. GivesTelling (told self.new.ledger) (Some conn.content)
+            (Some conn.written)) }
         ensures call { Adds (told self.old.ledger) (told self.new.ledger) (Accepted (is_err result)) }
         ensures door { CountsFailure self.old.doors self.new.doors result }
         ensures cause { HasCause self.old.tally.faults self.new.tally.faults result }
         ensures counts { CountsFault self.old.tally.faults self.new.tally.faults result }
-        ensures fails { IsErr result ↔ (IsListed self.old.tally ⊎ (LacksRoom self.old.ledger 2 0 ⊎ (self.old.waiting ≡ []))) }
+        ensures fails { IsErr result ↔ (IsListed self.old.tally ⊎ (LacksRoom self.old.ledger 2 0
+            ⊎ (self.old.waiting ≡ []))) }
         ensures gives { IfOk result (GivesFirst self.old.waiting self.new.waiting) }
-        ensures after { OnOk result (self.new ≡ record { waiting = self.new.waiting; ledger = lending (noted (Accepted false) 0 self.old.ledger); tally = passed self.old.tally; doors = self.old.doors }) }
-        ensures stays { OnErr result (self.new ≡ record { waiting = self.old.waiting; ledger = self.new.ledger; tally = failed self.old.tally; doors = next self.old.doors }) }
+        ensures after { OnOk result (self.new ≡ record {
+          waiting = self.new.waiting;
+          ledger = lending
+              (noted (Accepted false) 0 self.old.ledger);
+          tally = passed self.old.tally;
+          doors = self.old.doors;
+        }) }
+        ensures stays { OnErr result
+            (self.new ≡ record { waiting = self.old.waiting; ledger = self.new.ledger; tally = failed self.old.tally; doors = next self.old.doors }) }
         ensures notes_failure { OnErr result (NotesIfRoom (Accepted true) 0 self.old.ledger self.new.ledger) }
     {
         match self.connect(Door::Accept, "") {
@@ -162,16 +182,27 @@ impl Net for MemoryNet {
         ensures whole { IfOk result (λ conn. conn.tally.faults ≡ 0) }
         ensures unread { IfOk result (λ conn. conn.content.given ≡ []) }
         ensures unwritten { IfOk result (λ conn. conn.written ≡ []) }
-        ensures tells { IfOk result (λ conn. GivesTelling (told self.new.ledger) (Some conn.content) (Some conn.written)) }
+        ensures tells { IfOk result (λ conn. GivesTelling (told self.new.ledger) (Some conn.content)
+            (Some conn.written)) }
         ensures call { Adds (told self.old.ledger) (told self.new.ledger) (Dialled peer.now (is_err result)) }
         ensures door { self.new.doors ≡ self.old.doors }
         ensures cause { HasCause self.old.tally.faults self.new.tally.faults result }
         ensures counts { CountsFault self.old.tally.faults self.new.tally.faults result }
-        ensures fails { IsErr result ↔ (IsListed self.old.tally ⊎ (LacksRoom self.old.ledger 2 (length peer.now) ⊎ (self.old.waiting ≡ []))) }
+        ensures fails { IsErr result ↔ (IsListed self.old.tally
+            ⊎ (LacksRoom self.old.ledger 2 (length peer.now) ⊎ (self.old.waiting ≡ []))) }
         ensures gives { IfOk result (GivesFirst self.old.waiting self.new.waiting) }
-        ensures after { OnOk result (self.new ≡ record { waiting = self.new.waiting; ledger = lending (noted (Dialled peer.now false) (length peer.now) self.old.ledger); tally = passed self.old.tally; doors = self.old.doors }) }
-        ensures stays { OnErr result (self.new ≡ record { waiting = self.old.waiting; ledger = self.new.ledger; tally = failed self.old.tally; doors = self.old.doors }) }
-        ensures notes_failure { OnErr result (NotesIfRoom (Dialled peer.now true) (length peer.now) self.old.ledger self.new.ledger) }
+        ensures after { OnOk result (self.new ≡ record {
+          waiting = self.new.waiting;
+          ledger = lending
+              (noted (Dialled peer.now false)
+              (length peer.now) self.old.ledger);
+          tally = passed self.old.tally;
+          doors = self.old.doors;
+        }) }
+        ensures stays { OnErr result
+            (self.new ≡ record { waiting = self.old.waiting; ledger = self.new.ledger; tally = failed self.old.tally; doors = self.old.doors }) }
+        ensures notes_failure { OnErr result (NotesIfRoom (Dialled peer.now true)
+            (length peer.now) self.old.ledger self.new.ledger) }
     {
         self.connect(Door::Dial, peer).ok_or(Failed)
     }

@@ -1,7 +1,8 @@
 //! A sink in memory.
-ghost use Rattle.std.specs.Prelude.{◌≡◌, ℕ, ◌-◌, ◌<◌, ◌⊎◌, ◌↔◌, [], ◌++◌, length, Some, IfOk, OnOk, OnErr, IsErr};
+ghost use Rattle.std.specs.Prelude.{◌≡◌, ℕ, ◌-◌, ◌<◌, ◌⊎◌, ◌↔◌, [], ◌++◌, length, None, Some, IfOk, OnOk, OnErr, IsErr};
 ghost use Rattle.express_words.specs.Causes.{HasCause, CountsFault};
 ghost use Rattle.express_words.specs.Streams.{Took, TookPrefix};
+ghost use Rattle.express_words.specs.Seen.{streaming};
 ghost use Rattle.express_words.specs.Memory.{SinkState, IsListed, started, passed, failed};
 
 use crate::NoMemory;
@@ -45,9 +46,7 @@ impl MemorySink {
 }
 
 impl Counted for MemorySink {
-    ghost count = { λ s. s.tally.faults };
-
-    ghost written = { λ s. Some s.written };
+    ghost seen = { λ s. streaming None (Some s.written) s.tally.faults };
 
     fn faults(&self) -> u64 {
         self.calls.faults()
@@ -62,8 +61,10 @@ impl Sink for MemorySink {
         ensures cause { HasCause self.old.tally.faults self.new.tally.faults result }
         ensures counts { CountsFault self.old.tally.faults self.new.tally.faults result }
         ensures fails { IsErr result ↔ (IsListed self.old.tally ⊎ (self.old.room < length bytes.now)) }
-        ensures after { OnOk result (self.new ≡ record { written = self.old.written ++ bytes.now; room = self.old.room - length bytes.now; tally = passed self.old.tally }) }
-        ensures stays { OnErr result (self.new ≡ record { written = self.old.written; room = self.old.room; tally = failed self.old.tally }) }
+        ensures after { OnOk result
+            (self.new ≡ record { written = self.old.written ++ bytes.now; room = self.old.room - length bytes.now; tally = passed self.old.tally }) }
+        ensures stays { OnErr result
+            (self.new ≡ record { written = self.old.written; room = self.old.room; tally = failed self.old.tally }) }
     {
         if self.calls.begin() || !self.output.hold(bytes) {
             self.calls.fail();

@@ -11,10 +11,10 @@ invariant-loop-number g l = record {
   idle : l.client.current ≡ None;
   width : length l.message ≡ l.client.width;
   keeps : l.client.width ≡ l.fn.client.width;
-  working : Working l.peers l.fn.client (map plain_request l.requests) l.number l.client l.finished.items (g.N.Net.calls l.fn.net) (g.N.Net.calls l.net);
+  working : Working l.peers l.fn.client (map plain_request l.requests) l.number l.client l.finished.items (g.N.Counted.seen l.fn.net).calls (g.N.Counted.seen l.net).calls;
   carried : AllCarry l.finished.items;
   whole : AreWhole l.fn.client.width l.finished.items;
   few : length l.finished.items ≤ l.number;
-  count : g.N.Counted.count l.net ≡ g.N.Counted.count l.fn.net;
-  door : g.N.Net.doors l.net ≡ g.N.Net.doors l.fn.net;
+  count : (g.N.Counted.seen l.net).faults ≡ (g.N.Counted.seen l.fn.net).faults;
+  door : (g.N.Counted.seen l.net).doors ≡ (g.N.Counted.seen l.fn.net).doors;
 }

@@ -11,8 +11,8 @@ invariant-loop-number g l = record {
   peers : l.worker.peers ≡ l.fn.worker.peers;
   keeps : l.worker.client.width ≡ l.fn.worker.client.width;
   telling : Telling l.fn.worker.peers l.until l.fn.worker.client (map plain_request l.requests) l.number l.worker.client
-      (moment (g.N.Net.calls l.fn.net) (g.K.Counted.written l.fn.out)) (moment (g.N.Net.calls l.net) (g.K.Counted.written l.out));
-  count : g.N.Counted.count l.net ≡ g.N.Counted.count l.fn.net;
-  sink : g.K.Counted.count l.out ≡ g.K.Counted.count l.fn.out;
-  door : g.N.Net.doors l.net ≡ g.N.Net.doors l.fn.net;
+      (moment (g.N.Counted.seen l.fn.net) (g.K.Counted.seen l.fn.out)) (moment (g.N.Counted.seen l.net) (g.K.Counted.seen l.out));
+  count : (g.N.Counted.seen l.net).faults ≡ (g.N.Counted.seen l.fn.net).faults;
+  sink : (g.K.Counted.seen l.out).faults ≡ (g.K.Counted.seen l.fn.out).faults;
+  door : (g.N.Counted.seen l.net).doors ≡ (g.N.Counted.seen l.fn.net).doors;
 }

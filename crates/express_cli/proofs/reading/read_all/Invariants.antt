@@ -5,8 +5,8 @@ use Rattle.express_cli.proofs.reading.read_all.Given as goal
 
 abbrev pub invariant-reading : goal.invariant-reading
 invariant-reading g l = record {
-  gave : Gave (g.S.Counted.content l.fn.input) (g.S.Counted.content l.input) l.text.items;
-  unfailed : g.S.Counted.count l.input ≡ g.S.Counted.count l.fn.input;
+  gave : Gave (g.S.Counted.seen l.fn.input).content (g.S.Counted.seen l.input).content l.text.items;
+  unfailed : (g.S.Counted.seen l.input).faults ≡ (g.S.Counted.seen l.fn.input).faults;
   short : length l.text.items ≤ most_bytes + 1;
 }
 

@@ -16,5 +16,5 @@ returns-in-Err-Failed-clause-ends g c text spelled =
 pub returns-in-Err-NoMemory-clause-ends : goal.returns-in-Err-NoMemory-clause-ends
 returns-in-Err-NoMemory-clause-ends g c text spelled =
     let same = c.in-Err-NoMemory.ensures.memory (ap Err c.in-Err-NoMemory.field-0-is) in
-    unmoved (WorkMay Replay text) _ _ _ _ _ _ _ (ap (λ out. g.K.Counted.written out) same) (ap (λ out. g.K.Counted.count out) same)
+    unmoved (WorkMay Replay text) _ _ _ _ _ _ _ (ap (λ out. (g.K.Counted.seen out).written) same) (ap (λ out. (g.K.Counted.seen out).faults) same)
     (said (WorkMay Replay text) _ _ _ _ OutOfMemory _ _ refl c.say.ensures.says)

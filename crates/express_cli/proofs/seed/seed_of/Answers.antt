@@ -14,7 +14,7 @@ taking-preserved g c =
     let all : before ++ more ≡ take (c.taking.length + c.in-Ok.count) seed
     = sym (take-add c.taking.length c.in-Ok.count seed ∙ ap (λ (x : List ℕ). x ++ more) c.take_behind.ensures.stays) in
     record {
-      gave = subst (Gave (g.S.Counted.content c.args.random.now) (g.S.Counted.content c.take_behind.new.random)) all
+      gave = subst (Gave (g.S.Counted.seen c.args.random.now).content (g.S.Counted.seen c.take_behind.new.random).content) all
           (gave_more _ _ _ before more c.taking.invariant.gave c.in-Ok.ensures.gave);
       unfailed = c.in-Ok.ensures.counts.unfailed ∙ c.taking.invariant.unfailed;
       short = c.in-Ok.ensures.bound;
@@ -33,8 +33,8 @@ returns-in-Err-clause-refused g c =
 pub returns-in-Ok-eq0-clause-refused : goal.returns-in-Ok-eq0-clause-refused
 returns-in-Ok-eq0-clause-refused g c =
     let before : List ℕ = take c.taking.length c.taking.seed in
-    let gave : Gave (g.S.Counted.content c.taking.random) (g.S.Counted.content c.take_behind.new.random) []
-    = subst (λ n. Gave (g.S.Counted.content c.taking.random) (g.S.Counted.content c.take_behind.new.random)
+    let gave : Gave (g.S.Counted.seen c.taking.random).content (g.S.Counted.seen c.take_behind.new.random).content []
+    = subst (λ n. Gave (g.S.Counted.seen c.taking.random).content (g.S.Counted.seen c.take_behind.new.random).content
     (take n (drop c.taking.length c.take_behind.new.seed))) c.in-Ok-eq0.field-0-test c.in-Ok-eq0.ensures.gave in (
       c.taking-test.true,
       c.in-Ok-eq0.ensures.counts.unfailed ∙ c.taking.invariant.unfailed,
@@ -50,7 +50,7 @@ pub returns-clause-seed : goal.returns-clause-seed
 returns-clause-seed g c =
     let all : take c.taking.length c.taking.seed ≡ c.taking.seed
     = take_all c.taking.length c.taking.seed (omega (arith, c.taking.invariant.long, c.taking-test.false)) in
-    subst (Gave (g.S.Counted.content c.args.random.now) (g.S.Counted.content c.taking.random)) all c.taking.invariant.gave
+    subst (Gave (g.S.Counted.seen c.args.random.now).content (g.S.Counted.seen c.taking.random).content) all c.taking.invariant.gave
 
 pub returns-clause-early : goal.returns-clause-early
 returns-clause-early g c =

@@ -5,8 +5,8 @@ use Rattle.express_cli.proofs.seed.seed_of.Given as goal
 
 abbrev pub invariant-taking : goal.invariant-taking
 invariant-taking g l = record {
-  gave : Gave (g.S.Counted.content l.fn.random) (g.S.Counted.content l.random) (take l.length l.seed);
-  unfailed : g.S.Counted.count l.random ≡ g.S.Counted.count l.fn.random;
+  gave : Gave (g.S.Counted.seen l.fn.random).content (g.S.Counted.seen l.random).content (take l.length l.seed);
+  unfailed : (g.S.Counted.seen l.random).faults ≡ (g.S.Counted.seen l.fn.random).faults;
   short : l.length ≤ seed_bytes;
   long : length l.seed ≡ seed_bytes;
 }

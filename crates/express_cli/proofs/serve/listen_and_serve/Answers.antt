@@ -9,17 +9,17 @@ use Rattle.express_cli.proofs.serve.listen_and_serve.Goals as goal
 
 pub returns-in-Ok-clause-ends : goal.returns-in-Ok-clause-ends
 returns-in-Ok-clause-ends g c =
-    let before : Seen = record { calls = g.N.Net.calls c.args.net.now; faults = g.N.Counted.count c.args.net.now; doors = g.N.Net.doors c.args.net.now } in
-    let at_door : Seen = record { calls = g.N.Net.calls c.listen.new.self; faults = g.N.Counted.count c.listen.new.self; doors = g.N.Net.doors c.listen.new.self } in
-    let now : Seen = record { calls = g.N.Net.calls c.tell_and_serve.new.net; faults = g.N.Counted.count c.tell_and_serve.new.net; doors = g.N.Net.doors c.tell_and_serve.new.net } in
+    let before : Seen = g.N.Counted.seen c.args.net.now in
+    let at_door : Seen = g.N.Counted.seen c.listen.new.self in
+    let now : Seen = g.N.Counted.seen c.tell_and_serve.new.net in
     let Listens : List ℕ → Type 0 = λ at. Adds before.calls at_door.calls (Listened at false) in
     more_may (ListeningMay c.args.settings.now.connections c.args.node.now at_door now) (DoorMay c.args.settings.now c.args.node.now before now) _ _ _ _ _
     (door_may c.args.settings.now c.args.node.now before at_door now (subst Listens c.as_str.ensures c.in-Ok.ensures.call) c.in-Ok.ensures.counts.unfailed c.in-Ok.ensures.door.kept) c.tell_and_serve.ensures.ends
 
 pub returns-in-Err-clause-ends : goal.returns-in-Err-clause-ends
 returns-in-Err-clause-ends g c =
-    let before : Seen = record { calls = g.N.Net.calls c.args.net.now; faults = g.N.Counted.count c.args.net.now; doors = g.N.Net.doors c.args.net.now } in
-    let now : Seen = record { calls = g.N.Net.calls c.listen.new.self; faults = g.N.Counted.count c.listen.new.self; doors = g.N.Net.doors c.listen.new.self } in
+    let before : Seen = g.N.Counted.seen c.args.net.now in
+    let now : Seen = g.N.Counted.seen c.listen.new.self in
     let Listens : List ℕ → Type 0 = λ at. Adds before.calls now.calls (Listened at true) in
     said (DoorMay c.args.settings.now c.args.node.now before now) _ _ _ _ NetFault _ _
     (inl (record { call = subst Listens c.as_str.ensures c.in-Err.ensures.call; doors = c.in-Err.ensures.door.failed; text_is = refl })) c.say.ensures.says

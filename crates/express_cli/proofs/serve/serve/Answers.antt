@@ -9,10 +9,10 @@ use Rattle.express_cli.proofs.serve.serve.Goals as goal
 
 pub returns-in-Ok-clause-ends : goal.returns-in-Ok-clause-ends
 returns-in-Ok-clause-ends g c =
-    let net : Around = record { seed = c.args.seed.now; before = record { calls = g.N.Net.calls c.args.net.now; faults = g.N.Counted.count c.args.net.now; doors = g.N.Net.doors c.args.net.now }; now = record { calls = g.N.Net.calls c.serve_by.new.net; faults = g.N.Counted.count c.serve_by.new.net; doors = g.N.Net.doors c.serve_by.new.net } } in
+    let net : Around = record { seed = c.args.seed.now; before = g.N.Counted.seen c.args.net.now; now = g.N.Counted.seen c.serve_by.new.net } in
     more_may (ServeMay c.in-Ok.settings net) (TalkMay Serve c.args.text.now net) _ _ _ _ _ (serve_may c.in-Ok.settings c.args.text.now net c.in-Ok.ensures.judges) c.serve_by.ensures.ends
 
 pub returns-in-Err-clause-ends : goal.returns-in-Err-clause-ends
 returns-in-Err-clause-ends g c =
-    let net : Around = record { seed = c.args.seed.now; before = record { calls = g.N.Net.calls c.args.net.now; faults = g.N.Counted.count c.args.net.now; doors = g.N.Net.doors c.args.net.now }; now = record { calls = g.N.Net.calls c.args.net.now; faults = g.N.Counted.count c.args.net.now; doors = g.N.Net.doors c.args.net.now } } in
+    let net : Around = record { seed = c.args.seed.now; before = g.N.Counted.seen c.args.net.now; now = g.N.Counted.seen c.args.net.now } in
     more_may (FaultMay c.in-Err.fault) (TalkMay Serve c.args.text.now net) _ _ _ _ _ (serve_fault c.args.text.now net c.in-Err.fault refl c.in-Err.ensures.judges) c.say_fault.ensures.says

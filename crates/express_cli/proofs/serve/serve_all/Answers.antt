@@ -7,20 +7,20 @@ use Rattle.express_cli.proofs.serve.serve_all.Goals as goal
 
 pub returns-in_default-clause-ends : goal.returns-in_default-clause-ends
 returns-in_default-clause-ends g c =
-    let before : Seen = record { calls = g.N.Net.calls c.args.net.now; faults = g.N.Counted.count c.args.net.now; doors = g.N.Net.doors c.args.net.now } in
-    let now : Seen = record { calls = g.N.Net.calls c.host.new.net; faults = g.N.Counted.count c.host.new.net; doors = g.N.Net.doors c.host.new.net } in
+    let before : Seen = g.N.Counted.seen c.args.net.now in
+    let now : Seen = g.N.Counted.seen c.host.new.net in
     let hosts = c.in_default.ensures.hosts in
     said (HostMay c.args.connections c.args.node.now before now) _ _ _ _ NetFault _ _ (hosts.0, _, c.in_default.field-0, hosts.1, c.in_default.ensures.door.failed, refl) c.say.ensures.says
 
 pub returns-in-Ok-tally_line-clause-ends : goal.returns-in-Ok-tally_line-clause-ends
 returns-in-Ok-tally_line-clause-ends g c =
-    let before : Seen = record { calls = g.N.Net.calls c.args.net.now; faults = g.N.Counted.count c.args.net.now; doors = g.N.Net.doors c.args.net.now } in
-    let now : Seen = record { calls = g.N.Net.calls c.host.new.net; faults = g.N.Counted.count c.host.new.net; doors = g.N.Net.doors c.host.new.net } in
+    let before : Seen = g.N.Counted.seen c.args.net.now in
+    let now : Seen = g.N.Counted.seen c.host.new.net in
     let hosts = c.in-Ok.ensures.hosts in
     said (HostMay c.args.connections c.args.node.now before now) _ _ _ _ Done _ _ (hosts.0, _, c.in-Ok.tally, hosts.1, c.in-Ok.ensures.door.kept, c.as_str.ensures.value ∙ c.in-Ok-tally_line.ensures) c.say-in-Ok-tally_line.ensures.says
 
 pub returns-in-Err-clause-ends : goal.returns-in-Err-clause-ends
 returns-in-Err-clause-ends g c =
-    let before : Seen = record { calls = g.N.Net.calls c.args.net.now; faults = g.N.Counted.count c.args.net.now; doors = g.N.Net.doors c.args.net.now } in
-    let now : Seen = record { calls = g.N.Net.calls c.host.new.net; faults = g.N.Counted.count c.host.new.net; doors = g.N.Net.doors c.host.new.net } in
+    let before : Seen = g.N.Counted.seen c.args.net.now in
+    let now : Seen = g.N.Counted.seen c.host.new.net in
     said (HostMay c.args.connections c.args.node.now before now) _ _ _ _ OutOfMemory _ _ refl c.say-in-Err.ensures.says

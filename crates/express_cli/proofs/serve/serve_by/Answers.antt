@@ -8,10 +8,10 @@ use Rattle.express_cli.proofs.serve.serve_by.Goals as goal
 
 pub returns-in-Ok-clause-ends : goal.returns-in-Ok-clause-ends
 returns-in-Ok-clause-ends g c =
-    let net : Around = record { seed = c.args.seed.now; before = record { calls = g.N.Net.calls c.args.net.now; faults = g.N.Counted.count c.args.net.now; doors = g.N.Net.doors c.args.net.now }; now = record { calls = g.N.Net.calls c.listen_and_serve.new.net; faults = g.N.Counted.count c.listen_and_serve.new.net; doors = g.N.Net.doors c.listen_and_serve.new.net } } in
+    let net : Around = record { seed = c.args.seed.now; before = g.N.Counted.seen c.args.net.now; now = g.N.Counted.seen c.listen_and_serve.new.net } in
     more_may (DoorMay c.args.settings.now c.in-Ok.node net.before net.now) (ServeMay c.args.settings.now net) _ _ _ _ _ (opened_may c.args.settings.now net c.in-Ok.node c.in-Ok.ensures.opened) c.listen_and_serve.ensures.ends
 
 pub returns-in-Err-clause-ends : goal.returns-in-Err-clause-ends
 returns-in-Err-clause-ends g c =
-    let net : Around = record { seed = c.args.seed.now; before = record { calls = g.N.Net.calls c.args.net.now; faults = g.N.Counted.count c.args.net.now; doors = g.N.Net.doors c.args.net.now }; now = record { calls = g.N.Net.calls c.args.net.now; faults = g.N.Counted.count c.args.net.now; doors = g.N.Net.doors c.args.net.now } } in
+    let net : Around = record { seed = c.args.seed.now; before = g.N.Counted.seen c.args.net.now; now = g.N.Counted.seen c.args.net.now } in
     said (ServeMay c.args.settings.now net) _ _ _ _ OutOfMemory _ _ (inl refl) c.say.ensures.says

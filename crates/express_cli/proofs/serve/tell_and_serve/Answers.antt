@@ -9,8 +9,8 @@ use Rattle.express_cli.proofs.serve.tell_and_serve.Goals as goal
 
 pub returns-in-Done-clause-ends : goal.returns-in-Done-clause-ends
 returns-in-Done-clause-ends g c =
-    let before : Seen = record { calls = g.N.Net.calls c.args.net.now; faults = g.N.Counted.count c.args.net.now; doors = g.N.Net.doors c.args.net.now } in
-    let now : Seen = record { calls = g.N.Net.calls c.serve_all.new.net; faults = g.N.Counted.count c.serve_all.new.net; doors = g.N.Net.doors c.serve_all.new.net } in
+    let before : Seen = g.N.Counted.seen c.args.net.now in
+    let now : Seen = g.N.Counted.seen c.serve_all.new.net in
     let told = c.in-Done.ensures.says in
     follows (HostMay c.args.connections c.args.node.now before now) (ListeningMay c.args.connections c.args.node.now before now) _ _ _ _ _ _ _ listening
     (took_as _ _ told.0 listening told.1.1 told.2) (c.in-Done.ensures.told done_is_no_fault) (λ e text may. (text, may, refl)) c.serve_all.ensures.ends
@@ -20,7 +20,7 @@ returns-in-Done-clause-told g c = λ other. c.serve_all.ensures.told other ∙ c
 
 pub returns-in_default : goal.returns-in_default
 returns-in_default g c =
-    let before : Seen = record { calls = g.N.Net.calls c.args.net.now; faults = g.N.Counted.count c.args.net.now; doors = g.N.Net.doors c.args.net.now } in
+    let before : Seen = g.N.Counted.seen c.args.net.now in
     record {
       ends = first_failed (ListeningMay c.args.connections c.args.node.now before before) _ _ _ _ _ listening out_of_memory_text c.say.ensures.says c.in_default.not-Done (out_of_memory_text, refl, refl);
       told = c.say.ensures.told;

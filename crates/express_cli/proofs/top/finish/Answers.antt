@@ -19,7 +19,7 @@ returns-in-Ok-Some-Mill-clause-ends g c =
 pub returns-in-Ok-clause-ends : goal.returns-in-Ok-clause-ends
 returns-in-Ok-clause-ends g c =
     let asks = asks_it _ _ _ c.in-Ok-Some-Work.command c.in-Ok-Some-Work.field-0-is c.in-Ok-Some-Work.field-0-0-is c.in-Ok-Some-Work.ensures in
-    unmoved (RunMay _ _ _ _ _ _) _ _ _ _ _ _ _ (ap (λ out. g.K.Counted.written out) c.in-Ok.ensures.rests) (ap (λ out. g.K.Counted.count out) c.in-Ok.ensures.rests)
+    unmoved (RunMay _ _ _ _ _ _) _ _ _ _ _ _ _ (ap (λ out. (g.K.Counted.seen out).written) c.in-Ok.ensures.rests) (ap (λ out. (g.K.Counted.seen out).faults) c.in-Ok.ensures.rests)
     (worked_all _ _ _ _ _ _ _ _ _ _ _ c.in-Ok-Some-Work.command _ c.as_slice.result.now refl asks c.in-Ok.ensures.read (sym c.as_slice.ensures.value) c.work.ensures.ends)
 
 pub returns-in-Err-input_of-clause-ends : goal.returns-in-Err-input_of-clause-ends
@@ -30,7 +30,7 @@ returns-in-Err-input_of-clause-ends g c =
 pub returns-in-Ok-input_of-clause-ends : goal.returns-in-Ok-input_of-clause-ends
 returns-in-Ok-input_of-clause-ends g c =
     let asks = asks_net _ _ _ c.in-Ok-Some-Net.command c.in-Ok-Some-Net.field-0-is c.in-Ok-Some-Net.field-0-0-is c.in-Ok-Some-Net.ensures in
-    unmoved (RunMay _ _ _ _ _ _) _ _ _ _ _ _ _ (ap (λ out. g.K.Counted.written out) c.in-Ok-input_of.ensures.rests) (ap (λ out. g.K.Counted.count out) c.in-Ok-input_of.ensures.rests)
+    unmoved (RunMay _ _ _ _ _ _) _ _ _ _ _ _ _ (ap (λ out. (g.K.Counted.seen out).written) c.in-Ok-input_of.ensures.rests) (ap (λ out. (g.K.Counted.seen out).faults) c.in-Ok-input_of.ensures.rests)
     (talked_all _ _ _ _ _ _ _ _ _ _ _ c.in-Ok-Some-Net.command _ c.as_slice-in-Ok-input_of.result.now asks c.in-Ok-input_of.ensures.read (sym c.as_slice-in-Ok-input_of.ensures.value) c.talk.ensures.ends)
 
 pub returns-in-Err-input_of-2-clause-ends : goal.returns-in-Err-input_of-2-clause-ends
@@ -79,7 +79,7 @@ pub returns-in-Ok-input_of-clause-breaks : goal.returns-in-Ok-input_of-clause-br
 returns-in-Ok-input_of-clause-breaks g c = λ failed command asks.
     let asked = asks_net _ _ _ c.in-Ok-Some-Net.command c.in-Ok-Some-Net.field-0-is c.in-Ok-Some-Net.field-0-0-is c.in-Ok-Some-Net.ensures in
     inr (broke_off _ _ _ _ _ _ _ command c.in-Ok-Some-Net.command _ c.as_slice-in-Ok-input_of.result.now asks asked c.in-Ok-input_of.ensures.read
-    (sym c.as_slice-in-Ok-input_of.ensures.value) (ap (λ out. g.K.Counted.written out) c.in-Ok-input_of.ensures.rests) (c.talk.ensures.breaks failed))
+    (sym c.as_slice-in-Ok-input_of.ensures.value) (ap (λ out. (g.K.Counted.seen out).written) c.in-Ok-input_of.ensures.rests) (c.talk.ensures.breaks failed))
 
 pub returns-in-Err-input_of-2-clause-breaks : goal.returns-in-Err-input_of-2-clause-breaks
 returns-in-Err-input_of-2-clause-breaks g c = λ failed command asks. inl refl

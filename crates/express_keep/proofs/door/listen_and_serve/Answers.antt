@@ -1,6 +1,6 @@
 use Rattle.std.proofs.Common.{refl, inl, inr, subst, List, ℕ, true, false}
 use Rattle.express_words.specs.Calls.{Adds, Listened}
-use Rattle.express_cli.specs.Around.{Seen, seen}
+use Rattle.express_cli.specs.Around.{Seen}
 use Rattle.express_cli.specs.declared.ends.End.TheVariants.{NetFault}
 use Rattle.express_keep.specs.Door.{ListeningMay}
 use Rattle.express_keep.specs.declared.ending.Ending.TheVariants.{Plain}
@@ -10,13 +10,13 @@ use Rattle.express_keep.proofs.door.listen_and_serve.Goals as goal
 
 pub returns-in-Ok-clause-tells : goal.returns-in-Ok-clause-tells
 returns-in-Ok-clause-tells g c =
-    let Listens : List ℕ → Type 0 = λ at. Adds (g.N.Net.calls c.args.net.now) (g.N.Net.calls c.listen.new.self) (Listened at false) in
+    let Listens : List ℕ → Type 0 = λ at. Adds (g.N.Counted.seen c.args.net.now).calls (g.N.Counted.seen c.listen.new.self).calls (Listened at false) in
     more _ _ _ _ _ _ _
-    (λ e text may. inl (record { at_door = seen (g.N.Net.calls c.listen.new.self) (g.N.Counted.count c.listen.new.self) (g.N.Net.doors c.listen.new.self); listens = subst Listens c.as_str.ensures c.in-Ok.ensures.call; faults = c.in-Ok.ensures.counts.unfailed; doors = c.in-Ok.ensures.door.kept; served = may })) c.tell_and_serve.ensures.tells
+    (λ e text may. inl (record { at_door = g.N.Counted.seen c.listen.new.self; listens = subst Listens c.as_str.ensures c.in-Ok.ensures.call; faults = c.in-Ok.ensures.counts.unfailed; doors = c.in-Ok.ensures.door.kept; served = may })) c.tell_and_serve.ensures.tells
 
 pub returns-in-Err-clause-tells : goal.returns-in-Err-clause-tells
 returns-in-Err-clause-tells g c =
-    let Listens : List ℕ → Type 0 = λ at. Adds (g.N.Net.calls c.args.net.now) (g.N.Net.calls c.listen.new.self) (Listened at true) in
+    let Listens : List ℕ → Type 0 = λ at. Adds (g.N.Counted.seen c.args.net.now).calls (g.N.Counted.seen c.listen.new.self).calls (Listened at true) in
     said _ _ _ _ _ (Plain NetFault) _ _
     (inr (record { failed = record { call = subst Listens c.as_str.ensures c.in-Err.ensures.call; doors = c.in-Err.ensures.door.failed; text_is = refl }; stays = refl; ending_is = refl })) c.tell.ensures.tells
 

@@ -14,13 +14,13 @@ use Rattle.express_keep.proofs.door.serve_all.Goals as goal
 pub tell_fault-requires : goal.tell_fault-requires
 tell_fault-requires g c =
     let k = on_fault _ _ c.in-Keep.fault c.in-Keep.is c.in-Err.ensures.keep_failed in
-    record { told_of = first_fault g.D.Disk.reads g.D.Disk.may_leave g.D.Disk.moment g.D.Disk.left_since _ _ _ _ c.in-Keep.fault c.requires.unclosed k.1.1.keeps }
+    record { told_of = first_fault g.D.Disk.disk _ _ _ _ c.in-Keep.fault c.requires.unclosed k.1.1.keeps }
 
 pub returns-in-Ok-clause-tells : goal.returns-in-Ok-clause-tells
 returns-in-Ok-clause-tells g c =
     let s = c.in-Ok.ensures.served in
-    let Serves : List ℕ → Type 0 = λ peer. ServesAll g.D.Disk.reads g.D.Disk.may_leave g.D.Disk.moment g.D.Disk.left_since peer c.args.settings.now.connections c.in-Ok.tally s.0
-    (standing c.args.server.now.kept (g.N.Counted.count c.args.net.now)) (standing c.host_kept.new.kept (g.N.Counted.count c.host_kept.new.net)) (g.N.Net.calls c.args.net.now) (g.N.Net.calls c.host_kept.new.net) in
+    let Serves : List ℕ → Type 0 = λ peer. ServesAll g.D.Disk.disk peer c.args.settings.now.connections c.in-Ok.tally s.0
+    (standing c.args.server.now.kept (g.N.Counted.seen c.args.net.now).faults) (standing c.host_kept.new.kept (g.N.Counted.seen c.host_kept.new.net).faults) (g.N.Counted.seen c.args.net.now).calls (g.N.Counted.seen c.host_kept.new.net).calls in
     more (TallyMay c.in-Ok.tally) _ _ _ _ _ _
     (λ e t says. inl (record { visits = s.0; tally = c.in-Ok.tally; serves = subst Serves c.as_str.ensures s.1; doors = c.in-Ok.ensures.door; says = says })) c.tell_tally.ensures.tells
 
@@ -30,8 +30,8 @@ returns-in-Ok-clause-disk g c = c.tell_tally.ensures.counts _ _ c.in-Ok.ensures.
 pub returns-in-Door-clause-tells : goal.returns-in-Door-clause-tells
 returns-in-Door-clause-tells g c =
     let d = on_door _ _ c.in-Door.is c.in-Err.ensures.door_failed in
-    let Fails : List ℕ → Type 0 = λ peer. DoorFails g.D.Disk.reads g.D.Disk.may_leave g.D.Disk.moment g.D.Disk.left_since peer c.args.settings.now.connections c.in-Err.stop.tally d.0
-    (standing c.args.server.now.kept (g.N.Counted.count c.args.net.now)) (standing c.host_kept.new.kept (g.N.Counted.count c.host_kept.new.net)) (g.N.Net.calls c.args.net.now) (g.N.Net.calls c.host_kept.new.net) in
+    let Fails : List ℕ → Type 0 = λ peer. DoorFails g.D.Disk.disk peer c.args.settings.now.connections c.in-Err.stop.tally d.0
+    (standing c.args.server.now.kept (g.N.Counted.seen c.args.net.now).faults) (standing c.host_kept.new.kept (g.N.Counted.seen c.host_kept.new.net).faults) (g.N.Counted.seen c.args.net.now).calls (g.N.Counted.seen c.host_kept.new.net).calls in
     said _ _ _ _ _ (Plain NetFault) _ _
     (inr (inl (record { visits = d.0; tally = c.in-Err.stop.tally; fails = subst Fails c.as_str.ensures d.1; doors = door_rose _ _ _ c.in-Door.is c.in-Err.ensures.door; says = (refl, refl) }))) c.tell.ensures.tells
 
@@ -42,8 +42,8 @@ returns-in-Door-clause-disk g c =
 pub returns-in-Keep-clause-tells : goal.returns-in-Keep-clause-tells
 returns-in-Keep-clause-tells g c =
     let k = on_fault _ _ c.in-Keep.fault c.in-Keep.is c.in-Err.ensures.keep_failed in
-    let Fails : List ℕ → Type 0 = λ peer. KeepFails g.D.Disk.reads g.D.Disk.may_leave g.D.Disk.moment g.D.Disk.left_since peer c.args.settings.now.connections c.in-Err.stop.tally c.in-Keep.fault k.0 k.1.0
-    (standing c.args.server.now.kept (g.N.Counted.count c.args.net.now)) (standing c.host_kept.new.kept (g.N.Counted.count c.host_kept.new.net)) (g.N.Net.calls c.args.net.now) (g.N.Net.calls c.host_kept.new.net) in
+    let Fails : List ℕ → Type 0 = λ peer. KeepFails g.D.Disk.disk peer c.args.settings.now.connections c.in-Err.stop.tally c.in-Keep.fault k.0 k.1.0
+    (standing c.args.server.now.kept (g.N.Counted.seen c.args.net.now).faults) (standing c.host_kept.new.kept (g.N.Counted.seen c.host_kept.new.net).faults) (g.N.Counted.seen c.args.net.now).calls (g.N.Counted.seen c.host_kept.new.net).calls in
     more (FaultMay c.in-Keep.fault) _ _ _ _ _ _
     (λ e t says. inr (inr (record { visits = k.0; tally = c.in-Err.stop.tally; fault = c.in-Keep.fault; last = k.1.0; fails = subst Fails c.as_str.ensures k.1.1; doors = door_stayed _ c.in-Keep.fault _ _ c.in-Keep.is c.in-Err.ensures.door; says = says }))) c.tell_fault.ensures.tells
 

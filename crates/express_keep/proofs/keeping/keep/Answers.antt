@@ -8,13 +8,13 @@ use Rattle.express_keep.proofs.keeping.keep.Goals as goal
 
 pub returns-in-Ok-clause-tells : goal.returns-in-Ok-clause-tells
 returns-in-Ok-clause-tells g c =
-    let Gave : List ℕ → Type 0 = λ b. GaveAll (g.S.Counted.content c.args.input.now) (g.S.Counted.content c.input_of.new.input) b in
-    unmoved _ _ _ _ _ _ _ _ (ap (λ out. g.K.Counted.written out) c.in-Ok.ensures.rests) (ap (λ out. g.K.Counted.count out) c.in-Ok.ensures.rests)
+    let Gave : List ℕ → Type 0 = λ b. GaveAll (g.S.Counted.seen c.args.input.now).content (g.S.Counted.seen c.input_of.new.input).content b in
+    unmoved _ _ _ _ _ _ _ _ (ap (λ out. (g.K.Counted.seen out).written) c.in-Ok.ensures.rests) (ap (λ out. (g.K.Counted.seen out).faults) c.in-Ok.ensures.rests)
     (more _ _ _ _ _ _ _ (λ e t may. inl (c.as_slice.result.now, subst Gave (sym c.as_slice.ensures.value) c.in-Ok.ensures.read, may)) c.keep_text.ensures.tells)
 
 pub returns-in-Ok-clause-told : goal.returns-in-Ok-clause-told
 returns-in-Ok-clause-told g c other =
-    c.keep_text.ensures.told other ∙ ap (λ out. g.K.Counted.count out) c.in-Ok.ensures.rests
+    c.keep_text.ensures.told other ∙ ap (λ out. (g.K.Counted.seen out).faults) c.in-Ok.ensures.rests
 
 pub returns-in-Err-clause-tells : goal.returns-in-Err-clause-tells
 returns-in-Err-clause-tells g c =

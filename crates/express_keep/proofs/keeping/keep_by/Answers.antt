@@ -9,7 +9,7 @@ use Rattle.express_keep.proofs.keeping.keep_by.Goals as goal
 
 pub listen_and_serve-ending-requires : goal.listen_and_serve-ending-requires
 listen_and_serve-ending-requires g c =
-    record { unclosed = opened_unclosed g.D.Disk.reads g.D.Disk.may_leave _ _ _ _ c.in-Ok-open_kept.ensures.opened }
+    record { unclosed = opened_unclosed g.D.Disk.disk _ _ _ _ c.in-Ok-open_kept.ensures.opened }
 
 pub tell_unopened-requires : goal.tell_unopened-requires
 tell_unopened-requires g c = c.in-Err.ensures.cause
@@ -28,7 +28,7 @@ returns-in-Ok-open_kept-clause-tells g c =
 
 pub returns-in-Ok-open_kept-clause-disk : goal.returns-in-Ok-open_kept-clause-disk
 returns-in-Ok-open_kept-clause-disk g c =
-    counts_between (λ d. g.D.Counted.count d) c.listen_and_serve-ending.result c.args.disk c.in-Ok-open_kept.kept.disk c.listen_and_serve-ending.new.server.kept.disk c.into_disk.result
+    counts_between (λ d. (g.D.Counted.seen d).faults) c.listen_and_serve-ending.result c.args.disk c.in-Ok-open_kept.kept.disk c.listen_and_serve-ending.new.server.kept.disk c.into_disk.result
     c.in-Ok-open_kept.ensures.counts_ok c.into_disk.ensures c.listen_and_serve-ending.ensures.disk
 
 pub returns-in-Err-clause-tells : goal.returns-in-Err-clause-tells

@@ -1,5 +1,5 @@
 use Rattle.std.proofs.Common.{refl, ap, inl}
-use Rattle.express_cli.specs.Around.{Around, around, seen}
+use Rattle.express_cli.specs.Around.{Around, around}
 use Rattle.express_cli.specs.Ends.{FaultMay}
 use Rattle.express_keep.specs.declared.ending.Ending.TheVariants.{Plain}
 use Rattle.express_keep.proofs.CountLaws.{plain_counts}
@@ -13,10 +13,10 @@ returns-in-Ok-clause-tells g c =
 
 pub returns-in-Err-clause-tells : goal.returns-in-Err-clause-tells
 returns-in-Err-clause-tells g c =
-    let at = seen (g.N.Net.calls c.args.net.now) (g.N.Counted.count c.args.net.now) (g.N.Net.doors c.args.net.now) in
+    let at = g.N.Counted.seen c.args.net.now in
     let net : Around = around c.args.seed.now at at in
     plain (FaultMay c.in-Err.fault) _ _ _ _ _ c.say_fault.result
-    (bad_text g.D.Disk.reads g.D.Disk.may_leave g.D.Disk.moment g.D.Disk.left_since c.args.text.now net c.args.disk refl c.in-Err.fault c.in-Err.ensures.judges) c.say_fault.ensures.says
+    (bad_text g.D.Disk.disk c.args.text.now net c.args.disk refl c.in-Err.fault c.in-Err.ensures.judges) c.say_fault.ensures.says
 
 pub returns-in-Err-clause-told : goal.returns-in-Err-clause-told
 returns-in-Err-clause-told g c other = c.say_fault.ensures.told (λ e. other (ap Plain e))

@@ -9,9 +9,9 @@ invariant-steps g l = record {
   width : length l.message ≡ l.client.width;
   keeps : l.client.width ≡ l.fn.client.width;
   sends : sends l.client ≢ None;
-  stands : Standing l.peers l.fn.client l.client (g.N.Net.calls l.fn.net) (g.N.Net.calls l.net);
-  count : g.N.Counted.count l.net ≡ g.N.Counted.count l.fn.net;
-  door : g.N.Net.doors l.net ≡ g.N.Net.doors l.fn.net;
+  stands : Standing l.peers l.fn.client l.client (g.N.Counted.seen l.fn.net).calls (g.N.Counted.seen l.net).calls;
+  count : (g.N.Counted.seen l.net).faults ≡ (g.N.Counted.seen l.fn.net).faults;
+  door : (g.N.Counted.seen l.net).doors ≡ (g.N.Counted.seen l.fn.net).doors;
 }
 
 abbrev pub decreases-steps : goal.decreases-steps

@@ -7,7 +7,7 @@ pub loop-init : goal.loop-init
 loop-init g c = record {
   within = omega arith;
   sum = ap total c.new-tally.ensures;
-  hosting = hosting _ _ _ _ _ _ c.new-tally.ensures;
+  hosting = hosting _ _ _ _ c.new-tally.ensures;
   door = refl;
   later = omega arith;
 }
@@ -15,7 +15,7 @@ loop-init g c = record {
 pub returns-in-Err-clause-hosts : goal.returns-in-Err-clause-hosts
 returns-in-Err-clause-hosts g c =
     let h = c.in-Err.ensures in
-    door_failed _ _ _ _ _ _ _ _ _ _ _ _ _ _ _ c.loop.invariant.hosting c.loop-test.true h.refused h.stays h.one_more
+    door_failed _ _ _ _ _ _ _ _ _ _ _ _ _ c.loop.invariant.hosting c.loop-test.true h.refused h.stays h.one_more
 
 pub loop-preserved : goal.loop-preserved
 loop-preserved g c =
@@ -23,7 +23,7 @@ loop-preserved g c =
     record {
       within = omega (arith, c.loop-test.true);
       sum = omega (arith, n.one_more, c.loop.invariant.sum);
-      hosting = hosting_more _ _ _ _ _ _ _ _ _ _ _ _ _ c.loop.invariant.hosting c.in-Ok.ensures.visit (record {
+      hosting = hosting_more _ _ _ _ _ _ _ _ _ _ _ c.loop.invariant.hosting c.in-Ok.ensures.visit (record {
         answered = n.answered;
         ended = n.ended;
         connection_faults = n.connection_faults;

@@ -8,7 +8,7 @@ abbrev pub invariant-loop : goal.invariant-loop
 invariant-loop g l = record {
   within : l.counter ≤ l.connections;
   sum : total l.tally ≡ l.counter;
-  hosting : Hosting g.N.Conn.Counted.content g.N.Conn.Counted.written g.N.Conn.Counted.count (standing l.fn.node (g.N.Counted.count l.fn.net)) (standing l.node (g.N.Counted.count l.net)) l.counter l.tally (g.N.Net.calls l.fn.net) (g.N.Net.calls l.net);
-  door : g.N.Net.doors l.net ≡ g.N.Net.doors l.fn.net;
-  later : g.N.Counted.count l.fn.net ≤ g.N.Counted.count l.net;
+  hosting : Hosting g.N.Conn.Counted.seen (standing l.fn.node (g.N.Counted.seen l.fn.net).faults) (standing l.node (g.N.Counted.seen l.net).faults) l.counter l.tally (g.N.Counted.seen l.fn.net).calls (g.N.Counted.seen l.net).calls;
+  door : (g.N.Counted.seen l.net).doors ≡ (g.N.Counted.seen l.fn.net).doors;
+  later : (g.N.Counted.seen l.fn.net).faults ≤ (g.N.Counted.seen l.net).faults;
 }

@@ -7,14 +7,14 @@ pub returns-clause-visit : goal.returns-clause-visit
 returns-clause-visit g c =
     let d = c.in_ok-conn.ensures in
     let h = c.serve_one-answer.ensures in
-    let link = subst (λ (n : ℕ). FaultIn c.serve_one-answer.result n (g.N.Counted.count c.serve_one-answer.new.net)) d.counts.unfailed h.fault in
+    let link = subst (λ (n : ℕ). FaultIn c.serve_one-answer.result n (g.N.Counted.seen c.serve_one-answer.new.net).faults) d.counts.unfailed h.fault in
     let v = visited _ _ _ _ _ _ _ _ _ _ _ _ _ _ _ _ _ (record {
       cut = h.cut;
       stays = h.stays;
-      rests = λ e. ap g.N.Net.calls (h.net_rests e);
+      rests = λ e. ap (λ x. (g.N.Counted.seen x).calls) (h.net_rests e);
       untold = h.writes_nothing;
       serves = h.serves;
-      alone = λ is. ap g.N.Net.calls (h.helper_rests is);
+      alone = λ is. ap (λ x. (g.N.Counted.seen x).calls) (h.helper_rests is);
     }) d.whole d.call d.tells d.unwritten h.brings link c.close.ensures.call (record { whole = c.close.ensures.whole; broken = c.close.ensures.broken }) in
     (v.0, v.1, v.2, v.3, (c.serve_one-answer.new.conn, v.4))
 

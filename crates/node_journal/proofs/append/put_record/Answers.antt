@@ -9,74 +9,74 @@ pub returns-in_err-write-clause-any_moment : goal.returns-in_err-write-clause-an
 returns-in_err-write-clause-any_moment g c =
     let D = g.D.Disk in
     let disk = c.args.disk.now in
-    let P = RestsBeforeOrAfter (D.reads disk) c.args.end c.args.bytes.now in
-    let start = started D.moment D.left_since disk P (λ f left. at_start c.args.end c.args.bytes.now c.requires.sized (g.D.Disk.reads c.args.disk.now) (g.D.Disk.may_leave c.args.disk.now) c.requires.ends c.requires.durable f (g.met.D.Disk.only_now disk f left)) in
-    let first = first c.args.end c.args.bytes.now c.requires.sized (g.D.Disk.reads c.args.disk.now) (g.D.Disk.may_leave c.args.disk.now) c.requires.ends c.requires.durable (length c.stage-staged.result.now) (D.may_leave c.write.new.self) c.write.ensures.crash in
-    let behind = goes_on D.moment D.left_since disk disk c.write.new.self P _ start c.write.ensures.time first in
+    let P = RestsBeforeOrAfter (D.disk disk).reads c.args.end c.args.bytes.now in
+    let start = started (D.disk disk) P (λ f left. at_start c.args.end c.args.bytes.now c.requires.sized (g.D.Disk.disk c.args.disk.now).reads (g.D.Disk.disk c.args.disk.now).may_leave c.requires.ends c.requires.durable f (g.met.D.Disk.only_now disk f left)) in
+    let first = first c.args.end c.args.bytes.now c.requires.sized (g.D.Disk.disk c.args.disk.now).reads (g.D.Disk.disk c.args.disk.now).may_leave c.requires.ends c.requires.durable (length c.stage-staged.result.now) (D.disk c.write.new.self).may_leave c.write.ensures.crash in
+    let behind = goes_on (D.disk disk) (D.disk disk) (D.disk c.write.new.self) P start c.write.ensures.time first in
     behind
 
 pub returns-in_err-sync-clause-any_moment : goal.returns-in_err-sync-clause-any_moment
 returns-in_err-sync-clause-any_moment g c =
     let D = g.D.Disk in
     let disk = c.args.disk.now in
-    let P = RestsBeforeOrAfter (D.reads disk) c.args.end c.args.bytes.now in
-    let start = started D.moment D.left_since disk P (λ f left. at_start c.args.end c.args.bytes.now c.requires.sized (g.D.Disk.reads c.args.disk.now) (g.D.Disk.may_leave c.args.disk.now) c.requires.ends c.requires.durable f (g.met.D.Disk.only_now disk f left)) in
-    let first = first c.args.end c.args.bytes.now c.requires.sized (g.D.Disk.reads c.args.disk.now) (g.D.Disk.may_leave c.args.disk.now) c.requires.ends c.requires.durable (length c.stage-staged.result.now) (D.may_leave c.write.new.self) c.write.ensures.crash in
-    let behind = goes_on D.moment D.left_since disk disk c.write.new.self P _ start c.write.ensures.time first in
-    let kept = goes_on D.moment D.left_since disk c.write.new.self c.sync.new.self P _ behind c.sync.ensures.time (λ f now. first f (c.sync.ensures.untouched.crash f now)) in
+    let P = RestsBeforeOrAfter (D.disk disk).reads c.args.end c.args.bytes.now in
+    let start = started (D.disk disk) P (λ f left. at_start c.args.end c.args.bytes.now c.requires.sized (g.D.Disk.disk c.args.disk.now).reads (g.D.Disk.disk c.args.disk.now).may_leave c.requires.ends c.requires.durable f (g.met.D.Disk.only_now disk f left)) in
+    let first = first c.args.end c.args.bytes.now c.requires.sized (g.D.Disk.disk c.args.disk.now).reads (g.D.Disk.disk c.args.disk.now).may_leave c.requires.ends c.requires.durable (length c.stage-staged.result.now) (D.disk c.write.new.self).may_leave c.write.ensures.crash in
+    let behind = goes_on (D.disk disk) (D.disk disk) (D.disk c.write.new.self) P start c.write.ensures.time first in
+    let kept = goes_on (D.disk disk) (D.disk c.write.new.self) (D.disk c.sync.new.self) P behind c.sync.ensures.time (λ f now. first f (c.sync.ensures.untouched.crash f now)) in
     kept
 
 pub returns-in_err-write-2-clause-any_moment : goal.returns-in_err-write-2-clause-any_moment
 returns-in_err-write-2-clause-any_moment g c =
     let D = g.D.Disk in
     let disk = c.args.disk.now in
-    let P = RestsBeforeOrAfter (D.reads disk) c.args.end c.args.bytes.now in
-    let start = started D.moment D.left_since disk P (λ f left. at_start c.args.end c.args.bytes.now c.requires.sized (g.D.Disk.reads c.args.disk.now) (g.D.Disk.may_leave c.args.disk.now) c.requires.ends c.requires.durable f (g.met.D.Disk.only_now disk f left)) in
-    let first = first c.args.end c.args.bytes.now c.requires.sized (g.D.Disk.reads c.args.disk.now) (g.D.Disk.may_leave c.args.disk.now) c.requires.ends c.requires.durable (length c.stage-staged.result.now) (D.may_leave c.write.new.self) c.write.ensures.crash in
-    let behind = goes_on D.moment D.left_since disk disk c.write.new.self P _ start c.write.ensures.time first in
-    let kept = goes_on D.moment D.left_since disk c.write.new.self c.sync.new.self P _ behind c.sync.ensures.time (λ f now. first f (c.sync.ensures.untouched.crash f now)) in
-    let written = subst (λ (l : List ℕ). Follows (Holds (c.args.end + 1) l) (D.reads disk) (D.reads c.write.new.self)) c.stage-staged.ensures c.in_ok-write.ensures.written in
-    let staged = staged c.args.end c.args.bytes.now c.requires.sized (g.D.Disk.reads c.args.disk.now) (g.D.Disk.may_leave c.args.disk.now) c.requires.ends c.requires.durable (D.reads c.write.new.self) written in
-    let second = second c.args.end c.args.bytes.now c.requires.sized (g.D.Disk.reads c.args.disk.now) (g.D.Disk.may_leave c.args.disk.now) c.requires.ends c.requires.durable (D.may_leave c.sync.new.self) (D.may_leave c.write-2.new.self) (λ f now. staged f (c.sync.ensures.untouched.gives f (c.in_ok-sync.ensures.durable f now))) c.write-2.ensures.crash in
-    let opened = goes_on D.moment D.left_since disk c.sync.new.self c.write-2.new.self P _ kept c.write-2.ensures.time second in
+    let P = RestsBeforeOrAfter (D.disk disk).reads c.args.end c.args.bytes.now in
+    let start = started (D.disk disk) P (λ f left. at_start c.args.end c.args.bytes.now c.requires.sized (g.D.Disk.disk c.args.disk.now).reads (g.D.Disk.disk c.args.disk.now).may_leave c.requires.ends c.requires.durable f (g.met.D.Disk.only_now disk f left)) in
+    let first = first c.args.end c.args.bytes.now c.requires.sized (g.D.Disk.disk c.args.disk.now).reads (g.D.Disk.disk c.args.disk.now).may_leave c.requires.ends c.requires.durable (length c.stage-staged.result.now) (D.disk c.write.new.self).may_leave c.write.ensures.crash in
+    let behind = goes_on (D.disk disk) (D.disk disk) (D.disk c.write.new.self) P start c.write.ensures.time first in
+    let kept = goes_on (D.disk disk) (D.disk c.write.new.self) (D.disk c.sync.new.self) P behind c.sync.ensures.time (λ f now. first f (c.sync.ensures.untouched.crash f now)) in
+    let written = subst (λ (l : List ℕ). Follows (Holds (c.args.end + 1) l) (D.disk disk).reads (D.disk c.write.new.self).reads) c.stage-staged.ensures c.in_ok-write.ensures.written in
+    let staged = staged c.args.end c.args.bytes.now c.requires.sized (g.D.Disk.disk c.args.disk.now).reads (g.D.Disk.disk c.args.disk.now).may_leave c.requires.ends c.requires.durable (D.disk c.write.new.self).reads written in
+    let second = second c.args.end c.args.bytes.now c.requires.sized (g.D.Disk.disk c.args.disk.now).reads (g.D.Disk.disk c.args.disk.now).may_leave c.requires.ends c.requires.durable (D.disk c.sync.new.self).may_leave (D.disk c.write-2.new.self).may_leave (λ f now. staged f (c.sync.ensures.untouched.gives f (c.in_ok-sync.ensures.durable f now))) c.write-2.ensures.crash in
+    let opened = goes_on (D.disk disk) (D.disk c.sync.new.self) (D.disk c.write-2.new.self) P kept c.write-2.ensures.time second in
     opened
 
 pub returns-in_err-sync-2-clause-any_moment : goal.returns-in_err-sync-2-clause-any_moment
 returns-in_err-sync-2-clause-any_moment g c =
     let D = g.D.Disk in
     let disk = c.args.disk.now in
-    let P = RestsBeforeOrAfter (D.reads disk) c.args.end c.args.bytes.now in
-    let start = started D.moment D.left_since disk P (λ f left. at_start c.args.end c.args.bytes.now c.requires.sized (g.D.Disk.reads c.args.disk.now) (g.D.Disk.may_leave c.args.disk.now) c.requires.ends c.requires.durable f (g.met.D.Disk.only_now disk f left)) in
-    let first = first c.args.end c.args.bytes.now c.requires.sized (g.D.Disk.reads c.args.disk.now) (g.D.Disk.may_leave c.args.disk.now) c.requires.ends c.requires.durable (length c.stage-staged.result.now) (D.may_leave c.write.new.self) c.write.ensures.crash in
-    let behind = goes_on D.moment D.left_since disk disk c.write.new.self P _ start c.write.ensures.time first in
-    let kept = goes_on D.moment D.left_since disk c.write.new.self c.sync.new.self P _ behind c.sync.ensures.time (λ f now. first f (c.sync.ensures.untouched.crash f now)) in
-    let written = subst (λ (l : List ℕ). Follows (Holds (c.args.end + 1) l) (D.reads disk) (D.reads c.write.new.self)) c.stage-staged.ensures c.in_ok-write.ensures.written in
-    let staged = staged c.args.end c.args.bytes.now c.requires.sized (g.D.Disk.reads c.args.disk.now) (g.D.Disk.may_leave c.args.disk.now) c.requires.ends c.requires.durable (D.reads c.write.new.self) written in
-    let second = second c.args.end c.args.bytes.now c.requires.sized (g.D.Disk.reads c.args.disk.now) (g.D.Disk.may_leave c.args.disk.now) c.requires.ends c.requires.durable (D.may_leave c.sync.new.self) (D.may_leave c.write-2.new.self) (λ f now. staged f (c.sync.ensures.untouched.gives f (c.in_ok-sync.ensures.durable f now))) c.write-2.ensures.crash in
-    let opened = goes_on D.moment D.left_since disk c.sync.new.self c.write-2.new.self P _ kept c.write-2.ensures.time second in
-    let ended = goes_on D.moment D.left_since disk c.write-2.new.self c.sync-2.new.self P _ opened c.sync-2.ensures.time (λ f now. second f (c.sync-2.ensures.untouched.crash f now)) in
+    let P = RestsBeforeOrAfter (D.disk disk).reads c.args.end c.args.bytes.now in
+    let start = started (D.disk disk) P (λ f left. at_start c.args.end c.args.bytes.now c.requires.sized (g.D.Disk.disk c.args.disk.now).reads (g.D.Disk.disk c.args.disk.now).may_leave c.requires.ends c.requires.durable f (g.met.D.Disk.only_now disk f left)) in
+    let first = first c.args.end c.args.bytes.now c.requires.sized (g.D.Disk.disk c.args.disk.now).reads (g.D.Disk.disk c.args.disk.now).may_leave c.requires.ends c.requires.durable (length c.stage-staged.result.now) (D.disk c.write.new.self).may_leave c.write.ensures.crash in
+    let behind = goes_on (D.disk disk) (D.disk disk) (D.disk c.write.new.self) P start c.write.ensures.time first in
+    let kept = goes_on (D.disk disk) (D.disk c.write.new.self) (D.disk c.sync.new.self) P behind c.sync.ensures.time (λ f now. first f (c.sync.ensures.untouched.crash f now)) in
+    let written = subst (λ (l : List ℕ). Follows (Holds (c.args.end + 1) l) (D.disk disk).reads (D.disk c.write.new.self).reads) c.stage-staged.ensures c.in_ok-write.ensures.written in
+    let staged = staged c.args.end c.args.bytes.now c.requires.sized (g.D.Disk.disk c.args.disk.now).reads (g.D.Disk.disk c.args.disk.now).may_leave c.requires.ends c.requires.durable (D.disk c.write.new.self).reads written in
+    let second = second c.args.end c.args.bytes.now c.requires.sized (g.D.Disk.disk c.args.disk.now).reads (g.D.Disk.disk c.args.disk.now).may_leave c.requires.ends c.requires.durable (D.disk c.sync.new.self).may_leave (D.disk c.write-2.new.self).may_leave (λ f now. staged f (c.sync.ensures.untouched.gives f (c.in_ok-sync.ensures.durable f now))) c.write-2.ensures.crash in
+    let opened = goes_on (D.disk disk) (D.disk c.sync.new.self) (D.disk c.write-2.new.self) P kept c.write-2.ensures.time second in
+    let ended = goes_on (D.disk disk) (D.disk c.write-2.new.self) (D.disk c.sync-2.new.self) P opened c.sync-2.ensures.time (λ f now. second f (c.sync-2.ensures.untouched.crash f now)) in
     ended
 
 pub returns-clause-any_moment : goal.returns-clause-any_moment
 returns-clause-any_moment g c =
     let D = g.D.Disk in
     let disk = c.args.disk.now in
-    let P = RestsBeforeOrAfter (D.reads disk) c.args.end c.args.bytes.now in
-    let start = started D.moment D.left_since disk P (λ f left. at_start c.args.end c.args.bytes.now c.requires.sized (g.D.Disk.reads c.args.disk.now) (g.D.Disk.may_leave c.args.disk.now) c.requires.ends c.requires.durable f (g.met.D.Disk.only_now disk f left)) in
-    let first = first c.args.end c.args.bytes.now c.requires.sized (g.D.Disk.reads c.args.disk.now) (g.D.Disk.may_leave c.args.disk.now) c.requires.ends c.requires.durable (length c.stage-staged.result.now) (D.may_leave c.write.new.self) c.write.ensures.crash in
-    let behind = goes_on D.moment D.left_since disk disk c.write.new.self P _ start c.write.ensures.time first in
-    let kept = goes_on D.moment D.left_since disk c.write.new.self c.sync.new.self P _ behind c.sync.ensures.time (λ f now. first f (c.sync.ensures.untouched.crash f now)) in
-    let written = subst (λ (l : List ℕ). Follows (Holds (c.args.end + 1) l) (D.reads disk) (D.reads c.write.new.self)) c.stage-staged.ensures c.in_ok-write.ensures.written in
-    let staged = staged c.args.end c.args.bytes.now c.requires.sized (g.D.Disk.reads c.args.disk.now) (g.D.Disk.may_leave c.args.disk.now) c.requires.ends c.requires.durable (D.reads c.write.new.self) written in
-    let second = second c.args.end c.args.bytes.now c.requires.sized (g.D.Disk.reads c.args.disk.now) (g.D.Disk.may_leave c.args.disk.now) c.requires.ends c.requires.durable (D.may_leave c.sync.new.self) (D.may_leave c.write-2.new.self) (λ f now. staged f (c.sync.ensures.untouched.gives f (c.in_ok-sync.ensures.durable f now))) c.write-2.ensures.crash in
-    let opened = goes_on D.moment D.left_since disk c.sync.new.self c.write-2.new.self P _ kept c.write-2.ensures.time second in
-    let ended = goes_on D.moment D.left_since disk c.write-2.new.self c.sync-2.new.self P _ opened c.sync-2.ensures.time (λ f now. second f (c.sync-2.ensures.untouched.crash f now)) in
+    let P = RestsBeforeOrAfter (D.disk disk).reads c.args.end c.args.bytes.now in
+    let start = started (D.disk disk) P (λ f left. at_start c.args.end c.args.bytes.now c.requires.sized (g.D.Disk.disk c.args.disk.now).reads (g.D.Disk.disk c.args.disk.now).may_leave c.requires.ends c.requires.durable f (g.met.D.Disk.only_now disk f left)) in
+    let first = first c.args.end c.args.bytes.now c.requires.sized (g.D.Disk.disk c.args.disk.now).reads (g.D.Disk.disk c.args.disk.now).may_leave c.requires.ends c.requires.durable (length c.stage-staged.result.now) (D.disk c.write.new.self).may_leave c.write.ensures.crash in
+    let behind = goes_on (D.disk disk) (D.disk disk) (D.disk c.write.new.self) P start c.write.ensures.time first in
+    let kept = goes_on (D.disk disk) (D.disk c.write.new.self) (D.disk c.sync.new.self) P behind c.sync.ensures.time (λ f now. first f (c.sync.ensures.untouched.crash f now)) in
+    let written = subst (λ (l : List ℕ). Follows (Holds (c.args.end + 1) l) (D.disk disk).reads (D.disk c.write.new.self).reads) c.stage-staged.ensures c.in_ok-write.ensures.written in
+    let staged = staged c.args.end c.args.bytes.now c.requires.sized (g.D.Disk.disk c.args.disk.now).reads (g.D.Disk.disk c.args.disk.now).may_leave c.requires.ends c.requires.durable (D.disk c.write.new.self).reads written in
+    let second = second c.args.end c.args.bytes.now c.requires.sized (g.D.Disk.disk c.args.disk.now).reads (g.D.Disk.disk c.args.disk.now).may_leave c.requires.ends c.requires.durable (D.disk c.sync.new.self).may_leave (D.disk c.write-2.new.self).may_leave (λ f now. staged f (c.sync.ensures.untouched.gives f (c.in_ok-sync.ensures.durable f now))) c.write-2.ensures.crash in
+    let opened = goes_on (D.disk disk) (D.disk c.sync.new.self) (D.disk c.write-2.new.self) P kept c.write-2.ensures.time second in
+    let ended = goes_on (D.disk disk) (D.disk c.write-2.new.self) (D.disk c.sync-2.new.self) P opened c.sync-2.ensures.time (λ f now. second f (c.sync-2.ensures.untouched.crash f now)) in
     ended
 
 pub returns-clause-added : goal.returns-clause-added
 returns-clause-added g c =
     let D = g.D.Disk in
     let disk = c.args.disk.now in
-    let written = subst (λ (l : List ℕ). Follows (Holds (c.args.end + 1) l) (D.reads disk) (D.reads c.write.new.self)) c.stage-staged.ensures c.in_ok-write.ensures.written in
-    let staged = staged c.args.end c.args.bytes.now c.requires.sized (g.D.Disk.reads c.args.disk.now) (g.D.Disk.may_leave c.args.disk.now) c.requires.ends c.requires.durable (D.reads c.write.new.self) written in
-    λ f read. last c.args.end c.args.bytes.now c.requires.sized (g.D.Disk.reads c.args.disk.now) (g.D.Disk.may_leave c.args.disk.now) c.requires.ends c.requires.durable (D.reads c.sync.new.self) (D.reads c.write-2.new.self) (λ f now. staged f (c.sync.ensures.untouched.gives f now)) c.in_ok-write-2.ensures.written f (c.sync-2.ensures.untouched.gives f read)
+    let written = subst (λ (l : List ℕ). Follows (Holds (c.args.end + 1) l) (D.disk disk).reads (D.disk c.write.new.self).reads) c.stage-staged.ensures c.in_ok-write.ensures.written in
+    let staged = staged c.args.end c.args.bytes.now c.requires.sized (g.D.Disk.disk c.args.disk.now).reads (g.D.Disk.disk c.args.disk.now).may_leave c.requires.ends c.requires.durable (D.disk c.write.new.self).reads written in
+    λ f read. last c.args.end c.args.bytes.now c.requires.sized (g.D.Disk.disk c.args.disk.now).reads (g.D.Disk.disk c.args.disk.now).may_leave c.requires.ends c.requires.durable (D.disk c.sync.new.self).reads (D.disk c.write-2.new.self).reads (λ f now. staged f (c.sync.ensures.untouched.gives f now)) c.in_ok-write-2.ensures.written f (c.sync-2.ensures.untouched.gives f read)

@@ -14,8 +14,8 @@ draining-init g c =
       within = c.requires.within;
       stands = (
         [],
-        stands_first c.args.kept.now.core (take c.args.told c.args.out.now) c.args.peer.now (g.N.Net.calls c.args.net.now) c.requires.lead,
-        keeps_none D.reads D.may_leave D.moment D.left_since c.args.kept.now,
+        stands_first c.args.kept.now.core (take c.args.told c.args.out.now) c.args.peer.now (g.N.Counted.seen c.args.net.now).calls c.requires.lead,
+        keeps_none D.disk c.args.kept.now,
       );
       count = refl;
       disk = refl;
@@ -34,7 +34,7 @@ draining-preserved g c =
       stands = (
         s.0 ++ r.0,
         stands_more _ _ _ _ _ _ _ _ _ _ _ _ _ s.1 c.in-Some.ensures.written r.1,
-        keeps_both D.reads D.may_leave D.moment D.left_since _ _ _ s.0 r.0 s.2 r.2,
+        keeps_both D.disk _ _ _ s.0 r.0 s.2 r.2,
       );
       count = c.in-Ok.ensures.fault ∙ c.draining.invariant.count;
       disk = c.in-Ok.ensures.counts ∙ c.draining.invariant.disk;
@@ -48,7 +48,7 @@ returns-in-Err-clause-broken g c =
     on_link c.in-Err.why _ _ (λ link h. (
       s.0 ++ h.0,
       stands_broken _ _ _ _ _ _ _ _ _ _ _ _ link s.1 c.in-Some.ensures.written h.1,
-      keeps_both D.reads D.may_leave D.moment D.left_since _ _ _ s.0 h.0 s.2 h.2,
+      keeps_both D.disk _ _ _ s.0 h.0 s.2 h.2,
     )) c.in-Err.ensures.failed
 
 pub returns-in-Err-clause-stopped : goal.returns-in-Err-clause-stopped
@@ -60,6 +60,6 @@ returns-in-Err-clause-stopped g c =
       (
         h.0,
         stands_stopped _ _ _ _ _ _ _ s.0 h.0 _ _ _ s.1 c.in-Some.ensures.written h.1,
-        keeps_up_to D.reads D.may_leave D.moment D.left_since _ _ _ s.0 h.0 fault s.2 h.2,
+        keeps_up_to D.disk _ _ _ s.0 h.0 fault s.2 h.2,
       ),
     )) c.in-Err.ensures.unkept

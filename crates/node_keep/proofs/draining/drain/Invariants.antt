@@ -11,11 +11,11 @@ invariant-draining g l = record {
   answer_room : 8213 ≤ length l.answer;
   within : l.reply ≤ length l.out;
   stands : (frames : List Handed)
-      × Stands l.fn.kept.core (take l.fn.told l.fn.out) l.fn.peer l.kept.core (take l.reply l.out) frames (g.N.Net.calls l.fn.net) (g.N.Net.calls l.net)
-      × Keeps g.D.Disk.reads g.D.Disk.may_leave g.D.Disk.moment g.D.Disk.left_since l.fn.kept l.kept frames;
-  count : g.N.Counted.count l.net ≡ g.N.Counted.count l.fn.net;
-  disk : g.D.Counted.count l.kept.disk ≡ g.D.Counted.count l.fn.kept.disk;
-  door : g.N.Net.doors l.net ≡ g.N.Net.doors l.fn.net;
+      × Stands l.fn.kept.core (take l.fn.told l.fn.out) l.fn.peer l.kept.core (take l.reply l.out) frames (g.N.Counted.seen l.fn.net).calls (g.N.Counted.seen l.net).calls
+      × Keeps g.D.Disk.disk l.fn.kept l.kept frames;
+  count : (g.N.Counted.seen l.net).faults ≡ (g.N.Counted.seen l.fn.net).faults;
+  disk : (g.D.Counted.seen l.kept.disk).faults ≡ (g.D.Counted.seen l.fn.kept.disk).faults;
+  door : (g.N.Counted.seen l.net).doors ≡ (g.N.Counted.seen l.fn.net).doors;
 }
 
 abbrev pub decreases-draining : goal.decreases-draining

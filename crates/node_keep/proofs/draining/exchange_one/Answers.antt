@@ -15,7 +15,7 @@ returns-in-Err-Fault-clause-failed g c =
     let D = g.D.Disk in (
       [],
       fails_unheard c.args.peer.now c.args.kept.now.core (take c.args.size c.args.out.now) c.in-Err-Fault.field-0 (broken.Fault c.in-Err-Fault.count) _ _ (served.LinkFault c.in-Err-Fault.count) c.requires.lead c.in-Err-Fault.field-0-is (λ (a : Leader). refl) c.in-Err-Fault.ensures.calls,
-      keeps_none D.reads D.may_leave D.moment D.left_since c.args.kept.now,
+      keeps_none D.disk c.args.kept.now,
     )
 
 pub returns-in-Err-Early-clause-failed : goal.returns-in-Err-Early-clause-failed
@@ -23,7 +23,7 @@ returns-in-Err-Early-clause-failed g c =
     let D = g.D.Disk in (
       [],
       fails_unheard c.args.peer.now c.args.kept.now.core (take c.args.size c.args.out.now) c.in-Err-Early.field-0 (broken.Early c.in-Err-Early.field-0-0) _ _ served.LinkBad c.requires.lead c.in-Err-Early.field-0-is (λ (a : Leader). refl) c.in-Err-Early.ensures.calls,
-      keeps_none D.reads D.may_leave D.moment D.left_since c.args.kept.now,
+      keeps_none D.disk c.args.kept.now,
     )
 
 pub returns-in-Err-Wrong-clause-failed : goal.returns-in-Err-Wrong-clause-failed
@@ -31,7 +31,7 @@ returns-in-Err-Wrong-clause-failed g c =
     let D = g.D.Disk in (
       [],
       fails_unheard c.args.peer.now c.args.kept.now.core (take c.args.size c.args.out.now) c.in-Err-Wrong.field-0 (broken.Wrong c.in-Err-Wrong.field-0-0) _ _ served.LinkBad c.requires.lead c.in-Err-Wrong.field-0-is (λ (a : Leader). refl) c.in-Err-Wrong.ensures.calls,
-      keeps_none D.reads D.may_leave D.moment D.left_since c.args.kept.now,
+      keeps_none D.disk c.args.kept.now,
     )
 
 pub returns-then-is_ignored-clause-failed : goal.returns-then-is_ignored-clause-failed
@@ -47,7 +47,7 @@ pub returns-else-is_ignored-clause-replied : goal.returns-else-is_ignored-clause
 returns-else-is_ignored-clause-replied g c =
     let bytes : List ℕ = take c.in-Ok.count c.exchange.new.reply in (
       handed Peer bytes ∷ [],
-      subst (λ (n : ℕ). Replies c.args.peer.now c.args.kept.now.core c.hand.new.kept.core (take c.args.size c.args.out.now) (take n c.hand.new.out) (handed Peer bytes ∷ []) (g.N.Net.calls c.args.net.now) (g.N.Net.calls c.exchange.new.net)) (sym c.told.ensures)
+      subst (λ (n : ℕ). Replies c.args.peer.now c.args.kept.now.core c.hand.new.kept.core (take c.args.size c.args.out.now) (take n c.hand.new.out) (handed Peer bytes ∷ []) (g.N.Counted.seen c.args.net.now).calls (g.N.Counted.seen c.exchange.new.net).calls) (sym c.told.ensures)
           (replies_by c.args.peer.now c.args.kept.now.core (take c.args.size c.args.out.now) bytes c.hand.new.kept.core c.in-Ok-hand.did c.args.out.now c.hand.new.out _ _ c.requires.lead
           c.in-Ok-hand.ensures.step (sym c.is_ignored.ensures ∙ c.if-is_ignored.false) c.in-Ok.ensures.calls),
       c.in-Ok-hand.ensures.keeps,

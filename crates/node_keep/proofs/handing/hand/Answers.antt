@@ -10,8 +10,8 @@ pub returns-in-Client-clause-keeps : goal.returns-in-Client-clause-keeps
 returns-in-Client-clause-keeps g c =
     let D = g.D.Disk in
     let h = c.on_client.ensures in
-    subst (λ (s : Sender). OnOk c.on_client.result (Keeps D.reads D.may_leave D.moment D.left_since c.args.kept.now c.on_client.new.self (handed s c.args.frame.now ∷ []))) (sym c.in-Client.is)
-    (keeps_handed D.reads D.may_leave D.moment D.left_since c.args.kept.now c.on_client.new.self Client c.args.frame.now c.args.out.now c.on_client.new.out c.on_client.result (record {
+    subst (λ (s : Sender). OnOk c.on_client.result (Keeps D.disk c.args.kept.now c.on_client.new.self (handed s c.args.frame.now ∷ []))) (sym c.in-Client.is)
+    (keeps_handed D.disk c.args.kept.now c.on_client.new.self Client c.args.frame.now c.args.out.now c.on_client.new.out c.on_client.result (record {
       step = h.step;
       no_step = h.no_step;
       opening = h.opening;
@@ -30,8 +30,8 @@ pub returns-in-Peer-clause-keeps : goal.returns-in-Peer-clause-keeps
 returns-in-Peer-clause-keeps g c =
     let D = g.D.Disk in
     let h = c.on_peer.ensures in
-    subst (λ (s : Sender). OnOk c.on_peer.result (Keeps D.reads D.may_leave D.moment D.left_since c.args.kept.now c.on_peer.new.self (handed s c.args.frame.now ∷ []))) (sym c.in-Peer.is)
-    (keeps_handed D.reads D.may_leave D.moment D.left_since c.args.kept.now c.on_peer.new.self Peer c.args.frame.now c.args.out.now c.on_peer.new.out c.on_peer.result (record {
+    subst (λ (s : Sender). OnOk c.on_peer.result (Keeps D.disk c.args.kept.now c.on_peer.new.self (handed s c.args.frame.now ∷ []))) (sym c.in-Peer.is)
+    (keeps_handed D.disk c.args.kept.now c.on_peer.new.self Peer c.args.frame.now c.args.out.now c.on_peer.new.out c.on_peer.result (record {
       step = h.step;
       no_step = h.no_step;
       opening = h.opening;

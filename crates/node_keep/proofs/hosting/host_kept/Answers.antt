@@ -7,7 +7,7 @@ pub loop-init : goal.loop-init
 loop-init g c = record {
   within = omega arith;
   sum = ap total c.new-tally.ensures;
-  hosting = hosting _ _ _ _ _ _ _ _ _ _ _ c.new-tally.ensures;
+  hosting = hosting _ _ _ _ _ _ c.new-tally.ensures;
   door = refl;
   later = omega arith;
   disk = refl;
@@ -15,11 +15,11 @@ loop-init g c = record {
 
 pub returns-in-Err-clause-door_failed : goal.returns-in-Err-clause-door_failed
 returns-in-Err-clause-door_failed g c =
-    on_door c.in-Err.halt _ _ (λ h. door_failed _ _ _ _ _ _ _ _ _ _ _ _ _ _ _ _ _ _ _ c.loop.invariant.hosting c.loop-test.true h) c.in-Err.ensures.refused
+    on_door c.in-Err.halt _ _ (λ h. door_failed _ _ _ _ _ _ _ _ _ _ _ _ _ _ c.loop.invariant.hosting c.loop-test.true h) c.in-Err.ensures.refused
 
 pub returns-in-Err-clause-keep_failed : goal.returns-in-Err-clause-keep_failed
 returns-in-Err-clause-keep_failed g c =
-    on_fault c.in-Err.halt _ _ (λ fault h. keep_failed _ _ _ _ _ _ _ _ _ _ _ _ _ _ fault _ _ _ c.loop.invariant.hosting c.loop-test.true h) c.in-Err.ensures.broken
+    on_fault c.in-Err.halt _ _ (λ fault h. keep_failed _ _ _ _ _ _ _ _ _ fault _ _ _ c.loop.invariant.hosting c.loop-test.true h) c.in-Err.ensures.broken
 
 pub loop-preserved : goal.loop-preserved
 loop-preserved g c =
@@ -27,7 +27,7 @@ loop-preserved g c =
     record {
       within = omega (arith, c.loop-test.true);
       sum = omega (arith, n.one_more, c.loop.invariant.sum);
-      hosting = hosting_more _ _ _ _ _ _ _ _ _ _ _ _ _ _ _ _ _ _ c.loop.invariant.hosting c.in-Ok.ensures.visit (record {
+      hosting = hosting_more _ _ _ _ _ _ _ _ _ _ _ _ _ c.loop.invariant.hosting c.in-Ok.ensures.visit (record {
         answered = n.answered;
         ended = n.ended;
         connection_faults = n.connection_faults;

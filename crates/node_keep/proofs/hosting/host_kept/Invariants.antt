@@ -8,9 +8,9 @@ abbrev pub invariant-loop : goal.invariant-loop
 invariant-loop g l = record {
   within : l.counter ≤ l.connections;
   sum : total l.tally ≡ l.counter;
-  hosting : Hosting g.D.Disk.reads g.D.Disk.may_leave g.D.Disk.moment g.D.Disk.left_since l.fn.peer g.N.Conn.Counted.content g.N.Conn.Counted.written g.N.Conn.Counted.count
-      (standing l.fn.kept (g.N.Counted.count l.fn.net)) (standing l.kept (g.N.Counted.count l.net)) l.counter l.tally (g.N.Net.calls l.fn.net) (g.N.Net.calls l.net);
-  door : g.N.Net.doors l.net ≡ g.N.Net.doors l.fn.net;
-  later : g.N.Counted.count l.fn.net ≤ g.N.Counted.count l.net;
-  disk : g.D.Counted.count l.kept.disk ≡ g.D.Counted.count l.fn.kept.disk;
+  hosting : Hosting g.D.Disk.disk l.fn.peer g.N.Conn.Counted.seen
+      (standing l.fn.kept (g.N.Counted.seen l.fn.net).faults) (standing l.kept (g.N.Counted.seen l.net).faults) l.counter l.tally (g.N.Counted.seen l.fn.net).calls (g.N.Counted.seen l.net).calls;
+  door : (g.N.Counted.seen l.net).doors ≡ (g.N.Counted.seen l.fn.net).doors;
+  later : (g.N.Counted.seen l.fn.net).faults ≤ (g.N.Counted.seen l.net).faults;
+  disk : (g.D.Counted.seen l.kept.disk).faults ≡ (g.D.Counted.seen l.fn.kept.disk).faults;
 }

@@ -24,8 +24,8 @@ returns-in-Ok-step_leader-clause-handled g c =
     if_ok c.drain-in-Ok-step_leader.result _ _ (λ n two. (
       one.0 ++ client ∷ two.0,
       handles c.args.peer.now c.args.kept.now.core c.args.frame.now _ _ _ _ _ _ one.0 two.0 _ _ _ one.1 step.steps two.1,
-      keeps_both D.reads D.may_leave D.moment D.left_since _ _ _ one.0 (client ∷ two.0) one.2
-          (keeps_both D.reads D.may_leave D.moment D.left_since _ _ _ (client ∷ []) two.0 step.keeps two.2),
+      keeps_both D.disk _ _ _ one.0 (client ∷ two.0) one.2
+          (keeps_both D.disk _ _ _ (client ∷ []) two.0 step.keeps two.2),
     )) c.drain-in-Ok-step_leader.ensures.drained
 
 pub returns-in-Ok-step_leader-clause-broken : goal.returns-in-Ok-step_leader-clause-broken
@@ -37,8 +37,8 @@ returns-in-Ok-step_leader-clause-broken g c =
     if_err c.drain-in-Ok-step_leader.result _ _ (λ why off. on_link why _ _ (λ link two. (
       one.0 ++ client ∷ two.0,
       breaks_late c.args.peer.now c.args.kept.now.core c.args.frame.now _ _ _ _ _ one.0 two.0 _ _ _ link one.1 step.steps two.1,
-      keeps_both D.reads D.may_leave D.moment D.left_since _ _ _ one.0 (client ∷ two.0) one.2
-          (keeps_both D.reads D.may_leave D.moment D.left_since _ _ _ (client ∷ []) two.0 step.keeps two.2),
+      keeps_both D.disk _ _ _ one.0 (client ∷ two.0) one.2
+          (keeps_both D.disk _ _ _ (client ∷ []) two.0 step.keeps two.2),
     )) off) c.drain-in-Ok-step_leader.ensures.broken
 
 pub returns-in-Ok-step_leader-clause-stopped : goal.returns-in-Ok-step_leader-clause-stopped
@@ -52,8 +52,8 @@ returns-in-Ok-step_leader-clause-stopped g c =
       (
         two.1.0,
         stops_late c.args.peer.now c.args.kept.now.core c.args.frame.now _ _ _ _ _ one.0 two.0 two.1.0 _ _ _ one.1 step.steps two.1.1,
-        keeps_then D.reads D.may_leave D.moment D.left_since _ _ _ one.0 (client ∷ two.0) two.1.0 fault one.2
-            (keeps_then D.reads D.may_leave D.moment D.left_since _ _ _ (client ∷ []) two.0 two.1.0 fault step.keeps two.1.2),
+        keeps_then D.disk _ _ _ one.0 (client ∷ two.0) two.1.0 fault one.2
+            (keeps_then D.disk _ _ _ (client ∷ []) two.0 two.1.0 fault step.keeps two.1.2),
       ),
     )) off) c.drain-in-Ok-step_leader.ensures.stopped
 
@@ -66,6 +66,6 @@ returns-in-Err-step_leader-clause-stopped g c =
       (
         handed Client c.args.frame.now,
         stops_between c.args.peer.now c.args.kept.now.core c.args.frame.now _ _ _ one.0 _ _ one.1 refuses.no_step,
-        keeps_up_to D.reads D.may_leave D.moment D.left_since _ _ _ one.0 (handed Client c.args.frame.now) _ one.2 refuses,
+        keeps_up_to D.disk _ _ _ one.0 (handed Client c.args.frame.now) _ one.2 refuses,
       ),
     )

@@ -4,4 +4,4 @@ use Rattle.node_keep.proofs.opening.open_again.Goals as goal
 
 pub returns-in-Err-clause-why : goal.returns-in-Err-clause-why
 returns-in-Err-clause-why g c =
-    cause_reopened c.in-Err.fault JOURNAL_LIMIT c.args.opening.now (g.D.Disk.reads c.args.disk) c.requires.some c.in-Err.ensures.foreign c.in-Err.ensures.damaged
+    cause_reopened c.in-Err.fault JOURNAL_LIMIT c.args.opening.now (g.D.Disk.disk c.args.disk).reads c.requires.some c.in-Err.ensures.foreign c.in-Err.ensures.damaged

@@ -25,6 +25,6 @@ returns-in-Err-clause-stops g c = λ peer calls.
       (
         handed Client c.args.frame.now,
         stops_refused peer c.args.kept.now.core c.args.frame.now c.step_leader.new.kept.core calls c.requires.lead c.requires.none refuses.no_step,
-        keeps_up_to D.reads D.may_leave D.moment D.left_since c.args.kept.now c.args.kept.now _ [] (handed Client c.args.frame.now) _ (keeps_none D.reads D.may_leave D.moment D.left_since c.args.kept.now) refuses,
+        keeps_up_to D.disk c.args.kept.now c.args.kept.now _ [] (handed Client c.args.frame.now) _ (keeps_none D.disk c.args.kept.now) refuses,
       ),
     )

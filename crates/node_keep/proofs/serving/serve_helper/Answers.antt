@@ -14,6 +14,6 @@ returns-in-Err-clause-stops g c = λ peer calls.
       (
         handed (sender_at_helper c.args.frame.now) c.args.frame.now,
         stops_helped peer c.args.kept.now.core c.args.frame.now c.step_helper.new.kept.core calls c.requires.help refuses.no_step,
-        keeps_up_to D.reads D.may_leave D.moment D.left_since c.args.kept.now c.args.kept.now _ [] (handed (sender_at_helper c.args.frame.now) c.args.frame.now) _ (keeps_none D.reads D.may_leave D.moment D.left_since c.args.kept.now) refuses,
+        keeps_up_to D.disk c.args.kept.now c.args.kept.now _ [] (handed (sender_at_helper c.args.frame.now) c.args.frame.now) _ (keeps_none D.disk c.args.kept.now) refuses,
       ),
     )

@@ -9,14 +9,14 @@ returns-in-Ok-answer-clause-visit g c =
     let d = c.in-Ok.ensures in
     let h = c.serve_kept-answer.ensures in
     let k = c.in-Ok-answer.ensures in
-    let link = subst (λ (n : ℕ). FaultIn c.in-Ok-answer.answer n (g.N.Counted.count c.serve_kept-answer.new.net)) d.counts.unfailed k.fault in
-    let v = visited D.reads D.may_leave D.moment D.left_since c.args.peer.now c.args.kept.now c.serve_kept-answer.new.kept c.in-Ok-answer.answer _ _ _ _ _ _ _ _ _ _ _ _ _ _ (record {
+    let link = subst (λ (n : ℕ). FaultIn c.in-Ok-answer.answer n (g.N.Counted.seen c.serve_kept-answer.new.net).faults) d.counts.unfailed k.fault in
+    let v = visited D.disk c.args.peer.now c.args.kept.now c.serve_kept-answer.new.kept c.in-Ok-answer.answer _ _ _ _ _ _ _ _ _ _ _ _ _ _ (record {
       cut = k.cut;
       stays = h.stays;
-      rests = λ e. ap g.N.Net.calls (h.net_rests e);
+      rests = λ e. ap (λ x. (g.N.Counted.seen x).calls) (h.net_rests e);
       untold = h.writes_nothing;
       serves = k.serves;
-      alone = λ is. ap g.N.Net.calls (h.helper_rests is);
+      alone = λ is. ap (λ x. (g.N.Counted.seen x).calls) (h.helper_rests is);
     }) d.whole d.call d.tells d.unwritten h.brings link c.close.ensures.call (record { whole = c.close.ensures.whole; broken = c.close.ensures.broken }) in
     (v.0, v.1, (v.2.0, v.2.1, v.2.2, (c.serve_kept-answer.new.conn, v.2.3)))
 
@@ -28,6 +28,6 @@ returns-in-Err-answer-clause-broken g c =
     let k = c.in-Err-answer.ensures in
     let unfailed = k.unanswered.1 ∙ d.whole in
     let later = c.close.ensures.whole unfailed ∙ k.unfailed ∙ d.counts.unfailed in
-    let v = broken D.reads D.may_leave D.moment D.left_since c.args.peer.now c.args.kept.now c.serve_kept-answer.new.kept c.in-Err-answer.fault _ _ _ _ _ _ _ _ _ _ _ _
-    k.stops (λ is. ap g.N.Net.calls (h.helper_rests is)) d.call d.tells d.unwritten h.brings k.unanswered.0 unfailed c.close.ensures.call later in
+    let v = broken D.disk c.args.peer.now c.args.kept.now c.serve_kept-answer.new.kept c.in-Err-answer.fault _ _ _ _ _ _ _ _ _ _ _ _
+    k.stops (λ is. ap (λ x. (g.N.Counted.seen x).calls) (h.helper_rests is)) d.call d.tells d.unwritten h.brings k.unanswered.0 unfailed c.close.ensures.call later in
     (v.0, (v.1.0, (v.1.1.0, v.1.1.1, v.1.1.2, (c.serve_kept-answer.new.conn, v.1.1.3))))

@@ -24,7 +24,7 @@ returns-in-Ok-replay-clause-role g c =
 
 pub returns-in-Err-replay-clause-foreign : goal.returns-in-Err-replay-clause-foreign
 returns-in-Err-replay-clause-foreign g c =
-    let reads = g.D.Disk.reads c.first_opening.new.disk in
+    let reads = (g.D.Disk.disk c.first_opening.new.disk).reads in
     let first : StandsFirst c.in-Ok-first_opening.opening c.first_opening.new.journal.end reads =
     λ d read. c.in-Ok-first_opening.ensures.first d (c.first_opening.ensures.untouched.gives d read) in
     on_foreign c.in-Err-replay.fault _ _
@@ -35,7 +35,7 @@ returns-in-Err-replay-clause-foreign g c =
 
 pub returns-in-Err-replay-clause-damaged : goal.returns-in-Err-replay-clause-damaged
 returns-in-Err-replay-clause-damaged g c =
-    let reads = g.D.Disk.reads c.first_opening.new.disk in
+    let reads = (g.D.Disk.disk c.first_opening.new.disk).reads in
     let first : StandsFirst c.in-Ok-first_opening.opening c.first_opening.new.journal.end reads =
     λ d read. c.in-Ok-first_opening.ensures.first d (c.first_opening.ensures.untouched.gives d read) in
     let same : c.first_opening.new.journal.limit ≡ c.args.limit =

@@ -9,8 +9,7 @@ loop-number-preserved g c =
     record {
       so_far = replays_on c.args.journal.now.limit c.args.journal.now.end c.loop-number.number c.loop-number.journal c.replay_next.new.journal
           c.args.core.now c.loop-number.core c.replay_next.new.core
-          (D.reads c.args.disk.now) (D.reads c.loop-number.disk) (D.reads c.replay_next.new.disk)
-          (D.may_leave c.args.disk.now) (D.may_leave c.loop-number.disk) (D.may_leave c.replay_next.new.disk)
+          (D.disk c.args.disk.now) (D.disk c.loop-number.disk) (D.disk c.replay_next.new.disk)
           c.loop-number.invariant.so_far (c.in-Ok-true.ensures.stepped (cc)) c.in-Ok-true.ensures.reading c.replay_next.ensures.untouched
           (c.in-Ok-true.ensures.undamaged (cc)) (c.in-Ok-true.ensures.longer (cc)) c.replay_next.ensures.settings c.replay_next.ensures.role;
       count = c.in-Ok-true.ensures.counts ∙ c.loop-number.invariant.count;
@@ -22,6 +21,6 @@ returns-in-Err-clause-foreign g c =
     on_foreign c.in-Err.fault _ _
     (λ n here.
     replays_foreign c.args.journal.now.limit c.args.journal.now.end c.loop-number.number n c.loop-number.journal c.args.core.now c.loop-number.core
-    (D.reads c.args.disk.now) (D.reads c.loop-number.disk) (D.may_leave c.args.disk.now) (D.may_leave c.loop-number.disk)
+    (D.disk c.args.disk.now) (D.disk c.loop-number.disk)
     c.loop-number.invariant.so_far here.0 here.1)
     c.in-Err.ensures.foreign

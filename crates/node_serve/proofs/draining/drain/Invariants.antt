@@ -8,9 +8,9 @@ invariant-draining g l = record {
   room : 8213 ≤ length l.out;
   answer_room : 8213 ≤ length l.answer;
   within : l.reply ≤ length l.out;
-  stands : Stands (stand l.fn.leader (take l.fn.told l.fn.out)) l.fn.peer l.leader (take l.reply l.out) (g.N.Net.calls l.fn.net) (g.N.Net.calls l.net);
-  count : g.N.Counted.count l.net ≡ g.N.Counted.count l.fn.net;
-  door : g.N.Net.doors l.net ≡ g.N.Net.doors l.fn.net;
+  stands : Stands (stand l.fn.leader (take l.fn.told l.fn.out)) l.fn.peer l.leader (take l.reply l.out) (g.N.Counted.seen l.fn.net).calls (g.N.Counted.seen l.net).calls;
+  count : (g.N.Counted.seen l.net).faults ≡ (g.N.Counted.seen l.fn.net).faults;
+  door : (g.N.Counted.seen l.net).doors ≡ (g.N.Counted.seen l.fn.net).doors;
 }
 
 abbrev pub decreases-draining : goal.decreases-draining

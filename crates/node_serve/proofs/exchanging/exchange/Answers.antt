@@ -47,4 +47,4 @@ returns-in-Failed-clause-calls g c =
     let d = c.in-Ok.ensures in
     let given : List ℕ = take c.converse-count.result.0 c.converse-count.new.reply in
     broken_talk _ _ _ _ _ _ _ c.args.peer.now (record { sent = c.args.frame.now; answer = Err (broken.Fault c.faults-in-Failed.result) }) given _ d.call d.tells h.gave h.first c.close.ensures.call
-    (subst (λ n. Rose n (g.N.Conn.Counted.count c.converse-count.new.conn)) d.whole (h.cause c.in-Failed.is)) h.wanted tt
+    (subst (λ n. Rose n (g.N.Conn.Counted.seen c.converse-count.new.conn).faults) d.whole (h.cause c.in-Failed.is)) h.wanted tt

@@ -20,7 +20,7 @@ reading-preserved g c =
     record {
       within = omega (arith, room, held, c.in-Wants.ensures.room, c.in-Ok.ensures.bound, c.reading.invariant.room);
       room = omega (arith, room, c.reading.invariant.room);
-      gave = subst (Gave (g.S.Counted.content c.args.source.now) (g.S.Counted.content c.take_behind.new.source)) all (gave_more _ _ _ before more c.reading.invariant.gave c.in-Ok.ensures.gave);
+      gave = subst (Gave (g.S.Counted.seen c.args.source.now).content (g.S.Counted.seen c.take_behind.new.source).content) all (gave_more _ _ _ before more c.reading.invariant.gave c.in-Ok.ensures.gave);
       small = omega (arith, held, c.in-Wants.ensures.room, c.in-Ok.ensures.bound);
       wanted = subst IsWanted all (more_wanted before more c.in-Wants.ensures.short (omega (arith, count, c.in-Wants.ensures.exact)));
       unfailed = c.in-Ok.ensures.counts.unfailed ∙ c.reading.invariant.unfailed;

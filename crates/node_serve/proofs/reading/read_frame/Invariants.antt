@@ -7,11 +7,11 @@ abbrev pub invariant-reading : goal.invariant-reading
 invariant-reading g l = record {
   within : l.count ≤ length l.into;
   room : 8213 ≤ length l.into;
-  gave : Gave (g.S.Counted.content l.fn.source) (g.S.Counted.content l.source) (take l.count l.into);
+  gave : Gave (g.S.Counted.seen l.fn.source).content (g.S.Counted.seen l.source).content (take l.count l.into);
   small : l.count ≤ 8213;
   wanted : IsWanted (take l.count l.into);
-  unfailed : g.S.Counted.count l.source ≡ g.S.Counted.count l.fn.source;
-  writes_nothing : g.S.Counted.written l.source ≡ g.S.Counted.written l.fn.source;
+  unfailed : (g.S.Counted.seen l.source).faults ≡ (g.S.Counted.seen l.fn.source).faults;
+  writes_nothing : (g.S.Counted.seen l.source).written ≡ (g.S.Counted.seen l.fn.source).written;
 }
 
 abbrev pub decreases-reading : goal.decreases-reading

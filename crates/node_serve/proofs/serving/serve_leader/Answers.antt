@@ -9,13 +9,13 @@ pub returns-in-None-clause-leads : goal.returns-in-None-clause-leads
 returns-in-None-clause-leads g c =
     let reply : List ℕ = take c.step_leader-told.result c.step_leader-told.new.out in
     let refuses : Refuses c.args.leader.now c.args.frame.now c.step_leader-told.new.leader reply [] = record { leader = c.step_leader-told.ensures.leader; reply_is = c.step_leader-told.ensures.reply; none = refl } in
-    ([], refl, (reply, subst (λ (f : Option PlainFrame). Leads f c.args.leader.now c.args.frame.now c.step_leader-told.new.leader [] (g.N.Counted.count c.args.net.now) c.send.result reply) c.in-None.ensures.exact (c.send.ensures.sent, refuses), c.send.ensures.writes))
+    ([], refl, (reply, subst (λ (f : Option PlainFrame). Leads f c.args.leader.now c.args.frame.now c.step_leader-told.new.leader [] (g.N.Counted.seen c.args.net.now).faults c.send.result reply) c.in-None.ensures.exact (c.send.ensures.sent, refuses), c.send.ensures.writes))
 
 pub returns-in-Err-clause-leads : goal.returns-in-Err-clause-leads
 returns-in-Err-clause-leads g c =
     let reply : List ℕ = take c.say_link_down-told.result c.say_link_down-told.new.out in
     let down = c.in-Err.ensures.broken in
-    let count : ℕ = g.N.Counted.count c.handle.new.net in
+    let count : ℕ = (g.N.Counted.seen c.handle.new.net).faults in
     let said = c.say_link_down-told.ensures.written ∙ ap (λ n. spelling (link_down (plain c.in-Some.client) n)) c.faults.ensures in (
       down.0,
       down.2,

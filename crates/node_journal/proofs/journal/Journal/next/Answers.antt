@@ -30,8 +30,8 @@ returns-in-Ok-Some-clause-in_place g c open_still =
     let D = g.D.Disk in
     let held : len ≤ length out = omega (arith, (c.in-Ok-Some.ensures.sized len (cc)).1, c.find.ensures.length, c.requires.room) in
     let given = c.requires.in_place (ap (λ (j : JournalState). j.closed) (sym c.self.view_is) ∙ open_still) in
-    let old = subst (λ (j : JournalState). IsInPlace j (D.reads c.args.disk.now) (D.may_leave c.args.disk.now)) (sym c.self.view_is) given in
-    read_in_place _ _ (D.reads c.args.disk.now) (D.reads c.find.new.disk) (D.may_leave c.args.disk.now) (D.may_leave c.find.new.disk) len out held
+    let old = subst (λ (j : JournalState). IsInPlace j (D.disk c.args.disk.now)) (sym c.self.view_is) given in
+    read_in_place _ _ (D.disk c.args.disk.now) (D.disk c.find.new.disk) len out held
     old c.find.ensures.untouched refl refl refl (c.in-Ok-Some.ensures.fits len (cc)) (c.in-Ok-Some.ensures.some len (cc)) (c.in-Ok-Some.ensures.spelled len (cc))
 
 pub returns-in-Err-Damaged-clause-never_damaged : goal.returns-in-Err-Damaged-clause-never_damaged

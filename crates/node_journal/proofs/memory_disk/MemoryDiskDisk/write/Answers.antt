@@ -1,5 +1,5 @@
 use Rattle.std.proofs.Common.{◌≡◌, ◌∙◌, ◌≤◌, ◌-◌, List, ℕ, length, take, sym, ap, subst, arith, length-take}
-use Rattle.node_journal.specs.History.{History, MayLeave, LeftSince, moment_of, wrote, overwritten, bytes_of, left_of}
+use Rattle.node_journal.specs.History.{History, seen_of, wrote, overwritten, bytes_of, left_of}
 use Rattle.node_journal.specs.Disk.{Elapses}
 use Rattle.node_journal.specs.Memory.{DiskState, LogState}
 use Rattle.node_journal.proofs.Histories.{write_time}
@@ -29,5 +29,5 @@ returns-clause-time c =
     let now = c.write.new.self.history in
     let old : before ≡ c.args.self.now.log.history = ap (λ (d : DiskState). d.log.history) c.self.view_is in
     let new : wrote c.args.at c.args.bytes.now before ≡ now = sym (ap (λ (l : LogState). l.history) c.write.ensures) in
-    subst (λ (h : History). Elapses (moment_of h) (moment_of now) (LeftSince h) (LeftSince now) (MayLeave now)) old
-    (subst (λ (h : History). Elapses (moment_of before) (moment_of h) (LeftSince before) (LeftSince h) (MayLeave h)) new (write_time before c.args.at c.args.bytes.now))
+    subst (λ (h : History). Elapses (seen_of h) (seen_of now)) old
+    (subst (λ (h : History). Elapses (seen_of before) (seen_of h)) new (write_time before c.args.at c.args.bytes.now))

@@ -25,11 +25,11 @@ invariant_of-result g c =
 
 pub returns-in-Err-clause-not_empty : goal.returns-in-Err-clause-not_empty
 returns-in-Err-clause-not_empty g c =
-    on_not_empty c.in-Err.fault ((d : List ℕ) → g.D.Disk.reads c.args.disk d → d ≢ []) (λ e. c.in-Err.ensures.not_empty (ap (λ (f : JournalFault). Err f) e))
+    on_not_empty c.in-Err.fault ((d : List ℕ) → (g.D.Disk.disk c.args.disk).reads d → d ≢ []) (λ e. c.in-Err.ensures.not_empty (ap (λ (f : JournalFault). Err f) e))
 
 pub returns-in-Err-clause-full : goal.returns-in-Err-clause-full
 returns-in-Err-clause-full g c =
-    let Empty : Type 0 = (d : List ℕ) → g.D.Disk.reads c.args.disk d → d ≡ [] in
+    let Empty : Type 0 = (d : List ℕ) → (g.D.Disk.disk c.args.disk).reads d → d ≡ [] in
     on_full c.in-Err.fault (λ n. (n ≡ 0) × (c.args.limit < 51) × Empty) (λ n e.
     let full = c.in-Err.ensures.full n (ap (λ (f : JournalFault). Err f) e) in
     (full.0, omega (arith, full.1), full.2))

@@ -6,7 +6,7 @@ use Rattle.node_restart.proofs.kept.Kept.reopen.Goals as goal
 
 pub returns-in-Ok-clause-told : goal.returns-in-Ok-clause-told
 returns-in-Ok-clause-told g c o frames d read is_opening held =
-    one_fold o c.in-Ok.found.opening frames c.in-Ok.found.core (g.D.Disk.reads c.args.disk) d read is_opening c.in-Ok.ensures.is_opening c.in-Ok.ensures.stands held
+    one_fold o c.in-Ok.found.opening frames c.in-Ok.found.core (g.D.Disk.disk c.args.disk).reads d read is_opening c.in-Ok.ensures.is_opening c.in-Ok.ensures.stands held
 
 pub returns-in-Err-clause-never_foreign : goal.returns-in-Err-clause-never_foreign
 returns-in-Err-clause-never_foreign g c =

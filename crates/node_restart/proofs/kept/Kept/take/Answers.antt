@@ -10,16 +10,16 @@ use Rattle.node_restart.proofs.kept.Kept.take.Goals as goal
 
 pub returns-in-Ok-clause-stands : goal.returns-in-Ok-clause-stands
 returns-in-Ok-clause-stands g c still =
-    let reads = g.D.Disk.reads in
+    let D = g.D.Disk in
     stands_after c.self.inside.opening c.self.inside.core c.step.new.self c.args.sender c.args.frame.now c.self.inside.journal c.keep.new.journal
-    (reads c.self.inside.disk) (reads c.keep.new.disk) c.step.ensures.takes.core (λ one. ap (λ (j : JournalState). j.closed) (c.in-Ok.ensures.longer one))
+    (D.disk c.self.inside.disk).reads (D.disk c.keep.new.disk).reads c.step.ensures.takes.core (λ one. ap (λ (j : JournalState). j.closed) (c.in-Ok.ensures.longer one))
     c.in-Ok.ensures.added
-    (λ apart. ((c.keep.ensures.no_frame apart).1, λ d read. subst (λ (x : g.row.D.Denot). reads x d) (c.keep.ensures.no_frame apart).2 read))
+    (λ apart. ((c.keep.ensures.no_frame apart).1, λ d read. subst (λ (x : g.row.D.Denot). (D.disk x).reads d) (c.keep.ensures.no_frame apart).2 read))
     c.self.invariant.stands still
 
 pub invariant_of-self : goal.invariant_of-self
 invariant_of-self g c =
-    let reads = g.D.Disk.reads in
+    let D = g.D.Disk in
     record {
       is_opening = c.self.invariant.is_opening;
       settings = c.step.ensures.settings ∙ c.self.invariant.settings;
@@ -27,9 +27,9 @@ invariant_of-self g c =
       ready = c.keep.ensures.ready;
       in_place = c.keep.ensures.in_place;
       stands = stands_after c.self.inside.opening c.self.inside.core c.step.new.self c.args.sender c.args.frame.now c.self.inside.journal c.keep.new.journal
-          (reads c.self.inside.disk) (reads c.keep.new.disk) c.step.ensures.takes.core (λ one. ap (λ (j : JournalState). j.closed) (c.in-Ok.ensures.longer one))
+          (D.disk c.self.inside.disk).reads (D.disk c.keep.new.disk).reads c.step.ensures.takes.core (λ one. ap (λ (j : JournalState). j.closed) (c.in-Ok.ensures.longer one))
           c.in-Ok.ensures.added
-          (λ apart. ((c.keep.ensures.no_frame apart).1, λ d read. subst (λ (x : g.row.D.Denot). reads x d) (c.keep.ensures.no_frame apart).2 read))
+          (λ apart. ((c.keep.ensures.no_frame apart).1, λ d read. subst (λ (x : g.row.D.Denot). (D.disk x).reads d) (c.keep.ensures.no_frame apart).2 read))
           c.self.invariant.stands;
     }
 
@@ -51,10 +51,10 @@ returns-in-Ok-clause-any_moment g c one still frames held =
     let D = g.D.Disk in
     let h = handed c.args.sender c.args.frame.now in
     let P : KeptState g.row.D.Denot → Type 0 =
-    λ k. k.journal.closed ≡ false → HoldsFrames k.opening frames (D.reads k.disk) → LeavesOnly D.moment D.left_since k.disk c.keep.new.disk (LeavesFrames k.journal.limit k.opening frames h) in
+    λ k. k.journal.closed ≡ false → HoldsFrames k.opening frames (D.disk k.disk).reads → LeavesOnly (D.disk k.disk) (D.disk c.keep.new.disk) (LeavesFrames k.journal.limit k.opening frames h) in
     subst P c.self.view_is
     (λ open_still stood.
-    leaves_only D.moment D.left_since c.self.inside.disk c.keep.new.disk _ _
-    (leaves_frames c.self.inside.journal.limit c.self.inside.opening frames h (D.reads c.self.inside.disk) stood)
+    leaves_only (D.disk c.self.inside.disk) (D.disk c.keep.new.disk) _ _
+    (leaves_frames c.self.inside.journal.limit c.self.inside.opening frames h (D.disk c.self.inside.disk).reads stood)
     (c.keep.ensures.any_moment one open_still))
     still held
