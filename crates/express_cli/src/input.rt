@@ -1,6 +1,6 @@
 //! The whole input, or how a run ends without it.
-ghost use Rattle.std.specs.Prelude.{◌≡◌, ◌≢◌, ◌≤◌, IfOk, IfErr, OnOk};
-ghost use Rattle.express_cli.specs.Reading.{GaveAll};
+ghost use Rattle.std.specs.Prelude.{◌≡◌, ◌≢◌, ◌≤◌, IfOk, IfErr, OnOk, Err};
+ghost use Rattle.express_cli.specs.Reading.{GaveAll, LastFailed};
 ghost use Rattle.express_cli.specs.Ends.{Prints};
 ghost use Rattle.express_cli.specs.Runs.{UnreadMay};
 
@@ -21,6 +21,8 @@ pub fn input_of<S: Source, K: Sink>(
         (K.written out.old) (K.written out.new) (K.count out.old) (K.count out.new) end) }
     ensures rests { OnOk result (out.new ≡ out.old) }
     ensures source { OnOk result (S.count input.new ≡ S.count input.old) }
+    // Nothing is taken after a fault.
+    ensures last_take { result ≡ Err End.ReadFault → (last : S) × LastFailed (S.count input.old) (S.count last) (S.count input.new) (S.content last) (S.content input.new) }
     ensures told { IfErr result (λ end. end ≢ End.ReadFault → end ≢ End.WriteFault → S.count input.new ≡ S.count input.old) }
     ensures sink { IfErr result (λ end. end ≢ End.WriteFault → K.count out.new ≡ K.count out.old) }
 {

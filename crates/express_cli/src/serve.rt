@@ -1,11 +1,11 @@
 //! Is one of the two servers.
-ghost use Rattle.std.specs.Prelude.{◌≡◌, ◌≢◌, ◌≤◌, ◌++◌, IfOk, codes, string_bytes};
+ghost use Rattle.std.specs.Prelude.{◌≡◌, ◌≢◌, ◌≤◌, ◌⊎◌, [], ◌++◌, IfOk, codes, string_bytes};
 ghost use Rattle.express_words.specs.Limits.{KeepsLimits};
 ghost use Rattle.node_host.specs.Opening.{IsOpened};
 ghost use Rattle.node_host.specs.Tallies.{tally_text};
 ghost use Rattle.express_cli.specs.Around.{around, seen};
 ghost use Rattle.express_cli.specs.Ends.{Prints};
-ghost use Rattle.express_cli.specs.Talking.{DoorMay, HostMay, ListeningMay, ServeMay, TalkMay};
+ghost use Rattle.express_cli.specs.Talking.{BreaksOff, DoorMay, HostMay, IsOut, ListeningMay, ServeBreaks, ServeMay, TalkMay, listening};
 ghost use Rattle.express_cli.specs.declared.words.NetCommand.TheVariants.{Serve};
 
 use crate::End;
@@ -75,6 +75,7 @@ fn tell_and_serve<K: Sink, N: Net>(
     ensures ends { Prints (ListeningMay connections node.old
         (seen (N.calls net.old) (N.count net.old) (N.doors net.old)) (seen (N.calls net.new) (N.count net.new) (N.doors net.new)))
         (K.written out.old) (K.written out.new) (K.count out.old) (K.count out.new) result }
+    ensures breaks { result ≡ End.WriteFault → (net.new ≡ net.old) ⊎ IsOut listening (K.written out.old) (K.written out.new) }
     ensures told { result ≢ End.WriteFault → K.count out.new ≡ K.count out.old }
     ensures settings { result ≢ End.BadKey }
 {
@@ -96,6 +97,9 @@ fn listen_and_serve<K: Sink, N: Net>(
     ensures ends { Prints (DoorMay settings.now node.old
         (seen (N.calls net.old) (N.count net.old) (N.doors net.old)) (seen (N.calls net.new) (N.count net.new) (N.doors net.new)))
         (K.written out.old) (K.written out.new) (K.count out.old) (K.count out.new) result }
+    ensures breaks { result ≡ End.WriteFault → ServeBreaks settings.now
+        (around [] (seen (N.calls net.old) (N.count net.old) (N.doors net.old)) (seen (N.calls net.new) (N.count net.new) (N.doors net.new)))
+        (K.written out.old) (K.written out.new) }
     ensures told { result ≢ End.WriteFault → K.count out.new ≡ K.count out.old }
     ensures settings { result ≢ End.BadKey }
 {
@@ -118,6 +122,10 @@ fn serve_by<K: Sink, N: Net>(
     ensures ends { Prints (ServeMay settings.now
         (around seed.now (seen (N.calls net.old) (N.count net.old) (N.doors net.old)) (seen (N.calls net.new) (N.count net.new) (N.doors net.new))))
         (K.written out.old) (K.written out.new) (K.count out.old) (K.count out.new) result }
+    ensures breaks { result ≡ End.WriteFault
+        → (net.new ≡ net.old) ⊎ ServeBreaks settings.now
+        (around seed.now (seen (N.calls net.old) (N.count net.old) (N.doors net.old)) (seen (N.calls net.new) (N.count net.new) (N.doors net.new)))
+        (K.written out.old) (K.written out.new) }
     ensures told { result ≢ End.WriteFault → K.count out.new ≡ K.count out.old }
     ensures settings { result ≢ End.BadKey }
 {
@@ -141,6 +149,9 @@ pub fn serve<K: Sink, N: Net>(
     ensures ends { Prints (TalkMay Serve text.now
         (around seed.now (seen (N.calls net.old) (N.count net.old) (N.doors net.old)) (seen (N.calls net.new) (N.count net.new) (N.doors net.new))))
         (K.written out.old) (K.written out.new) (K.count out.old) (K.count out.new) result }
+    ensures breaks { result ≡ End.WriteFault → BreaksOff Serve text.now
+        (around seed.now (seen (N.calls net.old) (N.count net.old) (N.doors net.old)) (seen (N.calls net.new) (N.count net.new) (N.doors net.new)))
+        (K.written out.old) (K.written out.new) }
     ensures told { result ≢ End.WriteFault → K.count out.new ≡ K.count out.old }
     ensures waits { result ≡ End.BadKey → net.new ≡ net.old }
 {

@@ -5,6 +5,7 @@ ghost use Rattle.express_cli.specs.Around.{around, outside, seen};
 ghost use Rattle.express_cli.specs.Ends.{Prints};
 ghost use Rattle.express_cli.specs.Runs.{RunMay, SinkFailed, WaitsForNet};
 ghost use Rattle.express_cli.specs.Ran.{Ran};
+ghost use Rattle.express_cli.specs.Reading.{LastFailed};
 ghost use Rattle.express_cli.specs.Laws.{Laws};
 
 use crate::End;
@@ -36,6 +37,7 @@ fn finish<S: Source, K: Sink, N: Net>(
     ensures breaks { result ≡ End.WriteFault → SinkFailed (map string_bytes words.now.items) (S.content input.old) (S.content input.new)
         (around seed.now (seen (N.calls net.old) (N.count net.old) (N.doors net.old)) (seen (N.calls net.new) (N.count net.new) (N.doors net.new)))
         (K.written out.old) (K.written out.new) }
+    ensures last_take { result ≡ End.ReadFault → (last : S) × LastFailed (S.count input.old) (S.count last) (S.count input.new) (S.content last) (S.content input.new) }
     // A fault of the input or of the sink is told as that, and as nothing else.
     ensures source { result ≢ End.ReadFault → result ≢ End.WriteFault → S.count input.new ≡ S.count input.old }
     ensures sink { result ≢ End.WriteFault → K.count out.new ≡ K.count out.old }
@@ -80,6 +82,8 @@ pub fn run<S: Source, K: Sink, N: Net>(
         (outside (S.content input.new) (S.count input.new) (K.written out.new) (K.count out.new))
         (around seed.now (seen (N.calls net.old) (N.count net.old) (N.doors net.old)) (seen (N.calls net.new) (N.count net.new) (N.doors net.new))) result }
     ensures laws { Laws }
+    // Nothing is taken from the input after a fault of it.
+    ensures last_take { result ≡ 4 → (last : S) × LastFailed (S.count input.old) (S.count last) (S.count input.new) (S.content last) (S.content input.new) }
     // The input is taken from only where the words ask for a command that works on it.
     ensures input_rests { (AskSome (map string_bytes words.now.items) → ⊥) → input.new ≡ input.old }
     // A call on the net is made only where the words ask for work over it, and after the settings were read.

@@ -1,10 +1,12 @@
-use Rattle.std.proofs.Common.{refl}
+use Rattle.std.proofs.Common.{refl, inl, inr, ap}
 use Rattle.express_cli.specs.Ends.{FaultMay}
 use Rattle.express_cli.specs.Around.{Around}
 use Rattle.express_cli.specs.Talking.{ServeMay, TalkMay}
 use Rattle.express_cli.specs.declared.words.NetCommand.TheVariants.{Serve}
 use Rattle.express_cli.proofs.Writing.{more_may}
 use Rattle.express_cli.proofs.Serving.{serve_fault, serve_may}
+use Rattle.express_cli.specs.Around.{around, seen}
+use Rattle.express_cli.proofs.Announcing.{serve_breaks}
 use Rattle.express_cli.proofs.serve.serve.Goals as goal
 
 pub returns-in-Ok-clause-ends : goal.returns-in-Ok-clause-ends
@@ -16,3 +18,14 @@ pub returns-in-Err-clause-ends : goal.returns-in-Err-clause-ends
 returns-in-Err-clause-ends g c =
     let net : Around = record { seed = c.args.seed.now; before = record { calls = g.N.Net.calls c.args.net.now; faults = g.N.Counted.count c.args.net.now; doors = g.N.Net.doors c.args.net.now }; now = record { calls = g.N.Net.calls c.args.net.now; faults = g.N.Counted.count c.args.net.now; doors = g.N.Net.doors c.args.net.now } } in
     more_may (FaultMay c.in-Err.fault) (TalkMay Serve c.args.text.now net) _ _ _ _ _ (serve_fault c.args.text.now net c.in-Err.fault refl c.in-Err.ensures.judges) c.say_fault.ensures.says
+
+pub returns-in-Ok-clause-breaks : goal.returns-in-Ok-clause-breaks
+returns-in-Ok-clause-breaks g c = λ failed.
+    let before = seen (g.N.Net.calls c.args.net.now) (g.N.Counted.count c.args.net.now) (g.N.Net.doors c.args.net.now) in
+    let now = seen (g.N.Net.calls c.serve_by.new.net) (g.N.Counted.count c.serve_by.new.net) (g.N.Net.doors c.serve_by.new.net) in
+    let net : Around = around c.args.seed.now before now in
+    serve_breaks c.in-Ok.settings c.args.text.now net _ _ c.in-Ok.ensures.judges
+    (elim (c.serve_by.ensures.breaks failed) [ inl same ↦ inl (ap (λ n. seen (g.N.Net.calls n) (g.N.Counted.count n) (g.N.Net.doors n)) same) | inr breaks ↦ inr breaks ])
+
+pub returns-in-Err-clause-breaks : goal.returns-in-Err-clause-breaks
+returns-in-Err-clause-breaks g c = λ failed. inl refl
