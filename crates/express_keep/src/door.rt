@@ -1,6 +1,7 @@
 //! A server with a journal at its door.
-ghost use Rattle.std.specs.Prelude.{◌≡◌, ◌≢◌, ◌≤◌, ℕ, false};
-ghost use Rattle.express_cli.specs.Around.{seen};
+ghost use Rattle.std.specs.Prelude.{◌≡◌, ◌≢◌, ◌≤◌, ◌⊎◌, ℕ, false, []};
+ghost use Rattle.express_cli.specs.Around.{around, seen};
+ghost use Rattle.express_cli.specs.Talking.{IsOut, ServeBreaks, listening};
 ghost use Rattle.express_keep.specs.Endings.{DiskCounts};
 ghost use Rattle.express_keep.specs.Telling.{Tells};
 ghost use Rattle.express_keep.specs.Door.{DoorMay, ListeningMay, ServedMay, TallyMay};
@@ -78,6 +79,7 @@ fn tell_and_serve<K: Sink, N: Net, D: Disk>(
     ensures tells { Tells (ListeningMay D.reads D.may_leave D.moment D.left_since settings.now server.old.kept server.new.kept
         (seen (N.calls net.old) (N.count net.old) (N.doors net.old)) (seen (N.calls net.new) (N.count net.new) (N.doors net.new)))
         (K.written out.old) (K.written out.new) (K.count out.old) (K.count out.new) result }
+    ensures announces { result ≡ Ending.Plain End.WriteFault → (net.new ≡ net.old) ⊎ IsOut listening (K.written out.old) (K.written out.new) }
     ensures told { result ≢ Ending.Plain End.WriteFault → K.count out.new ≡ K.count out.old }
     ensures disk { DiskCounts result (D.Counted.count server.old.kept.disk) (D.Counted.count server.new.kept.disk) }
 {
@@ -99,6 +101,8 @@ pub(crate) fn listen_and_serve<K: Sink, N: Net, D: Disk>(
     ensures tells { Tells (DoorMay D.reads D.may_leave D.moment D.left_since settings.now server.old.kept server.new.kept
         (seen (N.calls net.old) (N.count net.old) (N.doors net.old)) (seen (N.calls net.new) (N.count net.new) (N.doors net.new)))
         (K.written out.old) (K.written out.new) (K.count out.old) (K.count out.new) result }
+    ensures announces { result ≡ Ending.Plain End.WriteFault → ServeBreaks settings.now (around [] (seen (N.calls net.old) (N.count net.old) (N.doors net.old)) (seen (N.calls net.new) (N.count net.new) (N.doors net.new)))
+        (K.written out.old) (K.written out.new) }
     ensures told { result ≢ Ending.Plain End.WriteFault → K.count out.new ≡ K.count out.old }
     ensures disk { DiskCounts result (D.Counted.count server.old.kept.disk) (D.Counted.count server.new.kept.disk) }
 {

@@ -1,9 +1,12 @@
 //! Is a server with a journal.
-ghost use Rattle.std.specs.Prelude.{◌≡◌, ◌≢◌, ◌≤◌};
+ghost use Rattle.std.specs.Prelude.{◌≡◌, ◌≢◌, ◌≤◌, ◌⊎◌};
 ghost use Rattle.express_words.specs.Limits.{KeepsLimits};
 ghost use Rattle.express_cli.specs.Around.{around, outside, seen};
+ghost use Rattle.express_cli.specs.Reading.{LastFailed};
+ghost use Rattle.express_cli.specs.Talking.{BreaksOff, ServeBreaks};
+ghost use Rattle.express_cli.specs.declared.words.NetCommand.TheVariants.{Serve};
 ghost use Rattle.express_keep.specs.Endings.{DiskCounts};
-ghost use Rattle.express_keep.specs.Keeping.{InputCounts, KeepMay, OutputCounts, SettingsMay, TextMay};
+ghost use Rattle.express_keep.specs.Keeping.{Announces, InputCounts, KeepMay, OutputCounts, SettingsMay, TextMay};
 ghost use Rattle.express_keep.specs.Telling.{Tells};
 
 use crate::door::{Server, listen_and_serve};
@@ -31,6 +34,9 @@ fn keep_by<K: Sink, N: Net, D: Disk>(
     ensures tells { Tells (SettingsMay D.reads D.may_leave D.moment D.left_since settings.now
         (around seed.now (seen (N.calls net.old) (N.count net.old) (N.doors net.old)) (seen (N.calls net.new) (N.count net.new) (N.doors net.new)))
         disk result.1) (K.written out.old) (K.written out.new) (K.count out.old) (K.count out.new) result.0 }
+    ensures announces { result.0 ≡ Ending.Plain End.WriteFault → (net.new ≡ net.old) ⊎ ServeBreaks settings.now
+        (around seed.now (seen (N.calls net.old) (N.count net.old) (N.doors net.old)) (seen (N.calls net.new) (N.count net.new) (N.doors net.new)))
+        (K.written out.old) (K.written out.new) }
     ensures told { result.0 ≢ Ending.Plain End.WriteFault → K.count out.new ≡ K.count out.old }
     ensures disk { DiskCounts result.0 (D.Counted.count disk) (D.Counted.count result.1) }
 {
@@ -60,6 +66,9 @@ fn keep_text<K: Sink, N: Net, D: Disk>(
     ensures tells { Tells (TextMay D.reads D.may_leave D.moment D.left_since text.now
         (around seed.now (seen (N.calls net.old) (N.count net.old) (N.doors net.old)) (seen (N.calls net.new) (N.count net.new) (N.doors net.new)))
         disk result.1) (K.written out.old) (K.written out.new) (K.count out.old) (K.count out.new) result.0 }
+    ensures announces { result.0 ≡ Ending.Plain End.WriteFault → BreaksOff Serve text.now
+        (around seed.now (seen (N.calls net.old) (N.count net.old) (N.doors net.old)) (seen (N.calls net.new) (N.count net.new) (N.doors net.new)))
+        (K.written out.old) (K.written out.new) }
     ensures told { result.0 ≢ Ending.Plain End.WriteFault → K.count out.new ≡ K.count out.old }
     ensures disk { DiskCounts result.0 (D.Counted.count disk) (D.Counted.count result.1) }
 {
@@ -86,6 +95,10 @@ pub(crate) fn keep<S: Source, K: Sink, N: Net, D: Disk>(
         disk result.1) (K.written out.old) (K.written out.new) (K.count out.old) (K.count out.new) result.0 }
     ensures disk { DiskCounts result.0 (D.Counted.count disk) (D.Counted.count result.1) }
     ensures input { result.0 ≢ Ending.Plain End.ReadFault → result.0 ≢ Ending.Plain End.WriteFault → S.count input.new ≡ S.count input.old }
+    ensures announces { Announces result.0 (outside (S.content input.old) (S.count input.old) (K.written out.old) (K.count out.old))
+        (outside (S.content input.new) (S.count input.new) (K.written out.new) (K.count out.new))
+        (around seed.now (seen (N.calls net.old) (N.count net.old) (N.doors net.old)) (seen (N.calls net.new) (N.count net.new) (N.doors net.new))) }
+    ensures last_take { result.0 ≡ Ending.Plain End.ReadFault → (last : S) × LastFailed (S.count input.old) (S.count last) (S.count input.new) (S.content last) (S.content input.new) }
     ensures told { result.0 ≢ Ending.Plain End.WriteFault → K.count out.new ≡ K.count out.old }
 {
     match input_of(alloc, input, out) {

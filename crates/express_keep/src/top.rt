@@ -5,6 +5,7 @@ ghost use Rattle.express_cli.specs.Around.{around, outside, seen};
 ghost use Rattle.express_cli.specs.CommandLine.{AskSome, AskTalk};
 ghost use Rattle.express_cli.specs.Laws.{Laws};
 ghost use Rattle.express_cli.specs.Ran.{Ran};
+ghost use Rattle.express_cli.specs.Reading.{LastFailed};
 ghost use Rattle.express_keep.specs.Keeping.{KeepRan};
 ghost use Rattle.express_keep.specs.Words.{AsksKeep};
 
@@ -46,6 +47,8 @@ pub fn run_kept<S: Source, K: Sink, N: Net, D: Disk>(
         (outside (S.content input.new) (S.count input.new) (K.written out.new) (K.count out.new))
         (around seed.now (seen (N.calls net.old) (N.count net.old) (N.doors net.old)) (seen (N.calls net.new) (N.count net.new) (N.doors net.new)))
         disk result.1 (D.Counted.count disk) (D.Counted.count result.1) result.0 }
+    // Nothing is taken from the input after a fault of it.
+    ensures last_take { result.0 ≡ 4 → (last : S) × LastFailed (S.count input.old) (S.count last) (S.count input.new) (S.content last) (S.content input.new) }
     // The disk failed only where its count rose.
     ensures disk_fault { result.0 ≡ 10 → Rose (D.Counted.count disk) (D.Counted.count result.1) }
     ensures statuses { Contains (0 ∷ 2 ∷ 3 ∷ 4 ∷ 5 ∷ 6 ∷ 7 ∷ 8 ∷ 10 ∷ 11 ∷ 12 ∷ 13 ∷ []) result.0 }
