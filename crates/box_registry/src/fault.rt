@@ -1,4 +1,7 @@
 //! Why an address isn't registered.
+ghost use Rattle.std.specs.Prelude.{Some};
+ghost use Rattle.box_registry.specs.Texts.{fault_text};
+
 use std::fmt;
 
 /// Why an address isn't registered, in the words of a refusal.
@@ -11,6 +14,8 @@ pub enum RegFault {
 }
 
 impl fmt::Display for RegFault {
+    ghost output = { λ fault. Some (fault_text fault) };
+
     fn fmt<W: fmt::Write>(&self, f: &mut fmt::Formatter<W>) -> fmt::Result {
         match *self {
             RegFault::Taken(box_number) => write!(f, "taken {box_number}"),

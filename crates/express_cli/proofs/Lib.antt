@@ -14,3 +14,4 @@ pub mod CloakLemmas
 pub mod MillText
 pub mod MillEvents
 pub mod Seeding
+pub mod Announcing

@@ -12,3 +12,4 @@ pub mod Runs
 pub mod Headline
 pub mod Ran
 pub mod Laws
+pub mod Texts

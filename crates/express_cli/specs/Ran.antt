@@ -104,7 +104,8 @@ pub record Ran (words : List Text) (old new : Outside) (net : Around) (status : 
       × ((end : End) × (text : List ℕ) × MayCome words old new net end text
       × TookPrefix old.written new.written text)
   -- Of a client's requests, and of the parts that a carrier sends, all were told by then but the last that came
-  -- to its end: the line of each is out before the next is asked.
+  -- to its end: the line of each is out before the next is asked. A server that had made more calls than its
+  -- listen had told that it listens: that is out before a connection is accepted.
   pub told_in_time : status ≡ 5 → SinkFailed words old.content new.content net old.written new.written
   -- A listen, an accept or an exchange failed, after a part of the output of the command that was asked for.
   pub net_fault : status ≡ 6 → BrokeOff words old.content new.content net old.written new.written

@@ -1,6 +1,6 @@
 -- Reading an input to its end.
-use Rattle.std.specs.Prelude.{◌≡◌, ℕ, ◌+◌, ◌≤◌, ◌<◌, List, length, Option, Some, None}
-use Rattle.express_words.specs.Causes.{Rose}
+use Rattle.std.specs.Prelude.{◌≡◌, ℕ, ◌+◌, ◌≤◌, ◌<◌, List, [], length, Option, Some, None}
+use Rattle.express_words.specs.Causes.{Rose, next}
 use Rattle.express_words.specs.Streams.{Stream, Gave, IsAtEnd}
 use Rattle.express_cli.specs.declared.reading.InputFault.{InputFault}
 use Rattle.express_cli.specs.declared.reading.InputFault.TheVariants.{Failed, TooLong, NoMemory}
@@ -24,6 +24,13 @@ abbrev pub GaveMore : Option Stream → Option Stream → Type 0
 GaveMore None new = ⊥
 GaveMore (Some old) None = ⊥
 GaveMore (Some old) (Some new) = length old.given + most_bytes < length new.given
+
+-- A call of a source failed and was the last: no call before it had failed, it counted one fault and gave
+-- nothing.
+pub record LastFailed (start before now : ℕ) (from to : Option Stream) : Type 0 where
+  pub unfailed : before ≡ start
+  pub one_more : now ≡ next before
+  pub nothing : Gave from to []
 
 -- Why reading stopped before the end, and what the source gave until then. Of want of memory nothing is said.
 abbrev pub Stopped : Option Stream → Option Stream → ℕ → ℕ → InputFault → Type 0

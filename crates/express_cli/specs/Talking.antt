@@ -1,7 +1,8 @@
 -- What comes of a command over a net, by the settings that are its input.
-use Rattle.std.specs.Prelude.{◌≡◌, ◌⊎◌, ℕ, true, false, List, ◌++◌, length, codes, Option, Ok, Err}
+use Rattle.std.specs.Prelude.{◌≡◌, ◌⊎◌, ℕ, Bool, true, false, List, ◌++◌, length, codes, Option, Ok, Err}
 use Rattle.express_words.specs.Causes.{Rose}
 use Rattle.express_words.specs.Calls.{Listened, Adds}
+use Rattle.express_words.specs.Streams.{Took}
 use Rattle.express_words.specs.declared.outside.Failed.{Failed}
 use Rattle.settings_text.specs.Tables.{judged}
 use Rattle.settings_text.specs.Serve.{serve_of}
@@ -235,10 +236,22 @@ TalkMay command bytes net ends.BadKey text =
 TalkMay command bytes net ends.OutOfMemory text = IsWanting command bytes net text
 TalkMay command bytes net other text = ⊥
 
+-- a sink took these bytes, and maybe more behind them
+abbrev pub IsOut : List ℕ → (old new : Option (List ℕ)) → Type 0
+IsOut text old new = (more : List ℕ) × Took old new (text ++ more)
+
+-- Where the sink failed a server of these settings had made no call but the listen, or had told before that it
+-- listens.
+abbrev pub ServeBreaks : ServeSettings → Around → (old new : Option (List ℕ)) → Type 0
+ServeBreaks settings net old new =
+    ((failed : Bool) × Adds net.before.calls net.now.calls (Listened settings.listen failed))
+    ⊎ IsOut listening old new
+
 -- What the sink has where it failed: it failed before any call on the net, or while the command's work was
--- told. Of a server nothing more is said than what may come of it.
+-- told.
 abbrev pub BreaksOff : NetCommand → List ℕ → Around → (old new : Option (List ℕ)) → Type 0
-BreaksOff Serve bytes net old new = Unit {0}
+BreaksOff Serve bytes net old new = IsStill net
+    ⊎ ((settings : ServeSettings) × SpellsServe settings bytes × ServeBreaks settings net old new)
 BreaksOff Client bytes net old new = IsStill net
     ⊎ ((settings : ClientSettings) × SpellsClient settings bytes × ClientBreaks settings net old new)
 BreaksOff Carry bytes net old new = IsStill net

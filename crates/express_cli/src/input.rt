@@ -1,6 +1,6 @@
 //! The whole input, or how a run ends without it.
-ghost use Rattle.std.specs.Prelude.{◌≡◌, ◌≢◌, ◌≤◌, IfOk, IfErr, OnOk};
-ghost use Rattle.express_cli.specs.Reading.{GaveAll};
+ghost use Rattle.std.specs.Prelude.{◌≡◌, ◌≢◌, ◌≤◌, IfOk, IfErr, OnOk, Err};
+ghost use Rattle.express_cli.specs.Reading.{GaveAll, LastFailed};
 ghost use Rattle.express_cli.specs.Ends.{Prints};
 ghost use Rattle.express_cli.specs.Runs.{UnreadMay};
 
@@ -23,6 +23,10 @@ pub fn input_of<S: Source, K: Sink>(
         (K.seen out.old) (K.seen out.new) end) }
     ensures rests { OnOk result (out.new ≡ out.old) }
     ensures source { OnOk result ((S.seen input.new).faults ≡ (S.seen input.old).faults) }
+    // Nothing is taken after a fault.
+    ensures last_take { result ≡ Err End.ReadFault → (last : S)
+        × LastFailed (S.seen input.old).faults (S.seen last).faults (S.seen input.new).faults
+        (S.seen last).content (S.seen input.new).content }
     ensures told { IfErr result (λ end. end ≢ End.ReadFault → end ≢ End.WriteFault
         → (S.seen input.new).faults ≡ (S.seen input.old).faults) }
     ensures sink { IfErr result (λ end. end ≢ End.WriteFault

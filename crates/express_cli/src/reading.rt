@@ -1,6 +1,7 @@
 //! Reads an input to its end.
-ghost use Rattle.std.specs.Prelude.{◌≡◌, ◌≢◌, ◌≤◌, IfOk, OnOk, IfErr};
-ghost use Rattle.express_cli.specs.Reading.{GaveAll, Stopped};
+ghost use Rattle.std.specs.Prelude.{◌≡◌, ◌≢◌, ◌≤◌, IfOk, OnOk, IfErr, Err, Some};
+ghost use Rattle.express_cli.specs.Reading.{GaveAll, LastFailed, Stopped};
+ghost use Rattle.express_cli.specs.Texts.{input_fault_text};
 
 use express_words::outside::Source;
 use std::alloc::Global;
@@ -19,12 +20,14 @@ pub enum InputFault {
 }
 
 impl fmt::Display for InputFault {
+    ghost output = { λ fault. Some (input_fault_text fault) };
+
     fn fmt<W: fmt::Write>(&self, f: &mut fmt::Formatter<W>) -> fmt::Result {
-        f.write_str(match self {
-            InputFault::Failed => "read fault",
-            InputFault::TooLong => "input too long",
-            InputFault::NoMemory => "out of memory",
-        })
+        match self {
+            InputFault::Failed => f.write_str("read fault"),
+            InputFault::TooLong => f.write_str("input too long"),
+            InputFault::NoMemory => f.write_str("out of memory"),
+        }
     }
 }
 
@@ -36,6 +39,10 @@ pub fn read_all<S: Source>(alloc: Global, input: &mut S) -> Result<Vec<u8>, Inpu
     ensures later { (S.seen input.old).faults ≤ (S.seen input.new).faults }
     // No fault of the input is passed over, or told as another cause.
     ensures unfailed { OnOk result ((S.seen input.new).faults ≡ (S.seen input.old).faults) }
+    // Nothing is taken after a fault.
+    ensures last_take { result ≡ Err InputFault.Failed → (last : S)
+        × LastFailed (S.seen input.old).faults (S.seen last).faults (S.seen input.new).faults
+        (S.seen last).content (S.seen input.new).content }
     ensures told { IfErr result (λ fault. fault ≢ InputFault.Failed
         → (S.seen input.new).faults ≡ (S.seen input.old).faults) }
 {

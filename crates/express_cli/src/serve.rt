@@ -1,11 +1,11 @@
 //! Is one of the two servers.
-ghost use Rattle.std.specs.Prelude.{◌≡◌, ◌≢◌, ◌≤◌, ◌++◌, IfOk, codes, string_bytes};
+ghost use Rattle.std.specs.Prelude.{◌≡◌, ◌≢◌, ◌≤◌, ◌⊎◌, [], ◌++◌, IfOk, codes, string_bytes};
 ghost use Rattle.express_words.specs.Limits.{KeepsLimits};
 ghost use Rattle.node_host.specs.Opening.{IsOpened};
 ghost use Rattle.node_host.specs.Tallies.{tally_text};
 ghost use Rattle.express_cli.specs.Around.{around};
 ghost use Rattle.express_cli.specs.Ends.{Prints};
-ghost use Rattle.express_cli.specs.Talking.{DoorMay, HostMay, ListeningMay, ServeMay, TalkMay};
+ghost use Rattle.express_cli.specs.Talking.{BreaksOff, DoorMay, HostMay, IsOut, ListeningMay, ServeBreaks, ServeMay, TalkMay, listening};
 ghost use Rattle.express_cli.specs.declared.words.NetCommand.TheVariants.{Serve};
 
 use crate::End;
@@ -75,6 +75,8 @@ fn tell_and_serve<K: Sink, N: Net>(
     ensures ends { Prints (ListeningMay connections node.old
         (N.seen net.old) (N.seen net.new))
         (K.seen out.old) (K.seen out.new) result }
+    ensures breaks { result ≡ End.WriteFault → (net.new ≡ net.old)
+        ⊎ IsOut listening (K.seen out.old).written (K.seen out.new).written }
     ensures told { result ≢ End.WriteFault → (K.seen out.new).faults ≡ (K.seen out.old).faults }
     ensures settings { result ≢ End.BadKey }
 {
@@ -96,6 +98,9 @@ fn listen_and_serve<K: Sink, N: Net>(
     ensures ends { Prints (DoorMay settings.now node.old
         (N.seen net.old) (N.seen net.new))
         (K.seen out.old) (K.seen out.new) result }
+    ensures breaks { result ≡ End.WriteFault → ServeBreaks settings.now
+        (around [] (N.seen net.old) (N.seen net.new))
+        (K.seen out.old).written (K.seen out.new).written }
     ensures told { result ≢ End.WriteFault → (K.seen out.new).faults ≡ (K.seen out.old).faults }
     ensures settings { result ≢ End.BadKey }
 {
@@ -118,6 +123,10 @@ fn serve_by<K: Sink, N: Net>(
     ensures ends { Prints (ServeMay settings.now
         (around seed.now (N.seen net.old) (N.seen net.new)))
         (K.seen out.old) (K.seen out.new) result }
+    ensures breaks { result ≡ End.WriteFault
+        → (net.new ≡ net.old) ⊎ ServeBreaks settings.now
+        (around seed.now (N.seen net.old) (N.seen net.new))
+        (K.seen out.old).written (K.seen out.new).written }
     ensures told { result ≢ End.WriteFault → (K.seen out.new).faults ≡ (K.seen out.old).faults }
     ensures settings { result ≢ End.BadKey }
 {
@@ -141,6 +150,9 @@ pub fn serve<K: Sink, N: Net>(
     ensures ends { Prints (TalkMay Serve text.now
         (around seed.now (N.seen net.old) (N.seen net.new)))
         (K.seen out.old) (K.seen out.new) result }
+    ensures breaks { result ≡ End.WriteFault → BreaksOff Serve text.now
+        (around seed.now (N.seen net.old) (N.seen net.new))
+        (K.seen out.old).written (K.seen out.new).written }
     ensures told { result ≢ End.WriteFault → (K.seen out.new).faults ≡ (K.seen out.old).faults }
     ensures waits { result ≡ End.BadKey → net.new ≡ net.old }
 {

@@ -5,6 +5,7 @@ ghost use Rattle.express_cli.specs.Around.{around, outside};
 ghost use Rattle.express_cli.specs.Ends.{Prints};
 ghost use Rattle.express_cli.specs.Runs.{RunMay, SinkFailed, WaitsForNet};
 ghost use Rattle.express_cli.specs.Ran.{Ran};
+ghost use Rattle.express_cli.specs.Reading.{LastFailed};
 ghost use Rattle.express_cli.specs.Laws.{Laws};
 
 use crate::End;
@@ -38,6 +39,9 @@ fn finish<S: Source, K: Sink, N: Net>(
         → SinkFailed (map string_bytes words.now.items) (S.seen input.old).content (S.seen input.new).content
         (around seed.now (N.seen net.old) (N.seen net.new))
         (K.seen out.old).written (K.seen out.new).written }
+    ensures last_take { result ≡ End.ReadFault → (last : S)
+        × LastFailed (S.seen input.old).faults (S.seen last).faults (S.seen input.new).faults
+        (S.seen last).content (S.seen input.new).content }
     // A fault of the input or of the sink is told as that, and as nothing else.
     ensures source { result ≢ End.ReadFault → result ≢ End.WriteFault
         → (S.seen input.new).faults ≡ (S.seen input.old).faults }
@@ -83,6 +87,10 @@ pub fn run<S: Source, K: Sink, N: Net>(
         (outside (S.seen input.new) (K.seen out.new))
         (around seed.now (N.seen net.old) (N.seen net.new)) result }
     ensures laws { Laws }
+    // Nothing is taken from the input after a fault of it.
+    ensures last_take { result ≡ 4 → (last : S)
+        × LastFailed (S.seen input.old).faults (S.seen last).faults (S.seen input.new).faults
+        (S.seen last).content (S.seen input.new).content }
     // The input is taken from only where the words ask for a command that works on it.
     ensures input_rests { (AskSome (map string_bytes words.now.items) → ⊥) → input.new ≡ input.old }
     // A call on the net is made only where the words ask for work over it, and after the settings were read.

@@ -6,3 +6,4 @@ pub mod HaltLaws
 pub mod KeepLaws
 pub mod StatusLaws
 pub mod OneWord
+pub mod Announcing

@@ -13,7 +13,7 @@ use Rattle.node_keep.specs.declared.key.SettingsKey.{SettingsKey}
 use Rattle.express_cli.specs.Around.{Around, Outside}
 use Rattle.express_cli.specs.Reading.{GaveAll}
 use Rattle.express_cli.specs.Ends.{BadKeyMay, bad_settings}
-use Rattle.express_cli.specs.Talking.{SpellsServe, IsBadKey}
+use Rattle.express_cli.specs.Talking.{SpellsServe, IsBadKey, IsStill, BreaksOff}
 use Rattle.express_cli.specs.Runs.{UnreadMay}
 use Rattle.express_cli.specs.declared.words.NetCommand.TheVariants.{Serve}
 use Rattle.express_cli.specs.declared.ends.End.{End}
@@ -123,6 +123,14 @@ InputCounts end old new =
 abbrev pub OutputCounts : Ending → Outside → Outside → Type 0
 OutputCounts end old new = end ≢ Plain WriteFault → new.output_faults ≡ old.output_faults
 
+-- Where the sink failed, nothing was done with the net, or the input gave all its bytes and by the settings that
+-- they spell it was told that the server listens before a connection was accepted.
+abbrev pub Announces : Ending → Outside → Outside → Around → Type 0
+Announces end old new net =
+    end ≡ Plain WriteFault
+    → IsStill net ⊎ ((bytes : List ℕ) × GaveAll old.content new.content bytes
+    × BreaksOff Serve bytes net old.written new.written)
+
 -- What one run of `keep` promises, by its status; disk_before and disk_now are the disk's counts of faults.
 pub record KeepRan {D : Type 0} (shows : D → DiskSeen) (old new : Outside) (net : Around) (disk after : D)
     (disk_before disk_now status : ℕ) : Type 0 where
@@ -135,3 +143,5 @@ pub record KeepRan {D : Type 0} (shows : D → DiskSeen) (old new : Outside) (ne
   pub disk_counts : DiskCounts ending disk_before disk_now
   pub input_counts : InputCounts ending old new
   pub output_counts : OutputCounts ending old new
+  -- A server tells that it listens before it accepts a connection.
+  pub announces : Announces ending old new net

@@ -5,6 +5,7 @@ ghost use Rattle.express_cli.specs.Around.{around, outside};
 ghost use Rattle.express_cli.specs.CommandLine.{AskSome, AskTalk};
 ghost use Rattle.express_cli.specs.Laws.{Laws};
 ghost use Rattle.express_cli.specs.Ran.{Ran};
+ghost use Rattle.express_cli.specs.Reading.{LastFailed};
 ghost use Rattle.express_keep.specs.Keeping.{KeepRan};
 ghost use Rattle.express_keep.specs.Words.{AsksKeep};
 
@@ -49,6 +50,10 @@ pub fn run_kept<S: Source, K: Sink, N: Net, D: Disk>(
         (outside (S.seen input.new) (K.seen out.new))
         (around seed.now (N.seen net.old) (N.seen net.new))
         disk result.1 (D.Counted.seen disk).faults (D.Counted.seen result.1).faults result.0 }
+    // Nothing is taken from the input after a fault of it.
+    ensures last_take { result.0 ≡ 4 → (last : S)
+        × LastFailed (S.seen input.old).faults (S.seen last).faults (S.seen input.new).faults
+        (S.seen last).content (S.seen input.new).content }
     // The disk failed only where its count rose.
     ensures disk_fault { result.0 ≡ 10 → Rose (D.Counted.seen disk).faults (D.Counted.seen result.1).faults }
     ensures statuses { Contains (0 ∷ 2 ∷ 3 ∷ 4 ∷ 5 ∷ 6 ∷ 7 ∷ 8 ∷ 10 ∷ 11 ∷ 12 ∷ 13 ∷ []) result.0 }

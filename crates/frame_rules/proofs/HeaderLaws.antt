@@ -64,7 +64,7 @@ numbered n (k ∷ all) kind e = pick (eqb n (kind_number k)) refl (numbered n al
   pick true t others e = ap kind_number (sym (some_is k kind e)) ∙ sym (eqb-true _ _ t)
   pick false t others e = others e
 
-kind_numbered_is : (n : ℕ) (kind : Kind) → kind_numbered n ≡ Some kind → kind_number kind ≡ n
+pub kind_numbered_is : (n : ℕ) (kind : Kind) → kind_numbered n ≡ Some kind → kind_number kind ≡ n
 unfolding kind_numbered
 kind_numbered_is n kind e = numbered n kinds kind e
 
@@ -199,7 +199,7 @@ version_known kind.Retire = refl
 version_known kind.LinkRetire = refl
 version_known kind.LinkBegun = refl
 
-number_known : (k : Kind) → kind_numbered (kind_number k) ≡ Some k
+pub number_known : (k : Kind) → kind_numbered (kind_number k) ≡ Some k
 unfolding kind_numbered
 number_known kind.Deposit = refl
 number_known kind.Register = refl

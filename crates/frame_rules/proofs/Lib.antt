@@ -13,3 +13,7 @@ pub mod ClassLaws
 pub mod Longest
 pub mod AnswerLaws
 pub mod Filling
+pub mod FieldSteps
+pub mod HeaderFields
+pub mod BodyEnds
+pub mod FieldLaws

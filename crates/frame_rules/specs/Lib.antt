@@ -2,6 +2,8 @@ pub mod Frames
 pub mod Kinds
 pub mod Spelling
 pub mod Forms
+pub mod Sizes
+pub mod Fields
 pub mod Bodies
 pub mod Reading
 pub mod Room

@@ -2,6 +2,7 @@
 #![tactic(auto)]
 
 mod fault;
+pub mod first_wrong;
 mod frame;
 mod kind;
 pub mod laws;

@@ -7,3 +7,4 @@ pub mod Helping
 pub mod Opening
 pub mod Visits
 pub mod Hosting
+pub mod Texts

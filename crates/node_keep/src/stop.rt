@@ -1,4 +1,7 @@
 //! Why a server ended before it had served all its connections.
+ghost use Rattle.std.specs.Prelude.{Some};
+ghost use Rattle.node_keep.specs.Texts.{halt_text, stop_text};
+
 use node_host::Tally;
 use node_restart::KeepFault;
 use std::fmt;
@@ -20,6 +23,8 @@ pub struct Stop {
 }
 
 impl fmt::Display for Halt {
+    ghost output = { λ halt. Some (halt_text halt) };
+
     fn fmt<W: fmt::Write>(&self, f: &mut fmt::Formatter<W>) -> fmt::Result {
         match self {
             Halt::Door => f.write_str("an accept failed"),
@@ -29,6 +34,8 @@ impl fmt::Display for Halt {
 }
 
 impl fmt::Display for Stop {
+    ghost output = { λ stop. Some (stop_text stop) };
+
     fn fmt<W: fmt::Write>(&self, f: &mut fmt::Formatter<W>) -> fmt::Result {
         write!(f, "{}, {}", self.halt, self.tally)
     }

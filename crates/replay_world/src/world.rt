@@ -1,4 +1,7 @@
 //! The world of a replay.
+ghost use Rattle.std.specs.Prelude.{Some};
+ghost use Rattle.replay_world.specs.Texts.{fault_text};
+
 use crate::lines::{JournalLine, OutcomeLine};
 use crate::state::State;
 use crate::texts::text_of;
@@ -16,11 +19,13 @@ pub enum PutFault {
 }
 
 impl fmt::Display for PutFault {
+    ghost output = { λ fault. Some (fault_text fault) };
+
     fn fmt<W: fmt::Write>(&self, f: &mut fmt::Formatter<W>) -> fmt::Result {
-        f.write_str(match self {
-            PutFault::Failed => "the sink failed",
-            PutFault::NoMemory => "out of memory",
-        })
+        match self {
+            PutFault::Failed => f.write_str("the sink failed"),
+            PutFault::NoMemory => f.write_str("out of memory"),
+        }
     }
 }
 

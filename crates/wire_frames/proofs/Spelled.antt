@@ -1,6 +1,6 @@
 -- What the code read, in terms of spellings.
 use Rattle.std.proofs.Common.{◌≡◌, ℕ, ◌<◌, ◌≤◌, List, length, take, drop, Result, Ok, Err, sym, ap, ◌∙◌, subst, arith}
-use Rattle.std.specs.Prelude.{IfOk}
+use Rattle.std.specs.Prelude.{IfOk, IfErr}
 use Rattle.std.proofs.lemmas.List.{take-append-drop, length-take, length-take-le}
 use Rattle.frame_rules.specs.declared.frame.Frame.{Frame}
 use Rattle.frame_rules.specs.declared.fault.FrameFault.{FrameFault}
@@ -8,7 +8,9 @@ use Rattle.frame_rules.specs.declared.fault.FrameFault.TheVariants.{Short}
 use Rattle.frame_rules.specs.Frames.{PlainFrame, plain}
 use Rattle.frame_rules.specs.Spelling.{Spells, spelling}
 use Rattle.frame_rules.specs.Reading.{decoded, Reads}
+use Rattle.frame_rules.specs.Fields.{fields, FirstWrong}
 use Rattle.frame_rules.proofs.Digits.{IsBytes}
+use Rattle.frame_rules.proofs.FieldLaws.{found}
 use Rattle.frame_rules.proofs.GrammarLaws.{decoded_takes, spells_again}
 use Rattle.frame_rules.proofs.Waiting.{decoded_short}
 
@@ -37,6 +39,17 @@ is_long bytes (Ok x) fits e =
     let d = decoded_takes bytes (plain x.0) x.1 fits e in
     sym (length-take-le x.1 bytes d.whole) ∙ ap length d.spells.spelled
 is_long bytes (Err d) fits e = tt
+
+pub is_wrong : (bytes : List ℕ) (r : Result (Frame × ℕ) FrameFault) → Reads r (decoded bytes) → IfErr r (λ d. (d ≡ Short → ⊥) → FirstWrong fields bytes d)
+is_wrong bytes (Ok x) e = tt
+is_wrong bytes (Err d) e = λ long. found bytes d e long
+
+-- the only answer that a fault of the bytes has
+pub is_only_wrong : (r : Result (Frame × ℕ) FrameFault) (d : FrameFault) → Reads r (Err d) → r ≡ Err d
+is_only_wrong (Ok x) d e = absurd cc
+is_only_wrong (Err c) d e = ap (λ x. Err x) (same c d e) where
+  same : (c d : FrameFault) → (let r : Result (PlainFrame × ℕ) FrameFault = Err d in r) ≡ Err c → c ≡ d
+  same c d e = cc
 
 pub is_fewer : (bytes : List ℕ) (r : Result (Frame × ℕ) FrameFault) → Reads r (decoded bytes) → r ≡ Err Short → length bytes < 8213
 is_fewer bytes (Ok x) e short = absurd cc

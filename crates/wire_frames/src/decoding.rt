@@ -1,10 +1,12 @@
 //! Reading the frame that begins some bytes.
-ghost use Rattle.std.specs.Prelude.{◌≤◌, ◌<◌, ◌≡◌, ℕ, List, length, take, IfOk, Ok, Err};
+ghost use Rattle.std.specs.Prelude.{◌≤◌, ◌<◌, ◌≡◌, ◌≢◌, ℕ, List, length, take, IfOk, IfErr, Ok, Err};
 ghost use Rattle.frame_rules.specs.Frames.{PlainFrame, plain, plain_body};
 ghost use Rattle.frame_rules.specs.Spelling.{Spells, spelling};
 ghost use Rattle.frame_rules.specs.Forms.{Gives};
 ghost use Rattle.frame_rules.specs.Bodies.{body_in};
 ghost use Rattle.frame_rules.specs.Reading.{decoded, Reads};
+ghost use Rattle.frame_rules.specs.Fields.{fields, FirstWrong};
+ghost use Rattle.frame_rules.specs.declared.fault.FrameFault.{FrameFault as Fault};
 
 use crate::FRAME_MAX;
 use crate::bodies::{
@@ -62,16 +64,21 @@ fn frame_in(bytes: &[u8]) -> Result<(Frame<'_>, usize), FrameFault>
 pub fn decode(bytes: &[u8]) -> Result<(Frame<'_>, usize), FrameFault>
     // The fields are judged in the order of the format, and a fault is the first wrong one.
     ensures exact { Reads result (decoded bytes.now) }
+    // A fault but for Short is the first wrong field's, and the first wrong field's fault is the one that comes.
+    ensures wrong { IfErr result (λ fault. fault ≢ FrameFault.Short → FirstWrong fields bytes.now fault) }
+    ensures only_wrong { (fault : Fault) → FirstWrong fields bytes.now fault → result ≡ Err fault }
     // What is read is spelled so.
     ensures found { IfOk result (λ x. Spells (plain x.0) (take x.1 bytes.now)) }
     ensures within { IfOk result (λ x. (x.1 ≤ length bytes.now) × (x.1 ≤ FRAME_MAX)) }
     ensures length { IfOk result (λ x. x.1 ≡ length (spelling (plain x.0))) }
     // What is spelled so is read.
-    ensures only { (f : PlainFrame) (len : ℕ) → len ≤ length bytes.now → Spells f (take len bytes.now) → Reads result (Ok (f, len)) }
+    ensures only { (f : PlainFrame) (len : ℕ) → len ≤ length bytes.now → Spells f (take len bytes.now)
+        → Reads result (Ok (f, len)) }
     // Bytes that are short are fewer than the longest frame has.
     ensures fewer { result ≡ Err FrameFault.Short → length bytes.now < FRAME_MAX }
     // A front of a frame is short.
-    ensures short { (f : PlainFrame) (whole : List ℕ) → Spells f whole → length bytes.now < length whole → bytes.now ≡ take (length bytes.now) whole → result ≡ Err FrameFault.Short }
+    ensures short { (f : PlainFrame) (whole : List ℕ) → Spells f whole → length bytes.now < length whole
+        → bytes.now ≡ take (length bytes.now) whole → result ≡ Err FrameFault.Short }
 {
     frame_in(bytes)
 }

@@ -1,10 +1,12 @@
-use Rattle.std.proofs.Common.{refl, inl, subst, List, ℕ, true, false}
+use Rattle.std.proofs.Common.{refl, inl, inr, ap, subst, List, [], ℕ, true, false}
 use Rattle.express_words.specs.Calls.{Adds, Listened}
 use Rattle.express_cli.specs.Around.{Seen}
 use Rattle.express_cli.specs.Talking.{DoorMay, ListeningMay}
 use Rattle.express_cli.specs.declared.ends.End.TheVariants.{NetFault}
 use Rattle.express_cli.proofs.Writing.{more_may, said}
 use Rattle.express_cli.proofs.Serving.{door_may}
+use Rattle.express_cli.specs.Around.{Around, around}
+use Rattle.express_cli.proofs.Announcing.{only_listened}
 use Rattle.express_cli.proofs.serve.listen_and_serve.Goals as goal
 
 pub returns-in-Ok-clause-ends : goal.returns-in-Ok-clause-ends
@@ -23,3 +25,19 @@ returns-in-Err-clause-ends g c =
     let Listens : List ℕ → Type 0 = λ at. Adds before.calls now.calls (Listened at true) in
     said (DoorMay c.args.settings.now c.args.node.now before now) _ _ _ _ NetFault _ _
     (inl (record { call = subst Listens c.as_str.ensures c.in-Err.ensures.call; doors = c.in-Err.ensures.door.failed; text_is = refl })) c.say.ensures.says
+
+pub returns-in-Ok-clause-breaks : goal.returns-in-Ok-clause-breaks
+returns-in-Ok-clause-breaks g c = λ failed.
+    let before : Seen = g.N.Counted.seen c.args.net.now in
+    let now : Seen = g.N.Counted.seen c.tell_and_serve.new.net in
+    let net : Around = around [] before now in
+    let Listens : List ℕ → Type 0 = λ at. Adds before.calls (g.N.Counted.seen c.listen.new.self).calls (Listened at false) in
+    only_listened c.args.settings.now net (g.N.Counted.seen c.listen.new.self).calls _ _ (subst Listens c.as_str.ensures c.in-Ok.ensures.call)
+    (elim (c.tell_and_serve.ensures.breaks failed) [ inl same ↦ inl (ap (λ net. (g.N.Counted.seen net).calls) same) | inr out ↦ inr out ])
+
+pub returns-in-Err-clause-breaks : goal.returns-in-Err-clause-breaks
+returns-in-Err-clause-breaks g c = λ failed.
+    let before : Seen = g.N.Counted.seen c.args.net.now in
+    let now : Seen = g.N.Counted.seen c.listen.new.self in
+    let Listens : List ℕ → Type 0 = λ at. Adds before.calls now.calls (Listened at true) in
+    inl (true, subst Listens c.as_str.ensures c.in-Err.ensures.call)

@@ -1,4 +1,4 @@
-use Rattle.std.proofs.Common.{refl, inl}
+use Rattle.std.proofs.Common.{refl, inl, inr}
 use Rattle.express_cli.specs.Around.{Around}
 use Rattle.express_cli.specs.Talking.{DoorMay, ServeMay}
 use Rattle.express_cli.specs.declared.ends.End.TheVariants.{OutOfMemory}
@@ -15,3 +15,9 @@ pub returns-in-Err-clause-ends : goal.returns-in-Err-clause-ends
 returns-in-Err-clause-ends g c =
     let net : Around = record { seed = c.args.seed.now; before = g.N.Counted.seen c.args.net.now; now = g.N.Counted.seen c.args.net.now } in
     said (ServeMay c.args.settings.now net) _ _ _ _ OutOfMemory _ _ (inl refl) c.say.ensures.says
+
+pub returns-in-Ok-clause-breaks : goal.returns-in-Ok-clause-breaks
+returns-in-Ok-clause-breaks g c = λ failed. inr (c.listen_and_serve.ensures.breaks failed)
+
+pub returns-in-Err-clause-breaks : goal.returns-in-Err-clause-breaks
+returns-in-Err-clause-breaks g c = λ failed. inl refl

@@ -1,10 +1,11 @@
-use Rattle.std.proofs.Common.{refl, ◌∙◌}
+use Rattle.std.proofs.Common.{refl, ◌∙◌, inl, inr}
 use Rattle.express_cli.specs.Ends.{out_of_memory_text}
 use Rattle.express_cli.specs.Around.{Seen}
 use Rattle.express_cli.specs.Talking.{HostMay, ListeningMay, listening}
 use Rattle.express_cli.proofs.Causes.{took_as}
 use Rattle.express_cli.proofs.Following.{follows}
 use Rattle.express_cli.proofs.Serving.{done_is_no_fault, first_failed, told_is_no_key}
+use Rattle.express_cli.proofs.Announcing.{out_behind}
 use Rattle.express_cli.proofs.serve.tell_and_serve.Goals as goal
 
 pub returns-in-Done-clause-ends : goal.returns-in-Done-clause-ends
@@ -24,5 +25,13 @@ returns-in_default g c =
     record {
       ends = first_failed (ListeningMay c.args.connections c.args.node.now before before) _ _ _ _ _ listening out_of_memory_text c.say.ensures.says c.in_default.not-Done (out_of_memory_text, refl, refl);
       told = c.say.ensures.told;
+      breaks = λ failed. inl refl;
       settings = told_is_no_key _ c.say.ensures.only;
     }
+
+pub returns-in-Done-clause-breaks : goal.returns-in-Done-clause-breaks
+returns-in-Done-clause-breaks g c = λ failed.
+    let before : Seen = g.N.Counted.seen c.args.net.now in
+    let now : Seen = g.N.Counted.seen c.serve_all.new.net in
+    let told = c.in-Done.ensures.says in
+    inr (out_behind (HostMay c.args.connections c.args.node.now before now) _ _ _ _ _ _ listening (took_as _ _ told.0 listening told.1.1 told.2) c.serve_all.ensures.ends failed)

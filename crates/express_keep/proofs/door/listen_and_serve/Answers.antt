@@ -1,11 +1,12 @@
-use Rattle.std.proofs.Common.{refl, inl, inr, subst, List, ℕ, true, false}
+use Rattle.std.proofs.Common.{refl, inl, inr, ap, subst, List, [], ℕ, true, false}
 use Rattle.express_words.specs.Calls.{Adds, Listened}
-use Rattle.express_cli.specs.Around.{Seen}
+use Rattle.express_cli.specs.Around.{Around, around}
 use Rattle.express_cli.specs.declared.ends.End.TheVariants.{NetFault}
 use Rattle.express_keep.specs.Door.{ListeningMay}
 use Rattle.express_keep.specs.declared.ending.Ending.TheVariants.{Plain}
 use Rattle.express_keep.proofs.CountLaws.{told_counts}
 use Rattle.express_keep.proofs.TellLaws.{more, said}
+use Rattle.express_cli.proofs.Announcing.{only_listened}
 use Rattle.express_keep.proofs.door.listen_and_serve.Goals as goal
 
 pub returns-in-Ok-clause-tells : goal.returns-in-Ok-clause-tells
@@ -22,3 +23,17 @@ returns-in-Err-clause-tells g c =
 
 pub returns-in-Err-clause-disk : goal.returns-in-Err-clause-disk
 returns-in-Err-clause-disk g c = told_counts (Plain NetFault) c.tell.result _ _ c.tell.ensures.only refl
+
+pub returns-in-Ok-clause-announces : goal.returns-in-Ok-clause-announces
+returns-in-Ok-clause-announces g c failed =
+    let Listens : List ℕ → Type 0 = λ at. Adds (g.N.Counted.seen c.args.net.now).calls (g.N.Counted.seen c.listen.new.self).calls (Listened at false) in
+    let before = g.N.Counted.seen c.args.net.now in
+    let now = g.N.Counted.seen c.tell_and_serve.new.net in
+    let net : Around = around [] before now in
+    only_listened c.args.settings.now net (g.N.Counted.seen c.listen.new.self).calls _ _ (subst Listens c.as_str.ensures c.in-Ok.ensures.call)
+    (elim (c.tell_and_serve.ensures.announces failed) [ inl same ↦ inl (ap (λ n. (g.N.Counted.seen n).calls) same) | inr out ↦ inr out ])
+
+pub returns-in-Err-clause-announces : goal.returns-in-Err-clause-announces
+returns-in-Err-clause-announces g c failed =
+    let Listens : List ℕ → Type 0 = λ at. Adds (g.N.Counted.seen c.args.net.now).calls (g.N.Counted.seen c.listen.new.self).calls (Listened at true) in
+    inl (true, subst Listens c.as_str.ensures c.in-Err.ensures.call)

@@ -5,6 +5,7 @@ use Rattle.express_cli.proofs.Causes.{took_as}
 use Rattle.express_keep.specs.Door.{ListeningMay}
 use Rattle.express_keep.specs.declared.ending.Ending.TheVariants.{Plain}
 use Rattle.express_keep.proofs.TellLaws.{behind}
+use Rattle.express_keep.proofs.Announcing.{out_behind}
 use Rattle.express_keep.proofs.door.tell_and_serve.Goals as goal
 
 pub returns-in-Ok-clause-tells : goal.returns-in-Ok-clause-tells
@@ -18,3 +19,10 @@ returns-in-Err-clause-tells g c =
 
 pub returns-in-Err-clause-disk : goal.returns-in-Err-clause-disk
 returns-in-Err-clause-disk g c = inl refl
+
+pub returns-in-Ok-clause-announces : goal.returns-in-Ok-clause-announces
+returns-in-Ok-clause-announces g c failed =
+    inr (out_behind _ _ _ _ _ _ _ listening (took_as _ _ _ listening c.as_bytes.ensures.value c.in-Ok.ensures.took) c.serve_all.ensures.tells)
+
+pub returns-in-Err-clause-announces : goal.returns-in-Err-clause-announces
+returns-in-Err-clause-announces g c failed = inl refl

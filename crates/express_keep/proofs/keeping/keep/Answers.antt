@@ -1,9 +1,12 @@
-use Rattle.std.proofs.Common.{refl, ap, sym, subst, inl, inr, List, ℕ, ◌∙◌}
+use Rattle.std.proofs.Common.{refl, ap, sym, subst, inl, inr, List, ℕ, Option, ◌∙◌}
 use Rattle.express_cli.specs.Reading.{GaveAll}
 use Rattle.express_cli.specs.Runs.{UnreadMay}
 use Rattle.express_keep.specs.declared.ending.Ending.TheVariants.{Plain}
 use Rattle.express_keep.proofs.CountLaws.{plain_counts}
 use Rattle.express_keep.proofs.TellLaws.{more, plain, unmoved}
+use Rattle.express_cli.specs.Around.{Around, around}
+use Rattle.express_cli.specs.Talking.{BreaksOff}
+use Rattle.express_cli.specs.declared.words.NetCommand.TheVariants.{Serve}
 use Rattle.express_keep.proofs.keeping.keep.Goals as goal
 
 pub returns-in-Ok-clause-tells : goal.returns-in-Ok-clause-tells
@@ -29,3 +32,15 @@ returns-in-Err-clause-input g c read write = c.in-Err.ensures.told (λ e. read (
 
 pub returns-in-Err-clause-told : goal.returns-in-Err-clause-told
 returns-in-Err-clause-told g c other = c.in-Err.ensures.sink (λ e. other (ap Plain e))
+
+pub returns-in-Ok-clause-announces : goal.returns-in-Ok-clause-announces
+returns-in-Ok-clause-announces g c failed =
+    let Gave : List ℕ → Type 0 = λ b. GaveAll (g.S.Counted.seen c.args.input.now).content (g.S.Counted.seen c.input_of.new.input).content b in
+    let before = g.N.Counted.seen c.args.net.now in
+    let now = g.N.Counted.seen c.keep_text.new.net in
+    let net : Around = around c.args.seed.now before now in
+    let Broke : Option (List ℕ) → Type 0 = λ old. BreaksOff Serve c.as_slice.result.now net old (g.K.Counted.seen c.keep_text.new.out).written in
+    inr (c.as_slice.result.now, subst Gave (sym c.as_slice.ensures.value) c.in-Ok.ensures.read, subst Broke (ap (λ out. (g.K.Counted.seen out).written) c.in-Ok.ensures.rests) (c.keep_text.ensures.announces failed))
+
+pub returns-in-Err-clause-announces : goal.returns-in-Err-clause-announces
+returns-in-Err-clause-announces g c failed = inl refl

@@ -38,3 +38,12 @@ returns-in-Err-clause-tells g c =
 
 pub returns-in-Err-clause-disk : goal.returns-in-Err-clause-disk
 returns-in-Err-clause-disk g c = c.tell_unopened.ensures.counts _ _ c.in-Err.ensures.counts
+
+pub returns-in_default-clause-announces : goal.returns-in_default-clause-announces
+returns-in_default-clause-announces g c failed = inl refl
+
+pub returns-in-Ok-open_kept-clause-announces : goal.returns-in-Ok-open_kept-clause-announces
+returns-in-Ok-open_kept-clause-announces g c failed = inr (c.listen_and_serve-ending.ensures.announces failed)
+
+pub returns-in-Err-clause-announces : goal.returns-in-Err-clause-announces
+returns-in-Err-clause-announces g c failed = inl refl

@@ -1,10 +1,11 @@
-use Rattle.std.proofs.Common.{refl, ap, inl}
+use Rattle.std.proofs.Common.{refl, ap, inl, inr}
 use Rattle.express_cli.specs.Around.{Around, around}
 use Rattle.express_cli.specs.Ends.{FaultMay}
 use Rattle.express_keep.specs.declared.ending.Ending.TheVariants.{Plain}
 use Rattle.express_keep.proofs.CountLaws.{plain_counts}
 use Rattle.express_keep.proofs.KeepLaws.{bad_text}
 use Rattle.express_keep.proofs.TellLaws.{more, plain}
+use Rattle.express_cli.proofs.Announcing.{serve_breaks}
 use Rattle.express_keep.proofs.keeping.keep_text.Goals as goal
 
 pub returns-in-Ok-clause-tells : goal.returns-in-Ok-clause-tells
@@ -23,3 +24,14 @@ returns-in-Err-clause-told g c other = c.say_fault.ensures.told (λ e. other (ap
 
 pub returns-in-Err-clause-disk : goal.returns-in-Err-clause-disk
 returns-in-Err-clause-disk g c = plain_counts c.say_fault.result _ _ refl
+
+pub returns-in-Ok-clause-announces : goal.returns-in-Ok-clause-announces
+returns-in-Ok-clause-announces g c failed =
+    let before = g.N.Counted.seen c.args.net.now in
+    let now = g.N.Counted.seen c.keep_by.new.net in
+    let net : Around = around c.args.seed.now before now in
+    serve_breaks c.in-Ok.settings c.args.text.now net _ _ c.in-Ok.ensures.judges
+    (elim (c.keep_by.ensures.announces failed) [ inl same ↦ inl (ap (λ n. g.N.Counted.seen n) same) | inr breaks ↦ inr breaks ])
+
+pub returns-in-Err-clause-announces : goal.returns-in-Err-clause-announces
+returns-in-Err-clause-announces g c failed = inl refl

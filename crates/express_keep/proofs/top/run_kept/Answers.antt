@@ -11,6 +11,7 @@ returns-then-asks_keep-clause-kept g c asks = record {
   disk_counts = c.keep-ending.ensures.disk;
   input_counts = c.keep-ending.ensures.input;
   output_counts = c.keep-ending.ensures.told;
+  announces = c.keep-ending.ensures.announces;
 }
 
 pub returns-then-asks_keep-clause-ran : goal.returns-then-asks_keep-clause-ran

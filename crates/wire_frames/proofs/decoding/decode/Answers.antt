@@ -1,7 +1,8 @@
 use Rattle.std.proofs.Common.{ap, ◌∙◌, subst, length, arith}
 use Rattle.frame_rules.specs.Reading.{decoded, Reads}
+use Rattle.frame_rules.proofs.FieldLaws.{only}
 use Rattle.frame_rules.proofs.GrammarLaws.{prefix_short}
-use Rattle.wire_frames.proofs.Spelled.{is_found, is_within, is_long, is_only, is_short, is_fewer}
+use Rattle.wire_frames.proofs.Spelled.{is_found, is_within, is_long, is_only, is_short, is_fewer, is_wrong, is_only_wrong}
 use Rattle.wire_frames.proofs.decoding.decode.Goals as goal
 
 pub returns-clause-found : goal.returns-clause-found
@@ -22,3 +23,9 @@ returns-clause-length c = is_long c.args.bytes.now c.frame_in.result (λ i. omeg
 
 pub returns-clause-fewer : goal.returns-clause-fewer
 returns-clause-fewer c e = is_fewer c.args.bytes.now c.frame_in.result c.frame_in.ensures e
+
+pub returns-clause-wrong : goal.returns-clause-wrong
+returns-clause-wrong c = is_wrong c.args.bytes.now c.frame_in.result c.frame_in.ensures
+
+pub returns-clause-only_wrong : goal.returns-clause-only_wrong
+returns-clause-only_wrong c fault first = is_only_wrong c.frame_in.result fault (subst (Reads c.frame_in.result) (only c.args.bytes.now fault first) c.frame_in.ensures)
