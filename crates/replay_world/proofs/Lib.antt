@@ -6,7 +6,6 @@ pub mod Playing
 pub mod ShareLines
 pub mod Lanes
 pub mod Letters
-pub mod ClientSchedules
 pub mod Strangers
 pub mod LeaderStays
 pub mod RunKeeps

@@ -1,5 +1,5 @@
 -- What every move of a run over bytes keeps holds at its end.
-use Rattle.std.proofs.Common.{◌≡◌, ◌+◌, ◌*◌, ℕ, Bool, zero, suc, List, [], ◌∷◌, length, Option, slice_get}
+use Rattle.std.proofs.Common.{◌+◌, ◌*◌, ℕ, Bool, zero, suc, List, [], ◌∷◌, length, Option, slice_get}
 use Rattle.std.proofs.lemmas.Bool.{cond_both}
 use Rattle.mailbox_rules.specs.Requests.{Request}
 use Rattle.token_rules.specs.Driven.{Driven, drain_round_by, drained_by, drains_by, finish_round_by, finished_by, finishes_by}

@@ -1,3 +1,4 @@
+pub mod Messages
 pub mod Parts
 pub mod Posts
 pub mod View

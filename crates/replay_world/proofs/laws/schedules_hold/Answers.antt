@@ -3,7 +3,7 @@ use Rattle.run_rules.proofs.ForeignFollows.{foreign_runs_agree}
 use Rattle.run_rules.specs.Follows.{Follows}
 use Rattle.run_rules.specs.Plain.{BoxesArePlain, ClientsAreReady, JournalInOrder, JournalIsTold, OutcomesArePlain, SharesAreFolds}
 use Rattle.replay_world.proofs.Strangers.{of_every_schedule}
-use Rattle.replay_world.proofs.laws.strangers_hold.Goals as goal
+use Rattle.replay_world.proofs.laws.schedules_hold.Goals as goal
 
 pub returns-clause-follows : goal.returns-clause-follows
 returns-clause-follows c = of_every_schedule Follows foreign_runs_agree
