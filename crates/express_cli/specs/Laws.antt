@@ -38,8 +38,9 @@ pub record Laws : Type 0 where
   -- So does a mill's schedule, in which no bytes come from outside.
   pub mills_keep_rules : (n : ℕ) → n ≤ 5000
       → KeepsRules (mill_schedule n) × AreFromClients (mill_schedule n).events
-  -- A schedule keeps its foreign lanes apart from those of its clients: they are the lanes that bytes from outside
-  -- name. Where no bytes come from outside none is foreign, so what is said of clients' lanes is said of all.
+  -- A schedule keeps its foreign lanes apart from those of its clients: they are the lanes that bytes from
+  -- outside name. Where no bytes come from outside none is foreign, so what is said of clients' lanes is said
+  -- of all.
   pub lanes_stay_apart : SchedulesFit
   pub foreign_lanes : StrangersAreForeign
   pub clients_are_alone : ClientsAreAlone
@@ -57,27 +58,28 @@ pub record Laws : Type 0 where
   pub follows_protocol : OfEverySchedule Follows
   pub outcomes_are_plain : OfEverySchedule OutcomesArePlain
   pub lines_are_told : OfEverySchedule JournalIsTold
-  -- A client's command is refused for what the plain table has alone: its deposit and proof never are missing.
+  -- A client's command is refused for what the plain table has alone: its deposit and proof never are
+  -- missing.
   pub clients_are_ready : OfEverySchedule ClientsAreReady
   pub journal_in_order : OfEverySchedule JournalInOrder
   pub shares_are_folds : OfEverySchedule SharesAreFolds
   pub boxes_are_plain : OfEverySchedule BoxesArePlain
   -- Each client's requests are told in the order in which it was asked.
   pub requests_are_told : RequestsAreTold
-  -- A frame of a client's current request, whenever it comes, is one that the helper says it holds, and the leader
-  -- doesn't answer that it is stale or out of phase, nor, but where the window is full, that the client is to come
-  -- again.
+  -- A frame of a client's current request, whenever it comes, is one that the helper says it holds, and the
+  -- leader doesn't answer that it is stale or out of phase, nor, but where the window is full, that the
+  -- client is to come again.
   pub frames_are_heeded : OfEverySchedule CurrentIsHeeded
   -- Each reply of the helper to a foreign command fitted at the leader.
   pub replies_fit : OfEverySchedule RepliesFit
-  -- A row of the leader waits or audits exactly where one command of its lane and serial is outstanding, whatever
-  -- lane it is.
+  -- A row of the leader waits or audits exactly where one command of its lane and serial is outstanding,
+  -- whatever lane it is.
   pub rows_are_awaited : BusyRowsAwait
-  -- A foreign command that did something was brought what it needs by its lane, at both servers: submission and
-  -- deposit, for an audit or settle both proofs, for a read or retire the token of the box's key at both.
+  -- A foreign command that did something was brought what it needs by its lane, at both servers: submission
+  -- and deposit, for an audit or settle both proofs, for a read or retire the token of the box's key at both.
   pub strangers_were_brought : StrangersWereBrought
-  -- What is addressed to a client is one of the six answers that clients get, whatever lane it is: no frame to a
-  -- client has the point of a proof in it.
+  -- What is addressed to a client is one of the six answers that clients get, whatever lane it is: no frame
+  -- to a client has the point of a proof in it.
   pub clients_get_answers : ClientsGetAnswers
   -- At the end each request that a client was asked before a `finish` of it has its outcome.
   pub finishes_answer : FinishesAnswer
