@@ -21,6 +21,7 @@ use Rattle.run_hiding.specs.Laws.{DistinctRunsStay, ForeignOrdersStay, ForeignRe
 use Rattle.run_hiding.specs.Laws.{LettersAreIdeal, MasksApart, RealIsIdeal, ResultsStay, RunsFitOtherAims}
 use Rattle.run_hiding.specs.Laws.{RunsHaveForm, RunsReturn, SightsStay, WritesAddUp}
 use Rattle.replay_world.specs.Laws.{AreFromClients}
+use Rattle.replay_world.specs.Replies.{RepliesAreOne}
 use Rattle.replay_world.specs.Sight.{ClientsGetAnswers}
 use Rattle.replay_world.specs.Strangers.{BusyRowsAwait, ClientsAreAlone, FinishesAnswer, FinishesDrain}
 use Rattle.replay_world.specs.Strangers.{HistoryIsOfRun, OfEverySchedule, RequestsAreTold, SchedulesFit}
@@ -72,6 +73,10 @@ pub record Laws : Type 0 where
   pub frames_are_heeded : OfEverySchedule CurrentIsHeeded
   -- Each reply of the helper to a foreign command fitted at the leader.
   pub replies_fit : OfEverySchedule RepliesFit
+  -- The helper gives one reply to each command that it carried out, under the command's number and as the
+  -- journal's line tells it: whenever a reply goes to the leader it is that one, byte for byte, also of a
+  -- foreign command that was refused.
+  pub replies_are_one : RepliesAreOne
   -- A row of the leader waits or audits exactly where one command of its lane and serial is outstanding,
   -- whatever lane it is.
   pub rows_are_awaited : BusyRowsAwait

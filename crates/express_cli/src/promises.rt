@@ -4,7 +4,7 @@ ghost use Rattle.express_cli.specs.Laws.{Laws};
 use batch_audit::{few_values_pass, sorts_are_one};
 use file_table::{answers_join, unwritten_is_missing};
 use replay_world::{
-    accepted_writes_pass, clients_get_answers, frames_are_heeded, histories_hold,
+    accepted_writes_pass, clients_get_answers, frames_are_heeded, histories_hold, replies_are_one,
     requests_are_told, rows_are_awaited, schedules_fit, schedules_hold, strangers_were_brought,
 };
 use run_hiding::{
@@ -22,6 +22,7 @@ pub fn laws()
     schedules_hold();
     requests_are_told();
     frames_are_heeded();
+    replies_are_one();
     rows_are_awaited();
     strangers_were_brought();
     clients_get_answers();

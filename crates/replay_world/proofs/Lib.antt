@@ -10,3 +10,4 @@ pub mod Strangers
 pub mod LeaderStays
 pub mod RunKeeps
 pub mod ClientAnswers
+pub mod OneReply

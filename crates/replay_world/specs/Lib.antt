@@ -7,3 +7,4 @@ pub mod Played
 pub mod Laws
 pub mod Strangers
 pub mod Sight
+pub mod Replies

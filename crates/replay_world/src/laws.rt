@@ -6,6 +6,7 @@ ghost use Rattle.run_rules.specs.HistoryRuns.{HistoryIsRuns};
 ghost use Rattle.run_rules.specs.Plain.{BoxesArePlain, ClientsAreReady, JournalInOrder, JournalIsTold, OutcomesArePlain, SharesAreFolds};
 ghost use Rattle.run_rules.specs.Soundness.{BadWritesAreCaught, SettledAsTheyPass};
 ghost use Rattle.replay_world.specs.Strangers.{BusyRowsAwait, ClientsAreAlone, FinishesAnswer, FinishesDrain, HistoryIsOfRun, OfEverySchedule, RequestsAreTold, SchedulesFit, StrangersAreForeign, StrangersWereBrought};
+ghost use Rattle.replay_world.specs.Replies.{RepliesAreOne};
 ghost use Rattle.replay_world.specs.Sight.{ClientsGetAnswers};
 
 use leader_core::rows_await;
@@ -68,6 +69,13 @@ pub fn rows_are_awaited()
 /// opening or a proof share goes to its lane, whatever bytes come from outside.
 pub fn clients_get_answers()
     ensures { ClientsGetAnswers }
+{}
+
+/// The helper gives one reply to each command that it carried out, under the command's number and as the journal's line
+/// tells it. Whenever a reply goes to the leader it is that one, byte for byte, also of a foreign command that was
+/// refused.
+pub fn replies_are_one()
+    ensures { RepliesAreOne }
 {}
 
 /// A foreign command that did something was brought what it needs, by frames of its lane and serial: the leader took

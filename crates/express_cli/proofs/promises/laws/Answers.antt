@@ -25,6 +25,7 @@ returns c = record {
   requests_are_told = c.requests_are_told.ensures.told;
   frames_are_heeded = c.frames_are_heeded.ensures.heeded;
   replies_fit = c.frames_are_heeded.ensures.fit;
+  replies_are_one = c.replies_are_one.ensures;
   rows_are_awaited = c.rows_are_awaited.ensures;
   strangers_were_brought = c.strangers_were_brought.ensures;
   clients_get_answers = c.clients_get_answers.ensures;
