@@ -73,9 +73,10 @@ pub record Laws : Type 0 where
   pub frames_are_heeded : OfEverySchedule CurrentIsHeeded
   -- Each reply of the helper to a foreign command fitted at the leader.
   pub replies_fit : OfEverySchedule RepliesFit
-  -- The helper gives one reply to each command that it carried out, under the command's number and as the
-  -- journal's line tells it: whenever a reply goes to the leader it is that one, byte for byte, also of a
-  -- foreign command that was refused.
+  -- The helper stands where the frames that it heard led it, so each reply is its step's at the rows and
+  -- boxes that the command met. There is one to each command that it carried out, under the command's number
+  -- and as the journal's line tells it: whenever a reply goes to the leader it is that one, byte for byte,
+  -- also of a foreign command that was refused.
   pub replies_are_one : RepliesAreOne
   -- A row of the leader waits or audits exactly where one command of its lane and serial is outstanding,
   -- whatever lane it is.

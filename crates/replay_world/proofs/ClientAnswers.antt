@@ -511,7 +511,7 @@ moves = record {
   ask = asks_good;
   send = sends_good;
   tick = ticks_good;
-  deliver = delivers_good;
+  deliver = λ f l at h. delivers_good f l h;
   show = shows_good;
   inject = injects_good;
 }

@@ -71,9 +71,10 @@ pub fn clients_get_answers()
     ensures { ClientsGetAnswers }
 {}
 
-/// The helper gives one reply to each command that it carried out, under the command's number and as the journal's line
-/// tells it. Whenever a reply goes to the leader it is that one, byte for byte, also of a foreign command that was
-/// refused.
+/// The helper stands where the frames that it heard led it, step by step, so each of its replies is its step's at the
+/// rows and boxes that the command met. There is one reply to each command that it carried out, under the command's
+/// number and as the journal's line tells it. Whenever a reply goes to the leader it is that one, byte for byte, also of
+/// a foreign command that was refused.
 pub fn replies_are_one()
     ensures { RepliesAreOne }
 {}
