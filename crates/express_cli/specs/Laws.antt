@@ -9,20 +9,23 @@ use Rattle.schedule_text.specs.Rules.{KeepsRules}
 use Rattle.schedule_text.specs.Spelling.{SpellsSchedule}
 use Rattle.schedule_text.specs.declared.schedule.Schedule.{Schedule}
 use Rattle.run_rules.specs.Follows.{Follows}
-use Rattle.run_rules.specs.EveryEnd.{HistoryIsSo}
+use Rattle.run_rules.specs.EveryEnd.{HistoryIsSo, RepliesFit}
+use Rattle.run_rules.specs.Heeded.{CurrentIsHeeded}
 use Rattle.run_rules.specs.HistoryRuns.{HistoryIsRuns}
-use Rattle.run_rules.specs.Plain.{BoxesArePlain, ClientsAreReady, HistoryIsClients, JournalInOrder}
-use Rattle.run_rules.specs.Plain.{JournalIsPlain, JournalIsTold, OutcomesArePlain, SharesAreFolds}
+use Rattle.run_rules.specs.Plain.{BoxesArePlain, ClientsAreReady, JournalInOrder, JournalIsTold}
+use Rattle.run_rules.specs.Plain.{OutcomesArePlain, SharesAreFolds}
 use Rattle.run_rules.specs.Soundness.{BadWritesAreCaught, SettledAsTheyPass}
 use Rattle.run_hiding.specs.Flow.{FlowStays, OutcomesStay, OutcomesStayBeside, RunsFitBeside}
 use Rattle.run_hiding.specs.Flow.{SchedulesFitOtherAims}
 use Rattle.run_hiding.specs.Laws.{DistinctRunsStay, ForeignOrdersStay, ForeignRepliesAreIdeal, IdealsStay}
 use Rattle.run_hiding.specs.Laws.{LettersAreIdeal, MasksApart, RealIsIdeal, ResultsStay, RunsFitOtherAims}
 use Rattle.run_hiding.specs.Laws.{RunsHaveForm, RunsReturn, SightsStay, WritesAddUp}
-use Rattle.replay_world.specs.Laws.{AreFromClients, OfSchedules, RequestsAreTold}
+use Rattle.replay_world.specs.Laws.{AreFromClients}
+use Rattle.replay_world.specs.Replies.{RepliesAreOne}
 use Rattle.replay_world.specs.Sight.{ClientsGetAnswers}
-use Rattle.replay_world.specs.Strangers.{BusyRowsAwait, FinishesAnswer, HistoryIsOfRun}
-use Rattle.replay_world.specs.Strangers.{OfEverySchedule, OthersAreTold, SchedulesFit, StrangersAreForeign, StrangersWereBrought}
+use Rattle.replay_world.specs.Strangers.{BusyRowsAwait, ClientsAreAlone, FinishesAnswer, FinishesDrain}
+use Rattle.replay_world.specs.Strangers.{HistoryIsOfRun, OfEverySchedule, RequestsAreTold, SchedulesFit}
+use Rattle.replay_world.specs.Strangers.{StrangersAreForeign, StrangersWereBrought}
 use Rattle.file_table.specs.Laws.{AnswersJoin, UnwrittenIsMissing}
 use Rattle.batch_audit.specs.Batch.{FewValuesPass}
 use Rattle.batch_audit.specs.Sorting.{SortsAreOne}
@@ -36,50 +39,58 @@ pub record Laws : Type 0 where
   -- So does a mill's schedule, in which no bytes come from outside.
   pub mills_keep_rules : (n : ℕ) → n ≤ 5000
       → KeepsRules (mill_schedule n) × AreFromClients (mill_schedule n).events
-  -- The history that these laws speak of is the run's: the requests that the token run sent for each client
-  -- under their serials, the commands that it issued, and the entries that it carried out, each of which did
-  -- what its request asked, and never nothing.
-  pub histories_are_runs : OfSchedules HistoryIsRuns
-  pub entries_answer : OfSchedules HistoryIsClients
-  -- Whatever frames of a schedule of clients are lost, repeated or reordered: its run is the protocol's
-  -- machine with content; each outcome is what the plain table of mailboxes gives at its request's place in
-  -- the journal, so a message that an owner decodes is the one that stands in the table there.
-  pub follows_protocol : OfSchedules Follows
-  pub outcomes_are_plain : OfSchedules OutcomesArePlain
-  pub journal_is_plain : OfSchedules JournalIsPlain
-  pub journal_in_order : OfSchedules JournalInOrder
-  pub shares_are_folds : OfSchedules SharesAreFolds
-  pub boxes_are_plain : OfSchedules BoxesArePlain
-  -- Each client's requests are told in the order in which it was asked.
-  pub requests_are_told : RequestsAreTold
-  -- With whatever bytes from outside the same holds of the clients, whose lanes no such bytes name: the plain
-  -- table has the accepted writes of foreign lanes as what both servers add to each box, and a foreign
-  -- command's line has the plain table's result, or the helper's refusal of a command that did nothing.
+  -- A schedule keeps its foreign lanes apart from those of its clients: they are the lanes that bytes from
+  -- outside name. Where no bytes come from outside none is foreign, so what is said of clients' lanes is said
+  -- of all.
   pub lanes_stay_apart : SchedulesFit
   pub foreign_lanes : StrangersAreForeign
-  pub all_histories_are_runs : OfEverySchedule HistoryIsRuns
-  pub all_entries_answer : OfEverySchedule HistoryIsSo
+  pub clients_are_alone : ClientsAreAlone
+  -- The history that these laws speak of is the run's: the requests that the token run sent for each client
+  -- under their serials, the commands that it issued, and the entries that it carried out, each of which did
+  -- what its client's request asked, and never nothing. The run is the one that is printed.
+  pub histories_are_runs : OfEverySchedule HistoryIsRuns
+  pub entries_answer : OfEverySchedule HistoryIsSo
   pub runs_are_printed : HistoryIsOfRun
-  pub all_follow_protocol : OfEverySchedule Follows
-  pub all_outcomes_are_plain : OfEverySchedule OutcomesArePlain
-  pub all_lines_are_told : OfEverySchedule JournalIsTold
-  -- A client's command is refused for what the plain table has alone: its deposit and proof never are missing.
-  pub all_clients_are_ready : OfEverySchedule ClientsAreReady
-  pub all_clients_in_order : OfEverySchedule JournalInOrder
-  pub all_shares_are_folds : OfEverySchedule SharesAreFolds
-  pub all_boxes_are_plain : OfEverySchedule BoxesArePlain
-  pub all_requests_are_told : OthersAreTold
-  -- A row of the leader waits or audits exactly where one command of its lane and serial is outstanding, whatever
-  -- lane it is.
+  -- Whatever frames are lost, repeated or reordered, and whatever bytes come from outside: the run is the
+  -- protocol's machine with content; each outcome is what the plain table of mailboxes gives at its request's
+  -- place in the journal, so a message that an owner decodes is the one that stands in the table there. The
+  -- plain table has the accepted writes of foreign lanes as what both servers add to each box; a line has its
+  -- result, or, of a foreign command that did nothing, the helper's refusal.
+  pub follows_protocol : OfEverySchedule Follows
+  pub outcomes_are_plain : OfEverySchedule OutcomesArePlain
+  pub lines_are_told : OfEverySchedule JournalIsTold
+  -- A client's command is refused for what the plain table has alone: its deposit and proof never are
+  -- missing.
+  pub clients_are_ready : OfEverySchedule ClientsAreReady
+  pub journal_in_order : OfEverySchedule JournalInOrder
+  pub shares_are_folds : OfEverySchedule SharesAreFolds
+  pub boxes_are_plain : OfEverySchedule BoxesArePlain
+  -- Each client's requests are told in the order in which it was asked.
+  pub requests_are_told : RequestsAreTold
+  -- A frame of a client's current request, whenever it comes, is one that the helper says it holds, and the
+  -- leader doesn't answer that it is stale or out of phase, nor, but where the window is full, that the
+  -- client is to come again.
+  pub frames_are_heeded : OfEverySchedule CurrentIsHeeded
+  -- Each reply of the helper to a foreign command fitted at the leader.
+  pub replies_fit : OfEverySchedule RepliesFit
+  -- The helper stands where the frames that it heard led it, so each reply is its step's at the rows and
+  -- boxes that the command met. There is one to each command that it carried out, under the command's number
+  -- and as the journal's line tells it: whenever a reply goes to the leader it is that one, byte for byte,
+  -- also of a foreign command that was refused.
+  pub replies_are_one : RepliesAreOne
+  -- A row of the leader waits or audits exactly where one command of its lane and serial is outstanding,
+  -- whatever lane it is.
   pub rows_are_awaited : BusyRowsAwait
-  -- A foreign command that did something was brought what it needs by its lane, at both servers: submission and
-  -- deposit, for an audit or settle both proofs, for a read or retire the token of the box's key at both.
+  -- A foreign command that did something was brought what it needs by its lane, at both servers: submission
+  -- and deposit, for an audit or settle both proofs, for a read or retire the token of the box's key at both.
   pub strangers_were_brought : StrangersWereBrought
-  -- What is addressed to a client is one of the six answers that clients get, whatever lane it is: no frame to a
-  -- client has the point of a proof in it.
+  -- What is addressed to a client is one of the six answers that clients get, whatever lane it is: no frame
+  -- to a client has the point of a proof in it.
   pub clients_get_answers : ClientsGetAnswers
   -- At the end each request that a client was asked before a `finish` of it has its outcome.
   pub finishes_answer : FinishesAnswer
+  -- Where the client had a request, the `finish` leaves no command outstanding: each drain ends with none.
+  pub finishes_drain : FinishesDrain
   -- Each settle is printed as accepted exactly where the write's proof passes at its point; a foreign write
   -- that changes two boxes has a bad challenge, or its proof passes at five points at most.
   pub accepted_writes_pass : OfEverySchedule SettledAsTheyPass

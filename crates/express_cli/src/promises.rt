@@ -4,8 +4,8 @@ ghost use Rattle.express_cli.specs.Laws.{Laws};
 use batch_audit::{few_values_pass, sorts_are_one};
 use file_table::{answers_join, unwritten_is_missing};
 use replay_world::{
-    accepted_writes_pass, clients_get_answers, histories_hold, requests_are_told, rows_are_awaited,
-    schedules_fit, schedules_hold, strangers_hold, strangers_were_brought,
+    accepted_writes_pass, clients_get_answers, frames_are_heeded, histories_hold, replies_are_one,
+    requests_are_told, rows_are_awaited, schedules_fit, schedules_hold, strangers_were_brought,
 };
 use run_hiding::{
     flow_stays, runs_are_ideal, runs_fit_other_aims, sights_stay, strangers_tell_no_more,
@@ -17,11 +17,12 @@ use write_hiding::{views_stay, writes_are_choices};
 pub fn laws()
     ensures { Laws }
 {
+    schedules_fit();
     histories_hold();
     schedules_hold();
     requests_are_told();
-    schedules_fit();
-    strangers_hold();
+    frames_are_heeded();
+    replies_are_one();
     rows_are_awaited();
     strangers_were_brought();
     clients_get_answers();

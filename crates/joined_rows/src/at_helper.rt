@@ -11,6 +11,12 @@ use server_steps::carry_command;
 use std::alloc::Global;
 use std::marker::Model;
 
+// A reply that was kept, which stands at the front of this room.
+fn kept_text(alloc: Global, room: &[u8], length: usize) -> Result<String, Fault> {
+    let digits = front_text(alloc, room, length)?;
+    Ok(format!(in alloc; "again {digits}")?)
+}
+
 /// The helper of a recording.
 #[derive(Drop)]
 pub struct AtHelper {
@@ -51,12 +57,12 @@ impl AtHelper {
         front_text(alloc, &out, length)
     }
 
-    /// Its reply to a command, now or again.
+    /// Its reply to a command; a kept one is told as such.
     pub fn command_comes(&mut self, alloc: Global, frame: &[u8]) -> Result<String, Fault> {
         let mut out = [0u8; FRAME_MAX];
         match self.carry(frame, &mut out) {
             LinkTurn::Ignored => no_frame(alloc),
-            LinkTurn::Repeated(length) => front_text(alloc, &out, length),
+            LinkTurn::Repeated(length) => kept_text(alloc, &out, length),
             LinkTurn::Carried(length) => front_text(alloc, &out, length),
         }
     }

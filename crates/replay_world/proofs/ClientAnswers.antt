@@ -1,5 +1,5 @@
 -- What goes to a client's lane is an answer to a client: of the link, of openings, closings and points it has nothing.
-use Rattle.std.proofs.Common.{◌≡◌, ◌≢◌, ◌∙◌, ◌<◌, ◌≤◌, ◌&&◌, ◌⊎◌, ◌^◌, ◌-◌, ℕ, zero, suc, Bool, true, false, cond, nat_eq, nat_le, nat_lt, not, is_none, List, [], ◌∷◌, ◌++◌, length, replicate, Option, Some, None, Result, Ok, Err, slice_get, slice_set, slice_index_or, inl, inr, refl, sym, ap, subst, arith}
+use Rattle.std.proofs.Common.{◌≡◌, ◌∙◌, ◌≤◌, ◌&&◌, ◌^◌, ◌-◌, ℕ, zero, suc, Bool, true, false, cond, nat_eq, nat_le, nat_lt, not, is_none, List, [], ◌∷◌, ◌++◌, length, replicate, Option, Some, None, Result, Ok, Err, slice_get, slice_set, slice_index_or, inl, inr, refl, sym, ap, subst, arith}
 use Rattle.std.proofs.lemmas.Bool.{cases_eq, cases_lt, cond_both}
 use Rattle.std.proofs.lemmas.List.{get_or-set_same, get_or-set_other}
 use Rattle.express_words.specs.declared.audit.ProofShare.{ProofShare}
@@ -511,7 +511,7 @@ moves = record {
   ask = asks_good;
   send = sends_good;
   tick = ticks_good;
-  deliver = delivers_good;
+  deliver = λ f l at h. delivers_good f l h;
   show = shows_good;
   inject = injects_good;
 }

@@ -1,11 +1,11 @@
 -- What a leader's steps keep holds of the leader of every run over bytes.
-use Rattle.std.proofs.Common.{◌≡◌, ◌∙◌, ◌+◌, ◌*◌, ℕ, zero, suc, true, false, List, [], ◌∷◌, ◌++◌, length, Option, Some, None, Result, Ok, Err, is_none, refl, sym, ap, subst, slice_get}
+use Rattle.std.proofs.Common.{◌≡◌, ◌+◌, ◌*◌, ℕ, zero, suc, true, false, List, [], ◌∷◌, ◌++◌, length, Option, Some, None, Result, Ok, Err, is_none, refl, sym, subst, slice_get}
 use Rattle.std.proofs.lemmas.Bool.{cond_both}
 use Rattle.frame_rules.specs.Frames.{PlainFrame}
 use Rattle.frame_rules.specs.Whole.{linked, is_command}
 use Rattle.mailbox_rules.specs.Requests.{Request}
 use Rattle.token_rules.specs.Run.{own_of}
-use Rattle.token_rules.specs.Driven.{Driven, drain_round_by, drained_by, drains_by, finish_round_by, finished_by, finishes_by, sent_and_drained_by}
+use Rattle.token_rules.specs.Driven.{Driven, drain_round_by, drained_by, drains_by, finish_round_by, finished_by, finishes_by}
 use Rattle.step_rules.specs.Helper as helper
 use Rattle.step_rules.specs.HelperCommands.{on_link_bytes}
 use Rattle.step_rules.specs.Leader.{Leader}

@@ -6,8 +6,8 @@ pub mod Playing
 pub mod ShareLines
 pub mod Lanes
 pub mod Letters
-pub mod ClientSchedules
 pub mod Strangers
 pub mod LeaderStays
 pub mod RunKeeps
 pub mod ClientAnswers
+pub mod OneReply

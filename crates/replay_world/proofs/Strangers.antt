@@ -1,5 +1,5 @@
 -- A schedule that keeps the rules has its foreign lanes apart from its clients' lanes.
-use Rattle.std.proofs.Common.{◌≡◌, ◌<◌, ◌≤◌, ℕ, ◌==◌, ◌||◌, Bool, true, false, List, [], ◌∷◌, ◌++◌, length, Option, Some, None, Result, Ok, Err, refl, sym, ap, ap₂, ◌∙◌, subst, inl, inr, arith, append_assoc, append-nil}
+use Rattle.std.proofs.Common.{◌≡◌, ◌<◌, ◌≤◌, ℕ, ◌==◌, ◌||◌, Bool, true, false, List, [], ◌∷◌, ◌++◌, length, Option, Some, None, Result, Ok, Err, refl, sym, ap, ap₂, ◌∙◌, subst, inl, inr, arith, append_assoc, append-nil, length-append}
 use Rattle.std.proofs.lemmas.Bool.{cases_Bool, eq-eqb, eqb-true}
 use Rattle.std.proofs.lemmas.List.{length-map}
 use Rattle.express_words.specs.declared.settings.Settings.{Settings}
@@ -18,16 +18,19 @@ use Rattle.run_rules.specs.Acts.{AreFitting, IsFitting, IsOutside, NamesForeign,
 use Rattle.run_rules.specs.EveryEnd.{AtEveryEnd}
 use Rattle.run_rules.specs.Run as run
 use Rattle.run_rules.proofs.BroughtEnds.{commands_were_brought}
-use Rattle.run_rules.proofs.FinishAnswers.{finish_answers}
+use Rattle.run_rules.proofs.FinishAnswers.{finish_answers, front_fits}
+use Rattle.run_rules.proofs.FinishDrains.{finish_drains}
 use Rattle.run_rules.proofs.HistoryRuns.{runs_are_one}
+use Rattle.schedule_text.specs.declared.schedule.Asked.{Asked}
+use Rattle.schedule_text.specs.declared.schedule.Asked.TheVariants.{Register, Write, Read, Retire}
 use Rattle.schedule_text.specs.declared.schedule.Event.{Event}
 use Rattle.schedule_text.specs.declared.schedule.Event.TheVariants.{Ask, Send, Tick, Deliver, Show, Finish, Inject}
 use Rattle.schedule_text.specs.Lanes.{IsApart, client_of, foreign_by, is_foreign, is_lane, is_used, lane_from_client, lane_in}
-use Rattle.schedule_text.specs.Rules.{EventsKeepRules}
-use Rattle.replay_world.specs.Parts.{event_in, events_in}
+use Rattle.schedule_text.specs.Rules.{EventsKeepRules, IsAskable}
+use Rattle.replay_world.specs.Parts.{event_in, events_in, request_in}
 use Rattle.replay_world.specs.Played.{run_of}
-use Rattle.replay_world.specs.Strangers.{FinishesAnswer, HistoryIsOfRun, OfEverySchedule, OthersAreTold, SchedulesFit, StrangersAreForeign, StrangersWereBrought, runs_of, strangers_in}
-use Rattle.replay_world.proofs.ClientSchedules.{fits}
+use Rattle.replay_world.specs.Laws.{AreFromClients}
+use Rattle.replay_world.specs.Strangers.{ClientsAreAlone, FinishesAnswer, FinishesDrain, HistoryIsOfRun, OfEverySchedule, RequestsAreTold, SchedulesFit, StrangersAreForeign, StrangersWereBrought, runs_of, strangers_in}
 
 -- ---- the lanes that bytes from outside name
 
@@ -104,6 +107,12 @@ never_foreign settings before (x ∷ events) c h used =
 
 -- ---- so the schedule fits the runs
 
+fits : (width : ℕ) (asked : Asked) → IsAskable width asked → history.Fits width (request_in asked)
+fits width (Register address) h = h
+fits width (Write target message) h = (h.0, h.1)
+fits width (Read own) h = tt
+fits width (Retire own) h = tt
+
 itself : (c : ℕ) → c == c ≡ true
 itself c = eq-eqb c c refl
 
@@ -166,6 +175,20 @@ are_fitting settings foreign before (x ∷ events) h all = (
 pub strangers_are_foreign : StrangersAreForeign
 strangers_are_foreign schedule c = foreign_same schedule.events c
 
+none_named : (events : List Event) (c : ℕ) → AreFromClients events → is_foreign events c ≡ false
+unfolding is_foreign
+none_named [] c h = refl
+none_named (Ask client asked ∷ events) c h = none_named events c h.1
+none_named (Send client ∷ events) c h = none_named events c h.1
+none_named (Tick ∷ events) c h = none_named events c h.1
+none_named (Deliver number ∷ events) c h = none_named events c h.1
+none_named (Show number ∷ events) c h = none_named events c h.1
+none_named (Finish client ∷ events) c h = none_named events c h.1
+none_named (Inject server bytes ∷ events) c h = absurd h.0
+
+pub clients_are_alone : ClientsAreAlone
+clients_are_alone schedule c h = foreign_same schedule.events c ∙ none_named schedule.events c h
+
 pub schedule_fits : SchedulesFit
 schedule_fits schedule rules =
     are_fitting schedule.header.settings (strangers_in schedule) [] schedule.events rules.events (foreign_same schedule.events)
@@ -189,8 +212,8 @@ strangers_were_brought schedule i e rules at strange =
 
 -- ---- what is told, and a finish
 
-pub others_tell : OthersAreTold
-others_tell schedule client rules honest =
+pub schedules_tell : RequestsAreTold
+schedules_tell schedule client rules honest =
     let settings = schedule.header.settings in
     let o = oracle_of (runs_of schedule).acts in
     let events = token_events (events_in schedule.events) in
@@ -223,3 +246,19 @@ schedules_answer schedule client number before after rules is small =
     let few : length (events_in schedule.events) ≤ 20000 = omega (arith, rules.few, length-map schedule.events event_in) in
     rw all (finish_answers settings schedule.header.seed foreign (events_in before) (events_in after) client number rules.limits
     (subst (AreFitting settings foreign) all (schedule_fits schedule rules)) honest (subst (λ es. length es ≤ 20000) all few) small)
+
+pub finishes_drain : FinishesDrain
+unfolding run_of
+finishes_drain schedule client before rules is busy =
+    let settings = schedule.header.settings in
+    let foreign = strangers_in schedule in
+    let named : (c : ℕ) → foreign c ≡ is_foreign (before ++ Finish client ∷ []) c =
+    λ c. foreign_same schedule.events c ∙ ap (λ es. is_foreign es c) is in
+    let kept = rest_keeps settings [] before (Finish client ∷ []) (subst (EventsKeepRules settings []) is rules.events) in
+    let honest = not_named settings foreign before [] (Finish client) client kept refl refl named in
+    let all : events_in schedule.events ≡ events_in before ++ run.Finish client ∷ [] =
+    ap events_in is ∙ in_parts before (Finish client ∷ []) in
+    let few : length (events_in schedule.events) ≤ 20000 = omega (arith, rules.few, length-map schedule.events event_in) in
+    let fits = front_fits settings foreign (events_in before) (run.Finish client ∷ []) (subst (AreFitting settings foreign) all (schedule_fits schedule rules)) in
+    let size = ap length all ∙ length-append (events_in before) (run.Finish client ∷ []) in
+    rw all (finish_drains settings schedule.header.seed foreign (events_in before) client rules.limits fits honest (omega (arith, few, size)) busy)

@@ -1,3 +1,4 @@
+pub mod Messages
 pub mod Parts
 pub mod Posts
 pub mod View
@@ -7,3 +8,4 @@ pub mod Laws
 pub mod Strangers
 pub mod Sight
 pub mod Texts
+pub mod Replies

@@ -1,5 +1,5 @@
 -- What holds of every schedule, with whatever bytes from outside, frames lost, repeated or reordered.
-use Rattle.std.specs.Prelude.{◌≡◌, ◌<◌, ◌++◌, ◌∷◌, ℕ, true, false, Bool, List, Some, slice_get}
+use Rattle.std.specs.Prelude.{◌≡◌, ◌<◌, ◌++◌, ◌∷◌, ℕ, true, false, Bool, List, [], Some, is_none, slice_get}
 use Rattle.mailbox_rules.specs.Requests.{Entry}
 use Rattle.token_rules.specs.Tokens.{World, oracle_of}
 use Rattle.token_rules.specs.Laws.{Accounts, AreNumbered, asked_by, asks_of}
@@ -15,6 +15,7 @@ use Rattle.schedule_text.specs.declared.schedule.Event.TheVariants.{Finish}
 use Rattle.schedule_text.specs.declared.schedule.Schedule.{Schedule}
 use Rattle.schedule_text.specs.Lanes.{is_foreign}
 use Rattle.schedule_text.specs.Rules.{KeepsRules}
+use Rattle.replay_world.specs.Laws.{AreFromClients}
 use Rattle.replay_world.specs.Parts.{events_in}
 use Rattle.replay_world.specs.Played.{run_of}
 
@@ -25,6 +26,11 @@ strangers_in schedule = foreign_in (events_in schedule.events)
 -- they are the lanes that the rules call foreign
 abbrev pub StrangersAreForeign : Type 0
 StrangersAreForeign = (schedule : Schedule) (c : ℕ) → strangers_in schedule c ≡ is_foreign schedule.events c
+
+-- so there is none where no bytes come from outside
+abbrev pub ClientsAreAlone : Type 0
+ClientsAreAlone = (schedule : Schedule) (c : ℕ) → AreFromClients schedule.events
+    → strangers_in schedule c ≡ false
 
 -- and no client of a schedule that keeps the rules has such a lane
 abbrev pub SchedulesFit : Type 0
@@ -67,8 +73,8 @@ BusyRowsAwait = (schedule : Schedule) → RowsAwait (run_of schedule).leader
 
 -- The requests that the client of a lane which isn't foreign was asked are those that have their outcomes,
 -- numbered in order, then the current one, and then those that wait; each that was sent has the next serial.
-abbrev pub OthersAreTold : Type 0
-OthersAreTold =
+abbrev pub RequestsAreTold : Type 0
+RequestsAreTold =
     (schedule : Schedule) (client : ℕ) → KeepsRules schedule → strangers_in schedule client ≡ false
     → let w = token_run (oracle_of (runs_of schedule).acts) schedule.header.settings (strangers_in schedule)
     (events_in schedule.events) in
@@ -80,3 +86,10 @@ FinishesAnswer = (schedule : Schedule) (client number : ℕ) (before after : Lis
     → schedule.events ≡ before ++ Finish client ∷ after
     → number < asks_of client (token_events (events_in before))
     → HasOutcome client number (run_of schedule)
+
+-- A `finish` of a client that has a request leaves no command outstanding: each drain in it ends with none.
+abbrev pub FinishesDrain : Type 0
+FinishesDrain = (schedule : Schedule) (client : ℕ) (before : List Event) → KeepsRules schedule
+    → schedule.events ≡ before ++ Finish client ∷ []
+    → is_none ((run_of (record { header = schedule.header; events = before })).clients client).current ≡ false
+    → (run_of schedule).leader.outstanding ≡ []

@@ -1,4 +1,6 @@
 //! What a run tells: what became of requests, what the journal has, and the frames that were noted.
+ghost use Rattle.replay_world.specs.Messages.{HasNoOther};
+
 use client_core::Outcome;
 use express_words::{Closing, List, Openings, Refusal};
 
@@ -18,6 +20,7 @@ pub struct OutcomeLine {
     pub outcome: Told,
     /// The bytes of a message; else none.
     pub message: List<u8>,
+    pub ghost bare: { HasNoOther outcome message },
 }
 
 /// A command of the leader to the helper.

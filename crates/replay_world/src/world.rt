@@ -38,12 +38,13 @@ pub struct World {
 }
 
 impl World {
-    ghost use Rattle.std.specs.Prelude.{◌≡◌, ◌<◌, ◌≤◌, OnOk, IfOk, Err, [], string_bytes};
+    ghost use Rattle.std.specs.Prelude.{◌≡◌, ◌<◌, ◌≤◌, All, OnOk, IfOk, Err, [], string_bytes};
     ghost use Rattle.express_words.specs.Causes.{Rose};
     ghost use Rattle.express_words.specs.Streams.{Took, TookPrefix};
     ghost use Rattle.express_words.specs.Limits.{KeepsLimits};
     ghost use Rattle.run_rules.specs.Run.{happens};
     ghost use Rattle.schedule_text.specs.Rules.{KeepsRulesAfter};
+    ghost use Rattle.replay_world.specs.Messages.{HasNoOther};
     ghost use Rattle.replay_world.specs.Parts.{event_in, journal_in, outcomes_in};
     ghost use Rattle.replay_world.specs.Played.{output_of, played, run_of, share_at, stands, with_event, IsWhole};
 
@@ -73,10 +74,12 @@ impl World {
         self.state.event(alloc, event)
     }
 
-    /// What became of the requests, in the order in which it was told.
+    /// What became of the requests, in the order in which it was told. A line has a message where its outcome is one,
+    /// and else none.
     pub fn outcomes(&self) -> &[OutcomeLine]
         requires { IsWhole self.now }
-        ensures { outcomes_in result.now ≡ (run_of (played self.now)).outcomes }
+        ensures told { outcomes_in result.now ≡ (run_of (played self.now)).outcomes }
+        ensures bare { All (λ line. HasNoOther line.outcome line.message) result.now }
     {
         self.state.outcomes.as_slice()
     }

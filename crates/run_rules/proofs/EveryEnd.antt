@@ -16,8 +16,11 @@ use Rattle.run_rules.specs.History.{frame_run, token_events, token_run}
 use Rattle.run_rules.specs.Acts.{AreFitting, Both, ended_of, history_of}
 use Rattle.run_rules.specs.Plain.{BoxesArePlain, ClientsAreReady, IsHistory, IsStrange, JournalInOrder, JournalIsTold, OutcomesArePlain, SharesAreFolds}
 use Rattle.run_rules.specs.Soundness.{BadWritesAreCaught, SettledAsTheyPass}
-use Rattle.run_rules.specs.EveryEnd.{AtEveryEnd, HistoryIsSo}
-use Rattle.run_rules.proofs.ForeignFollows.{foreign_runs_agree}
+use Rattle.run_rules.specs.EveryEnd.{AtEveryEnd, HistoryIsSo, RepliesFit}
+use Rattle.run_rules.specs.Heeded.{CurrentIsHeeded}
+use Rattle.run_rules.proofs.ForeignFollows.{foreign_runs_agree, frames_agree, outside_is_foreign, replies_fit}
+use Rattle.run_rules.proofs.Heeded.{current_is_heeded}
+use Rattle.run_rules.proofs.WholeBoth.{Outside}
 use Rattle.run_rules.proofs.WholeForeign.{room, sound, whole, within, world_is}
 use Rattle.run_rules.proofs.PlainStrangers.{is_strange}
 use Rattle.run_rules.proofs.SoundEnds.{bad_writes_are_caught, settled_as_they_pass}
@@ -147,3 +150,18 @@ bad_writes_at_every_end settings seed foreign events limits fit few =
     let s = ended_of settings seed foreign events in
     bad_writes_are_caught (history_of settings seed foreign s) (history settings seed foreign events limits fit few)
     (frame_run settings seed events) (token_run (oracle_of s.acts) settings foreign events)
+
+pub replies_at_every_end : AtEveryEnd RepliesFit
+replies_at_every_end settings seed foreign events limits fit few =
+    ap (λ w. w.misfits) (sym (same settings seed foreign events limits fit few)) ∙ replies_fit settings seed foreign events limits fit few
+
+pub heeded_at_every_end : AtEveryEnd CurrentIsHeeded
+heeded_at_every_end settings seed foreign events limits fit few =
+    let s = ended_of settings seed foreign events in
+    let b = history_of settings seed foreign s in
+    let f = frame_run settings seed events in
+    let outside : Outside foreign s.world f =
+    subst (Outside foreign s.world) (frames_agree settings seed foreign events limits fit few) (outside_is_foreign settings seed foreign events limits fit few) in
+    subst (CurrentIsHeeded b f) (same settings seed foreign events limits fit few)
+    (current_is_heeded b f s.world (follows settings seed foreign events limits fit few) (whole settings seed foreign events limits fit few).lawful
+    (sound settings seed foreign events limits fit few) (within settings seed foreign events limits fit few) outside)

@@ -26,7 +26,7 @@ unfolding rules.run
 run_parts f [] ys = refl
 run_parts f (x ∷ xs) ys = run_parts (rules.happens f x) xs ys
 
-front_fits : (settings : Settings) (foreign : ℕ → Bool) (xs ys : List Event) → AreFitting settings foreign (xs ++ ys)
+pub front_fits : (settings : Settings) (foreign : ℕ → Bool) (xs ys : List Event) → AreFitting settings foreign (xs ++ ys)
     → AreFitting settings foreign xs
 front_fits settings foreign [] ys h = tt
 front_fits settings foreign (x ∷ xs) ys h = (h.0, front_fits settings foreign xs ys h.1)

@@ -21,7 +21,8 @@ use Rattle.run_rules.specs.Known.{Known}
 use Rattle.run_rules.specs.History.{frame_run, token_run}
 use Rattle.run_rules.specs.Acts.{AreFitting, AreTaken, Both, OutsideAt, Taken, both_come, brought_by, ended_of, history_of, leader_takes, taken_in, taken_of}
 use Rattle.run_rules.proofs.ForeignFits.{come_fits}
-use Rattle.run_rules.proofs.WholeForeign.{run_follows, run_is, run_unique}
+use Rattle.run_rules.proofs.WholeBoth.{Outside}
+use Rattle.run_rules.proofs.WholeForeign.{run_follows, run_is, run_outside, run_unique}
 use Rattle.run_rules.proofs.WholeHelperRows.{comes_grow}
 use Rattle.run_rules.proofs.ForeignLeaderFirst.{HaveCommands, NamesForeignLane, taken_have}
 use Rattle.run_rules.proofs.ForeignLeaderFinds.{leader_are_taken}
@@ -107,3 +108,12 @@ replies_fit settings seed foreign events limits fit few =
     let s = ended_of settings seed foreign events in
     (run_unique settings seed foreign events limits fit few Unique
     (takes (history_of settings seed foreign s) s.world s.taken refl) stays (tt, tt, refl)).2
+
+-- bytes from outside are of foreign lanes alone
+pub outside_is_foreign : (settings : Settings) (seed : List ℕ) (foreign : ℕ → Bool) (events : List Event)
+    → KeepsLimits settings.width settings.boxes settings.lanes settings.window → AreFitting settings foreign events → length events ≤ 20000
+    → Outside foreign (ended_of settings seed foreign events).world (ended_of settings seed foreign events).frames
+outside_is_foreign settings seed foreign events limits fit few =
+    let s = ended_of settings seed foreign events in
+    run_outside settings seed foreign events limits fit few Unique
+    (takes (history_of settings seed foreign s) s.world s.taken refl) stays (tt, tt, refl)

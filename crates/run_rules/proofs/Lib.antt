@@ -110,8 +110,11 @@ pub mod FaultLaws
 pub mod SoundPasses
 pub mod SoundChanges
 pub mod SoundEnds
+pub mod HeededSteps
+pub mod Heeded
 pub mod EveryEnd
 pub mod OutcomesGrow
+pub mod FinishDrains
 pub mod FinishAnswers
 pub mod PlainRefusals
 pub mod HistoryRuns

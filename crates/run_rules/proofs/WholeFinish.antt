@@ -10,7 +10,7 @@ use Rattle.token_rules.proofs.Tallies.{finish_rests}
 use Rattle.step_rules.specs.Client.{Current}
 use Rattle.run_rules.specs.Letters as run
 use Rattle.run_rules.specs.Letters.{FrameWorld}
-use Rattle.run_rules.specs.Run.{Event, Ask, Send, Tick, Deliver, Show, Finish, Inject}
+use Rattle.run_rules.specs.Run.{Event, Finish}
 use Rattle.run_rules.specs.Book.{Book}
 use Rattle.run_rules.specs.Follows.{AreOutcomes, CurrentIs, Follows}
 use Rattle.run_rules.specs.History.{frame_run, token_events, token_events_of, token_run}
@@ -30,7 +30,7 @@ unfolding tokens.run
 run_append o w [] ys = refl
 run_append o w (x ∷ xs) ys = run_append o (tokens.happens o w x) xs ys
 
-fit_append : (settings : Settings) (foreign : ℕ → Bool) (xs : List Event) (x : Event) → AreFitting settings foreign xs
+pub fit_append : (settings : Settings) (foreign : ℕ → Bool) (xs : List Event) (x : Event) → AreFitting settings foreign xs
     → IsFitting settings foreign x → AreFitting settings foreign (xs ++ x ∷ [])
 fit_append settings foreign [] x h k = (k, tt)
 fit_append settings foreign (y ∷ xs) x h k = (h.0, fit_append settings foreign xs x h.1 k)
@@ -56,7 +56,7 @@ current_none : (b : Book) (c n s : ℕ) (current : Option Current) → n ≡ 0 �
 current_none b c zero s current e h = h
 current_none b c (suc n) s current e h = absurd (omega (arith, e))
 
-last_is : (o : Oracle) (first : World) (events : List Event) (c : ℕ)
+pub last_is : (o : Oracle) (first : World) (events : List Event) (c : ℕ)
     → tokens.run o first (token_events (events ++ Finish c ∷ [])) ≡ tokens.happens o (tokens.run o first (token_events events)) (tokens.Finish c)
 unfolding token_events tokens.run
 last_is o first events c =

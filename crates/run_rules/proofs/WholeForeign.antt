@@ -22,7 +22,7 @@ use Rattle.run_rules.specs.History.{frame_run, token_events, token_run}
 use Rattle.run_rules.specs.Acts.{AreFitting, AreTaken, Both, ForeignComesFollow, OutsideAt, Taken, both_come, both_opened, history_of, run_both, taken_of}
 use Rattle.run_rules.proofs.Asked.{start_follows}
 use Rattle.run_rules.proofs.ForeignComes.{foreign_comes_follow}
-use Rattle.run_rules.proofs.WholeBoth.{Allowed, Kept, run_back, run_keeps, run_same}
+use Rattle.run_rules.proofs.WholeBoth.{Allowed, Kept, Outside, run_back, run_keeps, run_same}
 use Rattle.run_rules.proofs.WholeBounds.{Few, run_few_any}
 use Rattle.run_rules.proofs.WholeBrought.{brought_fits, parts_fit}
 use Rattle.run_rules.proofs.WholeLaw.{AllFit, fit_append, fit_none, fit_one, good, take_all}
@@ -152,3 +152,7 @@ module _ (settings : Settings) (seed : List ℕ) (foreign : ℕ → Bool) (event
     -- what is kept of both runs
     pub run_unique : Unique ended
     run_unique = kept_to_end.unique
+
+    -- what came from outside in them
+    pub run_outside : Outside foreign ended.world ended.frames
+    run_outside = kept_to_end.outside

@@ -10,6 +10,7 @@ pub mod Plain
 pub mod History
 pub mod Acts
 pub mod EveryEnd
+pub mod Heeded
 pub mod Soundness
 pub mod HistoryRuns
 pub mod Came

@@ -7,8 +7,9 @@
 
 ghost use Rattle.run_rules.specs.Acts.{StrangersFollow};
 ghost use Rattle.run_rules.specs.Came.{CommandsWereBrought};
-ghost use Rattle.run_rules.specs.EveryEnd.{AtEveryEnd, FinishAlwaysEnds, FinishAnswers, HistoryIsSo};
+ghost use Rattle.run_rules.specs.EveryEnd.{AtEveryEnd, FinishAlwaysEnds, FinishAnswers, FinishDrains, HistoryIsSo, RepliesFit};
 ghost use Rattle.run_rules.specs.Follows.{Follows};
+ghost use Rattle.run_rules.specs.Heeded.{CurrentIsHeeded};
 ghost use Rattle.run_rules.specs.History.{AtEnd};
 ghost use Rattle.run_rules.specs.HistoryRuns.{HistoryIsRuns, RunsAreOne};
 ghost use Rattle.run_rules.specs.Plain.{BoxesArePlain, ClientsAreReady, HistoryIsClients, JournalInOrder, JournalIsPlain, JournalIsTold, OutcomesArePlain, RegisteredAreAccepted, ResultsArePlain, SharesAreFolds, SharesArePlain};
@@ -90,10 +91,21 @@ pub fn shares_are_plain()
     ensures accepted { RegisteredAreAccepted }
 {}
 
+/// At the end of every schedule, whatever bytes come from outside: each reply of the helper to a foreign command fitted
+/// at the leader. A frame of a client's current request, whenever it comes, is one that the helper says it holds, and
+/// the leader doesn't answer that it is stale or out of phase, nor, but where the window is full, that the client is to
+/// come again.
+pub fn current_frames_are_heeded()
+    ensures heeded { AtEveryEnd CurrentIsHeeded }
+    ensures fit { AtEveryEnd RepliesFit }
+{}
+
 /// After a `finish` its client has no current request and none that waits, and each request that it was asked
 /// has its outcome: in every schedule, whatever was lost before and whatever bytes come from outside, for a
-/// client of a lane that isn't foreign. These outcomes stand whatever comes after.
+/// client of a lane that isn't foreign. These outcomes stand whatever comes after. Where the client had a request no
+/// command is outstanding then: each drain in the `finish` ends with none.
 pub fn finish_answers()
     ensures always { FinishAlwaysEnds }
+    ensures drains { FinishDrains }
     ensures answers { FinishAnswers }
 {}

@@ -7,7 +7,6 @@ use Rattle.hex.proofs.HexLemmas.{decode_sized-ok}
 use Rattle.express_words.specs.declared.settings.Settings.{Settings}
 use Rattle.schedule_text.specs.declared.schedule.Asked.{Asked}
 use Rattle.schedule_text.specs.declared.schedule.Asked.TheVariants.{Register, Write, Read, Retire}
-use Rattle.text_fields.specs.declared.limits.TheConstants.{MOST_OWN}
 use Rattle.text_fields.specs.Fields.{◌>>=◌, after, spelled_word, word_at, message_of}
 use Rattle.text_fields.specs.Numbers.{last_number}
 use Rattle.text_fields.specs.Spelling.{SpellsWord}
@@ -55,14 +54,14 @@ read_found : (settings : Settings) (text : List ℕ) (asked : Asked) → read_of
     → SpellsAsked settings asked text
 unfolding read_of
 read_found settings text asked k =
-    let n = word_number_found (codes "read ") MOST_OWN Read text asked (omega arith) k in
+    let n = word_number_found (codes "read ") 4095 Read text asked (omega arith) k in
     subst (λ (x : Asked). SpellsAsked settings x text) n.3 (n.1, n.2)
 
 retire_found : (settings : Settings) (text : List ℕ) (asked : Asked) → retire_of text ≡ Some asked
     → SpellsAsked settings asked text
 unfolding retire_of
 retire_found settings text asked k =
-    let n = word_number_found (codes "retire ") MOST_OWN Retire text asked (omega arith) k in
+    let n = word_number_found (codes "retire ") 4095 Retire text asked (omega arith) k in
     subst (λ (x : Asked). SpellsAsked settings x text) n.3 (n.1, n.2)
 
 -- what target_of finds
@@ -143,15 +142,15 @@ unfolding register_of write_of after
 write_only settings target message digits more h k =
     rw (target_only target digits more h, message_only settings.width more message k) refl
 
-read_only : (settings : Settings) (own : ℕ) → own ≤ MOST_OWN
+read_only : (settings : Settings) (own : ℕ) → own ≤ 4095
     → asked_of settings (codes "read " ++ decimal own) ≡ Some (Read own)
 unfolding register_of write_of target_of read_of after
-read_only settings own h = rw (last_only 0 MOST_OWN own (omega arith) (omega arith) h) refl
+read_only settings own h = rw (last_only 0 4095 own (omega arith) (omega arith) h) refl
 
-retire_only : (settings : Settings) (own : ℕ) → own ≤ MOST_OWN
+retire_only : (settings : Settings) (own : ℕ) → own ≤ 4095
     → asked_of settings (codes "retire " ++ decimal own) ≡ Some (Retire own)
 unfolding register_of write_of target_of read_of retire_of after
-retire_only settings own h = rw (last_only 0 MOST_OWN own (omega arith) (omega arith) h) refl
+retire_only settings own h = rw (last_only 0 4095 own (omega arith) (omega arith) h) refl
 
 pub asked_only : (settings : Settings) (text : List ℕ) (asked : Asked) → SpellsAsked settings asked text
     → asked_of settings text ≡ Some asked

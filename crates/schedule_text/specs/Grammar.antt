@@ -10,7 +10,6 @@ use Rattle.schedule_text.specs.declared.schedule.Event.TheVariants.{Ask, Send, T
 use Rattle.schedule_text.specs.declared.schedule.Event.TheVariants.{Inject}
 use Rattle.schedule_text.specs.declared.schedule.Schedule.{Schedule}
 use Rattle.schedule_text.specs.declared.schedule.TheConstants.{MOST_EVENTS}
-use Rattle.text_fields.specs.declared.limits.TheConstants.{MOST_OWN}
 use Rattle.text_fields.specs.Fields.{◌>>=◌, after, end, wanted, spelled_word, word_at, message_of, seed_of}
 use Rattle.text_fields.specs.Numbers.{number_at, last_number}
 use Rattle.text_fields.specs.Lines.{lines_of}
@@ -37,11 +36,11 @@ write_of settings text =
 
 -- read K
 unfoldable pub read_of : List ℕ → Option Asked
-read_of text = after (codes "read ") text >>= λ number. option_map Read (last_number 0 MOST_OWN number)
+read_of text = after (codes "read ") text >>= λ number. option_map Read (last_number 0 4095 number)
 
 -- retire K
 unfoldable pub retire_of : List ℕ → Option Asked
-retire_of text = after (codes "retire ") text >>= λ number. option_map Retire (last_number 0 MOST_OWN number)
+retire_of text = after (codes "retire ") text >>= λ number. option_map Retire (last_number 0 4095 number)
 
 abbrev pub asked_of : Settings → List ℕ → Option Asked
 asked_of settings text =

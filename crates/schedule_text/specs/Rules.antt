@@ -12,14 +12,13 @@ use Rattle.schedule_text.specs.declared.schedule.Event.TheVariants.{Ask, Send, T
 use Rattle.schedule_text.specs.declared.schedule.Event.TheVariants.{Inject}
 use Rattle.schedule_text.specs.declared.schedule.Schedule.{Schedule}
 use Rattle.schedule_text.specs.declared.schedule.TheConstants.{MOST_EVENTS}
-use Rattle.text_fields.specs.declared.limits.TheConstants.{MOST_OWN}
 
 -- An address is a number of 128 bits, and a message has the width of the settings.
 abbrev pub IsAskable : ℕ → Asked → Type 0
 IsAskable width (Register address) = address < 2 ^ 128
 IsAskable width (Write target message) = (target < 2 ^ 128) × (length message ≡ width) × AreBytes message
-IsAskable width (Read own) = own ≤ MOST_OWN
-IsAskable width (Retire own) = own ≤ MOST_OWN
+IsAskable width (Read own) = own ≤ 4095
+IsAskable width (Retire own) = own ≤ 4095
 
 -- A client is below the lanes, a frame's number is one of 32 bits, and injected are 1 to 8,213 bytes for
 -- server 0 or 1.

@@ -14,7 +14,6 @@ use Rattle.schedule_text.specs.declared.schedule.Event.TheVariants.{Inject}
 use Rattle.schedule_text.specs.declared.schedule.Header.{Header}
 use Rattle.schedule_text.specs.declared.schedule.Schedule.{Schedule}
 use Rattle.schedule_text.specs.declared.schedule.TheConstants.{MOST_EVENTS}
-use Rattle.text_fields.specs.declared.limits.TheConstants.{MOST_OWN}
 use Rattle.schedule_text.specs.Lanes.{MayFollow}
 use Rattle.text_fields.specs.Spelling.{SpellsWord}
 use Rattle.text_fields.specs.Lines.{AreLines}
@@ -30,8 +29,8 @@ SpellsAsked settings (Write target message) text =
     (digits : List ℕ) × (more : List ℕ) × SpellsWord target digits
     × (decode_sized more settings.width ≡ Ok message)
     × (text ≡ codes "write " ++ (digits ++ (codes " " ++ more)))
-SpellsAsked settings (Read own) text = SpellsNumber (codes "read ") MOST_OWN own text
-SpellsAsked settings (Retire own) text = SpellsNumber (codes "retire ") MOST_OWN own text
+SpellsAsked settings (Read own) text = SpellsNumber (codes "read ") 4095 own text
+SpellsAsked settings (Retire own) text = SpellsNumber (codes "retire ") 4095 own text
 
 -- a client below the lanes
 abbrev pub SpellsClient : Settings → List ℕ → ℕ → List ℕ → Type 0

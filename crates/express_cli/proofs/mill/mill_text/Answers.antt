@@ -8,4 +8,4 @@ pub returns : goal.returns
 unfolding mill_text
 returns c =
     let is : played c.in_ok-world.world ≡ mill_schedule c.args.number = c.in_ok-world.ensures.played ∙ c.in_ok-schedule.ensures.schedule in
-    c.in_ok-text.ensures ∙ ap₂ (mill_lines c.args.number) (c.outcomes.ensures ∙ ap (λ s. (run_of s).outcomes) is) (c.journal.ensures ∙ ap (λ s. (run_of s).journal) is)
+    c.in_ok-text.ensures ∙ ap₂ (mill_lines c.args.number) (c.outcomes.ensures.told ∙ ap (λ s. (run_of s).outcomes) is) (c.journal.ensures ∙ ap (λ s. (run_of s).journal) is)

@@ -1,4 +1,4 @@
-use Rattle.std.proofs.Common.{Err, refl, sym, ap, subst}
+use Rattle.std.proofs.Common.{Err, refl, ap}
 use Rattle.replay_world.specs.Played.{output_of, played}
 use Rattle.express_cli.specs.Ends.{WorkMay}
 use Rattle.express_cli.specs.declared.words.Command.TheVariants.{Replay}
