@@ -15,8 +15,8 @@ use Rattle.run_rules.specs.HistoryRuns.{HistoryIsRuns}
 use Rattle.run_rules.specs.Plain.{BoxesArePlain, ClientsAreReady, JournalInOrder, JournalIsTold}
 use Rattle.run_rules.specs.Plain.{OutcomesArePlain, SharesAreFolds}
 use Rattle.run_rules.specs.Soundness.{BadWritesAreCaught, SettledAsTheyPass}
-use Rattle.run_hiding.specs.Flow.{FlowStays, OutcomesStay, OutcomesStayBeside, RunsFitBeside}
-use Rattle.run_hiding.specs.Flow.{SchedulesFitOtherAims}
+use Rattle.run_hiding.specs.Flow.{ActsStay, FlowStays, ForeignLettersStay, OutcomesStay}
+use Rattle.run_hiding.specs.Flow.{OutcomesStayBeside, RunsFitBeside, SchedulesFitOtherAims}
 use Rattle.run_hiding.specs.Laws.{DistinctRunsStay, ForeignOrdersStay, ForeignRepliesAreIdeal, IdealsStay}
 use Rattle.run_hiding.specs.Laws.{LettersAreIdeal, MasksApart, RealIsIdeal, ResultsStay, RunsFitOtherAims}
 use Rattle.run_hiding.specs.Laws.{RunsHaveForm, RunsReturn, SightsStay, WritesAddUp}
@@ -125,6 +125,10 @@ pub record Laws : Type 0 where
   pub runs_fit_other_aims : RunsFitOtherAims
   pub schedules_fit_other_aims : SchedulesFitOtherAims
   pub runs_fit_beside_strangers : RunsFitBeside
+  -- With the same bytes from outside servers act at foreign frames in both of two such schedules alike, and send
+  -- each other the same for foreign lanes but for the shares that are masked: refusals have the same words.
+  pub acts_stay : ActsStay
+  pub foreign_letters_stay : ForeignLettersStay
   -- Nor do the order of frames, the journal and what clients are told depend on aims, but for messages; and
   -- whatever is drawn, both servers add up to the message at the target and to zeros elsewhere.
   pub flow_stays : FlowStays

@@ -26,6 +26,7 @@ use Rattle.run_hiding.proofs.Histories.{history_stays}
 use Rattle.run_hiding.proofs.Letters.{results_stay}
 use Rattle.run_hiding.proofs.Seen.{asked}
 use Rattle.run_hiding.proofs.Schedules.{TwoRuns, two_runs, two_schedules}
+use Rattle.run_hiding.proofs.TwinEnds.{acts_alike}
 
 -- what is told of a result, but for messages and rejections
 tells : Result → Option client.Outcome
@@ -165,7 +166,8 @@ outcomes_stay o settings seed events others alike aims aims' j x y one two =
     (two_schedules o settings seed events others alike) aims aims' j x y one two
 
 pub outcomes_stay_beside : OutcomesStayBeside
-outcomes_stay_beside settings seed foreign events others alike acts aims aims' j x y one two =
+outcomes_stay_beside settings seed foreign events others alike aims aims' j x y one two =
+    let acts = acts_alike settings seed foreign events others alike in
     let s = ended_of settings seed foreign events in
     let t = ended_of settings seed foreign others in
     outcomes (history_of settings seed foreign s) (history_of settings seed foreign t) (frame_run settings seed events) (frame_run settings seed others)

@@ -27,6 +27,7 @@ use Rattle.run_hiding.proofs.Flow.{flow_stays}
 use Rattle.run_hiding.proofs.Ends.{runs_have_form}
 use Rattle.run_hiding.proofs.Letters.{carried_at, letters}
 use Rattle.run_hiding.proofs.Stays.{ideals_stay, sights_stay}
+use Rattle.run_hiding.proofs.TwinEnds.{acts_alike}
 
 -- no entry is a foreign lane's
 clients_are_history : (b : Book) → IsClients b → IsHistory b
@@ -198,5 +199,6 @@ module _ (settings : Settings) (seed : List ℕ) (foreign : ℕ → Bool) (event
       (fits viewer b d f (frame_run settings seed others) first second low two_runs aims aims'))
 
 pub runs_fit_beside : RunsFitBeside
-runs_fit_beside viewer low settings seed foreign events others alike acts aims aims' =
+runs_fit_beside viewer low settings seed foreign events others alike aims aims' =
+    let acts = acts_alike settings seed foreign events others alike in
     fits_beside settings seed foreign events others alike acts.acts acts.taken viewer low aims aims'

@@ -1,7 +1,11 @@
 -- When frames go, and which: the token run of a schedule knows no aims.
-use Rattle.std.specs.Prelude.{◌≡◌, ℕ, ◌<◌, ◌≤◌, Bool, List, [], length, map, Some, slice_get}
+use Rattle.std.specs.Prelude.{◌≡◌, ℕ, ◌<◌, ◌≤◌, Bool, true, List, [], length, map, Some, slice_get}
 use Rattle.express_words.specs.declared.settings.Settings.{Settings}
 use Rattle.express_words.specs.Limits.{KeepsLimits}
+use Rattle.frame_rules.specs.Frames as frame
+use Rattle.frame_rules.specs.Frames.{PlainBody, PlainFrame}
+use Rattle.frame_rules.specs.Spelling.{spelling}
+use Rattle.token_rules.specs.Tokens as token
 use Rattle.token_rules.specs.Tokens.{Oracle, Requests, Token, World}
 use Rattle.run_rules.specs.Book.{Book}
 use Rattle.step_rules.specs.Client as client
@@ -30,7 +34,7 @@ flow w = record w { requests = λ c. unaimed_requests (w.requests c) }
 
 -- Schedules alike but for aims come to worlds alike but for aims: the same tokens at the same places, the
 -- same commands and entries of the journal, the same rows, steps and outcomes, where an outcome of the token
--- run tells no message. With foreign lanes both are taken under one oracle.
+-- run tells no message. With foreign lanes both are taken under one oracle; that they have one is `ActsStay`.
 abbrev pub FlowStays : Type 0
 FlowStays =
     (o : Oracle) (settings : Settings) (foreign : ℕ → Bool) (events others : List Event) →
@@ -109,6 +113,44 @@ pub record ActAlike (s t : Both) : Type 0 where
   pub acts : t.acts ≡ s.acts
   pub taken : t.taken ≡ s.taken
 
+-- what is said of both runs of two such schedules, side by side
+abbrev pub OfBoth : ((ℕ → Bool) → Both → Both → Type 0) → Type 0
+OfBoth P =
+    (settings : Settings) (seed : List ℕ) (foreign : ℕ → Bool) (events others : List Event) →
+    AreAlikeBeside settings foreign events others →
+    P foreign (ended_of settings seed foreign events) (ended_of settings seed foreign others)
+
+-- So both token runs have one oracle.
+abbrev pub ActsStay : Type 0
+ActsStay = OfBoth (λ foreign s t. ActAlike s t)
+
+-- a reply but for the share that it masks
+abbrev pub shareless : PlainBody → PlainBody
+shareless (frame.LinkReply (frame.ReplyMasked share)) = frame.LinkReply (frame.ReplyMasked [])
+shareless body = body
+
+-- two frames that differ in the share that they mask alone: a refusal is the same in both
+pub record SameReply (mine theirs : List ℕ) : Type 0 where
+  pub frame : PlainFrame
+  pub body : PlainBody
+  pub first : mine ≡ spelling frame
+  pub second : theirs ≡ spelling (record frame { body = body })
+  pub same : shareless body ≡ shareless frame.body
+
+-- the letters of one token, where it is of a foreign lane
+abbrev pub SameLetters : (ℕ → Bool) → Token → Letter → Letter → Type 0
+SameLetters foreign (token.Ordered n x) l m = foreign x.lane ≡ true → m ≡ l
+SameLetters foreign (token.Replied n x) l m = foreign x.lane ≡ true → SameReply l.bytes m.bytes
+SameLetters foreign (token.Injected to_leader lane) l m = m ≡ l
+SameLetters foreign t l m = Unit {0}
+
+-- What servers send each other for foreign lanes is the same in both runs, place by place, but for the shares
+-- that are masked; so a command that is refused in the one is refused in the other with the same words.
+abbrev pub ForeignLettersStay : Type 0
+ForeignLettersStay = OfBoth (λ foreign s t. (k : ℕ) (x : Token) (l m : Letter)
+    → slice_get s.world.pool k ≡ Some x → slice_get s.frames.pool k ≡ Some l
+    → slice_get t.frames.pool k ≡ Some m → SameLetters foreign x l m)
+
 -- what is said of two such runs, by their histories, runs over bytes and token runs
 abbrev pub OfTwoRuns : (Book → Book → FrameWorld → FrameWorld → World → World → Type 0) → Type 0
 OfTwoRuns P =
@@ -118,10 +160,10 @@ OfTwoRuns P =
     let t = ended_of settings seed foreign others in
     let b = history_of settings seed foreign s in
     let d = history_of settings seed foreign t in
-    ActAlike s t → AreAims b → AreAims d →
+    AreAims b → AreAims d →
     P b d (frame_run settings seed events) (frame_run settings seed others) s.world t.world
 
--- Then each letter of the one for the viewer fits the other, as with clients alone.
+-- Each letter of the one run for the viewer fits the other, as with clients alone.
 abbrev pub RunsFitBeside : Type 0
 RunsFitBeside = (viewer : ℕ) → viewer < 2
     → OfTwoRuns (λ b d f g v w. FitsRun viewer v.pool f.pool d w.pool)

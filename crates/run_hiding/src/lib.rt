@@ -7,7 +7,7 @@
 #![tactic(auto)]
 
 ghost use Rattle.run_rules.specs.EveryEnd.{AtEveryEnd};
-ghost use Rattle.run_hiding.specs.Flow.{FlowStays, OutcomesStay, OutcomesStayBeside, RunsFitBeside, SchedulesFitOtherAims};
+ghost use Rattle.run_hiding.specs.Flow.{ActsStay, FlowStays, ForeignLettersStay, OutcomesStay, OutcomesStayBeside, RunsFitBeside, SchedulesFitOtherAims};
 ghost use Rattle.run_hiding.specs.Laws.{DistinctRunsStay, ForeignOrdersStay, ForeignRepliesAreIdeal, IdealsStay, MasksApart, RealIsIdeal, ResultsStay, RunsAreIdeal, RunsFitOtherAims, RunsHaveForm, RunsReturn, SightsStay, WritesAddUp};
 
 /// In every history whose writes go to registered boxes, the frame of each token of a client's lane that is addressed
@@ -32,7 +32,7 @@ pub fn sights_stay()
 
 /// What a server is sent in a run it is sent in an ideal history of any other aims. So for two schedules of clients
 /// that are alike but for aims, each letter to a server in the one run is spelled, at the same place, of an ideal
-/// history of the other run; and so with foreign lanes, where servers act at their frames in both runs alike.
+/// history of the other run; and so with foreign lanes, where the same bytes come from outside.
 pub fn runs_fit_other_aims()
     ensures fit { RunsFitOtherAims }
     ensures schedules { SchedulesFitOtherAims }
@@ -40,19 +40,22 @@ pub fn runs_fit_other_aims()
 {}
 
 /// The helper's reply to a foreign lane's command is a refusal or that of the ideal history, and the leader's orders
-/// for foreign lanes depend on no aim.
+/// for foreign lanes depend on no aim. In two schedules alike but for aims, with the same bytes from outside, each such
+/// order is the same, and each such reply but for the share that it masks: so a refusal has the same words in both.
 pub fn strangers_tell_no_more()
     ensures replies { ForeignRepliesAreIdeal }
     ensures orders { ForeignOrdersStay }
+    ensures letters { ForeignLettersStay }
 {}
 
-/// Schedules alike but for aims have token runs alike but for aims, under one oracle. Other aims at registered boxes
-/// change no result but the bytes that are read, and clients of two such schedules are told the same but for messages;
-/// so with foreign lanes, where servers act at their frames in both runs alike.
+/// Schedules alike but for aims have token runs alike but for aims, under one oracle, and with the same bytes from
+/// outside they have one: servers act at foreign frames alike. Other aims at registered boxes change no result but the
+/// bytes that are read, and clients of two such schedules are told the same but for messages, foreign lanes beside.
 pub fn flow_stays()
     ensures flow { FlowStays }
     ensures results { ResultsStay }
     ensures outcomes { OutcomesStay }
+    ensures acts { ActsStay }
     ensures beside { OutcomesStayBeside }
 {}
 

@@ -63,7 +63,7 @@ pools_drop b (suc n) (t ∷ ts) (l ∷ ls) h = pools_drop b n ts ls h.1
 pools_drop b (suc n) [] (l ∷ ls) h = absurd h
 pools_drop b (suc n) (t ∷ ts) [] h = absurd h
 
-for_same : (b : Book) (c : ℕ) (t : Token) (l : Letter) → Carries b t l → frames.is_for c l.to ≡ is_for c t
+pub for_same : (b : Book) (c : ℕ) (t : Token) (l : Letter) → Carries b t l → frames.is_for c l.to ≡ is_for c t
 unfolding is_for
 for_same b c (token.Deposit d s) l h = ap (frames.is_for c) h.spelled.at
 for_same b c (token.Submission d s y) l h = ap (frames.is_for c) h.1.spelled.at

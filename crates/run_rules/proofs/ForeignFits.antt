@@ -143,7 +143,7 @@ reply_read b i x (Gave n bytes) h = eq-eqb _ _ (masked_length bytes _ x.lane x.s
 reply_read b i x (NoBox n) h = refl
 reply_read b i x Refused h = refl
 
-foreign_read : (b : Book) (i : ℕ) (x : Line) (body : PlainBody) → Sound b → ForeignReply b i x body → IsRead b.settings.width body
+pub foreign_read : (b : Book) (i : ℕ) (x : Line) (body : PlainBody) → Sound b → ForeignReply b i x body → IsRead b.settings.width body
 foreign_read b i x body sound reply = elim (reply.answers) [
   | inl refused ↦ subst (IsRead b.settings.width) (sym refused.1.1) refl
   | inr did ↦

@@ -355,7 +355,7 @@ module _ (b : Book) (v : World) (all : List Taken) (sound : Sound b) (whole_is :
   hand_place : (s : Both) (c before : ℕ) (x : Token) → last_for c None (drop before s.world.pool) ≡ Some x → (i : ℕ) × (slice_get s.world.pool i ≡ Some x)
   hand_place s c before x e = last_place c x (drop before s.world.pool) s.world.pool None (λ y e. absurd (cc e)) (λ y i e. drop_place before s.world.pool y i e) e
 
-  back_on_hands : (s : Both) (c before : ℕ) → Allowed (both_hand s c before) → Allowed s
+  pub back_on_hands : (s : Both) (c before : ℕ) → Allowed (both_hand s c before) → Allowed s
   back_on_hands s c before next =
       come_back s (last_for c None (drop before s.world.pool)) (frames.last_for c None (drop before s.frames.pool)) (hand_place s c before) next
 

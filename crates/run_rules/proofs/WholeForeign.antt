@@ -119,7 +119,7 @@ module _ (settings : Settings) (seed : List ℕ) (foreign : ℕ → Bool) (event
   pub within : Within b v
   within = record { sent = λ c. take_all (sent_of v c); commands = take_all v.commands; journal = take_all v.journal }
 
-  foreign_follow : ForeignComesFollow b v
+  pub foreign_follow : ForeignComesFollow b v
   foreign_follow = foreign_comes_follow b v
 
   module _ (Unique : Both → Type 0)
@@ -129,10 +129,10 @@ module _ (settings : Settings) (seed : List ℕ) (foreign : ℕ → Bool) (event
       (stays : (s : Both) (g : FrameWorld) (u : World) (acts : List Act) → g.helper ≡ s.frames.helper → g.leader ≡ s.frames.leader → u.commands ≡ s.world.commands → u.journal ≡ s.world.journal → u.misfits ≡ s.world.misfits
       → Unique s → Unique (record { frames = g; world = u; acts = acts; taken = s.taken }))
       (at_first : Unique opened_both) where
-    allowed : Allowed b v ended.taken sound whole Unique foreign_follow takes stays ended
+    pub allowed : Allowed b v ended.taken sound whole Unique foreign_follow takes stays ended
     allowed lawful same = (within, since_itself v, ([], sym (append-nil ended.taken)))
 
-    kept : Kept b v ended.taken sound whole Unique foreign_follow takes stays opened_both
+    pub kept : Kept b v ended.taken sound whole Unique foreign_follow takes stays opened_both
     kept =
         let k = run_back b v ended.taken sound whole Unique foreign_follow takes stays events opened_both fit allowed at_start refl in
         let known : Known b v (first b) = record { sound = sound; whole = whole; lawful = at_start; since = k.1; within = k.0 } in
