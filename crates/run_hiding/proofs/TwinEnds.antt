@@ -395,6 +395,10 @@ module _ (settings : Settings) (seed : List ℕ) (foreign : ℕ → Bool) (event
       let bytes = order_bytes b (λ c. sent_of T.world c) T.world.commands T.world.journal (brought_by settings.width T.taken) S.world T.world history S T pair_at_end at_end.alike n k x strange l m is one two in
       λ i. record { to = to i; bytes = bytes i }
 
+  pub replies_like : (k n : ℕ) (x : Line) (l m : Letter) → slice_get S.world.pool k ≡ Some (token.Replied n x) → slice_get S.frames.pool k ≡ Some l → slice_get T.frames.pool k ≡ Some m
+      → foreign x.lane ≡ true → LikeBytes l.bytes m.bytes
+  replies_like k n x l m is first second strange = at_end.alike.pool k (token.Replied n x) l m is first second strange
+
   pub letters_same : (k : ℕ) (x : Token) (l m : Letter) → slice_get S.world.pool k ≡ Some x → slice_get S.frames.pool k ≡ Some l → slice_get T.frames.pool k ≡ Some m
       → SameLetters foreign x l m
   letters_same k (token.Ordered n x) l m is first second = order_same k n x l m is first second

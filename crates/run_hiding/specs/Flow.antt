@@ -1,13 +1,16 @@
 -- When frames go, and which: the token run of a schedule knows no aims.
-use Rattle.std.specs.Prelude.{◌≡◌, ℕ, ◌<◌, ◌≤◌, Bool, true, List, [], length, map, Some, slice_get}
+use Rattle.std.specs.Prelude.{◌≡◌, ◌⊎◌, ℕ, ◌<◌, ◌≤◌, Bool, true, List, [], length, map, Some, slice_get}
 use Rattle.express_words.specs.declared.settings.Settings.{Settings}
+use Rattle.express_words.specs.declared.refusal.Refusal.{Refusal}
 use Rattle.express_words.specs.Limits.{KeepsLimits}
+use Rattle.mailbox_rules.specs.Requests.{Line}
 use Rattle.frame_rules.specs.Frames as frame
 use Rattle.frame_rules.specs.Frames.{PlainBody, PlainFrame}
 use Rattle.frame_rules.specs.Spelling.{spelling}
 use Rattle.token_rules.specs.Tokens as token
 use Rattle.token_rules.specs.Tokens.{Oracle, Requests, Token, World}
 use Rattle.run_rules.specs.Book.{Book}
+use Rattle.run_rules.specs.Frames.{frame_with}
 use Rattle.step_rules.specs.Client as client
 use Rattle.run_rules.specs.Letters.{Ended, FrameWorld, Letter, Outcome, Told}
 use Rattle.run_rules.specs.Run.{Ask, Event}
@@ -163,10 +166,25 @@ OfTwoRuns P =
     AreAims b → AreAims d →
     P b d (frame_run settings seed events) (frame_run settings seed others) s.world t.world
 
--- Each letter of the one run for the viewer fits the other, as with clients alone.
+-- the helper refuses the command in both, with the same words
+pub record SameRefusal (n : ℕ) (x : Line) (mine theirs : Letter) : Type 0 where
+  pub refusal : Refusal
+  pub is : mine.bytes ≡ spelling (frame_with x.lane x.serial n (frame.LinkReply (frame.ReplyRefused refusal)))
+  pub same : theirs.bytes ≡ mine.bytes
+
+-- The viewer's letters fit the other run as with clients alone; where it is the leader, the reply to a foreign
+-- lane's command is of the same ideal history, or the same refusal as in the other run.
+pub record FitsBeside (viewer : ℕ) (tokens : List Token) (letters theirs : List Letter) (other : Book)
+    (pool : List Token) : Type 0 where
+  pub clients : FitsRun viewer tokens letters other pool
+  pub strangers : (k n : ℕ) (x : Line) (l m : Letter) → viewer ≡ 0 → other.foreign x.lane ≡ true
+      → slice_get tokens k ≡ Some (token.Replied n x) → slice_get letters k ≡ Some l → slice_get theirs k ≡ Some m
+      → IsSpelledOf viewer clients.ideal (token.Replied n x) l ⊎ SameRefusal n x l m
+
+-- So each letter of the one run for the viewer fits the other.
 abbrev pub RunsFitBeside : Type 0
 RunsFitBeside = (viewer : ℕ) → viewer < 2
-    → OfTwoRuns (λ b d f g v w. FitsRun viewer v.pool f.pool d w.pool)
+    → OfTwoRuns (λ b d f g v w. FitsBeside viewer v.pool f.pool g.pool d w.pool)
 
 -- And clients are told the same but for messages.
 abbrev pub OutcomesStayBeside : Type 0

@@ -32,7 +32,8 @@ pub fn sights_stay()
 
 /// What a server is sent in a run it is sent in an ideal history of any other aims. So for two schedules of clients
 /// that are alike but for aims, each letter to a server in the one run is spelled, at the same place, of an ideal
-/// history of the other run; and so with foreign lanes, where the same bytes come from outside.
+/// history of the other run; and so with foreign lanes, where the same bytes come from outside: the reply to a foreign
+/// lane's command is of the same ideal history, or a refusal that stands in both runs.
 pub fn runs_fit_other_aims()
     ensures fit { RunsFitOtherAims }
     ensures schedules { SchedulesFitOtherAims }
