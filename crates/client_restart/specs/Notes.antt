@@ -7,8 +7,8 @@ use Rattle.client_core.specs.Requests.{plain_request}
 use Rattle.client_restart.specs.declared.note.Note.{Note}
 use Rattle.client_restart.specs.declared.note.Note.TheVariants as note
 
--- A request was asked; a server's frame was heard; the oldest outcome that wasn't told yet was told; the current
--- request was given up.
+-- A request was asked; a server's frame was heard; the oldest outcome that wasn't told yet was told; the
+-- current request was given up.
 pub data Noted : Type 0 where
   Asked : Request → Noted
   Heard : List ℕ → Noted
@@ -21,8 +21,8 @@ plain_note (note.Heard frame) = Heard frame.now
 plain_note note.Told = Told
 plain_note note.GivenUp = GivenUp
 
--- a tag for each kind, and behind it an address of 16 bytes, with the message of a write, the number of an own
--- box in four bytes, or the frame
+-- a tag for each kind, and behind it an address of 16 bytes, with the message of a write, the number of an
+-- own box in four bytes, or the frame
 abbrev pub note_record : Noted → List ℕ
 note_record (Asked (Register address)) = 4 ∷ to_be_bytes w128 address
 note_record (Asked (Write target message)) = 5 ∷ to_be_bytes w128 target ++ message

@@ -124,11 +124,11 @@ pub record Laws : Type 0 where
   pub distinct_histories_stay : DistinctRunsStay
   pub runs_fit_other_aims : RunsFitOtherAims
   pub schedules_fit_other_aims : SchedulesFitOtherAims
-  -- With the same bytes from outside too: what is replied to a foreign command is of the same ideal history, or a
-  -- refusal that stands in both runs.
+  -- With the same bytes from outside too: what is replied to a foreign command is of the same ideal
+  -- history, or a refusal that stands in both runs.
   pub runs_fit_beside_strangers : RunsFitBeside
-  -- Servers act at foreign frames in both of two such schedules alike, and send each other the same for foreign
-  -- lanes, but for the shares that are masked.
+  -- Servers act at foreign frames in both of two such schedules alike, and send each other the same for
+  -- foreign lanes, but for the shares that are masked.
   pub acts_stay : ActsStay
   pub foreign_letters_stay : ForeignLettersStay
   -- Nor do the order of frames, the journal and what clients are told depend on aims, but for messages; and

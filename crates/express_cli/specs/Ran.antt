@@ -68,8 +68,8 @@ pub record Ran (words : List Text) (old new : Outside) (net : Around) (status : 
       → (status ≡ 3) × Wrote old new (bad_line n))
   pub refuses_too_long : AskSome words → Well old new status
       → IfSome old.content (λ s. most_bytes < length s.left → (status ≡ 8) × Wrote old new too_long_text)
-  -- Where the mill of a number is asked for, the sink doesn't fail and memory is found, the text of its run is
-  -- written, whatever the input is, which isn't read.
+  -- Where the mill of a number is asked for, the sink doesn't fail and memory is found, the text of its run
+  -- is written, whatever the input is, which isn't read.
   pub mill : (n : ℕ) → AsksMill words n → ¬ Rose old.output_faults new.output_faults → status ≢ 7
       → (status ≡ 0) × (new.content ≡ old.content) × Wrote old new (mill_text n)
   -- Likewise a server of the settings listens, and serves as many connections as they say with one core; the
@@ -103,9 +103,9 @@ pub record Ran (words : List Text) (old new : Outside) (net : Around) (status : 
   pub write_fault : status ≡ 5 → Rose old.output_faults new.output_faults
       × ((end : End) × (text : List ℕ) × MayCome words old new net end text
       × TookPrefix old.written new.written text)
-  -- Of a client's requests, and of the parts that a carrier sends, all were told by then but the last that came
-  -- to its end: the line of each is out before the next is asked. A server that had made more calls than its
-  -- listen had told that it listens: that is out before a connection is accepted.
+  -- Of a client's requests, and of the parts that a carrier sends, all were told by then but the last that
+  -- came to its end: the line of each is out before the next is asked. A server that had made more calls
+  -- than its listen had told that it listens: that is out before a connection is accepted.
   pub told_in_time : status ≡ 5 → SinkFailed words old.content new.content net old.written new.written
   -- A listen, an accept or an exchange failed, after a part of the output of the command that was asked for.
   pub net_fault : status ≡ 6 → BrokeOff words old.content new.content net old.written new.written

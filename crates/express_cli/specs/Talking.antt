@@ -113,7 +113,8 @@ ServeMay settings net other text = ⊥
 
 -- ---- work that is told as it goes
 
--- Memory was wanting for the text that was next of a plan's work: that is told, behind all that was told before.
+-- Memory was wanting for the text that was next of a plan's work: that is told, behind all that was told
+-- before.
 abbrev pub Wants : (plan : Plan) → (Stand → List Finished → List ℕ → RunEnd → Type 0) → Around → List ℕ
     → Type 0
 Wants plan Ended net text =
@@ -240,8 +241,8 @@ TalkMay command bytes net other text = ⊥
 abbrev pub IsOut : List ℕ → (old new : Option (List ℕ)) → Type 0
 IsOut text old new = (more : List ℕ) × Took old new (text ++ more)
 
--- Where the sink failed a server of these settings had made no call but the listen, or had told before that it
--- listens.
+-- Where the sink failed a server of these settings had made no call but the listen, or had told before that
+-- it listens.
 abbrev pub ServeBreaks : ServeSettings → Around → (old new : Option (List ℕ)) → Type 0
 ServeBreaks settings net old new =
     ((failed : Bool) × Adds net.before.calls net.now.calls (Listened settings.listen failed))

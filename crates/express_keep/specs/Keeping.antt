@@ -123,8 +123,8 @@ InputCounts end old new =
 abbrev pub OutputCounts : Ending → Outside → Outside → Type 0
 OutputCounts end old new = end ≢ Plain WriteFault → new.output_faults ≡ old.output_faults
 
--- Where the sink failed, nothing was done with the net, or the input gave all its bytes and by the settings that
--- they spell it was told that the server listens before a connection was accepted.
+-- Where the sink failed, nothing was done with the net, or the input gave all its bytes and by the settings
+-- that they spell it was told that the server listens before a connection was accepted.
 abbrev pub Announces : Ending → Outside → Outside → Around → Type 0
 Announces end old new net =
     end ≡ Plain WriteFault

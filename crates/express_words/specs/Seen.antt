@@ -3,8 +3,8 @@ use Rattle.std.specs.Prelude.{ℕ, List, Option, None}
 use Rattle.express_words.specs.Calls.{Call}
 use Rattle.express_words.specs.Streams.{Stream}
 
--- Its count of faults; of a source what it gave and has left, of a sink the bytes that it took, and of a net its
--- calls, each where it tells; and of a net how often a listen or an accept failed.
+-- Its count of faults; of a source what it gave and has left, of a sink the bytes that it took, and of a
+-- net its calls, each where it tells; and of a net how often a listen or an accept failed.
 pub record Seen : Type 0 where
   pub faults : ℕ
   pub content : Option Stream

@@ -172,13 +172,14 @@ pub record SameRefusal (n : ℕ) (x : Line) (mine theirs : Letter) : Type 0 wher
   pub is : mine.bytes ≡ spelling (frame_with x.lane x.serial n (frame.LinkReply (frame.ReplyRefused refusal)))
   pub same : theirs.bytes ≡ mine.bytes
 
--- The viewer's letters fit the other run as with clients alone; where it is the leader, the reply to a foreign
--- lane's command is of the same ideal history, or the same refusal as in the other run.
+-- The viewer's letters fit the other run as with clients alone; where it is the leader, the reply to a
+-- foreign lane's command is of the same ideal history, or the same refusal as in the other run.
 pub record FitsBeside (viewer : ℕ) (tokens : List Token) (letters theirs : List Letter) (other : Book)
     (pool : List Token) : Type 0 where
   pub clients : FitsRun viewer tokens letters other pool
   pub strangers : (k n : ℕ) (x : Line) (l m : Letter) → viewer ≡ 0 → other.foreign x.lane ≡ true
-      → slice_get tokens k ≡ Some (token.Replied n x) → slice_get letters k ≡ Some l → slice_get theirs k ≡ Some m
+      → slice_get tokens k ≡ Some (token.Replied n x) → slice_get letters k ≡ Some l
+      → slice_get theirs k ≡ Some m
       → IsSpelledOf viewer clients.ideal (token.Replied n x) l ⊎ SameRefusal n x l m
 
 -- So each letter of the one run for the viewer fits the other.
