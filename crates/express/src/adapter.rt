@@ -80,7 +80,7 @@ impl<T: Reads> Source for Adapter<T> {
 fn write_again<T: Writes>(inner: &mut T, bytes: &[u8]) -> Result<usize, Trouble>
     ensures bound { IfOk result (λ n. n ≤ length bytes.now) }
     ensures bytes { WriteAppends (T.contents inner.old) (T.contents inner.new) result bytes.now }
-    ensures ended { EndedBy (T.seen inner.new).calls (Wrote result) }
+    ensures ended { EndedBy (T.calls inner.new) (Wrote result) }
 {
     for _ in 1..MOST_TRIES {
         match inner.write(bytes) {
@@ -96,8 +96,8 @@ fn write_again<T: Writes>(inner: &mut T, bytes: &[u8]) -> Result<usize, Trouble>
 fn write_whole<T: Writes>(inner: &mut T, bytes: &[u8]) -> bool
     ensures bytes { MatchBool result (Took (T.contents inner.old) (T.contents inner.new) bytes.now)
         (TookPrefix (T.contents inner.old) (T.contents inner.new) bytes.now) }
-    ensures ended { MatchBool result (EndedBy (T.seen inner.new).calls (Flushed (Ok tt)))
-        ((last : _) × IsRefusal last × EndedBy (T.seen inner.new).calls last) }
+    ensures ended { MatchBool result (EndedBy (T.calls inner.new) (Flushed (Ok tt)))
+        ((last : _) × IsRefusal last × EndedBy (T.calls inner.new) last) }
 {
     let mut done = 0;
     'writing: while done < bytes.len() {
@@ -113,8 +113,8 @@ impl<T: Writes> Sink for Adapter<T> {
     fn put(&mut self, bytes: &[u8]) -> Result<(), Failed>
         ensures bytes { MatchResult result (λ _. Took (T.contents self.old.inner) (T.contents self.new.inner) bytes.now)
             (λ _. TookPrefix (T.contents self.old.inner) (T.contents self.new.inner) bytes.now) }
-        ensures ended { MatchResult result (λ _. EndedBy (T.seen self.new.inner).calls (Flushed (Ok tt)))
-            (λ _. (last : _) × IsRefusal last × EndedBy (T.seen self.new.inner).calls last) }
+        ensures ended { MatchResult result (λ _. EndedBy (T.calls self.new.inner) (Flushed (Ok tt)))
+            (λ _. (last : _) × IsRefusal last × EndedBy (T.calls self.new.inner) last) }
         ensures cause { HasCause self.old.faults self.new.faults result }
         ensures counts { CountsFault self.old.faults self.new.faults result }
     {

@@ -52,7 +52,7 @@ fn read_on<F: FileCalls>(file: &mut F, at: u64, out: &mut [u8]) -> Result<usize,
     ensures bound { IfOk result (λ n. n ≤ length out.new) }
     ensures length { length out.new ≡ length out.old }
     ensures ended { IfOk result (λ n. n < length out.old → (from : ℕ)
-        × EndedBy (F.seen file.new).calls (ReadAt from (Ok 0))) }
+        × EndedBy (F.calls file.new) (ReadAt from (Ok 0))) }
 {
     let mut done = 0;
     'reading: for _ in 0..u64::MAX {
@@ -80,7 +80,7 @@ fn write_piece_back<F: FileCalls>(file: &mut F, at: u64) -> Result<usize, Troubl
 // Writes all that is read back to where it is, and waits until the disk has it. After a sync that failed the system may
 // hold bytes as if the disk had them: from now on it has.
 fn write_back<F: FileCalls>(file: &mut F) -> Result<(), Trouble>
-    ensures synced { OnOk result (EndedBy (F.seen file.new).calls (Synced (Ok tt))) }
+    ensures synced { OnOk result (EndedBy (F.calls file.new) (Synced (Ok tt))) }
 {
     let mut at = 0u64;
     for _ in 0..u64::MAX {
@@ -107,7 +107,7 @@ impl<F: FileCalls> FileDisk<F> {
         ensures faults { self.new.faults ≡ self.old.faults }
         ensures opened { OnOk result (self.new.is_open ≡ true) }
         ensures first { self.old.is_open ≡ false
-            → OnOk result (EndedBy (F.seen self.new.file).calls (Synced (Ok tt))) }
+            → OnOk result (EndedBy (F.calls self.new.file) (Synced (Ok tt))) }
         ensures later { self.old.is_open ≡ true → self.new ≡ self.old }
     {
         if !self.is_open {
@@ -123,7 +123,7 @@ impl<F: FileCalls> FileDisk<F> {
         ensures bound { IfOk result (λ n. n ≤ length out.new) }
         ensures length { length out.new ≡ length out.old }
         ensures ended { IfOk result (λ n. n < length out.old
-            → (from : ℕ) × EndedBy (F.seen self.new.file).calls (ReadAt from (Ok 0))) }
+            → (from : ℕ) × EndedBy (F.calls self.new.file) (ReadAt from (Ok 0))) }
     {
         self.open()?;
         read_on(&mut self.file, at, out)
@@ -139,7 +139,7 @@ impl<F: FileCalls> FileDisk<F> {
     fn sync_file(&mut self) -> Result<(), Trouble>
         ensures faults { self.new.faults ≡ self.old.faults }
         ensures synced { OnOk result ((before : _)
-            × ((F.seen self.new.file).calls ≡ added (Named (Ok tt)) (added (Synced (Ok tt)) before))) }
+            × (F.calls self.new.file ≡ added (Named (Ok tt)) (added (Synced (Ok tt)) before))) }
     {
         self.open()?;
         self.file.sync()?;
@@ -172,7 +172,7 @@ impl<F: FileCalls> Disk for FileDisk<F> {
         ensures cause { HasCause self.old.faults self.new.faults result }
         ensures counts { CountsFault self.old.faults self.new.faults result }
         ensures ended { IfOk result (λ n. n < length out.old
-            → (from : ℕ) × EndedBy (F.seen self.new.file).calls (ReadAt from (Ok 0))) }
+            → (from : ℕ) × EndedBy (F.calls self.new.file) (ReadAt from (Ok 0))) }
     {
         match self.read_file(at, out) {
             Ok(count) => Ok(count),
@@ -197,7 +197,7 @@ impl<F: FileCalls> Disk for FileDisk<F> {
         ensures cause { HasCause self.old.faults self.new.faults result }
         ensures counts { CountsFault self.old.faults self.new.faults result }
         ensures synced { OnOk result ((before : _)
-            × ((F.seen self.new.file).calls ≡ added (Named (Ok tt)) (added (Synced (Ok tt)) before))) }
+            × (F.calls self.new.file ≡ added (Named (Ok tt)) (added (Synced (Ok tt)) before))) }
     {
         match self.sync_file() {
             Ok(()) => Ok(()),

@@ -139,8 +139,8 @@ impl<S: Socket> Reads for Timed<S> {
 
     fn read(&mut self, buf: &mut [u8]) -> Result<usize, Trouble>
         ensures bound { IfOk result (λ n. n ≤ length buf.new) }
-        ensures within { IfOk result (λ n. IsWithin ReadWithin self.old.reading (S.seen self.old.socket).calls
-            (S.seen self.new.socket).calls result) }
+        ensures within { IfOk result (λ n. IsWithin ReadWithin self.old.reading (S.calls self.old.socket)
+            (S.calls self.new.socket) result) }
     {
         let now = self.socket.now()?;
         match self.reading.left_at(now) {
@@ -158,8 +158,8 @@ impl<S: Socket> Writes for Timed<S> {
     fn write(&mut self, bytes: &[u8]) -> Result<usize, Trouble>
         ensures bound { IfOk result (λ n. n ≤ length bytes.now) }
         ensures within { IfOk result (λ n. IsWithin WroteWithin self.old.writing
-            (S.seen self.old.socket).calls
-            (S.seen self.new.socket).calls result) }
+            (S.calls self.old.socket)
+            (S.calls self.new.socket) result) }
     {
         let now = self.socket.now()?;
         match self.writing.left_at(now) {

@@ -1,9 +1,13 @@
 //! The records of a client's journal, against bytes that were written by hand.
+ghost use Rattle.client_restart.specs.Notes.{FitsRecord, plain_note};
+
 use client_core::Request;
 use client_restart::{ClientOpening, NOTE_MAX, Note};
 use std::test::Fail;
 
-fn is_record(note: &Note<'_>, bytes: &[u8]) -> bool {
+fn is_record(note: &Note<'_>, bytes: &[u8]) -> bool
+    requires { FitsRecord (plain_note note.now) }
+{
     let mut room = [0; NOTE_MAX];
     let record = note.record(&mut room);
     record == bytes && Note::of(bytes) == Some(*note)
