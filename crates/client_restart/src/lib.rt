@@ -1,4 +1,4 @@
-//! A client whose requests, and what it heard of them, stand in a journal on a disk.
+//! The records of a client's journal: how it was opened, what it was asked, and what it heard, told and gave up.
 #![tactic(auto)]
 
 mod laws;
