@@ -19,6 +19,13 @@ class Sizes:
         self.width, self.boxes, self.lanes, self.window = width, boxes, lanes, window
 
 
+def explain(words, what):
+    """What a script is, where that is asked for."""
+    if "--help" in words:
+        print(what)
+        sys.exit(0)
+
+
 def program(words):
     """The program that the words name, or the one that .ci/run left."""
     path = os.path.abspath(words[0]) if words else PROGRAM
@@ -47,6 +54,12 @@ def is_free(port):
         except OSError:
             return False
     return True
+
+
+def port_row(count):
+    """The first of so many free ports one behind the other, of those below."""
+    ports = random.sample(range(20000, 32000 - count), 1000)
+    return next(port for port in ports if all(is_free(port + place) for place in range(count)))
 
 
 def lasting_ports(count):
