@@ -1,0 +1,14 @@
+-- The highest serial that is known of a lane.
+use Rattle.std.specs.Prelude.{ℕ, max}
+use Rattle.express_words.specs.declared.refusal.Refusal.{Refusal}
+use Rattle.express_words.specs.declared.refusal.Refusal.TheVariants as refusal
+use Rattle.desk_tries.specs.declared.heard.Answer.{Answer}
+use Rattle.desk_tries.specs.declared.heard.Answer.TheVariants as answer
+
+abbrev pub named_in : ℕ → Refusal → ℕ
+named_in highest (refusal.Stale serial) = max highest serial
+named_in highest r = highest
+
+abbrev pub highest_named : ℕ → Answer → ℕ
+highest_named highest (answer.Refused r) = named_in highest r
+highest_named highest a = highest
