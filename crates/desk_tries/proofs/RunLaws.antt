@@ -13,7 +13,7 @@ use Rattle.desk_tries.specs.declared.heard.Told.{Told}
 use Rattle.desk_tries.specs.declared.heard.Told.TheVariants.{GoesOn, Again, NotWritten, Unknown, Written}
 use Rattle.desk_tries.specs.declared.sending.End.{End}
 use Rattle.desk_tries.specs.declared.sending.End.TheVariants as end
-use Rattle.desk_tries.specs.declared.sending.Next.TheVariants.{OtherLane, OtherAddress, Stop}
+use Rattle.desk_tries.specs.declared.sending.Next.TheVariants.{NewTry, NextAddress, Stop}
 use Rattle.desk_tries.specs.Told.{by_proof, told_by_refusal, told_by}
 use Rattle.desk_tries.specs.Servers.{closes, excludes}
 use Rattle.desk_tries.specs.Steps.{State, Turn, turn, started, after_proof, new_try, end_of, again_at_address, elsewhere, turn_by, turn_of}
@@ -225,7 +225,7 @@ module _ (n : ℕ) (run : Run) (t : Try) (k : Keeps n run.state t run.before) (o
     where
       at_further : (b : Bool) → eqb run.state.further 0 ≡ b
           → Good n (follows_turn run t
-          (cond b (turn (Stop (end_of run.state)) run.state) (turn OtherLane (new_try run.state run.state.address))))
+          (cond b (turn (Stop (end_of run.state)) run.state) (turn NewTry (new_try run.state run.state.address))))
       at_further true e = record { keeps = k; end_is = at_end (eqb run.state.address 0) refl none }
       at_further false e = record {
         keeps = same_address n run.state t run.before k none (eqb-false run.state.further 0 e);
@@ -241,7 +241,7 @@ module _ (n : ℕ) (run : Run) (t : Try) (k : Keeps n run.state t run.before) (o
 
       at_further : (b c : Bool) → eqb run.state.further 0 ≡ b → eqb (run.state.address + 1) run.state.addresses ≡ c
           → Good n (follows_turn run t
-          (cond (b || c) (turn (Stop end.MaybeWritten) run.state) (turn OtherAddress (new_try run.state (run.state.address + 1)))))
+          (cond (b || c) (turn (Stop end.MaybeWritten) run.state) (turn NextAddress (new_try run.state (run.state.address + 1)))))
       at_further true c e f = record { keeps = k; end_is = tt }
       at_further false true e f = record { keeps = k; end_is = tt }
       at_further false false e f = record {

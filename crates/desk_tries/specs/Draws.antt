@@ -1,5 +1,5 @@
--- The highest serial that is known of a lane.
-use Rattle.std.specs.Prelude.{ℕ, max}
+-- What an answer says of its lane: the highest serial that is known of it.
+use Rattle.std.specs.Prelude.{ℕ, max, Bool, true, false}
 use Rattle.express_words.specs.declared.refusal.Refusal.{Refusal}
 use Rattle.express_words.specs.declared.refusal.Refusal.TheVariants as refusal
 use Rattle.desk_tries.specs.declared.heard.Answer.{Answer}
@@ -12,3 +12,12 @@ named_in highest r = highest
 abbrev pub highest_named : ℕ → Answer → ℕ
 highest_named highest (answer.Refused r) = named_in highest r
 highest_named highest a = highest
+
+-- the lane's row stands at a higher serial
+abbrev pub names_serial : Refusal → Bool
+names_serial (refusal.Stale serial) = true
+names_serial r = false
+
+abbrev pub is_stale : Answer → Bool
+is_stale (answer.Refused r) = names_serial r
+is_stale a = false

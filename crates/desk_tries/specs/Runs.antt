@@ -4,7 +4,7 @@ use Rattle.std.specs.List.{list_any}
 use Rattle.desk_tries.specs.declared.heard.Answer.{Answer}
 use Rattle.desk_tries.specs.declared.sending.End.{End}
 use Rattle.desk_tries.specs.declared.sending.Next.{Next}
-use Rattle.desk_tries.specs.declared.sending.Next.TheVariants.{GoOn, SameAgain, OtherLane, OtherAddress, Stop}
+use Rattle.desk_tries.specs.declared.sending.Next.TheVariants.{GoOn, SameAgain, NewTry, NextAddress, Stop}
 use Rattle.desk_tries.specs.Servers.{excludes}
 use Rattle.desk_tries.specs.Steps.{State, Turn, started, after_proof, turn_of}
 
@@ -54,8 +54,8 @@ hears t a = record t { answers = a ∷ t.answers }
 abbrev pub follows : Run → Try → State → Next → Run
 follows run t s GoOn = record run { state = s; now = t }
 follows run t s SameAgain = record run { state = s; now = t }
-follows run t s OtherLane = record run { state = s; now = fresh s.address; before = t ∷ run.before }
-follows run t s OtherAddress = record run { state = s; now = fresh s.address; before = t ∷ run.before }
+follows run t s NewTry = record run { state = s; now = fresh s.address; before = t ∷ run.before }
+follows run t s NextAddress = record run { state = s; now = fresh s.address; before = t ∷ run.before }
 follows run t s (Stop end) = record run { state = s; now = t; end = Some end }
 
 abbrev pub follows_turn : Run → Try → Turn → Run

@@ -6,7 +6,7 @@ use Rattle.desk_tries.specs.declared.heard.Told.TheVariants.{GoesOn, Again, NotW
 use Rattle.desk_tries.specs.declared.sending.End.{End}
 use Rattle.desk_tries.specs.declared.sending.End.TheVariants as end
 use Rattle.desk_tries.specs.declared.sending.Next.{Next}
-use Rattle.desk_tries.specs.declared.sending.Next.TheVariants.{GoOn, SameAgain, OtherLane, OtherAddress, Stop}
+use Rattle.desk_tries.specs.declared.sending.Next.TheVariants.{GoOn, SameAgain, NewTry, NextAddress, Stop}
 use Rattle.desk_tries.specs.Told.{told_by}
 
 -- The addresses of the card, the present one of them, how many further tries are left, and whether the present
@@ -44,12 +44,12 @@ turn next s = record { next = next; state = s }
 -- where this try writes nothing, and where that isn't known
 unfoldable pub again_at_address : State → Turn
 again_at_address s =
-    if s.further == 0 then turn (Stop (end_of s)) s else turn OtherLane (new_try s s.address)
+    if s.further == 0 then turn (Stop (end_of s)) s else turn NewTry (new_try s s.address)
 
 unfoldable pub elsewhere : State → Turn
 elsewhere s =
     if (s.further == 0) || (s.address + 1 == s.addresses) then turn (Stop end.MaybeWritten) s
-    else turn OtherAddress (new_try s (s.address + 1))
+    else turn NextAddress (new_try s (s.address + 1))
 
 unfoldable pub turn_by : State → Told → Turn
 turn_by s GoesOn = turn GoOn s

@@ -1,6 +1,6 @@
 //! The lane and the serial of a try, from numbers that are drawn.
-ghost use Rattle.std.specs.Prelude.{◌≡◌, ◌≢◌, ◌+◌, ◌-◌, ◌%◌, ◌<◌, ◌≤◌, ◌^◌, max, SomeIff};
-ghost use Rattle.desk_tries.specs.Draws.{highest_named};
+ghost use Rattle.std.specs.Prelude.{◌≡◌, ◌≢◌, ◌+◌, ◌-◌, ◌%◌, ◌<◌, ◌≤◌, ◌^◌, true, false, SomeIff};
+ghost use Rattle.desk_tries.specs.Draws.{highest_named, is_stale};
 
 use crate::heard::Answer;
 use express_words::Refusal;
@@ -16,8 +16,30 @@ pub fn lane_among(from: u16, to: u16, drawn: u64) -> u16
     from + (drawn % lanes) as u16
 }
 
-/// Another lane of the range than the last one, where there is another.
-pub fn other_lane(from: u16, to: u16, last: u16, drawn: u64) -> u16
+/// The lane of the next try: the same behind `stale`, which named a serial above which the lane can be used, and behind
+/// any other answer another one, where the range has one.
+pub fn next_lane(from: u16, to: u16, last: u16, answer: Answer, drawn: u64) -> u16
+    requires from { from ≤ last }
+    requires to { last ≤ to }
+    ensures least { from ≤ result }
+    ensures most { result ≤ to }
+    ensures stale { is_stale answer ≡ true → result ≡ last }
+    ensures other { is_stale answer ≡ false → from < to → result ≢ last }
+{
+    if is_stale(answer) {
+        last
+    } else {
+        other_lane(from, to, last, drawn)
+    }
+}
+
+fn is_stale(answer: Answer) -> bool
+    ensures { result ≡ is_stale answer }
+{
+    matches!(answer, Answer::Refused(Refusal::Stale(_)))
+}
+
+fn other_lane(from: u16, to: u16, last: u16, drawn: u64) -> u16
     requires from { from ≤ last }
     requires to { last ≤ to }
     ensures least { from ≤ result }

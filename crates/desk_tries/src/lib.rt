@@ -7,6 +7,6 @@ mod heard;
 pub mod laws;
 mod sending;
 
-pub use draws::{highest_named, lane_among, other_lane, serial_above};
+pub use draws::{highest_named, lane_among, next_lane, serial_above};
 pub use heard::{Answer, Told, told_by};
 pub use sending::{End, MOST_FURTHER, Next, Sending};

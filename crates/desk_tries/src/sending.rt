@@ -15,10 +15,10 @@ pub enum Next {
     GoOn,
     /// The same frame once more.
     SameAgain,
-    /// A new try at the same address, with a fresh seed on another lane.
-    OtherLane,
-    /// A new try at the next address, with a fresh seed on another lane.
-    OtherAddress,
+    /// A new try at the same address, with a fresh seed, on the lane that `next_lane` gives.
+    NewTry,
+    /// The same at the next address.
+    NextAddress,
     /// Nothing.
     Stop(End),
 }
@@ -147,7 +147,7 @@ impl Sending {
         }
         self.further -= 1;
         self.proof_out = false;
-        Next::OtherLane
+        Next::NewTry
     }
 
     // A new try at the next address, if there is one and a try is left.
@@ -162,7 +162,7 @@ impl Sending {
         self.further -= 1;
         self.address += 1;
         self.proof_out = false;
-        Next::OtherAddress
+        Next::NextAddress
     }
 
     // An address is left behind only where it isn't known whether the letter was written there.
