@@ -1,0 +1,7 @@
+mod CheckLaws
+mod HeadLaws
+mod LoopLaws
+mod PlaceLaws
+mod SheetLaws
+mod TextLaws
+mod TrimLaws
