@@ -7,9 +7,11 @@ mod checks;
 mod fields;
 mod lines;
 mod places;
+mod printing;
 mod reading;
 mod sheet;
 
 pub use places::is_place;
+pub use printing::print;
 pub use reading::{read_sheet, sheet_is_read_exactly};
 pub use sheet::{CardHead, Head, MOST_ADDRESSES, PairHead, Sheet};
