@@ -15,6 +15,8 @@ mod games;
 #[cfg(test)]
 mod joined;
 #[cfg(test)]
+mod letters;
+#[cfg(test)]
 mod outside;
 #[cfg(test)]
 mod schedules;

@@ -1,0 +1,131 @@
+-- The grammar of a card and of a pair file: the lines that are printed of it, and its first bad line.
+use Rattle.std.specs.Prelude.{◌≡◌, ◌⊎◌, ℕ, zero, suc, ◌+◌, ◌≤◌, ◌%◌, true, false, List, [], ◌∷◌, ◌++◌, map, length}
+use Rattle.std.specs.Prelude.{codes, Some}
+use Rattle.std.specs.Fmt.{decimal}
+use Rattle.text_fields.specs.Fields.{spelled_word}
+use Rattle.express_texts.specs.GameSpelling.{FaultFrom}
+use Rattle.desk_texts.specs.declared.sheet.CardHead.{CardHead}
+use Rattle.desk_texts.specs.declared.sheet.Head.{Head}
+use Rattle.desk_texts.specs.declared.sheet.Head.TheVariants.{Card, Pair}
+use Rattle.desk_texts.specs.declared.sheet.PairHead.{PairHead}
+use Rattle.desk_texts.specs.declared.sheet.Sheet.{Sheet}
+use Rattle.desk_texts.specs.Checks.{with_content, checked, checked_lines}
+use Rattle.desk_texts.specs.Fields.{is_strangers, address_digits}
+use Rattle.desk_texts.specs.Lines.{lines_in}
+use Rattle.desk_texts.specs.Places.{is_place}
+use Rattle.desk_texts.specs.Sheets.{count_of, is_among}
+
+-- ---- what lines say
+
+-- WIDTH FROM TO ADDRESSES
+abbrev pub card_text : CardHead → List ℕ
+card_text h =
+    codes "express card 1 " ++ (decimal h.width ++ (codes " " ++ (decimal h.from ++ (codes " "
+    ++ (decimal h.to ++ (codes " " ++ decimal h.addresses))))))
+
+-- WIDTH BOXES LANE FROM TO
+abbrev pub pair_text : PairHead → List ℕ
+pair_text h =
+    codes "express pair 1 " ++ (decimal h.width ++ (codes " " ++ (decimal h.boxes ++ (codes " "
+    ++ (decimal h.lane ++ (codes " " ++ (decimal h.from ++ (codes " " ++ decimal h.to))))))))
+
+abbrev pub head_text : Head → List ℕ
+head_text (Card h) = card_text h
+head_text (Pair h) = pair_text h
+
+-- a width of messages in which letters have room
+pub record HasRoom (width : ℕ) : Type 0 where
+  pub least : 32 ≤ width
+  pub most : width ≤ 4096
+  pub sixteens : width % 16 ≡ 0
+
+-- a range of lanes
+pub record AreLanes (from to : ℕ) : Type 0 where
+  pub order : from ≤ to
+  pub last : to ≤ 255
+
+pub record IsCard (h : CardHead) : Type 0 where
+  pub width : HasRoom h.width
+  pub lanes : AreLanes h.from h.to
+  pub some : 1 ≤ h.addresses
+  pub few : h.addresses ≤ 64
+
+-- the owner's lane is none of the strangers'
+pub record IsPair (h : PairHead) : Type 0 where
+  pub width : HasRoom h.width
+  pub some : 1 ≤ h.boxes
+  pub few : h.boxes ≤ 4096
+  pub lane : h.lane ≤ 255
+  pub lanes : AreLanes h.from h.to
+  pub own : is_strangers h ≡ false
+
+abbrev pub IsHead : Head → Type 0
+IsHead (Card h) = IsCard h
+IsHead (Pair h) = IsPair h
+
+abbrev pub SpellsHead : Head → List ℕ → Type 0
+SpellsHead head content = IsHead head × (content ≡ head_text head)
+
+abbrev pub SpellsPlace : List ℕ → List ℕ → List ℕ → Type 0
+SpellsPlace word place content = (is_place place ≡ true) × (content ≡ word ++ place)
+
+-- a number that 32 digits spell
+abbrev pub IsAddress : ℕ → Type 0
+IsAddress address = spelled_word (address_digits address) ≡ Some address
+
+abbrev pub address_text : ℕ → List ℕ
+address_text address = codes "address " ++ address_digits address
+
+-- an address that stands on none of the lines before
+abbrev pub SpellsNew : List ℕ → ℕ → List ℕ → Type 0
+SpellsNew before address content =
+    IsAddress address × (is_among address before ≡ false) × (content ≡ address_text address)
+
+-- ---- a sheet
+
+abbrev pub AreNew : List ℕ → List ℕ → Type 0
+AreNew before [] = Unit {0}
+AreNew before (a ∷ addresses) = IsAddress a × (is_among a before ≡ false) × AreNew (before ++ a ∷ []) addresses
+
+pub record IsSheet (s : Sheet) : Type 0 where
+  pub head : IsHead s.head
+  pub leader : is_place s.leader ≡ true
+  pub helper : is_place s.helper ≡ true
+  pub addresses : AreNew [] s.addresses
+  pub count : length s.addresses ≡ count_of s.head
+
+abbrev pub contents : Sheet → List (List ℕ)
+contents s =
+    head_text s.head ∷ ((codes "leader " ++ s.leader) ∷ ((codes "helper " ++ s.helper)
+    ∷ map address_text s.addresses))
+
+-- the text is that of the sheet: each line has its check word, and blanks at the ends of lines aren't looked at
+pub record SpellsSheet (s : Sheet) (text : List ℕ) : Type 0 where
+  pub sheet : IsSheet s
+  pub lines : lines_in text ≡ checked_lines [] (contents s)
+
+-- ---- the first bad line
+
+-- a line behind these contents: what it says, and the contents with it
+abbrev pub Says : {A : Type 0} → List ℕ → (A → List ℕ → Type 0) → A × List ℕ → List ℕ → Type 0
+Says said Spells r line =
+    (content : List ℕ) × Spells r.0 content × (line ≡ checked said content) × (r.1 ≡ with_content said content)
+
+-- Line n is the first bad one of so many addresses' lines from a place on; none may follow.
+abbrev pub FaultOfAddresses : ℕ → ℕ → List ℕ → List ℕ → ℕ → List (List ℕ) → Type 0
+FaultOfAddresses zero place said before n [] = ⊥
+FaultOfAddresses zero place said before n (line ∷ lines) = n ≡ place
+FaultOfAddresses (suc room) place said before n lines =
+    FaultFrom place (Says said (SpellsNew before)) (λ r. FaultOfAddresses room (place + 1) r.1 (before ++ r.0 ∷ []))
+    n lines
+
+-- Line n is the first bad one: it is missing, has another check word than its own, or doesn't say what it should.
+abbrev pub FaultOfLines : ℕ → List (List ℕ) → Type 0
+FaultOfLines =
+    FaultFrom 1 (Says [] SpellsHead) (λ head.
+    FaultFrom 2 (Says head.1 (SpellsPlace (codes "leader "))) (λ leader.
+    FaultFrom 3 (Says leader.1 (SpellsPlace (codes "helper "))) (λ helper.
+    FaultOfAddresses (count_of head.0) 4 helper.1 [])))
+
+abbrev pub IsFirstBadLine : ℕ → List ℕ → Type 0
+IsFirstBadLine n text = FaultOfLines n (lines_in text)

@@ -1,0 +1,12 @@
+//! A stranger's tries to leave one letter: what each answer tells of the write, what to do next, and on which lane and
+//! with which serial, so that no letter is written twice to one address.
+#![tactic(auto)]
+
+mod draws;
+mod heard;
+pub mod laws;
+mod sending;
+
+pub use draws::{highest_named, lane_among, next_lane, serial_above};
+pub use heard::{Answer, Told, told_by};
+pub use sending::{End, MOST_FURTHER, Next, Sending};
