@@ -1,2 +1,4 @@
+pub mod CoreLaws
 pub mod NoteLaws
 pub mod OpeningLaws
+pub mod TurnLaws
