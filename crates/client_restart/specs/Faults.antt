@@ -57,6 +57,12 @@ IsOfCreate (Journal (Damaged at)) = ⊥
 IsOfCreate NoMemory = Unit {0}
 IsOfCreate (Foreign n) = ⊥
 
+-- no memory was found, or a record isn't of the form
+abbrev pub IsNoMemoryOrForeign : KeepFault → Type 0
+IsNoMemoryOrForeign NoMemory = Unit {0}
+IsNoMemoryOrForeign (Foreign n) = Unit {0}
+IsNoMemoryOrForeign (Journal why) = ⊥
+
 -- the faults of a client that is opened again
 abbrev pub IsOfReopen : KeepFault → Type 0
 IsOfReopen (Journal (Disk faults)) = Unit {0}

@@ -1,5 +1,5 @@
 -- What a call does that notes something before its step.
-use Rattle.std.specs.Prelude.{◌≡◌, ℕ, ◌+◌, ◌≤◌, List, [], ◌∷◌, ◌++◌, length, true, false, Result, IsErrOf, OnOk, OnErr}
+use Rattle.std.specs.Prelude.{◌≡◌, ℕ, ◌+◌, ◌≤◌, List, [], ◌∷◌, ◌++◌, true, false, Result, IsErrOf, OnOk, OnErr}
 use Rattle.express_words.specs.Seen.{Seen}
 use Rattle.node_journal.specs.Disk.{DiskSeen, LeavesOnly, Within}
 use Rattle.node_journal.specs.Journal.{JournalState, Passes, longer, broken}
@@ -9,7 +9,7 @@ use Rattle.client_restart.specs.declared.fault.KeepFault.TheVariants.{Journal, N
 use Rattle.client_restart.specs.declared.opening.ClientOpening.{ClientOpening}
 use Rattle.client_restart.specs.Faults.{Counts, IsOkOrDiskFault}
 use Rattle.client_restart.specs.Cores.{TakesMemory}
-use Rattle.client_restart.specs.Notes.{Noted, note_record}
+use Rattle.client_restart.specs.Notes.{Noted, size_of}
 use Rattle.client_restart.specs.Steps.{CoreState, step_of}
 use Rattle.client_restart.specs.Kept.{KeptState, HoldsNotes, LeavesNotes, Stands}
 
@@ -29,9 +29,6 @@ sight shows counts k = record {
   disk = shows k.disk;
   faults = (counts k.disk).faults;
 }
-
-abbrev pub size_of : Noted → ℕ
-size_of note = length (note_record note)
 
 -- the faults of a note, in the order in which they are judged
 pub record IsJudged {T : Type 0} (note : Noted) (j now : JournalState) (r : Result T KeepFault) : Type 0 where

@@ -39,6 +39,10 @@ note_record GivenUp = 10 ∷ []
 note_record (Owned number serial) = 11 ∷ to_be_bytes w32 number ++ to_be_bytes w32 serial
 note_record (Remark words) = 12 ∷ words
 
+-- how many bytes the record has
+abbrev pub size_of : Noted → ℕ
+size_of note = length (note_record note)
+
 -- an address is one of 128 bits, a number of a box and a serial one of 32, and what is heard is exactly one
 -- frame
 abbrev pub IsNote : Noted → Type 0

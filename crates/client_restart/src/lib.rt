@@ -4,10 +4,13 @@
 mod ended;
 mod errand;
 mod fault;
+mod keeping;
 mod laws;
 mod note;
 mod opening;
 mod owned_box;
+mod reopening;
+mod replaying;
 mod standing;
 
 pub use ended::{Ended, KeptOutcome};
