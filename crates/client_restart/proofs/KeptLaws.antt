@@ -93,6 +93,13 @@ stands_push o core h reads reads_now stands one appended = record {
   held = holds_push o stands.notes h reads reads_now stands.held appended;
 }
 
+-- after a call that noted it and took its step
+pub stands_after : (o : ClientOpening) (core now : CoreState) (n : Noted) (j k : JournalState) (reads reads_now : List ℕ → Type 0)
+    → now ≡ step_of core n → k.closed ≡ j.closed → IsNote n → ((d : List ℕ) → reads_now d → Appended reads (note_record n) d)
+    → (j.closed ≡ false → Stands o core reads) → k.closed ≡ false → Stands o now reads_now
+stands_after o core now n j k reads reads_now stepped same one appended stood still =
+    subst (λ (x : CoreState). Stands o x reads_now) (sym stepped) (stands_push o core n reads reads_now (stood (sym same ∙ still)) one appended)
+
 pub leaves_notes : (limit : ℕ) (o : ClientOpening) (notes : List Noted) (h : Noted) (reads : List ℕ → Type 0) → HoldsNotes o notes reads
     → (d : List ℕ) → LeavesBeforeOrAfter limit reads (note_record h) d → LeavesNotes limit o notes h d
 leaves_notes limit o notes h reads held d left =

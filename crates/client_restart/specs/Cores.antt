@@ -1,5 +1,6 @@
 -- A client with what it remembers, read from what holds it.
 use Rattle.std.specs.Prelude.{◌≡◌, ◌≢◌, ◌^◌, ◌<◌, ◌++◌, ℕ, List, [], ◌∷◌, length, map, None, vec_capacity}
+use Rattle.express_words.specs.Limits.{IsWidth}
 use Rattle.step_rules.specs.Client as steps
 use Rattle.client_core.specs.declared.progress.Outcome.{Outcome}
 use Rattle.client_core.specs.declared.progress.Outcome.TheVariants as outcome
@@ -40,8 +41,9 @@ core_in k = record {
   remarks = map (λ words. words.items) k.remarks.items;
 }
 
--- the width is the client's, and a current request has a serial
+-- the width is the client's and within the limits, and a current request has a serial
 pub record IsCore (k : Core) : Type 0 where
+  pub limits : IsWidth k.width
   pub width : k.client.width ≡ k.width
   pub unspent : k.client.current ≢ None → k.client.serial < 2 ^ 32
 

@@ -1,5 +1,6 @@
 pub mod Cores
 pub mod Faults
+pub mod Hears
 pub mod Keeps
 pub mod Kept
 pub mod Notes

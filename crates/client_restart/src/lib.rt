@@ -4,7 +4,9 @@
 mod ended;
 mod errand;
 mod fault;
+mod hearing;
 mod keeping;
+mod kept;
 mod laws;
 mod note;
 mod opening;
@@ -16,6 +18,7 @@ mod standing;
 pub use ended::{Ended, KeptOutcome};
 pub use errand::Errand;
 pub use fault::KeepFault;
+pub use kept::KeptClient;
 pub use laws::records_tell;
 pub use note::{NOTE_MAX, Note};
 pub use opening::{ClientOpening, OPENING_LEN};
