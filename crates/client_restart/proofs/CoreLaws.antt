@@ -1,14 +1,11 @@
 -- What a client's serial and current request are after a call.
-use Rattle.std.proofs.Common.{◌≡◌, ◌≢◌, ◌^◌, ◌<◌, ◌≤◌, ◌+◌, ◌∙◌, ℕ, List, Bool, true, false, Option, Some, None, Result, Ok, Err, refl, sym, ap, subst, arith}
+use Rattle.std.proofs.Common.{◌≡◌, ◌≢◌, ◌^◌, ◌<◌, ◌∙◌, ℕ, List, Bool, true, false, Option, Some, None, Result, Ok, Err, refl, sym, ap, subst, arith}
 use Rattle.std.specs.Prelude.{if◌then◌else◌, nat_le, IfOk, OnErr, option_map}
 use Rattle.std.proofs.lemmas.Bool.{leb-false}
-use Rattle.express_words.specs.declared.refusal.Refusal.{Refusal}
-use Rattle.frame_rules.specs.Frames.{PlainFrame}
-use Rattle.frame_rules.specs.Whole.{whole}
 use Rattle.mailbox_rules.specs.Requests.{Request}
 use Rattle.step_rules.specs.Client.{Client, Current, Fault, Spent, Turn, Progress, Ignored, Later, Next, Finished}
 use Rattle.step_rules.specs.ClientAsks.{asked, asked_with, fault_at, own_fault, with_request}
-use Rattle.step_rules.specs.ClientReplies.{if_current, if_whole, ignores, on_reply}
+use Rattle.step_rules.specs.ClientReplies.{on_reply}
 use Rattle.client_restart.specs.Steps.{CoreState, boxes_with, errand_of, heard, untold_with}
 use Rattle.client_restart.specs.Turns.{Moves, Turns}
 use Rattle.client_restart.proofs.TurnLaws.{reply_turns}

@@ -1,3 +1,4 @@
+pub mod CallLaws
 pub mod CoreLaws
 pub mod FaultLaws
 pub mod KeptLaws

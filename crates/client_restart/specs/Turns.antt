@@ -1,5 +1,5 @@
 -- What a reply may do to a client.
-use Rattle.std.specs.Prelude.{◌≡◌, ℕ, ◌+◌, List, Option, Some, None}
+use Rattle.std.specs.Prelude.{◌≡◌, ◌+◌, List, Option, Some, None}
 use Rattle.mailbox_rules.specs.Requests.{Request}
 use Rattle.step_rules.specs.Client.{Client, Current, Owned, Step, Turn, Progress, Ignored, Later, Next, Finished}
 

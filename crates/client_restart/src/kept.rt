@@ -1,19 +1,16 @@
 //! A client that writes each request and each reply to a journal before it acts on it.
 ghost use Rattle.std.specs.Prelude.{◌≡◌, ◌≢◌, ◌↔◌, ◌≤◌, ◌<◌, ◌+◌, ◌^◌, ℕ, List, [], ◌∷◌, ◌++◌, true, false, length, take, drop, map, nat_le, is_none, Some, None, Ok, Err, IfOk, IfErr, OnOk, OnErr, IsOk, option_map};
-ghost use Rattle.mailbox_rules.specs.Requests.{Write};
 ghost use Rattle.frame_rules.specs.Room.{HasRoom};
-ghost use Rattle.step_rules.specs.Client.{Client, Fault, Step};
-ghost use Rattle.step_rules.specs.ClientAsks.{asked, sends, words};
+ghost use Rattle.step_rules.specs.ClientAsks.{asked, sends};
 ghost use Rattle.step_rules.specs.ClientReplies.{on_reply};
 ghost use Rattle.client_core.specs.Requests.{plain_request, fault_in};
 ghost use Rattle.client_core.specs.Answers.{addressed, bytes_of, progress_in};
-ghost use Rattle.client_core.specs.Writes.{write_sent};
 ghost use Rattle.node_journal.specs.Disk.{IsUntouched, Within};
 ghost use Rattle.node_journal.specs.Records.{content, IsUndamaged};
 ghost use Rattle.client_restart.specs.Cores.{ended_in};
 ghost use Rattle.client_restart.specs.Faults.{OnForeign, OnDamaged, OnNotEmpty, OnFull, OnNoMemory, OnStill, IsOfCreate, IsOfReopen, CountsFault};
 ghost use Rattle.client_restart.specs.Hears.{makes_step};
-ghost use Rattle.client_restart.specs.Notes.{Noted, FitsRecord, IsNote, plain_note};
+ghost use Rattle.client_restart.specs.Notes.{Asked, FitsRecord, GivenUp, Heard, IsNote, Noted, Owned, Remark, Told, plain_note};
 ghost use Rattle.client_restart.specs.Openings.{IsOpening};
 ghost use Rattle.client_restart.specs.Records.{AllNotes, IsForeign};
 ghost use Rattle.client_restart.specs.Steps.{fold};
@@ -174,5 +171,195 @@ impl<D: Disk> KeptClient<D> {
             }
             Err(fault) => Err(KeepFault::Journal(fault)),
         }
+    }
+
+    /// Takes a request, which is on the disk before its first frame can be had. `Ok(Err(_))` is the refusal of
+    /// `Client::ask`, and then nothing is kept.
+    pub fn ask(&mut self, request: &Request<'_>) -> Result<Result<(), AskFault>, KeepFault>
+        ensures refused { IfOk result (λ taken. IfErr taken (λ fault.
+            asked self.old.core.client (plain_request request.now) ≡ Err (fault_in fault))) }
+        ensures refused_stays { IfOk result (λ taken. OnErr taken (self.new ≡ self.old)) }
+        ensures taken { IfOk result (λ taken. OnOk taken
+            (IsOk (asked self.old.core.client (plain_request request.now)))) }
+        ensures not_kept { OnErr result (IsOk (asked self.old.core.client (plain_request request.now))) }
+        ensures keeps { IsOk (asked self.old.core.client (plain_request request.now))
+            → Keeps (Asked (plain_request request.now)) (sight D.disk D.Counted.seen self.old)
+            (sight D.disk D.Counted.seen self.new) result }
+        ensures stays { OnStill result (self.new ≡ self.old) }
+    {
+        match self.core.client.fault_at(request) {
+            Some(fault) => Ok(Err(fault)),
+            None => match self.take(&asked_note(request)) {
+                Ok(()) => Ok(Ok(())),
+                Err(fault) => Err(fault),
+            },
+        }
+    }
+
+    /// Writes the frame of the present step to the front of `out`, and gives the server that it goes to, the leader 0
+    /// or the helper 1, and its length in bytes. None exactly where no request is current. The frame is the same each
+    /// time, also after a reopening.
+    pub fn send(&self, out: &mut [u8]) -> Option<(u8, usize)>
+        requires room { HasRoom out.old }
+        ensures none { (result ≡ None) ↔ (self.now.core.client.current ≡ None) }
+        ensures sent { result ≡ option_map addressed (sends self.now.core.client) }
+        ensures written { let frame = bytes_of (sends self.now.core.client) in
+            take (length frame) out.new ≡ frame }
+        ensures rest { let count = length (bytes_of (sends self.now.core.client)) in
+            drop count out.new ≡ drop count out.old }
+        // The client that sends is the one that the disk gives, so its request is on the disk.
+        ensures stands { self.now.journal.closed ≡ false
+            → Stands self.now.opening self.now.core (D.disk self.now.disk).reads }
+        ensures durable { self.now.journal.closed ≡ false
+            → Within (D.disk self.now.disk).may_leave (D.disk self.now.disk).reads }
+    {
+        self.core.client.send(out)
+    }
+
+    /// Takes a server's bytes, which may be any, as a reply to the present step. A reply that makes a step is on the
+    /// disk before it; one that is ignored or comes too early isn't kept, since it changes nothing. An outcome stands
+    /// among those that weren't told from then on.
+    pub fn hear(&mut self, frame: &[u8]) -> Result<Progress, KeepFault>
+        ensures progress { IfOk result (λ p.
+            p ≡ progress_in (on_reply self.old.core.client frame.now).progress) }
+        ensures no_step { makes_step (progress_in (on_reply self.old.core.client frame.now).progress) ≡ false
+            → IsOk result × (self.new ≡ self.old) }
+        ensures keeps { makes_step (progress_in (on_reply self.old.core.client frame.now).progress) ≡ true
+            → Keeps (Heard frame.now) (sight D.disk D.Counted.seen self.old)
+            (sight D.disk D.Counted.seen self.new) result }
+        ensures stays { OnStill result (self.new ≡ self.old) }
+    {
+        let progress = self.core.client.progress_at(frame);
+        if !makes_step(&progress) {
+            return Ok(progress);
+        }
+        if !is_one_frame(frame) {
+            return Ok(progress);
+        }
+        match self.take(&Note::Heard(frame)) {
+            Ok(()) => Ok(progress),
+            Err(fault) => Err(fault),
+        }
+    }
+
+    /// The requests that have ended and weren't told yet, the oldest first.
+    pub fn untold(&self) -> &[Ended]
+        ensures { map ended_in result.now ≡ self.now.core.untold }
+    {
+        &self.core.untold
+    }
+
+    /// The oldest of those that weren't told was told: it is with the user. Until then it is told again after each
+    /// reopening.
+    pub fn told(&mut self) -> Result<(), KeepFault>
+        requires some { self.old.core.untold ≢ [] }
+        ensures keeps { Keeps Told (sight D.disk D.Counted.seen self.old)
+            (sight D.disk D.Counted.seen self.new) result }
+        ensures stays { OnStill result (self.new ≡ self.old) }
+    {
+        self.take(&Note::Told)
+    }
+
+    /// Gives up the current request, as one whose answer can't come any more. Its serial never comes again.
+    pub fn give_up(&mut self) -> Result<(), KeepFault>
+        requires busy { self.old.core.client.current ≢ None }
+        ensures keeps { Keeps GivenUp (sight D.disk D.Counted.seen self.old)
+            (sight D.disk D.Counted.seen self.new) result }
+        ensures stays { OnStill result (self.new ≡ self.old) }
+    {
+        self.take(&Note::GivenUp)
+    }
+
+    /// Owns the box of this number, which this serial registered in an earlier journal of the same seed and lane.
+    pub fn own(&mut self, number: u32, serial: u32) -> Result<(), KeepFault>
+        requires idle { self.old.core.client.current ≡ None }
+        requires room { nat_le self.old.core.client.capacity (length self.old.core.client.owned) ≡ false }
+        ensures keeps { Keeps (Owned number serial) (sight D.disk D.Counted.seen self.old)
+            (sight D.disk D.Counted.seen self.new) result }
+        ensures stays { OnStill result (self.new ≡ self.old) }
+    {
+        self.take(&Note::Owned(OwnedBox { number, serial }))
+    }
+
+    /// Keeps words of the program above, which mean nothing to the client.
+    pub fn remark(&mut self, words: &[u8]) -> Result<(), KeepFault>
+        requires few { length words.now ≤ 8213 }
+        ensures keeps { Keeps (Remark words.now) (sight D.disk D.Counted.seen self.old)
+            (sight D.disk D.Counted.seen self.new) result }
+        ensures stays { OnStill result (self.new ≡ self.old) }
+    {
+        self.take(&Note::Remark(words))
+    }
+
+    /// The words that were kept, in order.
+    pub fn remarks(&self) -> &[Vec<u8>]
+        ensures { map (λ words. words.items) result.now ≡ self.now.core.remarks }
+    {
+        &self.core.remarks
+    }
+
+    /// The client's boxes, in the order in which it got them: a read of the own box k reads that at place k.
+    pub fn boxes(&self) -> &[OwnedBox]
+        ensures { result.now ≡ self.now.core.boxes }
+    {
+        &self.core.boxes
+    }
+
+    /// The current request.
+    pub fn request(&self) -> Option<Request<'_>>
+        ensures { option_map plain_request result ≡ option_map (λ now. now.request) self.now.core.client.current }
+    {
+        self.core.client.request()
+    }
+
+    /// Whether no request is current.
+    pub fn is_idle(&self) -> bool
+        ensures { result ≡ is_none self.now.core.client.current }
+    {
+        self.core.client.is_idle()
+    }
+
+    /// Whether there is no room for another own box.
+    pub fn is_full(&self) -> bool
+        ensures { result ≡ nat_le self.now.core.client.capacity (length self.now.core.client.owned) }
+    {
+        self.core.client.is_full()
+    }
+
+    /// The serial of the current request, or else of the next one; 2^32 where all are spent. A journal that follows
+    /// this one begins with it.
+    pub fn serial(&self) -> u64
+        ensures { result ≡ self.now.core.client.serial }
+    {
+        self.core.client.serial()
+    }
+
+    /// How many bytes of the disk the records take. With the limit it tells how full the journal is.
+    pub fn used(&self) -> u64
+        ensures { result ≡ self.now.journal.end }
+    {
+        self.journal.end()
+    }
+
+    /// How the client was opened.
+    pub fn opening(&self) -> &ClientOpening
+        ensures value { result.now ≡ self.now.opening }
+        ensures is { IsOpening result.now }
+    {
+        &self.opening
+    }
+
+    /// The disk, as the last call left it.
+    pub fn into_disk(self) -> D
+        ensures { result ≡ self.disk }
+    {
+        let KeptClient {
+            alloc: _,
+            opening: _,
+            core: _,
+            journal: _,
+            disk,
+        } = self;
+        disk
     }
 }

@@ -54,12 +54,7 @@ pub(crate) fn first_opening<D: Disk>(
 }
 
 // The step of a record, whose number this is, if it is a note's.
-fn step_record(
-    alloc: Global,
-    core: &mut Core,
-    bytes: &[u8],
-    number: u64,
-) -> Result<(), KeepFault>
+fn step_record(alloc: Global, core: &mut Core, bytes: &[u8], number: u64) -> Result<(), KeepFault>
     requires is { IsCore core.old }
     ensures ok { OnOk result (StepsBy bytes.now (core_in core.old) (core_in core.new)) }
     ensures foreign { IfErr result (λ why. OnForeign why (λ n. (n ≡ number) × IsNoNote bytes.now)) }

@@ -1,4 +1,4 @@
-use Rattle.std.proofs.Common.{◌≡◌, ◌∙◌, refl, ap, subst, Ok}
+use Rattle.std.proofs.Common.{◌∙◌, refl, ap, subst, Ok}
 use Rattle.node_journal.specs.Journal.{JournalState}
 use Rattle.client_restart.specs.Cores.{core_in}
 use Rattle.client_restart.specs.Keeps.{Keeps, Sight, sight}
