@@ -47,7 +47,7 @@ unspent_moves : (c d : Client) (request : Request) (p : Progress) → Moves c re
 unspent_moves c d request Ignored m below = λ busy. omega (arith, below, ap (λ (x : Client). x.serial) m)
 unspent_moves c d request (Later r) m below = λ busy. omega (arith, below, ap (λ (x : Client). x.serial) m)
 unspent_moves c d request Next m below = λ busy. omega (arith, below, ap (λ (x : Client). x.serial) m.1)
-unspent_moves c d request (Finished o) m below = λ busy. absurd (busy (ap (λ (x : Client). x.current) m.1))
+unspent_moves c d request (Finished o) m below = λ busy. absurd (busy (ap (λ (x : Client). x.current) m))
 
 unspent_turns : (c : Client) (now : Option Current) (t : Turn) → c.current ≡ now → Turns c now t → IsUnspent c → IsUnspent t.client
 unspent_turns c None t at turns was = subst IsUnspent (sym turns.0) was

@@ -1,6 +1,7 @@
 pub mod CallLaws
 pub mod CoreLaws
 pub mod FaultLaws
+pub mod HistoryLaws
 pub mod KeptLaws
 pub mod NoteLaws
 pub mod OpeningLaws

@@ -21,13 +21,13 @@ either c request false t u first second = second
 
 ended_moves : (c : Client) (request : Request) (step : Step) (r : Refusal) → MovesTo c request (ended c step r)
 ended_moves c request Deposits r = refl
-ended_moves c request Submits r = (c.owned, refl)
+ended_moves c request Submits r = refl
 ended_moves c request (ProvesToHelper ckey) r = refl
-ended_moves c request (ProvesToLeader ckey) r = (c.owned, refl)
+ended_moves c request (ProvesToLeader ckey) r = refl
 
 refusal_moves : (c : Client) (request : Request) (step : Step) (r : Refusal) → MovesTo c request (on_refusal c step r)
 unfolding on_refusal
-refusal_moves c request step (refusal.Lane limit) = (c.owned, refl)
+refusal_moves c request step (refusal.Lane limit) = refl
 refusal_moves c request step (refusal.Taken n) = ended_moves c request step (refusal.Taken n)
 refusal_moves c request step (refusal.Full limit) = ended_moves c request step (refusal.Full limit)
 refusal_moves c request step (refusal.NoBox n) = ended_moves c request step (refusal.NoBox n)
@@ -49,7 +49,7 @@ deposit_moves c request body = refl
 
 registered_moves : (c : Client) (request : Request) (body : PlainBody) → MovesTo c request (on_registered c body)
 unfolding on_registered
-registered_moves c request (frame.Registered n) = (_, refl)
+registered_moves c request (frame.Registered n) = refl
 registered_moves c request body = refl
 
 challenge_moves : (c : Client) (request : Request) (body : PlainBody) → MovesTo c request (on_challenge c request body)
@@ -60,7 +60,7 @@ challenge_moves c request body = refl
 message_moves : (c : Client) (request : Request) (own : Option Owned) (body : PlainBody) → MovesTo c request (on_message c own body)
 unfolding on_message
 message_moves c request (Some own) (frame.Message zero one) =
-    either c request (length zero == c.width) (finished c (Message (unmasked c own zero one))) (ignores c) (c.owned, refl) refl
+    either c request (length zero == c.width) (finished c (Message (unmasked c own zero one))) (ignores c) refl refl
 message_moves c request own body = refl
 
 submission_moves : (c : Client) (request : Request) (body : PlainBody) → MovesTo c request (on_submission c request body)
@@ -77,7 +77,7 @@ helper_proof_moves c request ckey body = refl
 
 leader_proof_moves : (c : Client) (request : Request) (body : PlainBody) → MovesTo c request (on_leader_proof c body)
 unfolding on_leader_proof
-leader_proof_moves c request frame.Accepted = (c.owned, refl)
+leader_proof_moves c request frame.Accepted = refl
 leader_proof_moves c request body = refl
 
 step_moves : (c : Client) (request : Request) (step : Step) (body : PlainBody) → MovesTo c request (by_step c request step body)

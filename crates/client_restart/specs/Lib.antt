@@ -1,6 +1,7 @@
 pub mod Cores
 pub mod Faults
 pub mod Hears
+pub mod Histories
 pub mod Keeps
 pub mod Kept
 pub mod Notes

@@ -19,7 +19,7 @@ pub use ended::{Ended, KeptOutcome};
 pub use errand::Errand;
 pub use fault::KeepFault;
 pub use kept::KeptClient;
-pub use laws::records_tell;
+pub use laws::{client_remembers, records_tell};
 pub use note::{NOTE_MAX, Note};
 pub use opening::{ClientOpening, OPENING_LEN};
 pub use owned_box::OwnedBox;
