@@ -1,6 +1,7 @@
 -- What a client does with a reply.
-use Rattle.std.proofs.Common.{◌≡◌, ◌≢◌, ℕ, List, length, Option, Some, None, Result, Ok, Err, refl, ap, subst, ◌∙◌}
-use Rattle.std.specs.Prelude.{IfSome}
+use Rattle.std.proofs.Common.{◌≡◌, ◌≢◌, ◌<◌, ◌+◌, ℕ, List, [], length, Option, Some, None, Result, Ok, Err, refl, sym, ap, subst, ◌∙◌}
+use Rattle.std.specs.Prelude.{IfSome, slice_get}
+use Rattle.std.proofs.lemmas.Option.{slice_get-get_or}
 use Rattle.std.proofs.lemmas.Bool.{eq-eqb, ne_eqb}
 use Rattle.express_words.specs.Bytes.{xor_bytes}
 use Rattle.express_words.proofs.Bytes.{xor_bytes_assoc, xor_bytes_comm}
@@ -13,6 +14,10 @@ use Rattle.step_rules.specs.Client.{Client, Owned, Current, Turn, Message}
 use Rattle.client_core.specs.declared.stage.Stage.{Stage}
 use Rattle.client_core.specs.declared.state.State.{State}
 use Rattle.client_core.specs.States.{IsCurrent, IsState}
+use Rattle.client_core.specs.declared.progress.Outcome.TheVariants as outcome
+use Rattle.client_core.specs.declared.progress.Progress.TheVariants as progress
+use Rattle.client_core.specs.Answers.{progress_in}
+use Rattle.client_core.specs.GivingUp.{given_up, given_up_at}
 use Rattle.step_rules.specs.ClientReplies.{on_reply, on_message, if_whole, if_current, by_refusal, refusal_in, ignores, finished, unmasked}
 
 -- ---- no reply
@@ -70,3 +75,24 @@ unmasked_is zero one m a b d k0 k1 lane s serial width m_is a_is b_is d_is s_is 
     let bm : b ≡ xor_bytes (xor_bytes zero m0) m1 =
     b_is ∙ (ap (λ n. xor_bytes a (mask k1 lane s n)) (ha ∙ hm) ∙ (ap (λ k. xor_bytes a (mask k1 lane k width)) s_is ∙ ap (λ x. xor_bytes x m1) am)) in
     d_is ∙ (ap (λ x. xor_bytes x one) bm ∙ masks_off zero one m0 m1)
+
+-- a message of the width, of a box that is there
+pub message_read : (c : Client) (own : ℕ) (zero one : List ℕ) → own < length c.owned → length zero ≡ c.width →
+    progress.Finished outcome.Message ≡ progress_in (on_message c (slice_get c.owned own) (frame.Message zero one)).progress
+message_read c own zero one there h =
+    let some = slice_get-get_or c.owned own (record { number = 0; key0 = []; key1 = [] }) there in
+    ap (λ (t : Turn). progress_in t.progress) (sym (right_width c (slice_get c.owned own) _ zero one some h))
+
+pub message_dropped : (c : Client) (own : ℕ) (zero one : List ℕ) → length zero ≢ c.width →
+    progress.Ignored ≡ progress_in (on_message c (slice_get c.owned own) (frame.Message zero one)).progress
+message_dropped c own zero one h = ap (λ (t : Turn). progress_in t.progress) (sym (wrong_width c (slice_get c.owned own) zero one h))
+
+-- ---- giving up
+
+pub nothing_given_up : (c : Client) → c.current ≡ None → c ≡ given_up c
+unfolding given_up
+nothing_given_up c e = sym (ap (given_up_at c) e)
+
+pub given_up_is : (c d : Client) (now : Current) → c.current ≡ Some now → d ≡ record c { current = None; serial = c.serial + 1 } → d ≡ given_up c
+unfolding given_up
+given_up_is c d now e is = is ∙ sym (ap (given_up_at c) e)

@@ -3,5 +3,6 @@ pub mod Requests
 pub mod Stages
 pub mod States
 pub mod Heard
+pub mod GivingUp
 pub mod Answers
 pub mod Writes

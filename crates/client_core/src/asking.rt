@@ -48,8 +48,8 @@ impl State {
         }
     }
 
-    // What is against a request.
-    fn fault(&self, request: &Request<'_>) -> Option<AskFault>
+    /// What is against a request.
+    pub(crate) fn fault(&self, request: &Request<'_>) -> Option<AskFault>
         requires is { IsState self.now }
         ensures fault { let client = client_in self.now in
             option_map fault_in result ≡ fault_at client (plain_request request.now) client.current }

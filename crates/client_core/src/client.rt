@@ -1,13 +1,14 @@
 //! A client over its state.
-ghost use Rattle.std.specs.Prelude.{◌≡◌, ◌≤◌, ◌↔◌, ℕ, List, length, take, drop, IfOk, IfErr, OnErr, Ok, Err, Some, None, option_map, is_none, if◌then◌else◌, false};
+ghost use Rattle.std.specs.Prelude.{◌≡◌, ◌≤◌, ◌↔◌, ℕ, List, length, take, drop, IfOk, IfErr, OnErr, Ok, Err, Some, None, option_map, is_none, nat_le, if◌then◌else◌, false};
 ghost use Rattle.express_words.specs.Limits.{IsWidth};
 ghost use Rattle.mailbox_rules.specs.Requests.{Write};
 ghost use Rattle.frame_rules.specs.Room.{HasRoom};
 ghost use Rattle.step_rules.specs.Client.{opened_client, Step};
-ghost use Rattle.step_rules.specs.ClientAsks.{asked, owning, sends, words};
+ghost use Rattle.step_rules.specs.ClientAsks.{asked, fault_at, owning, sends, words};
 ghost use Rattle.step_rules.specs.ClientReplies.{on_reply};
 ghost use Rattle.client_core.specs.Requests.{plain_request, fault_in};
 ghost use Rattle.client_core.specs.Answers.{addressed, bytes_of, progress_in, message_or};
+ghost use Rattle.client_core.specs.GivingUp.{given_up};
 ghost use Rattle.client_core.specs.Writes.{write_sent, AreWords};
 
 use crate::progress::Progress;
@@ -74,11 +75,25 @@ impl Client {
         true
     }
 
+    /// Whether there is no room for another own box.
+    pub fn is_full(&self) -> bool
+        ensures { result ≡ nat_le self.now.capacity (length self.now.owned) }
+    {
+        self.state.is_full()
+    }
+
     /// Whether no request is current.
     pub fn is_idle(&self) -> bool
         ensures { result ≡ is_none self.now.current }
     {
         self.state.stage.is_none()
+    }
+
+    /// Why `ask` would not take this request; None exactly where it would. Nothing changes.
+    pub fn fault_at(&self, request: &Request<'_>) -> Option<AskFault>
+        ensures { option_map fault_in result ≡ fault_at self.now (plain_request request.now) self.now.current }
+    {
+        self.state.fault(request)
     }
 
     /// Takes a request, which is then current. The first of these that applies is the fault: another request is
@@ -131,5 +146,35 @@ impl Client {
         ensures width { self.new.width ≡ self.old.width }
     {
         self.state.on_reply(frame, message)
+    }
+
+    /// What `on_reply` would answer to these bytes. Nothing changes.
+    pub fn progress_at(&self, frame: &[u8]) -> Progress
+        ensures { result ≡ progress_in (on_reply self.now frame.now).progress }
+    {
+        self.state.progress_at(frame)
+    }
+
+    /// The current request.
+    pub fn request(&self) -> Option<Request<'_>>
+        ensures { option_map plain_request result ≡ option_map (λ now. now.request) self.now.current }
+    {
+        self.state.request()
+    }
+
+    /// The serial of the current request, or else of the next one; 2^32 where all are spent.
+    pub fn serial(&self) -> u64
+        ensures { result ≡ self.now.serial }
+    {
+        self.state.serial
+    }
+
+    /// Drops the current request, if there is one. Its serial stays used: the next request takes the next one.
+    pub fn give_up(&mut self)
+        ensures given_up { self.new ≡ given_up self.old }
+        ensures idle { self.new.current ≡ None }
+        ensures width { self.new.width ≡ self.old.width }
+    {
+        self.state.give_up();
     }
 }

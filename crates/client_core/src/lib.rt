@@ -10,6 +10,7 @@ mod progress;
 mod replying;
 mod request;
 mod stage;
+mod standing;
 mod state;
 
 pub use client::Client;

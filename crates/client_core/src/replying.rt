@@ -15,8 +15,8 @@ use dpf_rules::xor_into;
 use wire_frames::whole;
 
 impl State {
-    // The request is finished.
-    fn finish(&mut self)
+    /// The request is finished.
+    pub(crate) fn finish(&mut self)
         requires is { IsState self.old }
         requires unspent { self.old.serial < 2 ^ 32 }
         ensures rest { record self.old { stage = None; serial = self.old.serial + 1 } ≡ self.new }

@@ -1,7 +1,7 @@
 //! The request that is current, and how far it has come.
 ghost use Rattle.std.specs.Prelude.{◌≡◌, ℕ, List};
 ghost use Rattle.step_rules.specs.ClientAsks.{server_of};
-ghost use Rattle.client_core.specs.Stages.{current_in};
+ghost use Rattle.client_core.specs.Stages.{current_in, request_in};
 
 /// A request without its message.
 #[derive(Clone, Copy)]
@@ -31,6 +31,18 @@ impl Stage {
             Stage::Submits(_) => 0,
             Stage::ProvesToHelper(_, _) => 1,
             Stage::ProvesToLeader(_, _) => 0,
+        }
+    }
+
+    /// The request, without its message.
+    pub(crate) fn task(&self) -> Task
+        ensures { (message : List ℕ) → request_in result message ≡ (current_in self.now message).request }
+    {
+        match *self {
+            Stage::Deposits(task) => task,
+            Stage::Submits(task) => task,
+            Stage::ProvesToHelper(target, _) => Task::Write(target),
+            Stage::ProvesToLeader(target, _) => Task::Write(target),
         }
     }
 }

@@ -1,2 +1,13 @@
-pub mod Openings
+pub mod Cores
+pub mod Faults
+pub mod Hears
+pub mod Histories
+pub mod Keeps
+pub mod Kept
 pub mod Notes
+pub mod Openings
+pub mod Records
+pub mod Replays
+pub mod Steps
+pub mod Texts
+pub mod Turns

@@ -3,6 +3,7 @@ ghost use Rattle.std.specs.Prelude.{◌≡◌, ◌≤◌, ◌+◌, ◌<◌, ◌�
 ghost use Rattle.std.specs.Int.{w32, w128, to_be_bytes};
 ghost use Rattle.client_restart.specs.Notes.{FitsRecord, IsNoNote, IsNote, note_record, plain_note};
 
+use crate::owned_box::OwnedBox;
 use client_core::Request;
 use frame_rules::FRAME_MAX;
 use wire_frames::whole;
@@ -21,6 +22,10 @@ pub enum Note<'a> {
     Told,
     /// The current request was given up.
     GivenUp,
+    /// A box is owned that a serial of an earlier journal registered.
+    Owned(OwnedBox),
+    /// Words of the program above, at most 8,213 bytes, which mean nothing to the client.
+    Remark(&'a [u8]),
 }
 
 // These bytes one behind the other.
@@ -51,6 +56,15 @@ fn tagged_own(tag: u8, own: u32) -> [u8; 5]
     [tag, a, b, c, d]
 }
 
+// A tag, and behind it a box's number and serial.
+fn tagged_box(tag: u8, owned: &OwnedBox) -> [u8; 9]
+    ensures { result ≡ tag ∷ to_be_bytes w32 owned.now.number ++ to_be_bytes w32 owned.now.serial }
+{
+    let [a, b, c, d] = owned.number.to_be_bytes();
+    let [e, f, g, h] = owned.serial.to_be_bytes();
+    [tag, a, b, c, d, e, f, g, h]
+}
+
 #[tactic(auto, using(frame_rules::proofs::Digits::be_back))]
 fn address_in(bytes: &[u8]) -> Option<u128>
     ensures some { IfSome result (λ address. bytes.now ≡ to_be_bytes w128 address) }
@@ -72,6 +86,19 @@ fn own_in(bytes: &[u8]) -> Option<u32>
         return None;
     };
     Some(u32::from_be_bytes([*a, *b, *c, *d]))
+}
+
+fn box_in(bytes: &[u8]) -> Option<OwnedBox>
+    ensures some { IfSome result (λ b. bytes.now ≡ to_be_bytes w32 b.number ++ to_be_bytes w32 b.serial) }
+    ensures none { IsNone result → length bytes.now ≡ 8 → ⊥ }
+{
+    let [a, b, c, d, e, f, g, h] = bytes else {
+        return None;
+    };
+    Some(OwnedBox {
+        number: u32::from_be_bytes([*a, *b, *c, *d]),
+        serial: u32::from_be_bytes([*e, *f, *g, *h]),
+    })
 }
 
 fn write_in(bytes: &[u8]) -> Option<Request<'_>>
@@ -104,6 +131,8 @@ impl<'a> Note<'a> {
             Note::Heard(frame) => put(&[8], frame, room),
             Note::Told => put(&[9], &[], room),
             Note::GivenUp => put(&[10], &[], room),
+            Note::Owned(owned) => put(&tagged_box(11, &owned), &[], room),
+            Note::Remark(words) => put(&[12], words, room),
         }
     }
 
@@ -134,6 +163,11 @@ impl<'a> Note<'a> {
             8 if whole(rest).is_ok() => Some(Note::Heard(rest)),
             9 if rest.is_empty() => Some(Note::Told),
             10 if rest.is_empty() => Some(Note::GivenUp),
+            11 => {
+                let owned = box_in(rest)?;
+                Some(Note::Owned(owned))
+            }
+            12 => Some(Note::Remark(rest)),
             _ => None,
         }
     }

@@ -221,4 +221,11 @@ impl Journal {
             }
         }
     }
+
+    /// How many bytes the records take that were appended or read so far.
+    pub fn end(&self) -> u64
+        ensures { result ≡ self.now.end }
+    {
+        self.end
+    }
 }

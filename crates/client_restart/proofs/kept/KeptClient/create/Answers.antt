@@ -1,0 +1,31 @@
+use Rattle.std.proofs.Common.{◌≡◌, ◌≢◌, ◌<◌, ℕ, List, [], ◌∷◌, Err, ap, ◌∙◌, arith}
+use Rattle.node_journal.specs.Journal.{JournalState}
+use Rattle.node_journal.specs.declared.fault.JournalFault.{JournalFault}
+use Rattle.client_restart.proofs.FaultLaws.{on_full, on_not_empty}
+use Rattle.client_restart.proofs.kept.KeptClient.create.Goals as goal
+
+pub invariant_of-result : goal.invariant_of-result
+invariant_of-result g c =
+    record {
+      is_opening = c.requires.opening;
+      is_core = c.in-Ok.ensures.is;
+      ready = ap (λ (j : JournalState). j.ready) c.in-Ok-create.ensures.made;
+      in_place = λ still. c.in-Ok-create.ensures.in_place;
+      stands = λ still. record {
+        notes = [];
+        whole = tt;
+        folded = c.in-Ok.ensures.opened;
+        held = λ d read. c.in-Ok-create.ensures.content d read ∙ ap (λ (l : List ℕ). l ∷ []) c.record.ensures;
+      };
+    }
+
+pub returns-in-Err-clause-not_empty : goal.returns-in-Err-clause-not_empty
+returns-in-Err-clause-not_empty g c =
+    on_not_empty c.in-Err.fault ((d : List ℕ) → (g.D.Disk.disk c.args.disk).reads d → d ≢ []) (λ e. c.in-Err.ensures.not_empty (ap (λ (f : JournalFault). Err f) e))
+
+pub returns-in-Err-clause-full : goal.returns-in-Err-clause-full
+returns-in-Err-clause-full g c =
+    let Empty : Type 0 = (d : List ℕ) → (g.D.Disk.disk c.args.disk).reads d → d ≡ [] in
+    on_full c.in-Err.fault (λ n. (n ≡ 0) × (c.args.limit < 53) × Empty) (λ n e.
+    let full = c.in-Err.ensures.full n (ap (λ (f : JournalFault). Err f) e) in
+    (full.0, omega (arith, full.1), full.2))

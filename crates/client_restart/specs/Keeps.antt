@@ -1,0 +1,57 @@
+-- What a call does that notes something before its step.
+use Rattle.std.specs.Prelude.{◌≡◌, ℕ, ◌+◌, ◌≤◌, List, [], ◌∷◌, ◌++◌, true, false, Result, IsErrOf, OnOk, OnErr}
+use Rattle.express_words.specs.Seen.{Seen}
+use Rattle.node_journal.specs.Disk.{DiskSeen, LeavesOnly, Within}
+use Rattle.node_journal.specs.Journal.{JournalState, Passes, longer, broken}
+use Rattle.node_journal.specs.declared.fault.JournalFault.TheVariants.{Closed, Full}
+use Rattle.client_restart.specs.declared.fault.KeepFault.{KeepFault}
+use Rattle.client_restart.specs.declared.fault.KeepFault.TheVariants.{Journal, NoMemory}
+use Rattle.client_restart.specs.declared.opening.ClientOpening.{ClientOpening}
+use Rattle.client_restart.specs.Faults.{Counts, IsOkOrDiskFault}
+use Rattle.client_restart.specs.Cores.{TakesMemory}
+use Rattle.client_restart.specs.Notes.{Noted, size_of}
+use Rattle.client_restart.specs.Steps.{CoreState, step_of}
+use Rattle.client_restart.specs.Kept.{KeptState, HoldsNotes, LeavesNotes, Stands}
+
+-- what is seen of a kept client
+pub record Sight : Type 1 where
+  pub opening : ClientOpening
+  pub core : CoreState
+  pub journal : JournalState
+  pub disk : DiskSeen
+  pub faults : ℕ
+
+abbrev pub sight : {D : Type 0} → (D → DiskSeen) → (D → Seen) → KeptState D → Sight
+sight shows counts k = record {
+  opening = k.opening;
+  core = k.core;
+  journal = k.journal;
+  disk = shows k.disk;
+  faults = (counts k.disk).faults;
+}
+
+-- the faults of a note, in the order in which they are judged
+pub record IsJudged {T : Type 0} (note : Noted) (j now : JournalState) (r : Result T KeepFault) : Type 0 where
+  pub memory : IsErrOf r NoMemory → TakesMemory note
+  pub closed : (IsErrOf r NoMemory → ⊥) → j.closed ≡ true → IsErrOf r (Journal Closed)
+  pub full : (IsErrOf r NoMemory → ⊥) → j.closed ≡ false → Passes j.end (size_of note) j.limit
+      → IsErrOf r (Journal (Full j.end))
+  pub fits : (IsErrOf r NoMemory → ⊥) → j.closed ≡ false → j.end + 5 + size_of note + 1 ≤ j.limit
+      → IsOkOrDiskFault r × OnErr r (now ≡ broken j)
+
+-- Where the answer is Ok the note is on the disk and its step was taken, and where it is a fault no step was
+-- taken. A crash at any moment of the call leaves the notes from before it, with this one or without.
+pub record Keeps {T : Type 0} (note : Noted) (old new : Sight) (r : Result T KeepFault) : Type 0 where
+  pub opening : new.opening ≡ old.opening
+  pub step : OnOk r (new.core ≡ step_of old.core note)
+  pub no_step : OnErr r (new.core ≡ old.core)
+  pub added : OnOk r ((notes : List Noted) → HoldsNotes old.opening notes old.disk.reads
+      → HoldsNotes old.opening (notes ++ note ∷ []) new.disk.reads)
+  pub longer : OnOk r (new.journal ≡ longer (size_of note) old.journal)
+  pub stands : new.journal.closed ≡ false → Stands old.opening new.core new.disk.reads
+  pub durable : new.journal.closed ≡ false → Within new.disk.may_leave new.disk.reads
+  pub any_moment : old.journal.closed ≡ false → (notes : List Noted)
+      → HoldsNotes old.opening notes old.disk.reads
+      → LeavesOnly old.disk new.disk (LeavesNotes old.journal.limit old.opening notes note)
+  pub judged : IsJudged note old.journal new.journal r
+  pub counts : Counts old.faults new.faults r

@@ -1,0 +1,61 @@
+-- A client with its journal, and what stands on its disk.
+use Rattle.std.specs.Prelude.{◌≡◌, ◌⊎◌, ℕ, List, [], ◌∷◌, ◌++◌, drop, true, false, Err}
+use Rattle.node_journal.specs.Disk.{DiskSeen}
+use Rattle.node_journal.specs.Records.{content, records_from, IsUndamaged}
+use Rattle.node_journal.specs.Next.{found}
+use Rattle.node_journal.specs.Journal.{JournalState, IsInPlace}
+use Rattle.node_journal.specs.declared.fault.JournalFault.TheVariants.{Damaged}
+use Rattle.client_restart.specs.declared.opening.ClientOpening.{ClientOpening}
+use Rattle.client_restart.specs.declared.standing.Core.{Core}
+use Rattle.client_restart.specs.Cores.{core_in, IsCore}
+use Rattle.client_restart.specs.Openings.{IsOpening}
+use Rattle.client_restart.specs.Notes.{Noted}
+use Rattle.client_restart.specs.Records.{AllNotes, records_of}
+use Rattle.client_restart.specs.Steps.{CoreState, fold}
+
+-- how the client was opened, the client, its journal and the journal's disk
+pub record KeptState (D : Type 0) : Type 0 where
+  pub opening : ClientOpening
+  pub core : CoreState
+  pub journal : JournalState
+  pub disk : D
+
+-- the disk's content is the records of the opening and of these notes
+abbrev pub HoldsNotes : ClientOpening → List Noted → (List ℕ → Type 0) → Type 0
+HoldsNotes o notes reads = (c : List ℕ) → reads c → content c ≡ records_of o notes
+
+-- The client is the fold of the opening and of the notes that stand on the disk.
+pub record Stands (o : ClientOpening) (core : CoreState) (reads : List ℕ → Type 0) : Type 0 where
+  pub notes : List Noted
+  pub whole : AllNotes notes
+  pub folded : core ≡ fold o notes
+  pub held : HoldsNotes o notes reads
+
+-- A crash leaves the records of the opening and these notes, or of these and one more, and nothing that a
+-- journal under the same limit would find damaged.
+abbrev pub LeavesNotes : ℕ → ClientOpening → List Noted → Noted → List ℕ → Type 0
+LeavesNotes limit o notes added c =
+    ((content c ≡ records_of o notes) ⊎ (content c ≡ records_of o (notes ++ added ∷ [])))
+    × IsUndamaged limit 0 c
+
+-- until a call on the disk fails, the journal is in place and what stands on its disk gives the client
+pub record IsKept (o : ClientOpening) (core : Core) (journal : JournalState) (disk : DiskSeen) : Type 0 where
+  pub is_opening : IsOpening o
+  pub is_core : IsCore core
+  pub ready : journal.ready ≡ true
+  pub in_place : journal.closed ≡ false → IsInPlace journal disk
+  pub stands : journal.closed ≡ false → Stands o (core_in core) disk.reads
+
+-- Records of the form stand before byte n.
+pub record HasBefore (n : ℕ) (c : List ℕ) : Type 0 where
+  pub opening : ClientOpening
+  pub is_opening : IsOpening opening
+  pub notes : List Noted
+  pub whole : AllNotes notes
+  pub split : content c ≡ records_of opening notes ++ records_from n c
+
+-- The gate at byte n is open with no whole record within the limit behind it, and every record before it is
+-- of the form.
+pub record IsDamagedAt (limit n : ℕ) (c : List ℕ) : Type 0 where
+  pub found : found n limit (drop n c) ≡ Err (Damaged n)
+  pub before : (n ≡ 0) ⊎ HasBefore n c

@@ -1,0 +1,64 @@
+//! What the records on a disk give.
+ghost use Rattle.std.specs.Prelude.{◌≡◌, ◌≤◌, ◌^◌, ℕ, List, true, false, IfOk, IfErr};
+ghost use Rattle.node_journal.specs.Disk.{IsUntouched};
+ghost use Rattle.node_journal.specs.Records.{content, IsUndamaged};
+ghost use Rattle.client_restart.specs.Openings.{IsOpening};
+ghost use Rattle.client_restart.specs.Cores.{core_in, IsCore};
+ghost use Rattle.client_restart.specs.Records.{IsForeign};
+ghost use Rattle.client_restart.specs.Faults.{OnForeign, OnDamaged, IsOfReopen, Counts};
+ghost use Rattle.client_restart.specs.Replays.{IsReading};
+ghost use Rattle.client_restart.specs.Kept.{Stands, IsDamagedAt};
+
+use crate::fault::KeepFault;
+use crate::opening::ClientOpening;
+use crate::replaying::{first_opening, replay};
+use crate::standing::Core;
+use node_journal::{Disk, Journal};
+use std::alloc::Global;
+
+/// A client, how it was opened, and the journal at its end.
+#[derive(Drop)]
+pub(crate) struct Found {
+    pub(crate) opening: ClientOpening,
+    pub(crate) core: Core,
+    pub(crate) journal: Journal,
+}
+
+/// The client that the records on a disk give.
+pub(crate) fn find<D: Disk>(alloc: Global, disk: &mut D, limit: u64) -> Result<Found, KeepFault>
+    requires limit { limit ≤ 2 ^ 62 }
+    ensures is_opening { IfOk result (λ f. IsOpening f.opening) }
+    ensures is_core { IfOk result (λ f. IsCore f.core) }
+    ensures stands { IfOk result (λ f. Stands f.opening (core_in f.core) (D.disk disk.old).reads) }
+    ensures ready { IfOk result (λ f. f.journal.ready ≡ true) }
+    ensures reading { IfOk result (λ f. IsReading limit f.journal (D.disk disk.new)) }
+    ensures cause { IfErr result IsOfReopen }
+    ensures foreign { IfErr result (λ why. OnForeign why (λ n. (c : List ℕ) → (D.disk disk.old).reads c
+        → IsForeign n (content c))) }
+    ensures damaged { IfErr result (λ why. OnDamaged why (λ n. (c : List ℕ) → (D.disk disk.old).reads c
+        → IsDamagedAt limit n c)) }
+    ensures never_damaged { IfErr result (λ why. OnDamaged why (λ n. (c : List ℕ) → (D.disk disk.old).reads c
+        → IsUndamaged limit 0 c → ⊥)) }
+    ensures untouched { IsUntouched (D.disk disk.old) (D.disk disk.new) }
+    ensures counts { Counts (D.Counted.seen disk.old).faults (D.Counted.seen disk.new).faults result }
+{
+    let mut journal = match Journal::open(disk, limit) {
+        Ok(journal) => journal,
+        Err(fault) => return Err(KeepFault::Journal(fault)),
+    };
+    let opening = match first_opening(&mut journal, disk) {
+        Ok(opening) => opening,
+        Err(fault) => return Err(fault),
+    };
+    let Ok(mut core) = Core::open(alloc, &opening) else {
+        return Err(KeepFault::NoMemory);
+    };
+    match replay(alloc, &mut journal, disk, &mut core) {
+        Ok(()) => Ok(Found {
+            opening,
+            core,
+            journal,
+        }),
+        Err(fault) => Err(fault),
+    }
+}
