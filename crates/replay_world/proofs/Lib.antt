@@ -11,3 +11,10 @@ pub mod LeaderStays
 pub mod RunKeeps
 pub mod ClientAnswers
 pub mod OneReply
+pub mod QuietRounds
+pub mod QuietRequests
+pub mod MillTokens
+pub mod MillTold
+pub mod MillCounts
+pub mod MillEvents
+pub mod MillSchedules

@@ -1,6 +1,9 @@
 -- The helper gives one reply to each command, and gives that one again.
-use Rattle.std.proofs.Common.{◌≡◌, ◌∙◌, ◌+◌, ◌-◌, ◌<◌, ◌≤◌, ℕ, zero, suc, Bool, true, false, nat_eq, nat_le, is_none, List, [], ◌∷◌, ◌++◌, length, drop, Option, Some, None, Result, Ok, Err, slice_get, slice_index_or, refl, sym, ap, subst, inl, inr, arith, cond, length-append, append-nil, append_assoc, ◌&&◌}
+use Rattle.std.proofs.Common.{◌≡◌, ◌∙◌, ◌+◌, ◌-◌, ◌<◌, ◌≤◌, ℕ, zero, suc, Bool, true, false, nat_eq, nat_le, is_none, List, [], ◌∷◌, ◌++◌, length, drop, take, Option, Some, None, Result, Ok, Err, slice_get, slice_index_or, refl, sym, ap, subst, inl, inr, arith, cond, length-append, append-nil, append_assoc, ◌&&◌}
 use Rattle.std.proofs.lemmas.Bool.{cond_both, eqb-true, leb-true}
+use Rattle.std.proofs.lemmas.List.{take-append-le}
+use Rattle.std.proofs.lemmas.Option.{slice_get_within}
+use Rattle.std.proofs.Math.Seq.{take-append_seam}
 use Rattle.frame_rules.specs.Frames.{PlainFrame}
 use Rattle.frame_rules.specs.Spelling.{spelling}
 use Rattle.express_words.specs.declared.refusal.Refusal.{Refusal}
@@ -24,7 +27,7 @@ use Rattle.run_rules.specs.Run as frames
 use Rattle.run_rules.specs.Run.{Inject}
 use Rattle.replay_world.specs.Parts.{events_in}
 use Rattle.replay_world.specs.Played.{run_of}
-use Rattle.replay_world.specs.Replies.{AllSent, FromClient, Heard, IsOneOf, Ordered, RepliesAreOne, Tells, WasSent, after, after_all, replies_to, reply_to}
+use Rattle.replay_world.specs.Replies.{AllSent, FromClient, Heard, IsOneOf, Met, Ordered, RepliesAreOne, WasSent, after, after_all, replies_to, reply_to}
 use Rattle.replay_world.proofs.RunKeeps.{IsOfPool, Moves, run_keeps}
 
 -- ---- replies that are among these
@@ -127,6 +130,36 @@ read_whole width bytes c e = at_read (whole bytes) e
     at_read (Ok f) e = ap Ok (at_test (is_command f.body && has_width width f.body) f e)
     at_read (Err x) e = absurd (cc e)
 
+-- ---- the command that a line tells
+
+met_end : (first : Server) (heard : List Heard) (x : Heard) (line : JournalLine) (r : PlainFrame) → Met first heard line r → Met first (heard ++ x ∷ []) line r
+met_end first heard x line r m = record {
+  place = m.place;
+  command = m.command;
+  is = get_left heard (x ∷ []) m.place _ m.is;
+  step =
+      let low : m.place ≤ length heard = let inside = slice_get_within heard m.place (Ordered m.command) m.is in omega (arith, inside) in
+      ap (λ xs. reply_to (after_all first xs) (Ordered m.command)) (take-append-le m.place heard (x ∷ []) low) ∙ m.step;
+  lane = m.lane;
+  serial = m.serial;
+  value = m.value;
+}
+
+-- the last one, at the server that heard all before it
+met_now : (first : Server) (heard : List Heard) (c : PlainFrame) (h : Server) → h ≡ after_all first heard
+    → let reply = on_link c c.link (carries_out h c).body in Met first (heard ++ Ordered c ∷ []) (frames.journal_line c reply) reply
+met_now first heard c h stands = record {
+  place = length heard;
+  command = c;
+  is = get_end heard (Ordered c);
+  step =
+      ap (λ xs. reply_to (after_all first xs) (Ordered c)) (take-append_seam heard (Ordered c ∷ []))
+      ∙ ap (λ k. reply_to k (Ordered c)) (sym stands);
+  lane = refl;
+  serial = refl;
+  value = refl;
+}
+
 -- ---- what every move keeps
 
 record Good (first : Server) (f : FrameWorld) : Type 0 where
@@ -139,7 +172,7 @@ record Good (first : Server) (f : FrameWorld) : Type 0 where
   numbers : (i : ℕ) (r : PlainFrame) → slice_get rs i ≡ Some r → r.link ≡ suc i
   kept : AllOf rs f.helper.replies
   lines : length f.journal ≡ length rs
-  told : (i : ℕ) (line : JournalLine) (r : PlainFrame) → slice_get f.journal i ≡ Some line → slice_get rs i ≡ Some r → Tells line r
+  told : (i : ℕ) (line : JournalLine) (r : PlainFrame) → slice_get f.journal i ≡ Some line → slice_get rs i ≡ Some r → Met first heard line r
   sent : AllIn rs f.pool
 
 module _ (first : Server) where
@@ -244,12 +277,12 @@ module _ (first : Server) where
         lines = omega (arith, lines, size, more);
         told = λ i line r at is. elim (get_more f.journal line_now i line at) [
           | inl old ↦ elim (get_more h.rs reply i r is) [
-            | inl there ↦ h.told i line r old.1 there.1
+            | inl there ↦ met_end first h.heard (Ordered c) line r (h.told i line r old.1 there.1)
             | inr new ↦ let low = old.0 in let end = new.0 in absurd (omega (arith, low, end, lines))
           ]
           | inr now ↦ elim (get_more h.rs reply i r is) [
             | inl there ↦ let low = there.0 in let end = now.0 in absurd (omega (arith, low, end, lines))
-            | inr new ↦ subst (Tells line) new.1 (subst (λ line. Tells line reply) now.1 (record { lane = refl; serial = refl; command = c.body; value = refl }))
+            | inr new ↦ subst (Met first next line) new.1 (subst (λ line. Met first next line reply) now.1 (met_now first h.heard c f.helper.server h.stands))
           ]
         ];
         kept = of_drop rs _ (f.helper.replies ++ spelling reply ∷ []) (of_end rs f.helper.replies (spelling reply) (of_more h.rs reply f.helper.replies h.kept) here);
@@ -307,7 +340,7 @@ module _ (first : Server) where
         numbers = h.numbers;
         kept = h.kept;
         lines = h.lines;
-        told = h.told;
+        told = λ i line r at is. met_end first h.heard (FromClient bytes) line r (h.told i line r at is);
         sent = in_append h.rs f.pool more h.sent ((λ e. absurd (cc e)), tt);
       }
 

@@ -9,3 +9,4 @@ pub mod Strangers
 pub mod Sight
 pub mod Texts
 pub mod Replies
+pub mod Mills

@@ -1,6 +1,6 @@
 -- What the helper answers to the leader's commands.
-use Rattle.std.specs.Prelude.{◌≡◌, ◌++◌, ◌∷◌, ℕ, suc, List, [], length, Ok, Some, slice_get}
-use Rattle.frame_rules.specs.Frames.{PlainBody, PlainFrame}
+use Rattle.std.specs.Prelude.{◌≡◌, ◌++◌, ◌∷◌, ℕ, suc, List, [], length, take, Ok, Some, slice_get}
+use Rattle.frame_rules.specs.Frames.{PlainFrame}
 use Rattle.frame_rules.specs.Spelling.{spelling}
 use Rattle.frame_rules.specs.Whole.{on_link, whole}
 use Rattle.step_rules.specs.Helper.{Server, opened_helper}
@@ -16,14 +16,6 @@ use Rattle.replay_world.specs.Played.{run_of}
 abbrev pub IsOneOf : List PlainFrame → List ℕ → Type 0
 IsOneOf replies bytes =
     (i : ℕ) × (reply : PlainFrame) × (slice_get replies i ≡ Some reply) × (bytes ≡ spelling reply)
-
--- The journal's line of a command tells what its reply says: so a refusal that is printed is the one that the
--- leader is given.
-pub record Tells (line : JournalLine) (reply : PlainFrame) : Type 0 where
-  pub lane : line.lane ≡ reply.lane
-  pub serial : line.serial ≡ reply.serial
-  pub command : PlainBody
-  pub value : line.value ≡ value_of command reply.body
 
 -- What the helper heard: bytes from a client, or the leader's next command.
 pub data Heard : Type 0 where
@@ -59,6 +51,18 @@ abbrev pub AllSent : List Letter → List Heard → Type 0
 AllSent pool [] = Unit {0}
 AllSent pool (x ∷ xs) = WasSent pool x × AllSent pool xs
 
+-- A line of the journal and its reply come of one command that was heard: the reply is the helper's step's at
+-- the rows and boxes that all it had heard before led to, those that the command met, and the line tells
+-- command and reply. So a refusal that is printed is the one that the leader is given, and of that very row.
+pub record Met (first : Server) (heard : List Heard) (line : JournalLine) (reply : PlainFrame) : Type 0 where
+  pub place : ℕ
+  pub command : PlainFrame
+  pub is : slice_get heard place ≡ Some (Ordered command)
+  pub step : reply_to (after_all first (take place heard)) (Ordered command) ≡ reply ∷ []
+  pub lane : line.lane ≡ command.lane
+  pub serial : line.serial ≡ command.serial
+  pub value : line.value ≡ value_of command.body reply.body
+
 -- The helper stands where what it heard, frames that were sent to it, has led it. So each reply is its step's
 -- at the rows and boxes that its command met. There is one reply to each command that it carried out, under
 -- the command's number and as the journal tells it, and whenever one goes to the leader it is that one, byte
@@ -73,7 +77,7 @@ pub record HasOneReply (first : Server) (f : FrameWorld) : Type 0 where
   pub numbers : (i : ℕ) (reply : PlainFrame) → slice_get replies i ≡ Some reply → reply.link ≡ suc i
   pub lines : length f.journal ≡ f.helper.carried
   pub told : (i : ℕ) (line : JournalLine) (reply : PlainFrame) → slice_get f.journal i ≡ Some line
-      → slice_get replies i ≡ Some reply → Tells line reply
+      → slice_get replies i ≡ Some reply → Met first heard line reply
   pub sent : (place : ℕ) (l : Letter) → slice_get f.pool place ≡ Some l → l.to ≡ ToLeaderLink
       → IsOneOf replies l.bytes
 

@@ -6,6 +6,7 @@ ghost use Rattle.run_rules.specs.HistoryRuns.{HistoryIsRuns};
 ghost use Rattle.run_rules.specs.Plain.{BoxesArePlain, ClientsAreReady, JournalInOrder, JournalIsTold, OutcomesArePlain, SharesAreFolds};
 ghost use Rattle.run_rules.specs.Soundness.{BadWritesAreCaught, SettledAsTheyPass};
 ghost use Rattle.replay_world.specs.Strangers.{BusyRowsAwait, ClientsAreAlone, FinishesAnswer, FinishesDrain, HistoryIsOfRun, OfEverySchedule, RequestsAreTold, SchedulesFit, StrangersAreForeign, StrangersWereBrought};
+ghost use Rattle.replay_world.specs.Mills.{MillsCount};
 ghost use Rattle.replay_world.specs.Replies.{RepliesAreOne};
 ghost use Rattle.replay_world.specs.Sight.{ClientsGetAnswers};
 
@@ -103,4 +104,10 @@ pub fn requests_are_told()
     ensures told { RequestsAreTold }
     ensures finished { FinishesAnswer }
     ensures drained { FinishesDrain }
+{}
+
+/// The run of a mill of every number up to 5,000: 64 boxes are registered, so many writes are accepted, 64 messages are
+/// told, and the journal has 128 lines and three more for each write.
+pub fn mills_count()
+    ensures { MillsCount }
 {}
