@@ -1,6 +1,7 @@
 //! The run of a carrier.
-ghost use Rattle.std.specs.Prelude.{◌≡◌, ◌≤◌, length, map, All, IfOk};
+ghost use Rattle.std.specs.Prelude.{◌≡◌, ◌≤◌, ◌⊎◌, length, map, All, IfOk};
 ghost use Rattle.client_core.specs.Requests.{plain_request};
+ghost use Rattle.node_serve.specs.Exchanging.{EarlyAtEnd};
 ghost use Rattle.node_client.specs.Work.{Fits};
 ghost use Rattle.settings_text.specs.declared.carry.CarryJob.TheVariants.{Fetch};
 ghost use Rattle.client_run.specs.Carrying.{IsCarrier, carry_end};
@@ -69,6 +70,7 @@ fn fetch<N: Net>(
     ensures fetches { IfOk result (λ ran. Fetches
         (plan_at worker.old.peers worker.old.client (map plain_request requests.now)) ran (N.seen net.old).calls (N.seen net.new).calls) }
     ensures fault { IfOk result (λ ran. RunFault ran.end (N.seen net.old).faults (N.seen net.new).faults) }
+    ensures early { (net.new ≡ net.old) ⊎ EarlyAtEnd (N.seen net.new).calls N.Conn.seen }
     ensures door { (N.seen net.new).doors ≡ (N.seen net.old).doors }
 {
     let carried = carry_off(
@@ -97,6 +99,7 @@ fn send<K: Sink, N: Net>(
         (moment (N.seen net.old) (K.seen out.old)) (moment (N.seen net.new) (K.seen out.new)) }
     ensures fault { IfOk result (λ ran. RunFault ran.end (N.seen net.old).faults (N.seen net.new).faults) }
     ensures sink { PutSink result (K.seen out.old).faults (K.seen out.new).faults }
+    ensures early { (net.new ≡ net.old) ⊎ EarlyAtEnd (N.seen net.new).calls N.Conn.seen }
     ensures door { (N.seen net.new).doors ≡ (N.seen net.old).doors }
 {
     let end = tell_off(alloc, worker, requests, Until::Broken, out, net);
@@ -124,6 +127,7 @@ pub fn run_carry<K: Sink, N: Net>(
         (moment (N.seen net.old) (K.seen out.old)) (moment (N.seen net.new) (K.seen out.new)) }
     ensures fault { IfOk result (λ ran. RunFault ran.end (N.seen net.old).faults (N.seen net.new).faults) }
     ensures sink { PutSink result (K.seen out.old).faults (K.seen out.new).faults }
+    ensures early { (net.new ≡ net.old) ⊎ EarlyAtEnd (N.seen net.new).calls N.Conn.seen }
     ensures door { (N.seen net.new).doors ≡ (N.seen net.old).doors }
 {
     let peers = Peers {

@@ -1,5 +1,6 @@
 //! A carrier's requests, worked off up to the first that doesn't carry.
-ghost use Rattle.std.specs.Prelude.{◌≡◌, ◌≤◌, List, None, length, map, All, IfOk};
+ghost use Rattle.std.specs.Prelude.{◌≡◌, ◌≤◌, ◌⊎◌, List, None, length, map, All, IfOk};
+ghost use Rattle.node_serve.specs.Exchanging.{EarlyAtEnd};
 ghost use Rattle.client_core.specs.Requests.{plain_request};
 ghost use Rattle.node_client.specs.Talks.{Talk, TalksOn};
 ghost use Rattle.node_client.specs.Work.{Fits};
@@ -52,6 +53,7 @@ pub fn carry_off<N: Net>(
     ensures few { IfOk result (λ c. length c.finished.items ≤ length requests.now) }
     ensures fault { IfOk result (λ c. RunFault (carry_end c.end) (N.seen net.old).faults
         (N.seen net.new).faults) }
+    ensures early { (net.new ≡ net.old) ⊎ EarlyAtEnd (N.seen net.new).calls N.Conn.seen }
     ensures door { (N.seen net.new).doors ≡ (N.seen net.old).doors }
 {
     let mut finished = Vec::new(alloc);

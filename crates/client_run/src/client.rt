@@ -1,5 +1,6 @@
 //! The run of a client.
-ghost use Rattle.std.specs.Prelude.{◌≡◌, IfOk};
+ghost use Rattle.std.specs.Prelude.{◌≡◌, ◌⊎◌, IfOk};
+ghost use Rattle.node_serve.specs.Exchanging.{EarlyAtEnd};
 ghost use Rattle.client_run.specs.Accounts.{IsClient};
 ghost use Rattle.client_run.specs.Runs.{ClientComes, RunFault, end_of};
 ghost use Rattle.client_run.specs.Telling.{moment, PutSink};
@@ -42,6 +43,8 @@ pub fn run_client<K: Sink, N: Net>(
         (moment (N.seen net.old) (K.seen out.old)) (moment (N.seen net.new) (K.seen out.new)) }
     ensures fault { IfOk result (λ ran. RunFault ran.end (N.seen net.old).faults (N.seen net.new).faults) }
     ensures sink { PutSink result (K.seen out.old).faults (K.seen out.new).faults }
+    // Where the last answer ended early, its connection had nothing left.
+    ensures early { (net.new ≡ net.old) ⊎ EarlyAtEnd (N.seen net.new).calls N.Conn.seen }
     ensures door { (N.seen net.new).doors ≡ (N.seen net.old).doors }
 {
     let peers = Peers {

@@ -1,6 +1,7 @@
 //! Requests worked off and told one by one.
-ghost use Rattle.std.specs.Prelude.{◌≡◌, length, map, All, Err, OnOk};
+ghost use Rattle.std.specs.Prelude.{◌≡◌, ◌⊎◌, length, map, All, Err, OnOk};
 ghost use Rattle.client_core.specs.Requests.{plain_request};
+ghost use Rattle.node_serve.specs.Exchanging.{EarlyAtEnd};
 ghost use Rattle.node_client.specs.Work.{Fits};
 ghost use Rattle.client_run.specs.Telling.{carries, goes_on, moment, IsReady, TellsOff, CutFault, CutSink};
 
@@ -55,6 +56,7 @@ pub fn tell_off<K: Sink, N: Net>(
         (moment (N.seen net.old) (K.seen out.old)) (moment (N.seen net.new) (K.seen out.new)) }
     ensures fault { CutFault result (N.seen net.old).faults (N.seen net.new).faults }
     ensures sink { CutSink result (K.seen out.old).faults (K.seen out.new).faults }
+    ensures early { (net.new ≡ net.old) ⊎ EarlyAtEnd (N.seen net.new).calls N.Conn.seen }
     ensures door { (N.seen net.new).doors ≡ (N.seen net.old).doors }
 {
     for (number, request) in requests.iter().enumerate() {

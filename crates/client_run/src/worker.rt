@@ -1,7 +1,8 @@
 //! A client at work.
-ghost use Rattle.std.specs.Prelude.{◌≡◌, ◌≤◌, length, IfOk, OnOk, string_bytes};
+ghost use Rattle.std.specs.Prelude.{◌≡◌, ◌≤◌, ◌⊎◌, length, IfOk, OnOk, string_bytes};
 ghost use Rattle.express_words.specs.Limits.{IsWidth};
 ghost use Rattle.client_core.specs.Requests.{plain_request};
+ghost use Rattle.node_serve.specs.Exchanging.{EarlyAtEnd};
 ghost use Rattle.node_client.specs.Work.{Fits, line};
 ghost use Rattle.client_run.specs.Accounts.{account_in, opened};
 ghost use Rattle.client_run.specs.Texts.{outcome_line};
@@ -94,6 +95,7 @@ impl<'a> Worker<'a> {
         ensures width { self.new.client.width ≡ self.old.client.width }
         ensures fault { CutFault result (N.seen net.old).faults (N.seen net.new).faults }
         ensures sink { CutSink result (K.seen out.old).faults (K.seen out.new).faults }
+        ensures early { (net.new ≡ net.old) ⊎ EarlyAtEnd (N.seen net.new).calls N.Conn.seen }
         ensures door { (N.seen net.new).doors ≡ (N.seen net.old).doors }
     {
         let message = self.message.as_mut_slice();

@@ -4,7 +4,7 @@ use Rattle.clap.specs.Words.{Text}
 use Rattle.express_cli.specs.Around.{Around, Outside}
 use Rattle.express_cli.specs.Ends.{PrintsBy, status_of}
 use Rattle.express_cli.specs.Ran.{MayCome, Ran}
-use Rattle.express_cli.specs.Runs.{SinkFailed}
+use Rattle.express_cli.specs.Runs.{MayLeave, SinkFailed}
 use Rattle.express_cli.specs.declared.ends.End.{End}
 use Rattle.express_cli.specs.declared.ends.End.TheVariants.{ReadFault, WriteFault}
 use Rattle.express_cli.proofs.OneReading.{Reads}
@@ -30,8 +30,8 @@ FailureTold words old new net end =
     end ≡ WriteFault → SinkFailed words old.content new.content net old.written new.written
 
 came : Reads → (words : List Text) (old new : Outside) (net : Around) (end : End) → Came words old new net end
-    → SourceTold old new end → SinkTold old new end → FailureTold words old new net end → Ran words old new net (status_of end)
-came law words old new net end h source sink failure = record {
+    → SourceTold old new end → SinkTold old new end → FailureTold words old new net end → MayLeave words net → Ran words old new net (status_of end)
+came law words old new net end h source sink failure early = record {
   headline = exact.headline law _ _ _ _ _ _ _ _ _ _ _ h;
   batch = exact.batch law _ _ _ _ _ _ _ _ _ _ _ h;
   cloak = exact.cloak law _ _ _ _ _ _ _ _ _ _ _ h;
@@ -50,6 +50,7 @@ came law words old new net end h source sink failure = record {
   read_fault = causes.read_fault _ _ _ _ _ _ _ _ _ _ _ h;
   write_fault = causes.write_fault _ _ _ _ _ _ _ _ _ _ _ h;
   told_in_time = λ e. failure (causes.failed end e);
+  early = early;
   net_fault = causes.net_fault _ _ _ _ _ _ _ _ _ _ _ h;
   out_of_memory = causes.out_of_memory _ _ _ _ _ _ _ _ _ _ _ h;
   too_long = causes.too_long _ _ _ _ _ _ _ _ _ _ _ h;
@@ -59,7 +60,7 @@ came law words old new net end h source sink failure = record {
 }
 
 pub ran : Reads → (words : List Text) (old new : Outside) (net : Around) (end : End) (status : ℕ)
-    → Came words old new net end → SourceTold old new end → SinkTold old new end → FailureTold words old new net end
+    → Came words old new net end → SourceTold old new end → SinkTold old new end → FailureTold words old new net end → MayLeave words net
     → status ≡ status_of end → Ran words old new net status
-ran law words old new net end status h source sink failure is =
-    subst (Ran words old new net) (sym is) (came law words old new net end h source sink failure)
+ran law words old new net end status h source sink failure early is =
+    subst (Ran words old new net) (sym is) (came law words old new net end h source sink failure early)

@@ -1,5 +1,6 @@
 -- What may come of a command over a net, by what its parts may come to.
-use Rattle.std.proofs.Common.{◌≡◌, ◌≢◌, ◌⊎◌, inl, inr, ℕ, List, ◌++◌, Option, Err, false, string_bytes, refl, sym, subst}
+use Rattle.std.proofs.Common.{◌≡◌, ◌≢◌, ◌⊎◌, inl, inr, ℕ, List, [], ◌∷◌, ◌++◌, All, Option, Err, false, string_bytes, refl, sym, ap, subst}
+use Rattle.clap.specs.Words.{Text}
 use Rattle.express_words.specs.Calls.{Listened, Adds}
 use Rattle.express_words.specs.Streams.{TookPrefix}
 use Rattle.express_texts.specs.declared.fault.TextFault.{TextFault}
@@ -15,16 +16,20 @@ use Rattle.settings_text.specs.declared.carry.CarrySettings.{CarrySettings}
 use Rattle.client_run.specs.declared.ran.RunEnd.{RunEnd}
 use Rattle.client_run.specs.declared.ran.RunEnd.TheVariants as run
 use Rattle.node_serve.specs.declared.node.Node.{Node}
+use Rattle.node_serve.specs.Exchanging.{EarlyAtEnd}
 use Rattle.node_host.specs.Opening.{IsOpened}
+use Rattle.node_host.specs.Visits.{Visit, IsOf}
+use Rattle.express_cli.specs.CommandLine.{AsksNet}
 use Rattle.express_cli.specs.Ends.{PrintsBy, Said, BadKeyMay, FaultMay, out_of_memory_text}
-use Rattle.express_cli.specs.Around.{Around, Seen}
-use Rattle.express_cli.specs.Talking.{AtDoor, CarryRan, ClientRan, DoorMay, IsBadKey, ListeningMay, ServeMay, TalkMay, end_by, IsStill}
+use Rattle.express_cli.specs.Around.{Around, Seen, Shown, around}
+use Rattle.express_cli.specs.Talking.{AtDoor, CarryRan, ClientRan, DoorMay, IsBadKey, LeavesNothing, LeftNothing, ListeningMay, ServeMay, TalkMay, WantsFirst, WereThere, end_by, IsStill}
 use Rattle.express_cli.specs.Talking.{SpellsCarry, SpellsClient, SpellsServe}
 use Rattle.express_cli.specs.declared.words.NetCommand.{NetCommand}
 use Rattle.express_cli.specs.declared.words.NetCommand.TheVariants.{Serve, Client, Carry}
 use Rattle.express_cli.specs.declared.ends.End.{End}
 use Rattle.express_cli.specs.declared.ends.End.TheVariants as ends
 use Rattle.express_cli.proofs.Following.{prefix_more}
+use Rattle.express_cli.proofs.OneReading.{same_net}
 
 -- ---- a text is told first
 
@@ -55,24 +60,28 @@ first_failed May old new before now ends.TooLong front more h other may = absurd
 
 -- ---- a server
 
-pub door_may : (settings : ServeSettings) (node : Node) (before at_door now : Seen) → Adds before.calls at_door.calls (Listened settings.listen false)
+pub were_there : {C : Type 0} (shows : C → Seen) (now : Seen) (visits : List Visit) → All (λ v. (conn : C) × IsOf now.calls v (shows conn)) visits → WereThere (Shown shows) now visits
+were_there shows now [] all = tt
+were_there shows now (v ∷ visits) all = ((shows all.0.0, (all.0.0, refl), all.0.1), were_there shows now visits all.1)
+
+pub door_may : (shown : Seen → Type 0) (settings : ServeSettings) (node : Node) (before at_door now : Seen) → Adds before.calls at_door.calls (Listened settings.listen false)
     → at_door.faults ≡ before.faults → at_door.doors ≡ before.doors
-    → (end : End) (text : List ℕ) → ListeningMay settings.connections node at_door now end text → DoorMay settings node before now end text
-door_may settings node before at_door now call faults doors ends.Done text may =
+    → (end : End) (text : List ℕ) → ListeningMay shown settings.connections node at_door now end text → DoorMay shown settings node before now end text
+door_may shown settings node before at_door now call faults doors ends.Done text may =
     record { at_door = at_door; listens = call; faults = faults; doors = doors; served = may }
-door_may settings node before at_door now call faults doors ends.Usage text may = absurd may.1
-door_may settings node before at_door now call faults doors (ends.BadLine n) text may = absurd may.1
-door_may settings node before at_door now call faults doors ends.BadKey text may = absurd may.1
-door_may settings node before at_door now call faults doors ends.ReadFault text may = absurd may.1
-door_may settings node before at_door now call faults doors ends.WriteFault text may = absurd may.1
-door_may settings node before at_door now call faults doors ends.NetFault text may =
+door_may shown settings node before at_door now call faults doors ends.Usage text may = absurd may.1
+door_may shown settings node before at_door now call faults doors (ends.BadLine n) text may = absurd may.1
+door_may shown settings node before at_door now call faults doors ends.BadKey text may = absurd may.1
+door_may shown settings node before at_door now call faults doors ends.ReadFault text may = absurd may.1
+door_may shown settings node before at_door now call faults doors ends.WriteFault text may = absurd may.1
+door_may shown settings node before at_door now call faults doors ends.NetFault text may =
     inr (record { at_door = at_door; listens = call; faults = faults; doors = doors; served = may })
-door_may settings node before at_door now call faults doors ends.OutOfMemory text may =
+door_may shown settings node before at_door now call faults doors ends.OutOfMemory text may =
     record { at_door = at_door; listens = call; faults = faults; doors = doors; served = may }
-door_may settings node before at_door now call faults doors ends.TooLong text may = absurd may.1
+door_may shown settings node before at_door now call faults doors ends.TooLong text may = absurd may.1
 
 pub opened_may : (settings : ServeSettings) (net : Around) (node : Node) → IsOpened settings net.seed node
-    → (end : End) (text : List ℕ) → DoorMay settings node net.before net.now end text → ServeMay settings net end text
+    → (end : End) (text : List ℕ) → DoorMay net.shown settings node net.before net.now end text → ServeMay settings net end text
 opened_may settings net node opened ends.Done text may = (node, opened, may)
 opened_may settings net node opened ends.Usage text may = absurd may
 opened_may settings net node opened (ends.BadLine n) text may = absurd may
@@ -84,8 +93,8 @@ opened_may settings net node opened ends.OutOfMemory text may = inr (node, opene
 opened_may settings net node opened ends.TooLong text may = absurd may
 
 wants_may : (settings : ServeSettings) (bytes : List ℕ) (net : Around) (text : List ℕ) → SpellsServe settings bytes
-    → (text ≡ out_of_memory_text) ⊎ AtDoor settings net ends.OutOfMemory text → TalkMay Serve bytes net ends.OutOfMemory text
-wants_may settings bytes net text spells (inl same) = inl same
+    → WantsFirst net text ⊎ AtDoor settings net ends.OutOfMemory text → TalkMay Serve bytes net ends.OutOfMemory text
+wants_may settings bytes net text spells (inl first) = inl first
 wants_may settings bytes net text spells (inr at) = inr (settings, spells, at)
 
 pub serve_may : (settings : ServeSettings) (bytes : List ℕ) (net : Around) → SpellsServe settings bytes
@@ -102,6 +111,20 @@ serve_may settings bytes net spells ends.TooLong text may = absurd may
 
 -- ---- a client and a carrier
 
+pub left_nothing : {N C : Type 0} (seen : N → Seen) (shows : C → Seen) (seed : List ℕ) (old new : N)
+    → (new ≡ old) ⊎ EarlyAtEnd (seen new).calls shows → LeftNothing (around seed (seen old) (seen new) (Shown shows))
+left_nothing seen shows seed old new (inl same) = inl (ap seen same)
+left_nothing seen shows seed old new (inr early) = inr (λ short. let found = early short in (shows found.0, (found.0, refl), found.1))
+
+pub still_leaves : (command : NetCommand) (net : Around) → IsStill net → LeavesNothing command net
+still_leaves Serve net still = tt
+still_leaves Client net still = inl still
+still_leaves Carry net still = inl still
+
+pub asked_leaves : (words : List Text) (net : Around) (command asked : NetCommand) → AsksNet words command → AsksNet words asked → LeavesNothing asked net → LeavesNothing command net
+asked_leaves words net command asked asks found leaves =
+    let Of : NetCommand → Type 0 = λ c. LeavesNothing c net in subst Of (same_net words asked command found asks) leaves
+
 pub client_may : (settings : ClientSettings) (bytes : List ℕ) (net : Around) (end : RunEnd) (text : List ℕ)
     → SpellsClient settings bytes → ClientRan settings net end text → TalkMay Client bytes net (end_by end) text
 client_may settings bytes net run.Done text spells ran = (settings, spells, ran)
@@ -115,7 +138,7 @@ carry_may settings bytes net run.NetFault text spells ran = (settings, spells, r
 -- ---- a fault of the settings
 
 wanting_may : (command : NetCommand) (bytes : List ℕ) (net : Around) (text : List ℕ) → IsStill net → text ≡ out_of_memory_text → TalkMay command bytes net ends.OutOfMemory text
-wanting_may Serve bytes net text still same = inl same
+wanting_may Serve bytes net text still same = inl (same, still)
 wanting_may Client bytes net text still same = inl (same, still)
 wanting_may Carry bytes net text still same = inl (same, still)
 
@@ -124,7 +147,7 @@ key_may : (command : NetCommand) (bytes key : List ℕ) (net : Around) → IsSti
 key_may command bytes key net still bad ends.Done text may = absurd may
 key_may command bytes key net still bad ends.Usage text may = absurd may
 key_may command bytes key net still bad (ends.BadLine n) text may = absurd may
-key_may command bytes key net still bad ends.BadKey text may = (key, bad, may)
+key_may command bytes key net still bad ends.BadKey text may = (key, bad, may, still)
 key_may command bytes key net still bad ends.ReadFault text may = absurd may
 key_may command bytes key net still bad ends.WriteFault text may = absurd may
 key_may command bytes key net still bad ends.NetFault text may = absurd may

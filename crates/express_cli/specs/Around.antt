@@ -1,13 +1,15 @@
 -- What is around a run.
-use Rattle.std.specs.Prelude.{ℕ, List, Option}
+use Rattle.std.specs.Prelude.{◌≡◌, ℕ, List, Option}
 use Rattle.express_words.specs.Streams.{Stream}
 pub use Rattle.express_words.specs.Seen.{Seen}
 
--- what is around a run: the seed that it is handed, and its net before and now
-pub record Around : Type 0 where
+-- what is around a run: the seed that it is handed, its net before and now, and what its net's connections may
+-- show
+pub record Around : Type 1 where
   pub seed : List ℕ
   pub before : Seen
   pub now : Seen
+  pub shown : Seen → Type 0
 
 -- an input and a sink at one moment: what each tells of its bytes, and its count of faults
 pub record Outside : Type 0 where
@@ -16,8 +18,12 @@ pub record Outside : Type 0 where
   pub written : Option (List ℕ)
   pub output_faults : ℕ
 
-abbrev pub around : List ℕ → (before now : Seen) → Around
-around seed before now = record { seed = seed; before = before; now = now }
+abbrev pub around : List ℕ → (before now : Seen) → (Seen → Type 0) → Around
+around seed before now shown = record { seed = seed; before = before; now = now; shown = shown }
+
+-- some connection shows this
+abbrev pub Shown : {C : Type 0} → (C → Seen) → Seen → Type 0
+Shown {C} shows seen = (conn : C) × (shows conn ≡ seen)
 
 abbrev pub outside : (input out : Seen) → Outside
 outside input out = record {

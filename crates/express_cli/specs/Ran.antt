@@ -24,7 +24,7 @@ use Rattle.express_cli.specs.Ends.{bad_line, bad_settings, usage_text, read_faul
 use Rattle.express_cli.specs.Around.{Around, Outside}
 use Rattle.express_cli.specs.Talking.{SpellsServe, SpellsClient, SpellsCarry, IsBadKey}
 use Rattle.express_cli.specs.Talking.{ServeMay, ClientMay, CarryMay}
-use Rattle.express_cli.specs.Runs.{RunMay, SinkFailed}
+use Rattle.express_cli.specs.Runs.{MayLeave, RunMay, SinkFailed}
 use Rattle.express_cli.specs.Headline.{RanWell, Told, Worked, Refused, BrokeOff, WantsMemory}
 use Rattle.express_cli.specs.declared.words.Command.{Command}
 use Rattle.express_cli.specs.declared.words.Command.TheVariants.{Replay, Batch, Cloak}
@@ -107,6 +107,9 @@ pub record Ran (words : List Text) (old new : Outside) (net : Around) (status : 
   -- came to its end: the line of each is out before the next is asked. A server that had made more calls
   -- than its listen had told that it listens: that is out before a connection is accepted.
   pub told_in_time : status ≡ 5 → SinkFailed words old.content new.content net old.written new.written
+  -- An answer that a client or a carrier took for one that ended early had ended: its connection had nothing
+  -- left. Of a server's connections `serve` tells what each had left.
+  pub early : MayLeave words net
   -- A listen, an accept or an exchange failed, after a part of the output of the command that was asked for.
   pub net_fault : status ≡ 6 → BrokeOff words old.content new.content net old.written new.written
   pub out_of_memory : status ≡ 7 → WantsMemory words old.content new.content net old.written new.written

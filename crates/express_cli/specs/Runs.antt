@@ -8,7 +8,7 @@ use Rattle.express_cli.specs.Reading.{GaveAll, GaveSome, most_bytes}
 use Rattle.express_cli.specs.Mills.{mill_text}
 use Rattle.express_cli.specs.Ends.{WorkMay, usage_text, read_fault_text, out_of_memory_text, too_long_text}
 use Rattle.express_cli.specs.Around.{Around}
-use Rattle.express_cli.specs.Talking.{TalkMay, WantsFirst, IsStill, BreaksOff}
+use Rattle.express_cli.specs.Talking.{TalkMay, WantsFirst, IsStill, LeavesNothing, BreaksOff}
 use Rattle.express_cli.specs.declared.words.Command.{Command}
 use Rattle.express_cli.specs.declared.words.NetCommand.{NetCommand}
 use Rattle.express_cli.specs.declared.ends.End.{End}
@@ -70,6 +70,10 @@ RunMay words from to before now net NetFault text = MayTalk words from to net Ne
 RunMay words from to before now net OutOfMemory text =
     WantsFirst net text ⊎ MayTalk words from to net OutOfMemory text
 RunMay words from to before now net WriteFault text = ⊥
+
+-- what a command over a net that the words ask for leaves on the connection that it closed last
+abbrev pub MayLeave : List Text → Around → Type 0
+MayLeave words net = (command : NetCommand) → AsksNet words command → LeavesNothing command net
 
 -- Where the sink failed, of a command over a net: nothing was done with the net, or the source gave all its
 -- bytes, and by the command's work on them so much was told.

@@ -1,5 +1,6 @@
 -- What comes of a command over a net, by the settings that are its input.
-use Rattle.std.specs.Prelude.{◌≡◌, ◌⊎◌, ℕ, Bool, true, false, List, ◌++◌, length, codes, Option, Ok, Err}
+use Rattle.std.specs.Prelude.{◌≡◌, ◌≤◌, ◌⊎◌, ℕ, Bool, true, false, List, ◌++◌, length, flat_map, codes}
+use Rattle.std.specs.Prelude.{All, Option, Result, Ok, Err}
 use Rattle.express_words.specs.Causes.{Rose}
 use Rattle.express_words.specs.Calls.{Listened, Adds}
 use Rattle.express_words.specs.Streams.{Took}
@@ -15,7 +16,8 @@ use Rattle.settings_text.specs.declared.carry.CarryJob.TheVariants.{Send, Fetch}
 use Rattle.settings_text.specs.declared.carry.CarrySettings.{CarrySettings}
 use Rattle.node_serve.specs.declared.node.Node.{Node}
 use Rattle.node_host.specs.Opening.{IsOpened}
-use Rattle.node_host.specs.Visits.{Visit, Standing, standing}
+use Rattle.node_serve.specs.Exchanging.{ClosedAtEnd, EndsShort, Makes}
+use Rattle.node_host.specs.Visits.{Visit, Visits, IsOf, standing, visit_calls}
 use Rattle.node_host.specs.Hosting.{Hosts}
 use Rattle.node_host.specs.Tallies.{tally_text}
 use Rattle.node_host.specs.declared.tally.Tally.{Tally}
@@ -57,32 +59,54 @@ IsBadKey Carry key bytes = judged carry_of bytes ≡ Err key
 abbrev pub listening : List ℕ
 listening = codes "listening\n"
 
+-- each was a connection of the net at its close, which had left what the visit says
+abbrev pub WereThere : (Seen → Type 0) → Seen → List Visit → Type 0
+WereThere shown now visits = All (λ v. (conn : Seen) × shown conn × IsOf now.calls v conn) visits
+
+-- By these visits, and no other call but an accept that failed, so many connections were served, or as many as
+-- came before that accept.
+pub record ServesDoor (shown : Seen → Type 0) (connections : ℕ) (result : Result Tally Failed) (node : Node)
+    (before now : Seen) : Type 0 where
+  pub visits : List Visit
+  pub end : Node
+  pub hosts : Hosts connections result visits (standing node before.faults) (standing end now.faults)
+      before.calls now.calls
+  pub there : WereThere shown now visits
+
+-- By these visits, and no other call, some of so many connections were served.
+pub record ServesSome (shown : Seen → Type 0) (connections : ℕ) (node : Node) (before now : Seen) : Type 0 where
+  pub visits : List Visit
+  pub end : Node
+  pub few : length visits ≤ connections
+  pub made : Visits (standing node before.faults) visits (standing end now.faults)
+  pub calls : Makes before.calls now.calls (flat_map visit_calls visits)
+  pub there : WereThere shown now visits
+
 -- What may come of serving so many connections at the open door, by what a net tells before and now.
-abbrev pub HostMay : ℕ → Node → Seen → Seen → End → List ℕ → Type 0
-HostMay connections node before now ends.Done text =
-    (visits : List Visit) × (end : Standing) × (tally : Tally)
-    × Hosts connections (Ok tally) visits (standing node before.faults) end before.calls now.calls
+abbrev pub HostMay : (Seen → Type 0) → ℕ → Node → Seen → Seen → End → List ℕ → Type 0
+HostMay shown connections node before now ends.Done text =
+    (tally : Tally) × ServesDoor shown connections (Ok tally) node before now
     × (now.doors ≡ before.doors) × (text ≡ tally_text tally ++ codes "\n")
-HostMay connections node before now ends.NetFault text =
-    (visits : List Visit) × (end : Standing) × (failed : Failed)
-    × Hosts connections (Err failed) visits (standing node before.faults) end before.calls now.calls
+HostMay shown connections node before now ends.NetFault text =
+    (failed : Failed) × ServesDoor shown connections (Err failed) node before now
     × Rose before.doors now.doors × (text ≡ net_fault_text)
-HostMay connections node before now ends.OutOfMemory text = text ≡ out_of_memory_text
-HostMay connections node before now other text = ⊥
+HostMay shown connections node before now ends.OutOfMemory text =
+    ServesSome shown connections node before now × (text ≡ out_of_memory_text)
+HostMay shown connections node before now other text = ⊥
 
 -- It told that it listens, and then serving came to this.
-abbrev pub ListeningMay : ℕ → Node → Seen → Seen → End → List ℕ → Type 0
-ListeningMay connections node before now end text =
-    (said : List ℕ) × HostMay connections node before now end said × (text ≡ listening ++ said)
+abbrev pub ListeningMay : (Seen → Type 0) → ℕ → Node → Seen → Seen → End → List ℕ → Type 0
+ListeningMay shown connections node before now end text =
+    (said : List ℕ) × HostMay shown connections node before now end said × (text ≡ listening ++ said)
 
 -- A server listened where its settings say, told so, and serving came to this.
-pub record Hosted (settings : ServeSettings) (node : Node) (before now : Seen) (end : End)
-    (text : List ℕ) : Type 0 where
+pub record Hosted (shown : Seen → Type 0) (settings : ServeSettings) (node : Node) (before now : Seen)
+    (end : End) (text : List ℕ) : Type 0 where
   pub at_door : Seen
   pub listens : Adds before.calls at_door.calls (Listened settings.listen false)
   pub faults : at_door.faults ≡ before.faults
   pub doors : at_door.doors ≡ before.doors
-  pub served : ListeningMay settings.connections node at_door now end text
+  pub served : ListeningMay shown settings.connections node at_door now end text
 
 -- Its listen failed, and no other call was made.
 pub record ListenFailed (settings : ServeSettings) (before now : Seen) (text : List ℕ) : Type 0 where
@@ -91,24 +115,44 @@ pub record ListenFailed (settings : ServeSettings) (before now : Seen) (text : L
   pub text_is : text ≡ net_fault_text
 
 -- what may come of a server at its door
-abbrev pub DoorMay : ServeSettings → Node → Seen → Seen → End → List ℕ → Type 0
-DoorMay settings node before now ends.Done text = Hosted settings node before now ends.Done text
-DoorMay settings node before now ends.NetFault text =
-    ListenFailed settings before now text ⊎ Hosted settings node before now ends.NetFault text
-DoorMay settings node before now ends.OutOfMemory text = Hosted settings node before now ends.OutOfMemory text
-DoorMay settings node before now other text = ⊥
+abbrev pub DoorMay : (Seen → Type 0) → ServeSettings → Node → Seen → Seen → End → List ℕ → Type 0
+DoorMay shown settings node before now ends.Done text = Hosted shown settings node before now ends.Done text
+DoorMay shown settings node before now ends.NetFault text =
+    ListenFailed settings before now text ⊎ Hosted shown settings node before now ends.NetFault text
+DoorMay shown settings node before now ends.OutOfMemory text =
+    Hosted shown settings node before now ends.OutOfMemory text
+DoorMay shown settings node before now other text = ⊥
 
 -- so of the server that is opened from its settings and the seed
 abbrev pub AtDoor : ServeSettings → Around → End → List ℕ → Type 0
-AtDoor settings net end text =
-    (node : Node) × IsOpened settings net.seed node × DoorMay settings node net.before net.now end text
+AtDoor settings net end text = (node : Node) × IsOpened settings net.seed node
+    × DoorMay net.shown settings node net.before net.now end text
+
+-- nothing was done with the net
+abbrev pub IsStill : Around → Type 0
+IsStill net = net.now ≡ net.before
+
+-- Nothing was done with the net; or if the connection that was closed last is whole and gave less than a frame,
+-- it had nothing left.
+abbrev pub LeftNothing : Around → Type 0
+LeftNothing net = IsStill net
+    ⊎ (EndsShort net.now.calls → (conn : Seen) × net.shown conn × ClosedAtEnd net.now.calls conn)
+
+-- So of a client and of a carrier; of a server it is said connection by connection.
+abbrev pub LeavesNothing : NetCommand → Around → Type 0
+LeavesNothing Serve net = Unit {0}
+LeavesNothing Client net = LeftNothing net
+LeavesNothing Carry net = LeftNothing net
+
+-- memory was wanting before any call on the net, and nothing else is told
+abbrev pub WantsFirst : Around → List ℕ → Type 0
+WantsFirst net text = (text ≡ out_of_memory_text) × IsStill net
 
 -- what may come of a server of these settings
 abbrev pub ServeMay : ServeSettings → Around → End → List ℕ → Type 0
 ServeMay settings net ends.Done text = AtDoor settings net ends.Done text
 ServeMay settings net ends.NetFault text = AtDoor settings net ends.NetFault text
-ServeMay settings net ends.OutOfMemory text =
-    (text ≡ out_of_memory_text) ⊎ AtDoor settings net ends.OutOfMemory text
+ServeMay settings net ends.OutOfMemory text = WantsFirst net text ⊎ AtDoor settings net ends.OutOfMemory text
 ServeMay settings net other text = ⊥
 
 -- ---- work that is told as it goes
@@ -211,17 +255,9 @@ IsBroken Client bytes net text =
 IsBroken Carry bytes net text =
     (settings : CarrySettings) × SpellsCarry settings bytes × CarryRan settings net run.NetFault text
 
--- nothing was done with the net
-abbrev pub IsStill : Around → Type 0
-IsStill net = net.now ≡ net.before
-
--- memory was wanting before any call on the net, and nothing else is told
-abbrev pub WantsFirst : Around → List ℕ → Type 0
-WantsFirst net text = (text ≡ out_of_memory_text) × IsStill net
-
 -- memory was wanting; a server may have told before that it listens
 abbrev pub IsWanting : NetCommand → List ℕ → Around → List ℕ → Type 0
-IsWanting Serve bytes net text = (text ≡ out_of_memory_text)
+IsWanting Serve bytes net text = WantsFirst net text
     ⊎ ((settings : ServeSettings) × SpellsServe settings bytes × AtDoor settings net ends.OutOfMemory text)
 IsWanting Client bytes net text = WantsFirst net text
     ⊎ ((settings : ClientSettings) × SpellsClient settings bytes × ClientWants settings net text)
@@ -233,7 +269,7 @@ abbrev pub TalkMay : NetCommand → List ℕ → Around → End → List ℕ →
 TalkMay command bytes net ends.Done text = IsDone command bytes net text
 TalkMay command bytes net ends.NetFault text = IsBroken command bytes net text
 TalkMay command bytes net ends.BadKey text =
-    (key : List ℕ) × IsBadKey command key bytes × (text ≡ bad_settings key)
+    (key : List ℕ) × IsBadKey command key bytes × (text ≡ bad_settings key) × IsStill net
 TalkMay command bytes net ends.OutOfMemory text = IsWanting command bytes net text
 TalkMay command bytes net other text = ⊥
 

@@ -3,7 +3,7 @@ ghost use Rattle.std.specs.Prelude.{◌≡◌, ◌≢◌, ◌≤◌, ◌⊎◌, 
 ghost use Rattle.express_words.specs.Limits.{KeepsLimits};
 ghost use Rattle.node_host.specs.Opening.{IsOpened};
 ghost use Rattle.node_host.specs.Tallies.{tally_text};
-ghost use Rattle.express_cli.specs.Around.{around};
+ghost use Rattle.express_cli.specs.Around.{around, Shown};
 ghost use Rattle.express_cli.specs.Ends.{Prints};
 ghost use Rattle.express_cli.specs.Talking.{BreaksOff, DoorMay, HostMay, IsOut, ListeningMay, ServeBreaks, ServeMay, TalkMay, listening};
 ghost use Rattle.express_cli.specs.declared.words.NetCommand.TheVariants.{Serve};
@@ -48,7 +48,7 @@ fn serve_all<K: Sink, N: Net>(
     out: &mut K,
     net: &mut N,
 ) -> End
-    ensures ends { Prints (HostMay connections node.old
+    ensures ends { Prints (HostMay (Shown N.Conn.seen) connections node.old
         (N.seen net.old) (N.seen net.new))
         (K.seen out.old) (K.seen out.new) result }
     ensures told { result ≢ End.WriteFault → (K.seen out.new).faults ≡ (K.seen out.old).faults }
@@ -72,7 +72,7 @@ fn tell_and_serve<K: Sink, N: Net>(
     out: &mut K,
     net: &mut N,
 ) -> End
-    ensures ends { Prints (ListeningMay connections node.old
+    ensures ends { Prints (ListeningMay (Shown N.Conn.seen) connections node.old
         (N.seen net.old) (N.seen net.new))
         (K.seen out.old) (K.seen out.new) result }
     ensures breaks { result ≡ End.WriteFault → (net.new ≡ net.old)
@@ -95,11 +95,11 @@ fn listen_and_serve<K: Sink, N: Net>(
     out: &mut K,
     net: &mut N,
 ) -> End
-    ensures ends { Prints (DoorMay settings.now node.old
+    ensures ends { Prints (DoorMay (Shown N.Conn.seen) settings.now node.old
         (N.seen net.old) (N.seen net.new))
         (K.seen out.old) (K.seen out.new) result }
     ensures breaks { result ≡ End.WriteFault → ServeBreaks settings.now
-        (around [] (N.seen net.old) (N.seen net.new))
+        (around [] (N.seen net.old) (N.seen net.new) (Shown N.Conn.seen))
         (K.seen out.old).written (K.seen out.new).written }
     ensures told { result ≢ End.WriteFault → (K.seen out.new).faults ≡ (K.seen out.old).faults }
     ensures settings { result ≢ End.BadKey }
@@ -121,11 +121,11 @@ fn serve_by<K: Sink, N: Net>(
     requires role { settings.now.role ≤ HELPER }
     requires limits { KeepsLimits settings.now.settings.width settings.now.settings.boxes settings.now.settings.lanes settings.now.settings.window }
     ensures ends { Prints (ServeMay settings.now
-        (around seed.now (N.seen net.old) (N.seen net.new)))
+        (around seed.now (N.seen net.old) (N.seen net.new) (Shown N.Conn.seen)))
         (K.seen out.old) (K.seen out.new) result }
     ensures breaks { result ≡ End.WriteFault
         → (net.new ≡ net.old) ⊎ ServeBreaks settings.now
-        (around seed.now (N.seen net.old) (N.seen net.new))
+        (around seed.now (N.seen net.old) (N.seen net.new) (Shown N.Conn.seen))
         (K.seen out.old).written (K.seen out.new).written }
     ensures told { result ≢ End.WriteFault → (K.seen out.new).faults ≡ (K.seen out.old).faults }
     ensures settings { result ≢ End.BadKey }
@@ -148,10 +148,10 @@ pub fn serve<K: Sink, N: Net>(
     net: &mut N,
 ) -> End
     ensures ends { Prints (TalkMay Serve text.now
-        (around seed.now (N.seen net.old) (N.seen net.new)))
+        (around seed.now (N.seen net.old) (N.seen net.new) (Shown N.Conn.seen)))
         (K.seen out.old) (K.seen out.new) result }
     ensures breaks { result ≡ End.WriteFault → BreaksOff Serve text.now
-        (around seed.now (N.seen net.old) (N.seen net.new))
+        (around seed.now (N.seen net.old) (N.seen net.new) (Shown N.Conn.seen))
         (K.seen out.old).written (K.seen out.new).written }
     ensures told { result ≢ End.WriteFault → (K.seen out.new).faults ≡ (K.seen out.old).faults }
     ensures waits { result ≡ End.BadKey → net.new ≡ net.old }

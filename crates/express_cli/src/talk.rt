@@ -1,8 +1,8 @@
 //! The work of a command over a net.
 ghost use Rattle.std.specs.Prelude.{◌≡◌, ◌≢◌, ◌≤◌};
-ghost use Rattle.express_cli.specs.Around.{around};
+ghost use Rattle.express_cli.specs.Around.{around, Shown};
 ghost use Rattle.express_cli.specs.Ends.{Prints};
-ghost use Rattle.express_cli.specs.Talking.{BreaksOff, TalkMay};
+ghost use Rattle.express_cli.specs.Talking.{BreaksOff, LeavesNothing, TalkMay};
 
 use crate::End;
 use crate::carry::carry;
@@ -22,13 +22,15 @@ pub fn talk<K: Sink, N: Net>(
     net: &mut N,
 ) -> End
     ensures ends { Prints (TalkMay command text.now
-        (around seed.now (N.seen net.old) (N.seen net.new)))
+        (around seed.now (N.seen net.old) (N.seen net.new) (Shown N.Conn.seen)))
         (K.seen out.old) (K.seen out.new) result }
     ensures breaks { result ≡ End.WriteFault → BreaksOff command text.now
-        (around seed.now (N.seen net.old) (N.seen net.new))
+        (around seed.now (N.seen net.old) (N.seen net.new) (Shown N.Conn.seen))
         (K.seen out.old).written (K.seen out.new).written }
     ensures told { result ≢ End.WriteFault → (K.seen out.new).faults ≡ (K.seen out.old).faults }
     ensures waits { result ≡ End.BadKey → net.new ≡ net.old }
+    ensures early { LeavesNothing command
+        (around seed.now (N.seen net.old) (N.seen net.new) (Shown N.Conn.seen)) }
 {
     match command {
         NetCommand::Serve => serve(alloc, text, seed, out, net),

@@ -1,6 +1,6 @@
 //! A server with a journal at its door.
 ghost use Rattle.std.specs.Prelude.{◌≡◌, ◌≢◌, ◌≤◌, ◌⊎◌, ℕ, false, []};
-ghost use Rattle.express_cli.specs.Around.{around};
+ghost use Rattle.express_cli.specs.Around.{around, Shown};
 ghost use Rattle.express_cli.specs.Talking.{IsOut, ServeBreaks, listening};
 ghost use Rattle.express_keep.specs.Endings.{DiskCounts};
 ghost use Rattle.express_keep.specs.Telling.{Tells};
@@ -103,7 +103,7 @@ pub(crate) fn listen_and_serve<K: Sink, N: Net, D: Disk>(
         (N.seen net.old) (N.seen net.new))
         (K.seen out.old) (K.seen out.new) result }
     ensures announces { result ≡ Ending.Plain End.WriteFault
-        → ServeBreaks settings.now (around [] (N.seen net.old) (N.seen net.new))
+        → ServeBreaks settings.now (around [] (N.seen net.old) (N.seen net.new) (Shown N.Conn.seen))
         (K.seen out.old).written (K.seen out.new).written }
     ensures told { result ≢ Ending.Plain End.WriteFault → (K.seen out.new).faults ≡ (K.seen out.old).faults }
     ensures disk { DiskCounts result (D.Counted.seen server.old.kept.disk).faults (D.Counted.seen server.new.kept.disk).faults }

@@ -1,7 +1,7 @@
 //! The top call with a journal.
 ghost use Rattle.std.specs.Prelude.{◌≡◌, ◌≢◌, ◌≤◌, [], ◌∷◌, Contains, map, string_bytes};
 ghost use Rattle.express_words.specs.Causes.{Rose};
-ghost use Rattle.express_cli.specs.Around.{around, outside};
+ghost use Rattle.express_cli.specs.Around.{around, outside, Shown};
 ghost use Rattle.express_cli.specs.CommandLine.{AskSome, AskTalk};
 ghost use Rattle.express_cli.specs.Laws.{Laws};
 ghost use Rattle.express_cli.specs.Ran.{Ran};
@@ -36,7 +36,7 @@ pub fn run_kept<S: Source, K: Sink, N: Net, D: Disk>(
     ensures ran { (AsksKeep (map string_bytes words.now.items) → ⊥) → Ran (map string_bytes words.now.items)
         (outside (S.seen input.old) (K.seen out.old))
         (outside (S.seen input.new) (K.seen out.new))
-        (around seed.now (N.seen net.old) (N.seen net.new)) result.0 }
+        (around seed.now (N.seen net.old) (N.seen net.new) (Shown N.Conn.seen)) result.0 }
     ensures disk_rests { (AsksKeep (map string_bytes words.now.items) → ⊥) → result.1 ≡ disk }
     ensures input_rests { (AsksKeep (map string_bytes words.now.items) → ⊥)
         → (AskSome (map string_bytes words.now.items) → ⊥) → input.new ≡ input.old }
@@ -48,7 +48,7 @@ pub fn run_kept<S: Source, K: Sink, N: Net, D: Disk>(
     ensures kept { AsksKeep (map string_bytes words.now.items) → KeepRan D.disk
         (outside (S.seen input.old) (K.seen out.old))
         (outside (S.seen input.new) (K.seen out.new))
-        (around seed.now (N.seen net.old) (N.seen net.new))
+        (around seed.now (N.seen net.old) (N.seen net.new) (Shown N.Conn.seen))
         disk result.1 (D.Counted.seen disk).faults (D.Counted.seen result.1).faults result.0 }
     // Nothing is taken from the input after a fault of it.
     ensures last_take { result.0 ≡ 4 → (last : S)

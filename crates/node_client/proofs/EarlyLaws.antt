@@ -1,21 +1,48 @@
--- An answer that ended early, by what the exchange said of it.
-use Rattle.std.proofs.Common.{◌≡◌, ℕ, Result, Err, IfErr, refl, sym, subst}
-use Rattle.frame_rules.specs.declared.fault.FrameFault.{FrameFault}
+-- The calls of an exchange whose answer didn't end early don't end short.
+use Rattle.std.proofs.Common.{◌≡◌, ◌⊎◌, inl, inr, ℕ, Bool, true, false, List, [], ◌∷◌, ◌++◌, Option, Some, None, Err, refl, sym, ap, ◌∙◌, subst, append_assoc}
+use Rattle.express_words.specs.Calls.{Call, Dialled, Closed}
+use Rattle.node_serve.specs.Draining.{ExchangeOn}
+use Rattle.node_serve.specs.Exchanging.{EndsShort, Exchange, IsExchange}
 use Rattle.node_serve.specs.declared.exchanging.Broken.{Broken}
 use Rattle.node_serve.specs.declared.exchanging.Broken.TheVariants as broken
-use Rattle.node_client.specs.declared.stop.Stop.{Stop}
-use Rattle.node_client.specs.declared.stop.Stop.TheVariants as stop
-use Rattle.node_client.specs.Steps.{stop_at}
+use Rattle.node_serve.proofs.EarlyLaws.{IsDecided, exchange_long, last_is}
 
-by_broken : (why : Broken) (P : Type 0) → ((n : ℕ) → why ≡ broken.Early n → P) → ((fault : FrameFault) → why ≡ broken.Wrong fault → P)
-    → stop_at why ≡ stop.Answer → P
-by_broken (broken.Early n) P early wrong is = early n refl
-by_broken (broken.Wrong fault) P early wrong is = wrong fault refl
-by_broken (broken.Fault count) P early wrong is = absurd (cc is)
+-- the connection of a call, if it was closed whole
+abbrev is_whole : Call → Bool
+is_whole (Closed given taken whole) = whole
+is_whole other = false
 
--- an exchange that gave no frame stops the work so where its answer ended early, or is none
-pub stops_early : {A : Type 0} (r : Result A Stop) (why : Broken) (P : Type 0) → r ≡ Err (stop_at why)
-    → ((n : ℕ) → why ≡ broken.Early n → P) → ((fault : FrameFault) → why ≡ broken.Wrong fault → P)
-    → IfErr r (λ s. s ≡ stop.Answer → P)
-stops_early {A} r why P is early wrong =
-    subst (λ (x : Result A Stop). IfErr x (λ s. s ≡ stop.Answer → P)) (sym is) (by_broken why P early wrong)
+not_whole : (old calls before : List Call) (call : Call) (given taken : List ℕ) → is_whole call ≡ false
+    → old ++ (calls ++ call ∷ []) ≡ before ++ Closed given taken true ∷ [] → ⊥
+not_whole old calls before call given taken failed all =
+    let same : call ≡ Closed given taken true = last_is (old ++ calls) before _ _ (append_assoc old calls (call ∷ []) ∙ all) in
+    absurd (cc (sym failed ∙ ap is_whole same))
+
+-- an exchange that failed ends with a dial that failed or a connection that isn't whole
+failed_long : (peer : List ℕ) (e : Exchange) (count : ℕ) (calls old before : List Call) (given taken : List ℕ) → e.answer ≡ Err (broken.Fault count)
+    → IsExchange peer e calls → old ++ calls ≡ before ++ Closed given taken true ∷ [] → ⊥
+failed_long peer e count (Dialled to true ∷ []) old before given taken failed is all = not_whole old [] before _ given taken refl all
+failed_long peer e count (Dialled to false ∷ Closed gave took false ∷ []) old before given taken failed is all =
+    not_whole old (Dialled to false ∷ []) before _ given taken refl all
+failed_long peer e count (Dialled to false ∷ Closed gave took true ∷ []) old before given taken failed (to_is, (all_taken, wanted, answer)) all =
+    rw failed at answer
+failed_long peer e count calls old before given taken failed is all = absurd is
+
+fault_long : (peer : List ℕ) (e : Exchange) (count : ℕ) (a b : Option (List Call)) → e.answer ≡ Err (broken.Fault count) → ExchangeOn peer e a b → EndsShort b → ⊥
+fault_long peer e count a None failed on ends = ends
+fault_long peer e count None (Some b) failed on ends = absurd on.1
+fault_long peer e count (Some a) (Some b) failed on ends =
+    failed_long peer e count on.0 a ends.0 ends.1 ends.2 failed on.2 (sym on.1 ∙ ends.3)
+
+-- where the calls of an exchange that gave no frame end short, its answer ended early
+pub broken_short : (peer : List ℕ) (e : Exchange) (a b : Option (List Call)) (why : Broken) (P : Type 0) → e.answer ≡ Err why
+    → ((n : ℕ) → why ≡ broken.Early n → P) → ExchangeOn peer e a b → EndsShort b → P
+broken_short peer e a b (broken.Early n) P is early on ends = early n refl
+broken_short peer e a b (broken.Wrong fault) P is early on ends = absurd (exchange_long peer e a b (subst IsDecided (sym is) tt) on ends)
+broken_short peer e a b (broken.Fault count) P is early on ends = absurd (fault_long peer e count a b is on ends)
+
+-- nothing was done, or this holds at the end, of two pieces of work one after the other
+pub still_or : {N : Type 0} (E : N → Type 0) (first mid last : N) → (mid ≡ first) ⊎ E mid → (last ≡ mid) ⊎ E last → (last ≡ first) ⊎ E last
+still_or E first mid last before (inr holds) = inr holds
+still_or E first mid last (inl same) (inl still) = inl (still ∙ same)
+still_or E first mid last (inr holds) (inl still) = inr (subst E (sym still) holds)

@@ -1,5 +1,5 @@
 //! One request.
-ghost use Rattle.std.specs.Prelude.{◌≡◌, None, length, OnOk, IfErr};
+ghost use Rattle.std.specs.Prelude.{◌≡◌, ◌⊎◌, None, length, OnOk};
 ghost use Rattle.client_core.specs.Requests.{plain_request};
 ghost use Rattle.node_serve.specs.Exchanging.{EarlyAtEnd};
 ghost use Rattle.node_client.specs.Steps.{FaultBy};
@@ -27,8 +27,7 @@ pub fn one_request<N: Net>(
         (N.seen net.old).calls (N.seen net.new).calls }
     ensures idle { OnOk result (client.new.current ≡ None) }
     ensures width { client.new.width ≡ client.old.width }
-    ensures early { IfErr result (λ why. why ≡ Stop.Answer
-        → EarlyAtEnd (N.seen net.new).calls N.Conn.seen) }
+    ensures early { (net.new ≡ net.old) ⊎ EarlyAtEnd (N.seen net.new).calls N.Conn.seen }
     ensures fault { FaultBy result (N.seen net.old).faults (N.seen net.new).faults }
     ensures door { (N.seen net.new).doors ≡ (N.seen net.old).doors }
 {

@@ -1,5 +1,5 @@
 //! The steps of a request, each by one exchange.
-ghost use Rattle.std.specs.Prelude.{◌≡◌, ◌≢◌, None, length, IfErr};
+ghost use Rattle.std.specs.Prelude.{◌≡◌, ◌≢◌, None, length};
 ghost use Rattle.step_rules.specs.ClientAsks.{sends};
 ghost use Rattle.node_serve.specs.Exchanging.{EarlyAtEnd};
 ghost use Rattle.node_client.specs.Steps.{Stepped, Walked, FaultBy};
@@ -25,8 +25,7 @@ fn one_step<N: Net>(
     ensures step { Stepped peers.now client.old client.new message.old message.new result
         (N.seen net.old).calls (N.seen net.new).calls }
     ensures width { client.new.width ≡ client.old.width }
-    ensures early { IfErr result (λ why. why ≡ Stop.Answer
-        → EarlyAtEnd (N.seen net.new).calls N.Conn.seen) }
+    ensures early { EarlyAtEnd (N.seen net.new).calls N.Conn.seen }
     ensures fault { FaultBy result (N.seen net.old).faults (N.seen net.new).faults }
     ensures door { (N.seen net.new).doors ≡ (N.seen net.old).doors }
 {
@@ -56,8 +55,7 @@ pub fn walk<N: Net>(
     ensures walked { Walked peers.now client.old client.new message.new result
         (N.seen net.old).calls (N.seen net.new).calls }
     ensures width { client.new.width ≡ client.old.width }
-    ensures early { IfErr result (λ why. why ≡ Stop.Answer
-        → EarlyAtEnd (N.seen net.new).calls N.Conn.seen) }
+    ensures early { EarlyAtEnd (N.seen net.new).calls N.Conn.seen }
     ensures fault { FaultBy result (N.seen net.old).faults (N.seen net.new).faults }
     ensures door { (N.seen net.new).doors ≡ (N.seen net.old).doors }
 {

@@ -10,7 +10,7 @@ use Rattle.node_serve.specs.declared.exchanging.Broken.{Broken}
 use Rattle.node_serve.specs.declared.exchanging.Broken.TheVariants as broken
 use Rattle.node_serve.proofs.HeldLaws.{frame_not_short, fault_not_short}
 
-last_is : (a b : List Call) (x y : Call) → a ++ x ∷ [] ≡ b ++ y ∷ [] → x ≡ y
+pub last_is : (a b : List Call) (x y : Call) → a ++ x ∷ [] ≡ b ++ y ∷ [] → x ≡ y
 last_is [] [] x y e = cc
 last_is [] (c ∷ b) x y e = absurd (omega (arith, ap length e, length-append b (y ∷ [])))
 last_is (d ∷ a) [] x y e = absurd (omega (arith, ap length e, length-append a (x ∷ [])))

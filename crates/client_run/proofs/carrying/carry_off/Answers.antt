@@ -1,4 +1,6 @@
-use Rattle.std.proofs.Common.{◌≡◌, length, refl, sym, ap, ◌∙◌, arith}
+use Rattle.std.proofs.Common.{◌≡◌, length, refl, inl, sym, ap, ◌∙◌, arith}
+use Rattle.node_serve.specs.Exchanging.{EarlyAtEnd}
+use Rattle.node_client.proofs.EarlyLaws.{still_or}
 use Rattle.node_client.proofs.WorkLaws.{working, request_at, works_more, works_stop}
 use Rattle.client_run.proofs.CarryLaws.{none_carry, none_whole, one_carries, one_whole, one_more_told, breaks}
 use Rattle.client_run.proofs.carrying.carry_off.Goals as goal
@@ -14,6 +16,7 @@ loop-number-init g c = record {
   whole = none_whole _ _ c.new-finished.ensures.items;
   few = omega (arith, ap length c.new-finished.ensures.items);
   count = refl;
+  early = inl refl;
   door = refl;
 }
 
@@ -44,5 +47,18 @@ loop-number-preserved g c =
       whole = one_whole _ _ _ _ _ _ _ c.in_ok-one.ensures size c.in_ok-push.ensures.items c.loop-number.invariant.whole;
       few = one_more_told _ _ _ _ c.in_ok-push.ensures.items c.loop-number.invariant.few;
       count = c.in-Ok.ensures.fault ∙ c.loop-number.invariant.count;
+      early = still_or (λ net. EarlyAtEnd (g.N.Counted.seen net).calls g.N.Conn.Counted.seen) _ _ _ c.loop-number.invariant.early c.one_request.ensures.early;
       door = c.one_request.ensures.door ∙ c.loop-number.invariant.door;
     }
+
+pub returns-in-Err-clause-early : goal.returns-in-Err-clause-early
+returns-in-Err-clause-early g c = still_or (λ net. EarlyAtEnd (g.N.Counted.seen net).calls g.N.Conn.Counted.seen) _ _ _ c.loop-number.invariant.early c.one_request.ensures.early
+
+pub returns-in_err-one-clause-early : goal.returns-in_err-one-clause-early
+returns-in_err-one-clause-early g c = still_or (λ net. EarlyAtEnd (g.N.Counted.seen net).calls g.N.Conn.Counted.seen) _ _ _ c.loop-number.invariant.early c.one_request.ensures.early
+
+pub returns-then-not-carries-clause-early : goal.returns-then-not-carries-clause-early
+returns-then-not-carries-clause-early g c = still_or (λ net. EarlyAtEnd (g.N.Counted.seen net).calls g.N.Conn.Counted.seen) _ _ _ c.loop-number.invariant.early c.one_request.ensures.early
+
+pub returns-in_err-push-clause-early : goal.returns-in_err-push-clause-early
+returns-in_err-push-clause-early g c = still_or (λ net. EarlyAtEnd (g.N.Counted.seen net).calls g.N.Conn.Counted.seen) _ _ _ c.loop-number.invariant.early c.one_request.ensures.early

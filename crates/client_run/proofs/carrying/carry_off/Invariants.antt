@@ -1,4 +1,5 @@
-use Rattle.std.proofs.Common.{◌≡◌, ◌≤◌, length, None, map}
+use Rattle.std.proofs.Common.{◌≡◌, ◌≤◌, ◌⊎◌, length, None, map}
+use Rattle.node_serve.specs.Exchanging.{EarlyAtEnd}
 use Rattle.client_core.specs.Requests.{plain_request}
 use Rattle.node_client.proofs.WorkLaws.{Working}
 use Rattle.client_run.specs.Carrying.{AllCarry}
@@ -16,5 +17,6 @@ invariant-loop-number g l = record {
   whole : AreWhole l.fn.client.width l.finished.items;
   few : length l.finished.items ≤ l.number;
   count : (g.N.Counted.seen l.net).faults ≡ (g.N.Counted.seen l.fn.net).faults;
+  early : (l.net ≡ l.fn.net) ⊎ EarlyAtEnd (g.N.Counted.seen l.net).calls g.N.Conn.Counted.seen;
   door : (g.N.Counted.seen l.net).doors ≡ (g.N.Counted.seen l.fn.net).doors;
 }

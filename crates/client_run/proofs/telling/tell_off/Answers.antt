@@ -1,6 +1,8 @@
-use Rattle.std.proofs.Common.{refl, sym, ◌∙◌, arith}
+use Rattle.std.proofs.Common.{refl, inl, sym, ◌∙◌, arith}
 use Rattle.std.proofs.lemmas.List.{take_all, length-map}
 use Rattle.client_core.specs.Requests.{plain_request}
+use Rattle.node_serve.specs.Exchanging.{EarlyAtEnd}
+use Rattle.node_client.proofs.EarlyLaws.{still_or}
 use Rattle.node_client.proofs.WorkLaws.{request_at}
 use Rattle.client_run.proofs.TellLaws.{telling_first, telling_more, telling_breaks, telling_cut, telling_all}
 use Rattle.client_run.proofs.telling.tell_off.Goals as goal
@@ -14,6 +16,7 @@ loop-number-init g c = record {
   telling = telling_first _ _ _ _ _;
   count = refl;
   sink = refl;
+  early = inl refl;
   door = refl;
 }
 
@@ -40,6 +43,7 @@ loop-number-preserved g c =
           (sym c.goes_on.ensures ∙ c.if-not-goes_on.false);
       count = c.in-Ok.ensures.fault ∙ c.loop-number.invariant.count;
       sink = c.in-Ok.ensures.sink ∙ c.loop-number.invariant.sink;
+      early = still_or (λ net. EarlyAtEnd (g.N.Counted.seen net).calls g.N.Conn.Counted.seen) _ _ _ c.loop-number.invariant.early c.tell_one.ensures.early;
       door = c.tell_one.ensures.door ∙ c.loop-number.invariant.door;
     }
 
@@ -47,3 +51,9 @@ pub returns-clause-tells : goal.returns-clause-tells
 returns-clause-tells g c =
     telling_all _ _ _ _ _ _ _ _ c.loop-number.invariant.telling
     (take_all c.loop-number.number _ (omega (arith, length-map c.args.requests.now plain_request, c.loop-number-test.false)))
+
+pub returns-in-Err-clause-early : goal.returns-in-Err-clause-early
+returns-in-Err-clause-early g c = still_or (λ net. EarlyAtEnd (g.N.Counted.seen net).calls g.N.Conn.Counted.seen) _ _ _ c.loop-number.invariant.early c.tell_one.ensures.early
+
+pub returns-then-not-goes_on-clause-early : goal.returns-then-not-goes_on-clause-early
+returns-then-not-goes_on-clause-early g c = still_or (λ net. EarlyAtEnd (g.N.Counted.seen net).calls g.N.Conn.Counted.seen) _ _ _ c.loop-number.invariant.early c.tell_one.ensures.early

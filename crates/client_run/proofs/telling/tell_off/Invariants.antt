@@ -1,4 +1,5 @@
-use Rattle.std.proofs.Common.{◌≡◌, ◌≤◌, length, map}
+use Rattle.std.proofs.Common.{◌≡◌, ◌≤◌, ◌⊎◌, length, map}
+use Rattle.node_serve.specs.Exchanging.{EarlyAtEnd}
 use Rattle.client_core.specs.Requests.{plain_request}
 use Rattle.client_run.specs.Telling.{moment, IsReady}
 use Rattle.client_run.proofs.TellLaws.{Telling}
@@ -14,5 +15,6 @@ invariant-loop-number g l = record {
       (moment (g.N.Counted.seen l.fn.net) (g.K.Counted.seen l.fn.out)) (moment (g.N.Counted.seen l.net) (g.K.Counted.seen l.out));
   count : (g.N.Counted.seen l.net).faults ≡ (g.N.Counted.seen l.fn.net).faults;
   sink : (g.K.Counted.seen l.out).faults ≡ (g.K.Counted.seen l.fn.out).faults;
+  early : (l.net ≡ l.fn.net) ⊎ EarlyAtEnd (g.N.Counted.seen l.net).calls g.N.Conn.Counted.seen;
   door : (g.N.Counted.seen l.net).doors ≡ (g.N.Counted.seen l.fn.net).doors;
 }

@@ -2,6 +2,7 @@ use Rattle.std.proofs.Common.{refl, sym, ap, inl, inr}
 use Rattle.express_cli.specs.Runs.{RunMay}
 use Rattle.express_cli.specs.declared.ends.End.TheVariants.{OutOfMemory, Usage}
 use Rattle.express_cli.proofs.Writing.{said, worked_all, talked_all, milled, unread, unmoved, asks_it, asks_net, asks_mill}
+use Rattle.express_cli.proofs.Serving.{asked_leaves, still_leaves}
 use Rattle.express_cli.proofs.Telling.{broke_off}
 use Rattle.express_cli.proofs.top.finish.Goals as goal
 
@@ -83,3 +84,28 @@ returns-in-Ok-input_of-clause-breaks g c = λ failed command asks.
 
 pub returns-in-Err-input_of-2-clause-breaks : goal.returns-in-Err-input_of-2-clause-breaks
 returns-in-Err-input_of-2-clause-breaks g c = λ failed command asks. inl refl
+
+-- ---- what was left
+
+pub returns-in-Err-clause-early : goal.returns-in-Err-clause-early
+returns-in-Err-clause-early g c command asks = still_leaves command _ refl
+
+pub returns-in-Ok-None-clause-early : goal.returns-in-Ok-None-clause-early
+returns-in-Ok-None-clause-early g c command asks = still_leaves command _ refl
+
+pub returns-in-Ok-Some-Mill-clause-early : goal.returns-in-Ok-Some-Mill-clause-early
+returns-in-Ok-Some-Mill-clause-early g c command asks = still_leaves command _ refl
+
+pub returns-in-Ok-clause-early : goal.returns-in-Ok-clause-early
+returns-in-Ok-clause-early g c command asks = still_leaves command _ refl
+
+pub returns-in-Err-input_of-clause-early : goal.returns-in-Err-input_of-clause-early
+returns-in-Err-input_of-clause-early g c command asks = still_leaves command _ refl
+
+pub returns-in-Err-input_of-2-clause-early : goal.returns-in-Err-input_of-2-clause-early
+returns-in-Err-input_of-2-clause-early g c command asks = still_leaves command _ refl
+
+pub returns-in-Ok-input_of-clause-early : goal.returns-in-Ok-input_of-clause-early
+returns-in-Ok-input_of-clause-early g c command asks =
+    let asked = asks_net _ _ _ c.in-Ok-Some-Net.command c.in-Ok-Some-Net.field-0-is c.in-Ok-Some-Net.field-0-0-is c.in-Ok-Some-Net.ensures in
+    asked_leaves _ _ command c.in-Ok-Some-Net.command asks asked c.talk.ensures.early

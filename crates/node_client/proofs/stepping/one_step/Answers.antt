@@ -1,8 +1,7 @@
-use Rattle.std.proofs.Common.{Err, refl, sym, ap, subst}
-use Rattle.node_serve.specs.declared.exchanging.Broken.{Broken}
-use Rattle.node_serve.proofs.EarlyLaws.{IsDecided, exchange_long}
+use Rattle.std.proofs.Common.{Err, refl, ap}
+use Rattle.node_serve.proofs.EarlyLaws.{exchange_long}
 use Rattle.node_client.proofs.StepLaws.{step_told, err_is, stepped}
-use Rattle.node_client.proofs.EarlyLaws.{stops_early}
+use Rattle.node_client.proofs.EarlyLaws.{broken_short}
 use Rattle.node_client.proofs.stepping.one_step.Goals as goal
 
 pub returns-in_err-count-clause-step : goal.returns-in_err-count-clause-step
@@ -31,10 +30,17 @@ returns-in-Ignored-clause-step g c =
     c.address_of.ensures c.in_ok-count.ensures.calls c.in-Ignored.ensures.client (step_told _ _ c.in-Ignored.ensures.progress) c.in-Ignored.ensures.message
 
 pub returns-in_err-count-clause-early : goal.returns-in_err-count-clause-early
-returns-in_err-count-clause-early g c =
-    let why : Broken = c.in_err-count.field-0.0 in
-    stops_early _ why _ (err_is _ why c.from_residual.ensures.1) (λ n e ends. c.in_err-count.ensures.early n (ap Err e))
-    (λ fault e ends. absurd (exchange_long _ _ _ _ (subst (λ (x : Broken). IsDecided (Err x)) (sym e) tt) c.in_err-count.ensures.calls ends))
+returns-in_err-count-clause-early g c = λ ends.
+    broken_short _ _ _ _ c.in_err-count.field-0.0 _ refl (λ n e. c.in_err-count.ensures.early n (ap Err e)) c.in_err-count.ensures.calls ends
+
+pub returns-in-Next-clause-early : goal.returns-in-Next-clause-early
+returns-in-Next-clause-early g c = λ ends. absurd (exchange_long _ _ _ _ tt c.in_ok-count.ensures.calls ends)
+
+pub returns-in-Finished-clause-early : goal.returns-in-Finished-clause-early
+returns-in-Finished-clause-early g c = λ ends. absurd (exchange_long _ _ _ _ tt c.in_ok-count.ensures.calls ends)
+
+pub returns-in-Later-clause-early : goal.returns-in-Later-clause-early
+returns-in-Later-clause-early g c = λ ends. absurd (exchange_long _ _ _ _ tt c.in_ok-count.ensures.calls ends)
 
 pub returns-in-Ignored-clause-early : goal.returns-in-Ignored-clause-early
-returns-in-Ignored-clause-early g c = λ bad ends. absurd (exchange_long _ _ _ _ tt c.in_ok-count.ensures.calls ends)
+returns-in-Ignored-clause-early g c = λ ends. absurd (exchange_long _ _ _ _ tt c.in_ok-count.ensures.calls ends)
