@@ -1,8 +1,8 @@
 -- What every run of tries keeps.
-use Rattle.std.proofs.Common.{◌≡◌, ◌≢◌, ◌⊎◌, inl, inr, ℕ, suc, ◌+◌, ◌-◌, ◌<◌, ◌≤◌, eqb, Bool, true, false, cond, ◌&&◌, ◌||◌, List, [], ◌∷◌, Option, Some, None, length, refl, ap, sym, subst, ◌∙◌, arith}
-use Rattle.std.specs.Prelude.{All, not, count_by}
+use Rattle.std.proofs.Common.{◌≡◌, ◌⊎◌, inl, inr, ℕ, ◌+◌, ◌<◌, ◌≤◌, eqb, Bool, true, false, cond, ◌&&◌, ◌||◌, List, [], ◌∷◌, Option, Some, None, length, refl, ap, sym, subst, ◌∙◌, arith}
+use Rattle.std.specs.Prelude.{All, not}
 use Rattle.std.specs.List.{list_any}
-use Rattle.std.proofs.lemmas.Bool.{ne_eqb, eqb-true, eqb-false, eq-eqb, or_cases, cases_eq, true≢false}
+use Rattle.std.proofs.lemmas.Bool.{ne_eqb, eqb-true, eqb-false, cases_eq}
 use Rattle.std.proofs.lemmas.List.Elements.{All-nil, All-cons}
 use Rattle.std.proofs.lemmas.List.Sums.{sum_by-cons}
 use Rattle.express_words.specs.declared.refusal.Refusal.{Refusal}
@@ -16,7 +16,7 @@ use Rattle.desk_tries.specs.declared.sending.End.TheVariants as end
 use Rattle.desk_tries.specs.declared.sending.Next.TheVariants.{NewTry, NextAddress, Stop}
 use Rattle.desk_tries.specs.Told.{by_proof, told_by_refusal, told_by}
 use Rattle.desk_tries.specs.Servers.{closes, excludes}
-use Rattle.desk_tries.specs.Steps.{State, Turn, turn, started, after_proof, new_try, end_of, again_at_address, elsewhere, turn_by, turn_of}
+use Rattle.desk_tries.specs.Steps.{State, turn, after_proof, new_try, end_of, again_at_address, elsewhere, turn_by}
 use Rattle.desk_tries.specs.Runs.{Try, fresh, may_be_accepted, may_be_accepted_at, accepted_at, Event, ProofGoes, Hears, Run, tries, opened, hears, follows_turn, goes_on, if_open, after_event, run_from, run_of}
 use Rattle.desk_tries.specs.Laws.{WrittenOnce, NotWrittenIsTrue, IsAccepted, WrittenIsTrue, AreFew, TriesAreFew}
 
@@ -193,7 +193,7 @@ next_address n s t before k left more = record {
     at_address a (inl same) =
         let e = adds_one a t in let is = k.address_is in
         let c = k.clear a (omega (arith, same, is)) in let s = accepted_cons a t before in omega (arith, e, c, s)
-    at_address a (inr other) = 
+    at_address a (inr other) =
         let e = adds_elsewhere a t other in let c = k.once a in let s = accepted_cons a t before in omega (arith, e, c, s)
 
 -- what is kept says the same of a try that heard one more answer

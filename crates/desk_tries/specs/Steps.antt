@@ -9,9 +9,9 @@ use Rattle.desk_tries.specs.declared.sending.Next.{Next}
 use Rattle.desk_tries.specs.declared.sending.Next.TheVariants.{GoOn, SameAgain, NewTry, NextAddress, Stop}
 use Rattle.desk_tries.specs.Told.{told_by}
 
--- The addresses of the card, the present one of them, how many further tries are left, and whether the present
--- try's last proof has gone out. All addresses before the present one were left because it isn't known whether
--- the letter was written there.
+-- The addresses of the card, the present one of them, how many further tries are left, and whether the
+-- present try's last proof has gone out. All addresses before the present one were left because it isn't known
+-- whether the letter was written there.
 pub record State : Type 0 where
   pub addresses : ℕ
   pub address : ℕ

@@ -1,6 +1,7 @@
 //! The sending of one letter: a try after another, until it is written or nothing more can be done safely.
 ghost use Rattle.std.specs.Prelude.{◌≡◌, ◌≤◌, ◌<◌, true, false};
-ghost use Rattle.desk_tries.specs.Steps.{started, after_proof, next_of, state_after, again_at_address, elsewhere, end_of};
+ghost use Rattle.desk_tries.specs.Steps.{started, after_proof, next_of, state_after};
+ghost use Rattle.desk_tries.specs.Steps.{again_at_address, elsewhere, end_of};
 
 use crate::heard::{Answer, Told, told_by};
 use std::marker::Model;
