@@ -2,7 +2,7 @@
 use desk_letters::{Opened, SealFault, open, room, screen_text, seal};
 use desk_texts::{Head, is_place, print, read_sheet};
 use desk_tries::{
-    Answer, End, Next, Sending, Told, highest_named, lane_among, next_lane, serial_above, told_by,
+    Answer, End, Fate, Next, Sending, fate_by, highest_named, lane_among, next_lane, serial_above,
 };
 use express_texts::TextFault;
 use express_words::Refusal;
@@ -119,7 +119,7 @@ fn tries(rt: HostRuntime) {
     assert!(rt; sending.hear(stale) == Next::Stop(End::MaybeWritten));
     let mut kept = Sending::kept(1, 0, 0, true);
     assert!(rt; kept.hear(Answer::Refused(Refusal::NoDeposit)) == Next::Stop(End::NotWritten));
-    assert!(rt; told_by(true, Answer::Accepted) == Told::Written);
+    assert!(rt; fate_by(true, Answer::Accepted) == Fate::Written);
     assert!(rt; lane_among(16, 79, 65) == 17 && next_lane(16, 79, 20, stale, 4) == 20);
     assert!(rt; next_lane(16, 79, 20, Answer::Other, 4) == 21);
     assert!(rt; serial_above(highest_named(0, stale), 2) == Some(10));
