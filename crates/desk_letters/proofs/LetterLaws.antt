@@ -1,5 +1,5 @@
 -- What stands where in a letter, and that bytes whose fields are a letter's spell it.
-use Rattle.std.proofs.Common.{◌≡◌, ℕ, zero, suc, ◌+◌, ◌-◌, ◌<◌, ◌≤◌, ◌^◌, eqb, Bool, true, false, List, [], ◌∷◌, ◌++◌, length, get_or, take, drop, replicate, refl, ap, sym, subst, ◌∙◌, arith, append_assoc}
+use Rattle.std.proofs.Common.{◌≡◌, ℕ, zero, suc, ◌+◌, ◌-◌, ◌<◌, ◌≤◌, ◌^◌, eqb, true, false, List, [], ◌∷◌, ◌++◌, length, get_or, take, drop, replicate, refl, ap, sym, subst, ◌∙◌, arith, append_assoc}
 use Rattle.std.specs.Prelude.{All}
 use Rattle.std.specs.Int.{w16, w64, to_be_bytes, from_be_bytes}
 use Rattle.std.proofs.lemmas.Nat.{be_bytes_2, be_bytes_8, from_be_bytes-to_be_bytes_2, from_be_bytes-to_be_bytes_8}
@@ -11,7 +11,7 @@ use Rattle.sha2.proofs.Facts256.{length-sha256}
 use Rattle.file_carry.specs.Boxes.{is_zeros}
 use Rattle.file_carry.specs.Parts.{filled}
 use Rattle.desk_letters.specs.Letters.{room, front, digest_of, letter_of, length_in, id_in, Fits, Spells, IsNoLetter}
-use Rattle.desk_letters.specs.Opening.{Content, Empty, Letter, Met, AreZeros, Opens}
+use Rattle.desk_letters.specs.Opening.{Empty, Letter, Met, AreZeros}
 use Rattle.desk_letters.specs.Laws.{OneContent, SealedOpen}
 
 length-digest : (id : ℕ) (text : List ℕ) → length (digest_of id text) ≡ 16

@@ -22,4 +22,5 @@ WrittenAreRead = (j : Journal) (address id : ℕ) (text : List ℕ) (read : ℕ)
 
 -- the read of a box that was live and clear, to which nothing was written, gives bytes that open as none
 abbrev pub UnwrittenAreEmpty : Type 0
-UnwrittenAreEmpty = (j : Journal) (read : ℕ) → IsUnwritten j read → Opens Empty (bytes_given (result_at j read))
+UnwrittenAreEmpty = (j : Journal) (read : ℕ) → IsUnwritten j read
+    → Opens Empty (bytes_given (result_at j read))

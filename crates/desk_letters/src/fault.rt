@@ -20,7 +20,10 @@ impl fmt::Display for SealFault {
     fn fmt<W: fmt::Write>(&self, f: &mut fmt::Formatter<W>) -> fmt::Result {
         match self {
             SealFault::NoText => f.write_str("a letter has at least one byte"),
-            SealFault::TooLong(most) => write!(f, "the letter is too long: at most {most} bytes fit"),
+            SealFault::TooLong(most) => write!(
+                f,
+                "the letter is too long: at most {most} bytes fit"
+            ),
         }
     }
 }

@@ -13,6 +13,7 @@ use sha2::{Digest, Sha256};
 pub const HEADER: usize = 26;
 
 const ID_AT: usize = 2;
+
 const DIGEST_AT: usize = 10;
 
 /// What a box holds.

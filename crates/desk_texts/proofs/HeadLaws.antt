@@ -1,10 +1,10 @@
 -- A line says what is printed of it.
-use Rattle.std.proofs.Common.{◌≡◌, ℕ, ◌%◌, ◌^◌, ◌<◌, ◌==◌, nat_eq, nat_le, Bool, true, false, cond, List, [], ◌∷◌, ◌++◌, Option, Some, None, codes, refl, sym, ap, subst, ◌∙◌, arith}
+use Rattle.std.proofs.Common.{◌≡◌, ℕ, ◌%◌, ◌^◌, ◌<◌, ◌==◌, nat_eq, Bool, true, false, cond, List, ◌++◌, Option, Some, None, codes, refl, sym, ap, subst, ◌∙◌, arith}
 use Rattle.std.specs.Fmt.{decimal}
 use Rattle.std.specs.Str.{bytes_eq}
 use Rattle.std.proofs.lemmas.Bool.{eqb-true}
 use Rattle.std.proofs.lemmas.Slice.Eq.{bytes_eq-Decides}
-use Rattle.text_fields.specs.Fields.{◌>>=◌, after, spelled_word, wanted}
+use Rattle.text_fields.specs.Fields.{after, spelled_word, wanted}
 use Rattle.text_fields.specs.Numbers.{number_at, last_number}
 use Rattle.text_fields.proofs.FieldLaws.{bind_some, after_found, after_only, wanted_found}
 use Rattle.text_fields.proofs.NumberLaws.{number_found, number_only, last_found, last_only}
@@ -15,7 +15,7 @@ use Rattle.desk_texts.specs.declared.sheet.PairHead.{PairHead}
 use Rattle.desk_texts.specs.Fields.{card_of, pair_numbers, is_strangers, pair_of, head_by, head_of, place_of, address_digits, address_of}
 use Rattle.desk_texts.specs.Places.{is_place}
 use Rattle.desk_texts.specs.Sheets.{is_among, if_new, new_address}
-use Rattle.desk_texts.specs.Spelling.{card_text, pair_text, head_text, IsCard, IsPair, IsHead, SpellsHead, SpellsPlace, IsAddress, address_text, SpellsNew}
+use Rattle.desk_texts.specs.Spelling.{card_text, pair_text, IsCard, IsPair, SpellsHead, SpellsPlace, IsAddress, address_text, SpellsNew}
 
 -- the bounds of numbers are below 2 ^ 64
 below_64 : 64 < 2 ^ 64

@@ -1,5 +1,5 @@
 -- What is printed of a sheet has the sheet's lines.
-use Rattle.std.proofs.Common.{◌≡◌, ◌≢◌, ◌⊎◌, inl, inr, ℕ, zero, suc, ◌+◌, ◌-◌, ◌/◌, ◌%◌, ◌^◌, ◌<◌, ◌≤◌, eqb, Bool, true, false, cond, List, [], ◌∷◌, ◌++◌, map, length, get_or, drop, Result, Ok, codes, refl, sym, ap, subst, ◌∙◌, arith, append_assoc, append-nil}
+use Rattle.std.proofs.Common.{◌≡◌, ◌≢◌, inl, ℕ, zero, suc, ◌+◌, ◌-◌, ◌/◌, ◌%◌, ◌^◌, ◌<◌, ◌≤◌, true, false, List, [], ◌∷◌, ◌++◌, map, length, get_or, drop, Ok, codes, refl, ap, ◌∙◌, arith, append_assoc, append-nil}
 use Rattle.std.specs.Fmt.{decimal}
 use Rattle.std.specs.Char.{is_ascii_digit}
 use Rattle.std.specs.List.{list_all}
@@ -8,10 +8,10 @@ use Rattle.std.proofs.lemmas.Bool.{and_parts}
 use Rattle.std.proofs.lemmas.Bool.Decides.{nat_tests}
 use Rattle.std.proofs.lemmas.Fmt.{digits_decimal}
 use Rattle.std.proofs.lemmas.Grind.{common_steps}
-use Rattle.std.proofs.lemmas.List.{length-append, get_or-append_right}
+use Rattle.std.proofs.lemmas.List.{length-append}
 use Rattle.sha2.specs.Sha256.{sha256}
-use Rattle.hex.specs.Hex.{lower_digits, encode_with, encode_lower}
-use Rattle.text_fields.specs.Lines.{lines_of, HasNoLf, AreLines}
+use Rattle.hex.specs.Hex.{lower_digits, encode_with}
+use Rattle.text_fields.specs.Lines.{HasNoLf, AreLines}
 use Rattle.text_fields.proofs.LineLaws.{lines_only}
 use Rattle.text_fields.proofs.NumberLaws.{numerals}
 use Rattle.desk_texts.specs.declared.sheet.Head.{Head}
@@ -20,10 +20,10 @@ use Rattle.desk_texts.specs.declared.sheet.Sheet.{Sheet}
 use Rattle.desk_texts.specs.Checks.{with_content, digit_of, check_word, checked, checked_lines}
 use Rattle.desk_texts.specs.Fields.{address_digits}
 use Rattle.desk_texts.specs.Lines.{is_blank, trimmed, lines_in}
-use Rattle.desk_texts.specs.Places.{is_place_byte, is_place}
+use Rattle.desk_texts.specs.Places.{is_place_byte}
 use Rattle.desk_texts.specs.Printing.{printed_from, printed}
 use Rattle.desk_texts.specs.Sheets.{sheet_of}
-use Rattle.desk_texts.specs.Spelling.{head_text, card_text, pair_text, address_text, IsHead, IsSheet, contents, SpellsSheet}
+use Rattle.desk_texts.specs.Spelling.{head_text, address_text, IsHead, IsSheet, contents}
 use Rattle.desk_texts.proofs.CheckLaws.{length-check_word}
 use Rattle.desk_texts.proofs.SheetLaws.{is_only}
 use Rattle.desk_texts.proofs.TextLaws.{place_bytes}
@@ -124,9 +124,19 @@ digit_not_lf x e = absurd (omega (arith, e))
 word_no_lf : (said : List ℕ) → HasNoLf (check_word said)
 unfolding check_word
 word_no_lf said =
-    let d : List ℕ = sha256 said in
-    ((λ e. absurd (omega (arith, e))), (digit_not_lf (get_or d 0 0), (digit_not_lf (get_or d 1 0), (digit_not_lf (get_or d 2 0),
-    (digit_not_lf (get_or d 3 0), (digit_not_lf (get_or d 4 0), tt))))))
+    let d : List ℕ = sha256 said in (
+      (λ e. absurd (omega (arith, e))),
+      (
+        digit_not_lf (get_or d 0 0),
+        (
+          digit_not_lf (get_or d 1 0),
+          (
+            digit_not_lf (get_or d 2 0),
+            (digit_not_lf (get_or d 3 0), (digit_not_lf (get_or d 4 0), tt)),
+          ),
+        ),
+      ),
+    )
 
 last_shows : (said : List ℕ) → is_blank (get_or (check_word said) 5 0) ≡ false
 unfolding check_word

@@ -1,5 +1,5 @@
 -- A text is read as a sheet exactly where it spells it, and a line is named exactly where it is the first bad one.
-use Rattle.std.proofs.Common.{◌≡◌, ◌⊎◌, inl, inr, ℕ, zero, suc, ◌+◌, List, [], ◌∷◌, ◌++◌, map, length, Option, Some, None, Result, Ok, Err, codes, refl, sym, ap, subst, ◌∙◌, arith, append_assoc, append-nil}
+use Rattle.std.proofs.Common.{◌≡◌, inl, inr, ℕ, zero, suc, ◌+◌, List, [], ◌∷◌, ◌++◌, map, length, Option, Some, None, Result, Ok, Err, codes, refl, sym, ap, subst, ◌∙◌, append_assoc, append-nil}
 use Rattle.express_texts.specs.GameLines.{◌>>=◌, found_or}
 use Rattle.express_texts.specs.GameSpelling.{FaultFrom}
 use Rattle.desk_texts.specs.declared.sheet.Head.{Head}
@@ -255,6 +255,7 @@ sheet_found lines s h =
               ∙ ap (λ (c : List ℕ). checked_lines [] (head_text one.a ∷ (c ∷ (three.content ∷ map address_text four.addresses)))) two.spelled.1
               ∙ ap (λ (c : List ℕ). checked_lines [] (head_text one.a ∷ ((codes "leader " ++ two.a) ∷ (c ∷ map address_text four.addresses)))) three.spelled.1;
         })
+
 sheet_only : (s : Sheet) → IsSheet s → sheet_of (checked_lines [] (contents s)) ≡ Ok s
 unfolding sheet_of
 sheet_only s is =

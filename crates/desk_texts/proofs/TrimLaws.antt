@@ -1,5 +1,5 @@
 -- A line without the blanks at its end.
-use Rattle.std.proofs.Common.{◌≡◌, ℕ, zero, suc, ◌+◌, ◌-◌, ◌<◌, ◌≤◌, Bool, true, false, cond, List, [], ◌∷◌, length, get_or, take, refl, ap, sym, ◌∙◌, arith}
+use Rattle.std.proofs.Common.{◌≡◌, ℕ, zero, suc, ◌+◌, ◌-◌, ◌<◌, ◌≤◌, true, false, cond, List, [], ◌∷◌, length, get_or, take, refl, ap, sym, arith}
 use Rattle.desk_texts.specs.Lines.{is_blank, before, trimmed}
 
 blank_at : (i : ℕ) (xs : List ℕ) → length xs ≡ i + 1 → is_blank (get_or xs i 0) ≡ true

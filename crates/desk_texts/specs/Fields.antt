@@ -1,5 +1,6 @@
 -- The fields of a sheet's lines, as functions from what a line says.
-use Rattle.std.specs.Prelude.{ℕ, nat_le, ◌%◌, ◌==◌, ◌&&◌, if◌then◌else◌, Bool, List, codes, Option, Some, None}
+use Rattle.std.specs.Prelude.{ℕ, nat_le, ◌%◌, ◌==◌, ◌&&◌, if◌then◌else◌, Bool, List, codes}
+use Rattle.std.specs.Prelude.{Option, Some, None}
 use Rattle.std.specs.Int.{w128, to_be_bytes}
 use Rattle.std.specs.Str.{bytes_eq}
 use Rattle.hex.specs.Hex.{encode_lower}

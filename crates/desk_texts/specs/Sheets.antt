@@ -1,5 +1,6 @@
 -- A sheet as a function from its lines: what it says, or its first bad line.
-use Rattle.std.specs.Prelude.{ℕ, zero, suc, ◌+◌, ◌==◌, if◌then◌else◌, Bool, List, [], ◌∷◌, ◌++◌, codes, Option, Some, None, Result}
+use Rattle.std.specs.Prelude.{ℕ, zero, suc, ◌+◌, ◌==◌, if◌then◌else◌, Bool, List, [], ◌∷◌, ◌++◌, codes}
+use Rattle.std.specs.Prelude.{Option, Some, None, Result}
 use Rattle.std.specs.Prelude.{Ok, Err}
 use Rattle.std.specs.List.{list_any}
 use Rattle.express_texts.specs.GameLines.{◌>>=◌, found_or}
@@ -9,7 +10,7 @@ use Rattle.desk_texts.specs.declared.sheet.Sheet.{Sheet}
 use Rattle.desk_texts.specs.Fields.{head_of, place_of, address_of}
 use Rattle.desk_texts.specs.Lines.{content_at}
 
--- what the line at a place says, read so, behind those contents; the contents with it, and the lines behind it
+-- what is read of the line at a place, behind those contents; the contents with it, and the lines behind it
 unfoldable pub line_as : {A : Type 0} → ℕ → List ℕ → (List ℕ → Option A) → List (List ℕ)
     → Result (A × List ℕ × List (List ℕ)) ℕ
 line_as place said read lines =

@@ -1,5 +1,5 @@
 -- The grammar of a card and of a pair file: the lines that are printed of it, and its first bad line.
-use Rattle.std.specs.Prelude.{◌≡◌, ◌⊎◌, ℕ, zero, suc, ◌+◌, ◌≤◌, ◌%◌, true, false, List, [], ◌∷◌, ◌++◌, map, length}
+use Rattle.std.specs.Prelude.{◌≡◌, ℕ, zero, suc, ◌+◌, ◌≤◌, ◌%◌, true, false, List, [], ◌∷◌, ◌++◌, map, length}
 use Rattle.std.specs.Prelude.{codes, Some}
 use Rattle.std.specs.Fmt.{decimal}
 use Rattle.text_fields.specs.Fields.{spelled_word}
@@ -85,7 +85,8 @@ SpellsNew before address content =
 
 abbrev pub AreNew : List ℕ → List ℕ → Type 0
 AreNew before [] = Unit {0}
-AreNew before (a ∷ addresses) = IsAddress a × (is_among a before ≡ false) × AreNew (before ++ a ∷ []) addresses
+AreNew before (a ∷ addresses) =
+    IsAddress a × (is_among a before ≡ false) × AreNew (before ++ a ∷ []) addresses
 
 pub record IsSheet (s : Sheet) : Type 0 where
   pub head : IsHead s.head
@@ -99,7 +100,7 @@ contents s =
     head_text s.head ∷ ((codes "leader " ++ s.leader) ∷ ((codes "helper " ++ s.helper)
     ∷ map address_text s.addresses))
 
--- the text is that of the sheet: each line has its check word, and blanks at the ends of lines aren't looked at
+-- the text is that of the sheet: each line has its check word, and blanks at its end aren't looked at
 pub record SpellsSheet (s : Sheet) (text : List ℕ) : Type 0 where
   pub sheet : IsSheet s
   pub lines : lines_in text ≡ checked_lines [] (contents s)
@@ -109,17 +110,18 @@ pub record SpellsSheet (s : Sheet) (text : List ℕ) : Type 0 where
 -- a line behind these contents: what it says, and the contents with it
 abbrev pub Says : {A : Type 0} → List ℕ → (A → List ℕ → Type 0) → A × List ℕ → List ℕ → Type 0
 Says said Spells r line =
-    (content : List ℕ) × Spells r.0 content × (line ≡ checked said content) × (r.1 ≡ with_content said content)
+    (content : List ℕ) × Spells r.0 content × (line ≡ checked said content)
+    × (r.1 ≡ with_content said content)
 
 -- Line n is the first bad one of so many addresses' lines from a place on; none may follow.
 abbrev pub FaultOfAddresses : ℕ → ℕ → List ℕ → List ℕ → ℕ → List (List ℕ) → Type 0
 FaultOfAddresses zero place said before n [] = ⊥
 FaultOfAddresses zero place said before n (line ∷ lines) = n ≡ place
 FaultOfAddresses (suc room) place said before n lines =
-    FaultFrom place (Says said (SpellsNew before)) (λ r. FaultOfAddresses room (place + 1) r.1 (before ++ r.0 ∷ []))
-    n lines
+    FaultFrom place (Says said (SpellsNew before))
+    (λ r. FaultOfAddresses room (place + 1) r.1 (before ++ r.0 ∷ [])) n lines
 
--- Line n is the first bad one: it is missing, has another check word than its own, or doesn't say what it should.
+-- Line n is the first bad one: it is missing, its check word is wrong, or it doesn't say what it should.
 abbrev pub FaultOfLines : ℕ → List (List ℕ) → Type 0
 FaultOfLines =
     FaultFrom 1 (Says [] SpellsHead) (λ head.

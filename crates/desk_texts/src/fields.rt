@@ -1,7 +1,8 @@
 //! The fields of a sheet's lines.
 ghost use Rattle.std.specs.Prelude.{◌≡◌, ◌≤◌, true, IfSome};
 ghost use Rattle.std.specs.Option.{option_copied};
-ghost use Rattle.desk_texts.specs.Fields.{card_of, pair_numbers, is_strangers, pair_of, head_of, place_of, address_digits, address_of};
+ghost use Rattle.desk_texts.specs.Fields.{card_of, pair_numbers, is_strangers, pair_of, head_of};
+ghost use Rattle.desk_texts.specs.Fields.{place_of, address_digits, address_of};
 ghost use Rattle.desk_texts.specs.Places.{is_place};
 ghost use Rattle.desk_texts.specs.Sheets.{count_of};
 
@@ -11,6 +12,7 @@ use express_words::limits::{MOST_BOXES, MOST_WIDTH};
 use text_fields::{after, last_number, number_at, spelled_word};
 
 const LEAST_WIDTH: u64 = 32;
+
 const LAST_LANE: u64 = 255;
 
 #[tactic(auto, unfolding(crate::specs::Fields::card_of))]
@@ -68,7 +70,11 @@ fn pair_of(content: &[u8]) -> Option<PairHead>
     ensures { result ≡ pair_of content.now }
 {
     let pair = pair_numbers(content)?;
-    if is_strangers(&pair) { None } else { Some(pair) }
+    if is_strangers(&pair) {
+        None
+    } else {
+        Some(pair)
+    }
 }
 
 // Whether the owner's lane is one of the strangers'.

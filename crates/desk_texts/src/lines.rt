@@ -38,7 +38,11 @@ fn first_trimmed(text: &[u8]) -> (&[u8], &[u8])
 
 /// What the line at this place says, and the text behind it. Its content is added to those so far.
 #[tactic(auto, unfolding(crate::specs::Lines::content_at, text_fields::specs::Lines::lines_of))]
-pub fn content_at<'a>(place: u32, said: &mut Vec<u8>, text: &'a [u8]) -> Result<(&'a [u8], &'a [u8]), TextFault>
+pub fn content_at<'a>(
+    place: u32,
+    said: &mut Vec<u8>,
+    text: &'a [u8],
+) -> Result<(&'a [u8], &'a [u8]), TextFault>
     ensures { Gives (λ r. (r.0.now, said.new.items, lines_in r.1.now)) result
         (content_at place said.old.items (lines_in text.now)) }
 {

@@ -7,6 +7,7 @@ ghost use Rattle.desk_texts.specs.Places.{is_place_byte, behind_colon, begins_wi
 use text_fields::last_number;
 
 const MOST_PLACE: usize = 255;
+
 const MOST_PORT: u64 = 65_535;
 
 fn is_place_byte(byte: u8) -> bool

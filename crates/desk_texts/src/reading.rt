@@ -52,7 +52,11 @@ fn new_address(before: &[u128], content: &[u8]) -> Option<u128>
     ensures { result ≡ new_address before.now content.now }
 {
     let address = address_of(content)?;
-    if before.contains(&address) { None } else { Some(address) }
+    if before.contains(&address) {
+        None
+    } else {
+        Some(address)
+    }
 }
 
 #[tactic(auto, unfolding(crate::specs::Sheets::line_as))]
@@ -73,7 +77,12 @@ fn address_at<'a>(
 }
 
 // The addresses of so many more lines from the fourth on, and no line behind them.
-fn addresses_at(alloc: Global, count: u32, said: &mut Vec<u8>, text: &[u8]) -> Result<List<u128>, TextFault>
+fn addresses_at(
+    alloc: Global,
+    count: u32,
+    said: &mut Vec<u8>,
+    text: &[u8],
+) -> Result<List<u128>, TextFault>
     requires { count ≤ 64 }
     ensures { Gives (λ addresses. addresses) result
         (addresses_at count 4 said.old.items [] (lines_in text.now)) }

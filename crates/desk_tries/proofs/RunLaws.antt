@@ -1,34 +1,34 @@
 -- What every run of tries keeps.
-use Rattle.std.proofs.Common.{◌≡◌, ◌≢◌, ◌⊎◌, inl, inr, ℕ, suc, ◌+◌, ◌-◌, ◌<◌, ◌≤◌, eqb, Bool, true, false, cond, ◌&&◌, ◌||◌, List, [], ◌∷◌, Option, Some, None, length, refl, ap, sym, subst, ◌∙◌, arith}
-use Rattle.std.specs.Prelude.{All, not, count_by}
+use Rattle.std.proofs.Common.{◌≡◌, ◌⊎◌, inl, inr, ℕ, ◌+◌, ◌<◌, ◌≤◌, eqb, Bool, true, false, cond, ◌&&◌, ◌||◌, List, [], ◌∷◌, Option, Some, None, length, refl, ap, sym, subst, ◌∙◌, arith}
+use Rattle.std.specs.Prelude.{All, not}
 use Rattle.std.specs.List.{list_any}
-use Rattle.std.proofs.lemmas.Bool.{ne_eqb, eqb-true, eqb-false, eq-eqb, or_cases, cases_eq, true≢false}
+use Rattle.std.proofs.lemmas.Bool.{ne_eqb, eqb-true, eqb-false, cases_eq}
 use Rattle.std.proofs.lemmas.List.Elements.{All-nil, All-cons}
 use Rattle.std.proofs.lemmas.List.Sums.{sum_by-cons}
 use Rattle.express_words.specs.declared.refusal.Refusal.{Refusal}
 use Rattle.express_words.specs.declared.refusal.Refusal.TheVariants as refusal
 use Rattle.desk_tries.specs.declared.heard.Answer.{Answer}
 use Rattle.desk_tries.specs.declared.heard.Answer.TheVariants as answer
-use Rattle.desk_tries.specs.declared.heard.Told.{Told}
-use Rattle.desk_tries.specs.declared.heard.Told.TheVariants.{GoesOn, Again, NotWritten, Unknown, Written}
+use Rattle.desk_tries.specs.declared.heard.Fate.{Fate}
+use Rattle.desk_tries.specs.declared.heard.Fate.TheVariants.{GoesOn, Again, NotWritten, Unknown, Written}
 use Rattle.desk_tries.specs.declared.sending.End.{End}
 use Rattle.desk_tries.specs.declared.sending.End.TheVariants as end
 use Rattle.desk_tries.specs.declared.sending.Next.TheVariants.{NewTry, NextAddress, Stop}
-use Rattle.desk_tries.specs.Told.{by_proof, told_by_refusal, told_by}
+use Rattle.desk_tries.specs.Fate.{by_proof, fate_by_refusal, fate_by}
 use Rattle.desk_tries.specs.Servers.{closes, excludes}
-use Rattle.desk_tries.specs.Steps.{State, Turn, turn, started, after_proof, new_try, end_of, again_at_address, elsewhere, turn_by, turn_of}
+use Rattle.desk_tries.specs.Steps.{State, turn, after_proof, new_try, end_of, again_at_address, elsewhere, turn_by}
 use Rattle.desk_tries.specs.Runs.{Try, fresh, may_be_accepted, may_be_accepted_at, accepted_at, Event, ProofGoes, Hears, Run, tries, opened, hears, follows_turn, goes_on, if_open, after_event, run_from, run_of}
 use Rattle.desk_tries.specs.Laws.{WrittenOnce, NotWrittenIsTrue, IsAccepted, WrittenIsTrue, AreFew, TriesAreFew}
 
 -- ---- what an answer tells
 
-by_proof_not : (out : Bool) (t : Told) → by_proof out t ≡ NotWritten → (t ≡ NotWritten → ⊥) → out ≡ false
+by_proof_not : (out : Bool) (t : Fate) → by_proof out t ≡ NotWritten → (t ≡ NotWritten → ⊥) → out ≡ false
 by_proof_not true t h other = absurd (other h)
 by_proof_not false t h other = refl
 
 -- a try writes nothing only where its last proof didn't go out, or the answer excludes it
-refused_not : (out : Bool) (r : Refusal) → told_by_refusal out r ≡ NotWritten → (out ≡ false) ⊎ (closes r ≡ true)
-unfolding told_by_refusal
+refused_not : (out : Bool) (r : Refusal) → fate_by_refusal out r ≡ NotWritten → (out ≡ false) ⊎ (closes r ≡ true)
+unfolding fate_by_refusal
 refused_not out (refusal.Again number) h = cc
 refused_not out (refusal.LinkDown count) h = cc
 refused_not out (refusal.Rejected o0 o1 t0 t1) h = inr refl
@@ -44,16 +44,16 @@ refused_not out (refusal.Full limit) h = inl (by_proof_not out Unknown h (λ e. 
 refused_not out (refusal.NoBox n) h = inl (by_proof_not out Unknown h (λ e. cc))
 refused_not out (refusal.BadToken n) h = inl (by_proof_not out Unknown h (λ e. cc))
 
-told_not : (out : Bool) (a : Answer) → told_by out a ≡ NotWritten → (out ≡ false) ⊎ (excludes a ≡ true)
-unfolding told_by
+told_not : (out : Bool) (a : Answer) → fate_by out a ≡ NotWritten → (out ≡ false) ⊎ (excludes a ≡ true)
+unfolding fate_by
 told_not out answer.Lost h = cc
 told_not out answer.Fits h = cc
 told_not out answer.Accepted h = inl (by_proof_not out Written h (λ e. cc))
 told_not out (answer.Refused r) h = refused_not out r h
 told_not out answer.Other h = inl (by_proof_not out Again h (λ e. cc))
 
-refused_written : (out : Bool) (r : Refusal) → told_by_refusal out r ≡ Written → ⊥
-unfolding told_by_refusal
+refused_written : (out : Bool) (r : Refusal) → fate_by_refusal out r ≡ Written → ⊥
+unfolding fate_by_refusal
 refused_written true (refusal.Again number) h = cc
 refused_written true (refusal.LinkDown count) h = cc
 refused_written true (refusal.Rejected o0 o1 t0 t1) h = cc
@@ -83,8 +83,8 @@ refused_written false (refusal.Full limit) h = cc
 refused_written false (refusal.NoBox n) h = cc
 refused_written false (refusal.BadToken n) h = cc
 
-told_written : (out : Bool) (a : Answer) → told_by out a ≡ Written → (out ≡ true) × (a ≡ answer.Accepted)
-unfolding told_by
+told_written : (out : Bool) (a : Answer) → fate_by out a ≡ Written → (out ≡ true) × (a ≡ answer.Accepted)
+unfolding fate_by
 told_written out answer.Lost h = cc
 told_written out answer.Fits h = cc
 told_written true answer.Accepted h = (refl, refl)
@@ -193,7 +193,7 @@ next_address n s t before k left more = record {
     at_address a (inl same) =
         let e = adds_one a t in let is = k.address_is in
         let c = k.clear a (omega (arith, same, is)) in let s = accepted_cons a t before in omega (arith, e, c, s)
-    at_address a (inr other) = 
+    at_address a (inr other) =
         let e = adds_elsewhere a t other in let c = k.once a in let s = accepted_cons a t before in omega (arith, e, c, s)
 
 -- what is kept says the same of a try that heard one more answer
@@ -250,7 +250,7 @@ module _ (n : ℕ) (run : Run) (t : Try) (k : Keeps n run.state t run.before) (o
         end_is = going (new_try run.state (run.state.address + 1)) (fresh (run.state.address + 1));
       }
 
-  on_told : (told : Told) → (told ≡ NotWritten → may_be_accepted t ≡ false) → (told ≡ Written → IsAccepted t)
+  on_told : (told : Fate) → (told ≡ NotWritten → may_be_accepted t ≡ false) → (told ≡ Written → IsAccepted t)
       → Good n (follows_turn run t (turn_by run.state told))
   unfolding turn_by
   on_told GoesOn none written = record { keeps = k; end_is = going run.state t }
@@ -260,12 +260,12 @@ module _ (n : ℕ) (run : Run) (t : Try) (k : Keeps n run.state t run.before) (o
   on_told Written none written = record { keeps = k; end_is = written refl }
 
 -- a try's answers as they tell of it
-none_by : (out : Bool) (t : Try) (a : Answer) → t.proof_out ≡ out → told_by out a ≡ NotWritten
+none_by : (out : Bool) (t : Try) (a : Answer) → t.proof_out ≡ out → fate_by out a ≡ NotWritten
     → may_be_accepted (hears t a) ≡ false
 none_by out t a is told =
     ap (λ b. b && not (list_any excludes (a ∷ t.answers))) is ∙ excluded out a t.answers (told_not out a told)
 
-accepted_by : (out : Bool) (t : Try) (a : Answer) → t.proof_out ≡ out → told_by out a ≡ Written
+accepted_by : (out : Bool) (t : Try) (a : Answer) → t.proof_out ≡ out → fate_by out a ≡ Written
     → IsAccepted (hears t a)
 accepted_by out t a is told =
     let w = told_written out a told in
@@ -293,7 +293,7 @@ good_next n run ProofGoes open_is g = record {
 }
 good_next n run (Hears a) open_is g =
     let out : Bool = run.state.proof_out in
-    on_told n run (hears run.now a) (heard n run.state run.now run.before a g.keeps) open_is (told_by out a)
+    on_told n run (hears run.now a) (heard n run.state run.now run.before a g.keeps) open_is (fate_by out a)
     (λ told. none_by out run.now a g.keeps.proof_is told)
     (λ told. accepted_by out run.now a g.keeps.proof_is told)
 

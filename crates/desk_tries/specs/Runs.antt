@@ -1,5 +1,6 @@
 -- A letter's tries, one after another, as the sending leads them.
-use Rattle.std.specs.Prelude.{ℕ, ◌==◌, ◌&&◌, not, Bool, true, false, List, [], ◌∷◌, Option, Some, None, count_by}
+use Rattle.std.specs.Prelude.{ℕ, ◌==◌, ◌&&◌, not, Bool, true, false, List, [], ◌∷◌, Option, Some, None}
+use Rattle.std.specs.Prelude.{count_by}
 use Rattle.std.specs.List.{list_any}
 use Rattle.desk_tries.specs.declared.heard.Answer.{Answer}
 use Rattle.desk_tries.specs.declared.sending.End.{End}
@@ -8,8 +9,8 @@ use Rattle.desk_tries.specs.declared.sending.Next.TheVariants.{GoOn, SameAgain, 
 use Rattle.desk_tries.specs.Servers.{excludes}
 use Rattle.desk_tries.specs.Steps.{State, Turn, started, after_proof, turn_of}
 
--- one try: the number of its address, whether its last proof has gone out, and what was answered to its frames,
--- the last answer first
+-- one try: the number of its address, whether its last proof has gone out, and what was answered to its
+-- frames, the last answer first
 pub record Try : Type 0 where
   pub address : ℕ
   pub proof_out : Bool

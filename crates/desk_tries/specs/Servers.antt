@@ -1,17 +1,17 @@
 -- What answers exclude that a write is accepted, by what the servers do with frames: the tables of
 -- docs/PROTOCOL.md, which are `step_rules/specs`.
 --
--- A server adds a write's bytes only at its settle, which the leader issues behind the audit, and the audit only
--- when it takes a proof of that lane and serial from a row that is challenged. So a write whose last proof never
--- went out isn't added. Each lane and serial has one write, whose row at the leader is done with its first answer
--- but a challenge, and keeps it. That answer is one of these:
+-- A server adds a write's bytes only at its settle. The leader issues the settle behind the audit, and the
+-- audit only when it takes a proof of that lane and serial at a row that is challenged. So a write whose last
+-- proof never went out isn't added. A lane and serial have one write; its row at the leader is done with one of
+-- these answers, and keeps it:
 --   Accepted    both servers have added the write's bytes
 --   Rejected    the closings of both servers don't accept: neither has added them
 --   NotProved   the helper had no proof at the audit: no settle is issued
---   NoDeposit   the helper's row was another's at the begin, the audit or the settle: the helper carries out
---               none of them, and the leader adds nothing
--- `Stale` and `Phase` tell of the row as it is by then: it may have been done with this write before. The others
--- are of no write, or of a frame that wasn't taken at this time.
+--   NoDeposit   the helper's row was another's at the begin, the audit or the settle: the helper carries none
+--               of them out, and the leader adds nothing
+-- `Stale` and `Phase` tell of the row as it is by then: it may have been done with this write before. The
+-- others are of no write, or of a frame that wasn't taken at this time.
 use Rattle.std.specs.Prelude.{Bool, true, false}
 use Rattle.express_words.specs.declared.refusal.Refusal.{Refusal}
 use Rattle.express_words.specs.declared.refusal.Refusal.TheVariants as refusal

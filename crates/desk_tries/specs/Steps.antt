@@ -1,17 +1,17 @@
 -- The sending of one letter, answer by answer.
 use Rattle.std.specs.Prelude.{ℕ, ◌+◌, ◌-◌, ◌==◌, ◌||◌, if◌then◌else◌, Bool, true, false}
 use Rattle.desk_tries.specs.declared.heard.Answer.{Answer}
-use Rattle.desk_tries.specs.declared.heard.Told.{Told}
-use Rattle.desk_tries.specs.declared.heard.Told.TheVariants.{GoesOn, Again, NotWritten, Unknown, Written}
+use Rattle.desk_tries.specs.declared.heard.Fate.{Fate}
+use Rattle.desk_tries.specs.declared.heard.Fate.TheVariants.{GoesOn, Again, NotWritten, Unknown, Written}
 use Rattle.desk_tries.specs.declared.sending.End.{End}
 use Rattle.desk_tries.specs.declared.sending.End.TheVariants as end
 use Rattle.desk_tries.specs.declared.sending.Next.{Next}
 use Rattle.desk_tries.specs.declared.sending.Next.TheVariants.{GoOn, SameAgain, NewTry, NextAddress, Stop}
-use Rattle.desk_tries.specs.Told.{told_by}
+use Rattle.desk_tries.specs.Fate.{fate_by}
 
--- The addresses of the card, the present one of them, how many further tries are left, and whether the present
--- try's last proof has gone out. All addresses before the present one were left because it isn't known whether
--- the letter was written there.
+-- The addresses of the card, the present one of them, how many further tries are left, and whether the
+-- present try's last proof has gone out. All addresses before the present one were left because it isn't known
+-- whether the letter was written there.
 pub record State : Type 0 where
   pub addresses : ℕ
   pub address : ℕ
@@ -51,7 +51,7 @@ elsewhere s =
     if (s.further == 0) || (s.address + 1 == s.addresses) then turn (Stop end.MaybeWritten) s
     else turn NextAddress (new_try s (s.address + 1))
 
-unfoldable pub turn_by : State → Told → Turn
+unfoldable pub turn_by : State → Fate → Turn
 turn_by s GoesOn = turn GoOn s
 turn_by s Again = turn SameAgain s
 turn_by s Written = turn (Stop end.Written) s
@@ -59,7 +59,7 @@ turn_by s NotWritten = again_at_address s
 turn_by s Unknown = elsewhere s
 
 abbrev pub turn_of : State → Answer → Turn
-turn_of s answer = turn_by s (told_by s.proof_out answer)
+turn_of s answer = turn_by s (fate_by s.proof_out answer)
 
 abbrev pub next_of : State → Answer → Next
 next_of s answer = (turn_of s answer).next

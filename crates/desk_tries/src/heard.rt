@@ -1,6 +1,6 @@
 //! What an answer to a frame tells of the letter.
 ghost use Rattle.std.specs.Prelude.{◌≡◌};
-ghost use Rattle.desk_tries.specs.Told.{told_by, told_by_refusal};
+ghost use Rattle.desk_tries.specs.Fate.{fate_by, fate_by_refusal};
 
 use express_words::Refusal;
 
@@ -21,7 +21,7 @@ pub enum Answer {
 
 /// What an answer tells of the letter.
 #[derive(Clone, Copy, Debug, PartialEq, Eq)]
-pub enum Told {
+pub enum Fate {
     /// The try goes on to its next step.
     GoesOn,
     /// Nothing yet: the same frame again.
@@ -50,29 +50,29 @@ pub enum Told {
 /// A leader settles a write only once it has taken its last proof, so before that nothing is written. Behind it, the
 /// three refusals stand in a leader's row that is done: its lane and serial get no other answer, and neither server has
 /// added anything. `stale` and `phase` say only that the lane is another's by now.
-#[tactic(auto, unfolding(crate::specs::Told::told_by, crate::specs::Told::told_by_refusal))]
-pub fn told_by(proof_out: bool, answer: Answer) -> Told
-    ensures { result ≡ told_by proof_out answer }
+#[tactic(auto, unfolding(crate::specs::Fate::fate_by, crate::specs::Fate::fate_by_refusal))]
+pub fn fate_by(proof_out: bool, answer: Answer) -> Fate
+    ensures { result ≡ fate_by proof_out answer }
 {
     match answer {
-        Answer::Lost => Told::Again,
-        Answer::Fits => Told::GoesOn,
-        Answer::Accepted if proof_out => Told::Written,
-        Answer::Refused(refusal) => told_by_refusal(proof_out, refusal),
-        Answer::Other if proof_out => Told::Again,
-        Answer::Accepted | Answer::Other => Told::NotWritten,
+        Answer::Lost => Fate::Again,
+        Answer::Fits => Fate::GoesOn,
+        Answer::Accepted if proof_out => Fate::Written,
+        Answer::Refused(refusal) => fate_by_refusal(proof_out, refusal),
+        Answer::Other if proof_out => Fate::Again,
+        Answer::Accepted | Answer::Other => Fate::NotWritten,
     }
 }
 
-#[tactic(auto, unfolding(crate::specs::Told::told_by_refusal))]
-fn told_by_refusal(proof_out: bool, refusal: Refusal) -> Told
-    ensures { result ≡ told_by_refusal proof_out refusal }
+#[tactic(auto, unfolding(crate::specs::Fate::fate_by_refusal))]
+fn fate_by_refusal(proof_out: bool, refusal: Refusal) -> Fate
+    ensures { result ≡ fate_by_refusal proof_out refusal }
 {
     match refusal {
-        Refusal::Again(_) | Refusal::LinkDown(_) => Told::Again,
-        Refusal::Rejected(_, _, _, _) | Refusal::NotProved | Refusal::NoDeposit => Told::NotWritten,
-        Refusal::Malformed(_) | Refusal::Version(_) if proof_out => Told::Again,
-        _ if proof_out => Told::Unknown,
-        _ => Told::NotWritten,
+        Refusal::Again(_) | Refusal::LinkDown(_) => Fate::Again,
+        Refusal::Rejected(_, _, _, _) | Refusal::NotProved | Refusal::NoDeposit => Fate::NotWritten,
+        Refusal::Malformed(_) | Refusal::Version(_) if proof_out => Fate::Again,
+        _ if proof_out => Fate::Unknown,
+        _ => Fate::NotWritten,
     }
 }

@@ -8,5 +8,5 @@ pub mod laws;
 mod sending;
 
 pub use draws::{highest_named, lane_among, next_lane, serial_above};
-pub use heard::{Answer, Told, told_by};
+pub use heard::{Answer, Fate, fate_by};
 pub use sending::{End, MOST_FURTHER, Next, Sending};

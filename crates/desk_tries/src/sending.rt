@@ -1,8 +1,9 @@
 //! The sending of one letter: a try after another, until it is written or nothing more can be done safely.
 ghost use Rattle.std.specs.Prelude.{◌≡◌, ◌≤◌, ◌<◌, true, false};
-ghost use Rattle.desk_tries.specs.Steps.{started, after_proof, next_of, state_after, again_at_address, elsewhere, end_of};
+ghost use Rattle.desk_tries.specs.Steps.{started, after_proof, next_of, state_after};
+ghost use Rattle.desk_tries.specs.Steps.{again_at_address, elsewhere, end_of};
 
-use crate::heard::{Answer, Told, told_by};
+use crate::heard::{Answer, Fate, fate_by};
 use std::marker::Model;
 
 /// Behind its first try a letter gets so many further ones, at whatever addresses.
@@ -127,12 +128,12 @@ impl Sending {
         ensures next { result ≡ next_of self.old answer }
         ensures state { self.new ≡ state_after self.old answer }
     {
-        match told_by(self.proof_out, answer) {
-            Told::GoesOn => Next::GoOn,
-            Told::Again => Next::SameAgain,
-            Told::Written => Next::Stop(End::Written),
-            Told::NotWritten => self.try_again(),
-            Told::Unknown => self.try_elsewhere(),
+        match fate_by(self.proof_out, answer) {
+            Fate::GoesOn => Next::GoOn,
+            Fate::Again => Next::SameAgain,
+            Fate::Written => Next::Stop(End::Written),
+            Fate::NotWritten => self.try_again(),
+            Fate::Unknown => self.try_elsewhere(),
         }
     }
 

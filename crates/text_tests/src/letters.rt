@@ -2,7 +2,7 @@
 use desk_letters::{Opened, SealFault, open, room, screen_text, seal};
 use desk_texts::{Head, is_place, print, read_sheet};
 use desk_tries::{
-    Answer, End, Next, Sending, Told, highest_named, lane_among, next_lane, serial_above, told_by,
+    Answer, End, Fate, Next, Sending, fate_by, highest_named, lane_among, next_lane, serial_above,
 };
 use express_texts::TextFault;
 use express_words::Refusal;
@@ -14,10 +14,9 @@ const TEXT: &[u8] = b"At nine,\0 by the side door.\n";
 const ID: u64 = 0x0102_0304_0506_0708;
 
 const LETTER: [u8; 64] = [
-    0, 28, 1, 2, 3, 4, 5, 6, 7, 8, 165, 76, 138, 200, 139, 142,
-    98, 51, 252, 42, 176, 177, 72, 156, 115, 22, 65, 116, 32, 110, 105, 110,
-    101, 44, 0, 32, 98, 121, 32, 116, 104, 101, 32, 115, 105, 100, 101, 32,
-    100, 111, 111, 114, 46, 10, 0, 0, 0, 0, 0, 0, 0, 0, 0, 0,
+    0, 28, 1, 2, 3, 4, 5, 6, 7, 8, 165, 76, 138, 200, 139, 142, 98, 51, 252, 42, 176, 177, 72, 156,
+    115, 22, 65, 116, 32, 110, 105, 110, 101, 44, 0, 32, 98, 121, 32, 116, 104, 101, 32, 115, 105,
+    100, 101, 32, 100, 111, 111, 114, 46, 10, 0, 0, 0, 0, 0, 0, 0, 0, 0, 0,
 ];
 
 const CARD: &[u8] = b"express card 1 1024 16 79 2 94258\n\
@@ -78,12 +77,30 @@ fn sheets(rt: HostRuntime) -> Result<(), Fail> {
     assert!(rt; is_read(alloc, CARD)?);
     assert!(rt; is_read(alloc, PAIR)?);
     let sheet = read_sheet(alloc, CARD)?;
-    assert!(rt; sheet.addresses.as_slice() == [0x0011_2233_4455_6677_8899_aabb_ccdd_eeff, u128::MAX].as_slice());
+    assert!(rt;
+        sheet.addresses.as_slice()
+            == [0x0011_2233_4455_6677_8899_aabb_ccdd_eeff, u128::MAX].as_slice()
+    );
     assert!(rt; sheet.helper.as_str() == "[2001:db8::7]:7001");
     assert!(rt; matches!(sheet.head, Head::Card(card) if card.from == 16 && card.addresses == 2));
-    assert!(rt; bad_line(alloc, b"express pair 1 64 4096 15 16 255 98163\r\nleader 10.0.0.1:7000 30607 \nhelper 10.0.0.2:65535 71202")? == 0);
-    assert!(rt; bad_line(alloc, b"express pair 1 64 4096 15 16 255 98163\nleader 10.0.0.2:7000 30607\nhelper 10.0.0.2:65535 71202\n")? == 2);
-    assert!(rt; bad_line(alloc, b"express pair 1 64 4096 15 16 255 98163\nleader 10.0.0.1:7000 30607\n")? == 3);
+    assert!(rt;
+        bad_line(
+            alloc,
+            b"express pair 1 64 4096 15 16 255 98163\r\nleader 10.0.0.1:7000 30607 \nhelper 10.0.0.2:65535 71202"
+        )? == 0
+    );
+    assert!(rt;
+        bad_line(
+            alloc,
+            b"express pair 1 64 4096 15 16 255 98163\nleader 10.0.0.2:7000 30607\nhelper 10.0.0.2:65535 71202\n"
+        )? == 2
+    );
+    assert!(rt;
+        bad_line(
+            alloc,
+            b"express pair 1 64 4096 15 16 255 98163\nleader 10.0.0.1:7000 30607\n"
+        )? == 3
+    );
     assert!(rt; bad_line(alloc, b"")? == 1);
     assert!(rt; is_place(b"a:1") && !is_place(b"a:0") && !is_place(b"A:1") && !is_place(b":1"));
     Ok(())
@@ -102,7 +119,7 @@ fn tries(rt: HostRuntime) {
     assert!(rt; sending.hear(stale) == Next::Stop(End::MaybeWritten));
     let mut kept = Sending::kept(1, 0, 0, true);
     assert!(rt; kept.hear(Answer::Refused(Refusal::NoDeposit)) == Next::Stop(End::NotWritten));
-    assert!(rt; told_by(true, Answer::Accepted) == Told::Written);
+    assert!(rt; fate_by(true, Answer::Accepted) == Fate::Written);
     assert!(rt; lane_among(16, 79, 65) == 17 && next_lane(16, 79, 20, stale, 4) == 20);
     assert!(rt; next_lane(16, 79, 20, Answer::Other, 4) == 21);
     assert!(rt; serial_above(highest_named(0, stale), 2) == Some(10));

@@ -1,4 +1,4 @@
-use Rattle.std.proofs.Common.{◌≡◌, ◌∙◌, ◌++◌, ℕ, List, take, ap, ap₂}
+use Rattle.std.proofs.Common.{◌∙◌, ◌++◌, ℕ, List, take, ap, ap₂}
 use Rattle.sha2.specs.Sha256.{sha256}
 use Rattle.desk_letters.specs.Letters.{digest_of}
 use Rattle.desk_letters.proofs.letter.digest.Goals as goal

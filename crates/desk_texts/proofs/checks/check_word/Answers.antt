@@ -1,7 +1,7 @@
-use Rattle.std.proofs.Common.{◌≡◌, ◌∙◌}
+use Rattle.std.proofs.Common.{◌≡◌}
 use Rattle.sha2.specs.Sha256.{sha256}
 use Rattle.desk_texts.specs.Checks.{with_content}
-use Rattle.desk_texts.proofs.CheckLaws.{content_found, content_only, word_is}
+use Rattle.desk_texts.proofs.CheckLaws.{word_is}
 use Rattle.desk_texts.proofs.checks.check_word.Goals as goal
 
 pub returns : goal.returns

@@ -1,4 +1,4 @@
-use Rattle.std.proofs.Common.{◌∙◌, sym}
+use Rattle.std.proofs.Common.{◌∙◌}
 use Rattle.std.specs.Option.{option_copied}
 use Rattle.desk_texts.proofs.PlaceLaws.{on_colon, on_other, on_none}
 use Rattle.desk_texts.proofs.places.behind_colon.Goals as goal

@@ -1,6 +1,5 @@
-use Rattle.std.proofs.Common.{◌≡◌, ◌∙◌, ◌++◌, ◌+◌, ◌∷◌, [], ℕ, List, drop, map, ap, sym, arith}
+use Rattle.std.proofs.Common.{◌∙◌, ◌++◌, ◌+◌, ℕ, List, drop, map, ap, sym, arith}
 use Rattle.std.proofs.lemmas.List.{drop_all}
-use Rattle.desk_texts.specs.Checks.{with_content, check_word}
 use Rattle.desk_texts.specs.Printing.{printed_from}
 use Rattle.desk_texts.specs.Spelling.{address_text}
 use Rattle.desk_texts.proofs.PrintLaws.{one_more, no_more, map_drop}

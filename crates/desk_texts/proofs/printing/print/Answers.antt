@@ -1,4 +1,4 @@
-use Rattle.std.proofs.Common.{◌≡◌, ◌∙◌, ap}
+use Rattle.std.proofs.Common.{◌∙◌, ap}
 use Rattle.desk_texts.specs.Lines.{lines_in}
 use Rattle.desk_texts.specs.Sheets.{sheet_of}
 use Rattle.desk_texts.proofs.PrintLaws.{prints_again}

@@ -5,7 +5,6 @@ use Rattle.text_fields.proofs.LineLemmas.{empty_from}
 use Rattle.desk_texts.specs.Lines.{lines_in}
 use Rattle.desk_texts.specs.Sheets.{addresses_at}
 use Rattle.desk_texts.proofs.LoopLaws.{step_ok, step_err, end_ok, more_lines, handed_on}
-use Rattle.desk_texts.proofs.HeadLaws.{head_found}
 use Rattle.desk_texts.proofs.reading.addresses_at.Goals as goal
 
 pub returns-in_err-address : goal.returns-in_err-address
