@@ -1,10 +1,8 @@
 -- What holds of a client that remembers, whatever happens to it.
-use Rattle.std.proofs.Common.{◌≡◌, ◌⊎◌, inl, inr, ◌<◌, ◌≤◌, ◌+◌, ◌-◌, ◌∙◌, ℕ, zero, suc, List, [], ◌∷◌, ◌++◌, drop, map, Bool, true, false, Option, Some, None, Result, Ok, Err, refl, sym, ap, subst, arith, append_assoc}
+use Rattle.std.proofs.Common.{◌≡◌, ◌⊎◌, inl, inr, ◌<◌, ◌≤◌, ◌+◌, ◌-◌, ◌∙◌, ℕ, zero, suc, List, [], ◌∷◌, ◌++◌, drop, Bool, true, false, Option, Some, None, refl, sym, ap, subst, arith, append_assoc}
 use Rattle.std.specs.Prelude.{if◌then◌else◌, nat_le, slice_get, length}
-use Rattle.std.proofs.lemmas.List.{map-append}
 use Rattle.mailbox_rules.specs.Requests.{Request}
-use Rattle.step_rules.specs.Client.{Client, Current, Fault, Owned, Step, Turn, Outcome, Progress, Ignored, Later, Next, Finished, Registered}
-use Rattle.step_rules.specs.Client.{Accepted, Message, Refused}
+use Rattle.step_rules.specs.Client.{Client, Current, Fault, Owned, Step, Turn, Outcome, Progress, Ignored, Later, Next, Finished}
 use Rattle.step_rules.specs.ClientAsks as asks
 use Rattle.frame_rules.specs.Frames.{PlainBody}
 use Rattle.step_rules.specs.ClientAsks.{Sent, asked_with, fault_at, owned_by, owning}
@@ -14,7 +12,7 @@ use Rattle.client_restart.specs.declared.opening.ClientOpening.{ClientOpening}
 use Rattle.client_restart.specs.declared.owned_box.OwnedBox.{OwnedBox}
 use Rattle.client_restart.specs.Histories.{Happening, AreOfOne, noted_by, notes_of, after, told_by, told_in}
 use Rattle.client_restart.specs.Notes.{Noted, Asked, Heard, Told, GivenUp, Owned as OwnedNote, Remark}
-use Rattle.client_restart.specs.Steps.{CoreState, EndedRequest, client_or, ended, fold, fold_from, opened, owned_with, step_of, untold_with}
+use Rattle.client_restart.specs.Steps.{CoreState, EndedRequest, client_or, ended, fold_from, opened, owned_with, step_of, untold_with}
 use Rattle.client_restart.specs.Turns.{Moves, Turns, owned_after}
 use Rattle.client_restart.proofs.TurnLaws.{reply_turns}
 
@@ -194,7 +192,7 @@ frames_are_one o h more s t first second same =
     let serials : (after o (h ++ more)).client.serial ≡ (after o h).client.serial = sym b.0 ∙ same ∙ a.0 in
     let start : Stays (after o h).client.serial a.1.0.request (after o h).client = inr (refl, (a.1.0.step, a.1.1)) in
     let stays = subst (λ (k : CoreState). Stays (after o h).client.serial a.1.0.request k.client) (sym (after-append o h more))
-        (stays_through (after o h).client.serial a.1.0.request (after o h) (notes_of more) start) in
+    (stays_through (after o h).client.serial a.1.0.request (after o h) (notes_of more) start) in
     of_one o h more a.1.0 a.1.1 serials stays
 
 -- ---- giving up
