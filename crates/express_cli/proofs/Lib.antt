@@ -12,6 +12,5 @@ pub mod Telling
 pub mod BatchText
 pub mod CloakLemmas
 pub mod MillText
-pub mod MillEvents
 pub mod Seeding
 pub mod Announcing

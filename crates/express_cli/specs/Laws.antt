@@ -21,11 +21,13 @@ use Rattle.run_hiding.specs.Laws.{DistinctRunsStay, ForeignOrdersStay, ForeignRe
 use Rattle.run_hiding.specs.Laws.{LettersAreIdeal, MasksApart, RealIsIdeal, ResultsStay, RunsFitOtherAims}
 use Rattle.run_hiding.specs.Laws.{RunsHaveForm, RunsReturn, SightsStay, WritesAddUp}
 use Rattle.replay_world.specs.Laws.{AreFromClients}
+use Rattle.replay_world.specs.Mills.{MillsCount}
 use Rattle.replay_world.specs.Replies.{RepliesAreOne}
 use Rattle.replay_world.specs.Sight.{ClientsGetAnswers}
 use Rattle.replay_world.specs.Strangers.{BusyRowsAwait, ClientsAreAlone, FinishesAnswer, FinishesDrain}
 use Rattle.replay_world.specs.Strangers.{HistoryIsOfRun, OfEverySchedule, RequestsAreTold, SchedulesFit}
 use Rattle.replay_world.specs.Strangers.{StrangersAreForeign, StrangersWereBrought}
+use Rattle.express_cli.specs.Settings.{SettingsAreSpelled}
 use Rattle.file_table.specs.Laws.{AnswersJoin, UnwrittenIsMissing}
 use Rattle.batch_audit.specs.Batch.{FewValuesPass}
 use Rattle.batch_audit.specs.Sorting.{SortsAreOne}
@@ -39,6 +41,12 @@ pub record Laws : Type 0 where
   -- So does a mill's schedule, in which no bytes come from outside.
   pub mills_keep_rules : (n : ℕ) → n ≤ 5000
       → KeepsRules (mill_schedule n) × AreFromClients (mill_schedule n).events
+  -- Settings are read from the texts that spell them by their format, key by key, and a key is named exactly
+  -- where it is the first that is missing or wrong.
+  pub settings_are_spelled : SettingsAreSpelled
+  -- A mill has 64 boxes registered, as many writes accepted as its number says, and 64 messages read; its
+  -- journal has 128 lines and three more for each write.
+  pub mills_count : MillsCount
   -- A schedule keeps its foreign lanes apart from those of its clients: they are the lanes that bytes from
   -- outside name. Where no bytes come from outside none is foreign, so what is said of clients' lanes is said
   -- of all.

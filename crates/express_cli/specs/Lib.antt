@@ -8,6 +8,7 @@ pub mod Work
 pub mod Ends
 pub mod Around
 pub mod Talking
+pub mod Settings
 pub mod Runs
 pub mod Headline
 pub mod Ran

@@ -1,27 +1,11 @@
 -- The text that a mill writes: what came of its schedule.
-use Rattle.std.specs.Prelude.{ℕ, Bool, true, false, List, [], ◌∷◌, ◌++◌, length, codes, count_by, bit_xor}
+use Rattle.std.specs.Prelude.{ℕ, List, [], ◌∷◌, ◌++◌, length, codes, bit_xor}
 use Rattle.std.specs.Fmt.{decimal}
-use Rattle.step_rules.specs.Client as client
 use Rattle.schedule_text.specs.Mill.{mill_schedule}
-use Rattle.run_rules.specs.Letters.{Value, Audited, JournalLine, Told, Ended, Outcome}
+use Rattle.run_rules.specs.Letters.{Value, Audited, JournalLine, Outcome}
+use Rattle.replay_world.specs.Mills.{is_accepted, is_message, is_registered, outcomes_like}
 use Rattle.replay_world.specs.Output.{number_text}
 use Rattle.replay_world.specs.Played.{run_of}
-
-abbrev pub is_registered : Told → Bool
-is_registered (Ended (client.Registered box)) = true
-is_registered told = false
-
-abbrev pub is_accepted : Told → Bool
-is_accepted (Ended client.Accepted) = true
-is_accepted told = false
-
-abbrev pub is_message : Told → Bool
-is_message (Ended (client.Message bytes)) = true
-is_message told = false
-
--- how many requests were told such an outcome
-abbrev pub outcomes_like : (Told → Bool) → List Outcome → ℕ
-outcomes_like like outcomes = count_by (λ o. like o.told) outcomes
 
 -- the d that the leader opens in an audit; a line of another kind adds nothing
 abbrev pub opened_in : Value → ℕ

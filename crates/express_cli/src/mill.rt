@@ -1,7 +1,7 @@
 //! Runs the mill's schedule of a number, and says what came of it.
 ghost use Rattle.std.specs.Prelude.{◌≡◌, ◌≢◌, ◌≤◌, IfOk, string_bytes};
 ghost use Rattle.replay_world.specs.Parts.{journal_in, outcome_in, outcomes_in, value_in};
-ghost use Rattle.express_cli.specs.Mills.{is_registered, is_accepted, is_message, outcomes_like};
+ghost use Rattle.replay_world.specs.Mills.{is_registered, is_accepted, is_message, outcomes_like};
 ghost use Rattle.express_cli.specs.Mills.{opened_in, fold_of, count_line, outcomes_text, journal_text, mill_lines, mill_text};
 ghost use Rattle.express_cli.specs.Ends.{Prints, MillMay};
 

@@ -4,19 +4,25 @@ ghost use Rattle.express_cli.specs.Laws.{Laws};
 use batch_audit::{few_values_pass, sorts_are_one};
 use file_table::{answers_join, unwritten_is_missing};
 use replay_world::{
-    accepted_writes_pass, clients_get_answers, frames_are_heeded, histories_hold, replies_are_one,
-    requests_are_told, rows_are_awaited, schedules_fit, schedules_hold, strangers_were_brought,
+    accepted_writes_pass, clients_get_answers, frames_are_heeded, histories_hold, mills_count,
+    replies_are_one, requests_are_told, rows_are_awaited, schedules_fit, schedules_hold,
+    strangers_were_brought,
 };
 use run_hiding::{
     flow_stays, runs_are_ideal, runs_fit_other_aims, sights_stay, strangers_tell_no_more,
     writes_add_up,
 };
+use settings_text::{carry_is_read_exactly, client_is_read_exactly, serve_is_read_exactly};
 use write_hiding::{views_stay, writes_are_choices};
 
 /// What holds of every schedule, batch, game and file: the laws that stand on the top call. It does nothing.
 pub fn laws()
     ensures { Laws }
 {
+    serve_is_read_exactly();
+    client_is_read_exactly();
+    carry_is_read_exactly();
+    mills_count();
     schedules_fit();
     histories_hold();
     schedules_hold();

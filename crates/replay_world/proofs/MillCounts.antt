@@ -1,20 +1,19 @@
 -- A mill's outcomes and lines, counted.
-use Rattle.std.proofs.Common.{◌≡◌, ℕ, zero, suc, ◌+◌, ◌-◌, ◌*◌, ◌/◌, ◌%◌, ◌<◌, ◌≤◌, Bool, true, false, cond, nat_eq, List, [], ◌∷◌, ◌++◌, length, count_by, Some, slice_get, arith, refl, sym, ◌∙◌, ap, subst, zero-add, Contains}
+use Rattle.std.proofs.Common.{◌≡◌, ℕ, zero, suc, ◌+◌, ◌-◌, ◌*◌, ◌%◌, ◌<◌, ◌≤◌, Bool, cond, nat_eq, List, [], ◌∷◌, ◌++◌, length, Some, slice_get, arith, refl, sym, ◌∙◌, ap, subst}
 use Rattle.std.proofs.lemmas.Bool.{cond_both}
 use Rattle.std.proofs.lemmas.List.Sums.{sum_by-cons}
 use Rattle.express_words.specs.Limits.{KeepsLimits}
 use Rattle.express_words.specs.declared.settings.Settings.{Settings}
-use Rattle.mailbox_rules.specs.Requests.{Command, Registers, Begins, Audits, Settles, Reads, Retires, Request, Register, Write, Read}
+use Rattle.mailbox_rules.specs.Requests.{Command, Registers, Begins, Audits, Settles, Reads, Retires, Request, Write}
 use Rattle.token_rules.specs.Tokens as token
-use Rattle.token_rules.specs.Tokens.{Answered, World, no_act, start}
+use Rattle.token_rules.specs.Tokens.{Answered, no_act, start}
 use Rattle.token_rules.specs.Run as tokens
 use Rattle.token_rules.specs.Run.{Ask, Deliver, Finish, Inject, Send, Tick}
-use Rattle.token_rules.specs.Laws.{asked_by, asked_in}
+use Rattle.token_rules.specs.Laws.{asked_by}
 use Rattle.token_rules.proofs.Laws.{is_prefix}
 use Rattle.token_rules.proofs.Asked.{requests_were_asked}
-use Rattle.step_rules.specs.Client as client
 use Rattle.run_rules.specs.Letters as run
-use Rattle.run_rules.specs.Letters.{Ended, NoOwnBox}
+use Rattle.run_rules.specs.Letters.{NoOwnBox}
 use Rattle.run_rules.specs.Book.{Book, request_of}
 use Rattle.run_rules.specs.Follows.{AreOutcomes}
 use Rattle.run_rules.specs.History.{AreOfClients, frame_run, history, no_lane, token_events, token_run}
@@ -22,8 +21,8 @@ use Rattle.run_rules.specs.Run.{Event}
 use Rattle.run_rules.proofs.WholeLaw.{whole}
 use Rattle.run_rules.proofs.WholeTruths.{boxes_at_end, clients_at_end, follows_at_end, journal_at_end, outcomes_at_end}
 use Rattle.replay_world.specs.Mills.{ComesTo, is_accepted, is_message, is_registered, outcomes_like}
-use Rattle.replay_world.proofs.MillTokens.{Milled, milled, opened, opens, reads_of, registers, same_opening, writes_of}
-use Rattle.replay_world.proofs.MillTold.{IsTold, TellsAs, told_as}
+use Rattle.replay_world.proofs.MillTokens.{Milled, milled, opened, opens, reads_of, registers, writes_of}
+use Rattle.replay_world.proofs.MillTold.{TellsAs, told_as}
 
 -- ---- counts
 

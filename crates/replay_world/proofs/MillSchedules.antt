@@ -1,5 +1,5 @@
 -- The schedule of a mill is its registers, writes and reads, and its run comes to what they do.
-use Rattle.std.proofs.Common.{◌≡◌, ℕ, zero, suc, ◌+◌, ◌*◌, ◌/◌, ◌%◌, ◌^◌, ◌<◌, ◌≤◌, List, [], ◌∷◌, ◌++◌, length, take, map, arith, refl, sym, ◌∙◌, ap, subst, length-append, append_assoc}
+use Rattle.std.proofs.Common.{◌≡◌, ℕ, zero, suc, ◌+◌, ◌*◌, ◌/◌, ◌%◌, ◌^◌, ◌<◌, ◌≤◌, List, [], ◌∷◌, ◌++◌, length, take, arith, refl, sym, ◌∙◌, ap, append_assoc}
 use Rattle.std.specs.List.{range_with_len}
 use Rattle.std.proofs.lemmas.List.{length-map, length-take, map-append}
 use Rattle.std.proofs.lemmas.List.FromFn.{length-map-range_with_len}
@@ -15,15 +15,14 @@ use Rattle.mailbox_rules.specs.Requests as request
 use Rattle.token_rules.specs.Run as tokens
 use Rattle.run_rules.specs.History.{AreOfClients, token_events, token_events_of}
 use Rattle.run_rules.specs.Run as run
-use Rattle.schedule_text.specs.declared.schedule.Asked.{Asked}
 use Rattle.schedule_text.specs.declared.schedule.Asked.TheVariants.{Register, Write, Read, Retire}
 use Rattle.schedule_text.specs.declared.schedule.Event.{Event}
 use Rattle.schedule_text.specs.declared.schedule.Event.TheVariants.{Ask, Send, Tick, Deliver, Show, Finish, Inject}
 use Rattle.schedule_text.specs.Rules.{EventsKeepRules, KeepsRules}
-use Rattle.schedule_text.specs.Mill.{asked_and_finished, mill_address, mill_header, mill_message, mill_reads, mill_registers, mill_schedule, mill_seed, mill_writes}
+use Rattle.schedule_text.specs.Mill.{asked_and_finished, mill_address, mill_message, mill_reads, mill_registers, mill_schedule, mill_seed, mill_writes}
 use Rattle.schedule_text.proofs.MillLaws.{mill_keeps}
 use Rattle.replay_world.specs.Laws.{AreFromClients}
-use Rattle.replay_world.specs.Mills.{ComesTo, MillsCount}
+use Rattle.replay_world.specs.Mills.{MillsCount}
 use Rattle.replay_world.specs.Parts.{events_in}
 use Rattle.replay_world.specs.Played.{run_of}
 use Rattle.replay_world.proofs.MillEvents.{mill_from_clients}

@@ -1,14 +1,14 @@
 -- Registers, writes and reads, each worked off before the next is asked: what the token run of them comes to.
-use Rattle.std.proofs.Common.{◌≡◌, ◌≢◌, ℕ, zero, suc, ◌+◌, ◌-◌, ◌*◌, ◌/◌, ◌%◌, ◌<◌, ◌≤◌, ◌⊎◌, inl, inr, Bool, true, false, cond, not, nat_eq, nat_le, nat_lt, ◌==◌, List, [], ◌∷◌, ◌++◌, length, position, replicate, Option, Some, None, slice_get, arith, refl, sym, ◌∙◌, ap, subst, length-append, append_assoc}
+use Rattle.std.proofs.Common.{◌≡◌, ℕ, zero, suc, ◌+◌, ◌-◌, ◌*◌, ◌/◌, ◌%◌, ◌<◌, ◌≤◌, inl, inr, Bool, true, false, cond, not, nat_eq, nat_le, nat_lt, ◌==◌, List, [], ◌∷◌, ◌++◌, length, position, replicate, Option, Some, None, slice_get, arith, refl, sym, ◌∙◌, ap, subst, length-append, append_assoc}
 use Rattle.std.proofs.lemmas.Bool.{cases_eq, eq-eqb, ne_eqb, le-ltb, lt-leb}
 use Rattle.std.specs.List.{prefix_len}
-use Rattle.mailbox_rules.specs.Requests.{AddBox, AuditWrite, BeginWrite, Command, Registers, Begins, Audits, Settles, Reads, Retires, Entry, Line, Operation, ReadBox, Refuse, RetireBox, Request, Register, SettleWrite, Write, Read, entry, opening_of, operation_of, reads_box}
+use Rattle.mailbox_rules.specs.Requests.{AddBox, AuditWrite, BeginWrite, Command, Registers, Begins, Audits, Settles, Reads, Entry, Line, Operation, RetireBox, Request, Register, SettleWrite, Write, Read, entry, reads_box}
 use Rattle.mailbox_rules.specs.Tables.{Mailbox, Table, addresses, after_line, after_register, box_of, boxes_cleared, no_writes}
 use Rattle.token_rules.specs.Tokens.{Answered, NoOwnBox, Oracle, Outcome, Told, World, start}
 use Rattle.token_rules.specs.Run.{Ask, Event, Finish, happens, is_refused, line_of, run}
 use Rattle.token_rules.proofs.Cases.{acks}
-use Rattle.token_rules.proofs.Lists.{get_end, get_more}
-use Rattle.replay_world.proofs.QuietRequests.{Leaves, Rests, entries_of, short_leaves, write_leaves}
+use Rattle.token_rules.proofs.Lists.{get_more}
+use Rattle.replay_world.proofs.QuietRequests.{Leaves, Rests, short_leaves, write_leaves}
 
 -- ---- lists
 

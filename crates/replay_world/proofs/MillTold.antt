@@ -1,29 +1,26 @@
 -- What the run over bytes of a mill comes to.
-use Rattle.std.proofs.Common.{◌≡◌, ◌≢◌, ℕ, zero, suc, ◌+◌, ◌-◌, ◌*◌, ◌/◌, ◌%◌, ◌<◌, ◌≤◌, ◌⊎◌, inl, inr, Bool, true, false, cond, nat_eq, nat_le, ◌==◌, List, [], ◌∷◌, ◌++◌, length, take, map, position, Contains, Option, Some, None, slice_get, slice_index_or, arith, refl, sym, ◌∙◌, ap, subst, length-append, append_assoc, zero-add}
+use Rattle.std.proofs.Common.{◌≡◌, ℕ, zero, suc, ◌+◌, ◌-◌, ◌<◌, ◌≤◌, inl, inr, Bool, true, false, cond, nat_le, ◌==◌, List, [], ◌∷◌, ◌++◌, length, take, position, Contains, Option, Some, None, slice_get, slice_index_or, arith, refl, sym, ◌∙◌, ap, subst, length-append, zero-add}
 use Rattle.std.proofs.lemmas.Bool.{cases_lt, cond_both, lt-leb}
 use Rattle.std.proofs.lemmas.Option.{slice_get_within}
-use Rattle.express_words.specs.declared.settings.Settings.{Settings}
-use Rattle.express_words.specs.declared.refusal.Refusal.{Refusal}
 use Rattle.express_words.specs.declared.refusal.Refusal.TheVariants as refusal
 use Rattle.mailbox_rules.specs.Requests.{AddBox, AuditWrite, BeginWrite, Command, Registers, Begins, Audits, Settles, Reads, Retires, Entry, Line, Operation, ReadBox, Refuse, RetireBox, Request, Register, Retire, SettleWrite, Write, Read, entry, lines_of, opening_of, opens_with, operation_of, reads_box}
-use Rattle.mailbox_rules.specs.Tables.{Full, Gave, Mailbox, NoBox, Registered, Result, Settled, Table, Writes, addresses, after_line, after_register, box_of, boxes_with, no_writes, register_result, result_of, table_after, table_from, given}
+use Rattle.mailbox_rules.specs.Tables.{Full, Gave, Mailbox, NoBox, Registered, Settled, Table, Writes, addresses, after_line, after_register, box_of, boxes_with, no_writes, register_result, result_of, table_after, table_from, given}
 use Rattle.mailbox_rules.specs.Laws.{Did}
 use Rattle.mailbox_rules.proofs.Folds.{parts_grow}
 use Rattle.token_rules.specs.Tokens as token
-use Rattle.token_rules.specs.Tokens.{Answered, Oracle, World}
+use Rattle.token_rules.specs.Tokens.{Answered, World}
 use Rattle.token_rules.specs.Run.{line_of}
 use Rattle.token_rules.specs.Laws.{HasLine, HasLines, IsJournaled, last_of}
-use Rattle.token_rules.proofs.Laws.{is_prefix}
 use Rattle.token_rules.proofs.Lists.{get_taken}
 use Rattle.step_rules.specs.Client as client
 use Rattle.run_rules.specs.Letters as run
-use Rattle.run_rules.specs.Letters.{Ended, FrameWorld, NoOwnBox}
+use Rattle.run_rules.specs.Letters.{Ended, NoOwnBox}
 use Rattle.run_rules.specs.Book.{Book, place, request_of, table_at}
 use Rattle.run_rules.specs.Values.{accepted_at, counted_at}
 use Rattle.run_rules.specs.Known.{IsWhole}
-use Rattle.run_rules.specs.Plain.{BoxesArePlain, IsAnswer, IsAnswered, IsClients, IsDue, IsPlainOutcome, IsToldPlain, OutcomesArePlain, outcome_of, plain_at, plain_of, plain_result}
+use Rattle.run_rules.specs.Plain.{IsAnswer, IsAnswered, IsClients, IsDue, IsPlainOutcome, IsToldPlain, outcome_of, plain_at, plain_of, plain_result}
 use Rattle.run_rules.proofs.WriteLeaderCounts.{place_in}
-use Rattle.replay_world.proofs.MillTokens.{AreEntries, DoesOther, FirstEntry, IsMilled, IsOther, Milled, firsts, get-firsts, never, addresses_more, addresses_cleared, length_addresses, length-firsts}
+use Rattle.replay_world.proofs.MillTokens.{AreEntries, DoesOther, IsMilled, IsOther, Milled, firsts, get-firsts, never, addresses_more, addresses_cleared, length_addresses, length-firsts}
 
 -- ---- the table of a mill
 

@@ -1,5 +1,5 @@
 -- The helper gives one reply to each command, and gives that one again.
-use Rattle.std.proofs.Common.{◌≡◌, ◌∙◌, ◌+◌, ◌-◌, ◌<◌, ◌≤◌, ℕ, zero, suc, Bool, true, false, nat_eq, nat_le, is_none, List, [], ◌∷◌, ◌++◌, length, drop, take, Option, Some, None, Result, Ok, Err, slice_get, slice_index_or, refl, sym, ap, subst, inl, inr, arith, cond, length-append, append-nil, append_assoc, ◌&&◌}
+use Rattle.std.proofs.Common.{◌≡◌, ◌∙◌, ◌+◌, ◌-◌, ◌<◌, ◌≤◌, ℕ, zero, suc, Bool, true, false, nat_eq, nat_le, is_none, List, [], ◌∷◌, ◌++◌, length, drop, Option, Some, None, Result, Ok, Err, slice_get, slice_index_or, refl, sym, ap, subst, inl, inr, arith, cond, length-append, append-nil, append_assoc, ◌&&◌}
 use Rattle.std.proofs.lemmas.Bool.{cond_both, eqb-true, leb-true}
 use Rattle.std.proofs.lemmas.List.{take-append-le}
 use Rattle.std.proofs.lemmas.Option.{slice_get_within}

@@ -1,16 +1,15 @@
 -- A client is asked and its requests are worked off, while the system rests: what comes of it.
-use Rattle.std.proofs.Common.{◌≡◌, ◌≢◌, ℕ, zero, suc, ◌+◌, ◌-◌, ◌*◌, ◌<◌, ◌≤◌, ◌⊎◌, inl, inr, Bool, true, false, cond, nat_eq, List, [], ◌∷◌, ◌++◌, length, Option, Some, None, slice_get, arith, refl, sym, ◌∙◌, ap, subst, length-append, append_assoc}
+use Rattle.std.proofs.Common.{◌≡◌, ◌≢◌, ℕ, ◌+◌, ◌-◌, ◌<◌, ◌≤◌, inl, inr, true, false, nat_eq, List, [], ◌∷◌, ◌++◌, length, Some, slice_get, arith, refl, sym, ◌∙◌, ap, subst, length-append, append_assoc}
 use Rattle.std.proofs.lemmas.Bool.{cases_eq, eq-eqb, ne_eqb}
-use Rattle.mailbox_rules.specs.Requests.{AddBox, AuditWrite, BeginWrite, Command, Registers, Begins, Audits, Settles, Reads, Entry, Line, Operation, ReadBox, Request, Register, SettleWrite, Write, Read, entry, opening_of, operation_of, reads_box, request_at}
+use Rattle.mailbox_rules.specs.Requests.{AuditWrite, BeginWrite, Command, Begins, Audits, Settles, Entry, Line, Request, SettleWrite, Write, entry, opening_of, operation_of, request_at}
 use Rattle.mailbox_rules.specs.Tables.{Table, after_line, no_writes}
-use Rattle.token_rules.specs.Tokens.{Answered, Begun, Challenged, Done, Lane, Oracle, Outcome, Requests, World, put}
-use Rattle.token_rules.specs.Rows.{carried_phase}
-use Rattle.token_rules.specs.Run.{Ask, Finish, asks, finished, goes_on, happens, is_refused, line_of, takes}
+use Rattle.token_rules.specs.Tokens.{Answered, Challenged, Done, Lane, Oracle, Outcome, Requests, World, put}
+use Rattle.token_rules.specs.Run.{Ask, Finish, asks, finished, goes_on, happens, is_refused, line_of}
 use Rattle.token_rules.proofs.Cases.{acks, answers}
 use Rattle.token_rules.proofs.Lists.{get_end}
 use Rattle.token_rules.proofs.Finish.{put_at}
 use Rattle.token_rules.proofs.Drain.{put_other}
-use Rattle.replay_world.proofs.QuietRounds.{IsAt, Parts, after_deposit, audited, carried_now, does_now, ended, now, settled, shown, short_finish, worked, write_finish}
+use Rattle.replay_world.proofs.QuietRounds.{IsAt, Parts, after_deposit, audited, does_now, ended, now, settled, shown, short_finish, worked, write_finish}
 
 pub record LaneRests (l : Lane) (r : Requests) : Type 0 where
   pub step : l.step ≡ 0

@@ -1,25 +1,17 @@
 -- A request that is asked and finished while the system is quiet: what it leaves, exactly.
-use Rattle.std.proofs.Common.{◌≡◌, ◌≢◌, ℕ, zero, suc, ◌+◌, ◌-◌, ◌*◌, ◌<◌, ◌≤◌, Bool, true, false, cond, nat_eq, nat_lt, nat_le, ◌&&◌, ◌||◌, List, [], ◌∷◌, ◌++◌, length, ◌⊎◌, inl, inr, drop, Option, Some, None, slice_get, arith, refl, sym, ◌∙◌, ap, subst, append_assoc, length-append}
-use Rattle.std.proofs.lemmas.Bool.{eq-eqb, ne_eqb, lt-ltb, le-leb, lt-leb, le-ltb}
-use Rattle.std.proofs.Math.Path.{fun_ext}
+use Rattle.std.proofs.Common.{◌≡◌, ℕ, zero, suc, ◌+◌, ◌-◌, ◌*◌, ◌<◌, true, false, cond, nat_eq, nat_lt, ◌&&◌, ◌||◌, List, [], ◌∷◌, ◌++◌, length, ◌⊎◌, inl, inr, drop, Some, None, slice_get, arith, refl, sym, ◌∙◌, ap, append_assoc, length-append}
+use Rattle.std.proofs.lemmas.Bool.{eq-eqb, ne_eqb, lt-ltb, lt-leb, le-ltb}
 use Rattle.std.proofs.Math.Seq.{drop-append_seam}
-use Rattle.mailbox_rules.specs.Requests.{Command, Registers, Begins, Audits, Settles, Reads, Retires, Entry, Line, Operation, Request, entry, opening_of}
+use Rattle.mailbox_rules.specs.Requests.{Command, Audits, Settles, Entry, Line, Operation, Request, entry}
 use Rattle.mailbox_rules.specs.Tables.{Table, after_line, no_writes}
-use Rattle.token_rules.specs.Tokens.{Answer, Answered, Audited, Auditing, Begun, Challenge, Challenged, Deposit, Deposited, Done, HeldDeposit, HeldProof, Lane, Later, Oracle, Ordered, Outcome, Phase, ProofToHelper, ProofToLeader, Proved, Replied, Requests, Row, Submission, Token, Waiting, World, put, row}
+use Rattle.token_rules.specs.Tokens.{Answer, Answered, Auditing, Begun, Challenge, Challenged, Deposit, Deposited, Done, HeldDeposit, HeldProof, Lane, Later, Oracle, Ordered, Phase, ProofToHelper, ProofToLeader, Proved, Replied, Row, Submission, Token, Waiting, World, put, row}
 use Rattle.token_rules.specs.Rows.{arrival_of, carried_phase, carried_row}
-use Rattle.token_rules.specs.Run.{asked_operation, carries, carries_next, client_sends, comes, command_comes, delivers, delivers_at, drain_round, drained, drains, finish_round, finished, finishes, goes_on, notes, waits, frame_of, handed_last, is_for, is_full, issues, kept, last_for, line_of, reply_applied, reply_comes, resends, sends, sends_all, sent_and_drained, ticks, with_lane}
-use Rattle.token_rules.proofs.Cases.{acks, acks_is, answer_comes, answers, comes_by, comes_is, deposit_comes, finished_request, helper_proof_comes, issues_for, leader_proof_comes, proof_at_helper, proof_at_leader, repeats, steps_on, submission_comes}
+use Rattle.token_rules.specs.Run.{asked_operation, carries_next, client_sends, comes, command_comes, delivers, delivers_at, drain_round, drained, drains, finish_round, finished, finishes, goes_on, notes, waits, frame_of, handed_last, is_for, is_full, issues, kept, last_for, line_of, reply_applied, reply_comes, resends, sends, sent_and_drained, ticks, with_lane}
+use Rattle.token_rules.proofs.Cases.{acks, acks_is, answer_comes, answers, comes_by, comes_is, deposit_comes, finished_request, helper_proof_comes, leader_proof_comes, proof_at_helper, proof_at_leader, steps_on, submission_comes}
 use Rattle.token_rules.proofs.Lists.{get_end}
 use Rattle.token_rules.proofs.Drain.{delivers_is}
 use Rattle.token_rules.proofs.Finish.{put_at}
-
-put_put : {X : Type 0} (f : ℕ → X) (c : ℕ) (x y : X) → put (put f c x) c y ≡ put f c y
-unfolding put
-put_put {X} f c x y = fun_ext (λ d. at_test d (nat_eq d c))
-  where
-    at_test : (d : ℕ) (t : Bool) → cond t y (cond t x (f d)) ≡ cond t y (f d)
-    at_test d true = refl
-    at_test d false = refl
+use Rattle.replay_world.proofs.Clients.{put_put}
 
 -- what a request changes until it is answered
 pub record Parts : Type 0 where

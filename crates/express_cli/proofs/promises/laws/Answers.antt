@@ -1,14 +1,26 @@
+use Rattle.std.proofs.Common.{◌↔◌, ℕ, List}
 use Rattle.schedule_text.proofs.MillLaws.{mill_keeps}
 use Rattle.schedule_text.proofs.RuleLaws.{keeps_rules}
 use Rattle.run_hiding.specs.Laws.{LettersAreIdeal, MasksApart}
 use Rattle.replay_world.proofs.Strangers.{of_every_schedule}
-use Rattle.express_cli.proofs.MillEvents.{mill_from_clients}
+use Rattle.replay_world.proofs.MillEvents.{mill_from_clients}
+use Rattle.express_cli.specs.Settings.{IsFirstBadKey}
+use Rattle.express_cli.specs.Talking.{IsBadKey}
+use Rattle.express_cli.specs.declared.words.NetCommand.{NetCommand}
+use Rattle.express_cli.specs.declared.words.NetCommand.TheVariants.{Serve, Client, Carry}
 use Rattle.express_cli.proofs.promises.laws.Goals as goal
 
 pub returns : goal.returns
 returns c = record {
   spelled_keep_rules = λ text s spells. keeps_rules s text spells;
   mills_keep_rules = λ n low. (mill_keeps n low, mill_from_clients n);
+  settings_are_spelled = record {
+    servers = λ s text. (c.serve_is_read_exactly.ensures.found text s, c.serve_is_read_exactly.ensures.only text s);
+    clients = λ s text. (c.client_is_read_exactly.ensures.found text s, c.client_is_read_exactly.ensures.only text s);
+    carriers = λ s text. (c.carry_is_read_exactly.ensures.found text s, c.carry_is_read_exactly.ensures.only text s);
+    keys = keys;
+  };
+  mills_count = c.mills_count.ensures;
   lanes_stay_apart = c.schedules_fit.ensures.fit;
   foreign_lanes = c.schedules_fit.ensures.lanes;
   clients_are_alone = c.schedules_fit.ensures.alone;
@@ -64,3 +76,8 @@ returns c = record {
   outcomes_stay_beside_strangers = c.flow_stays.ensures.beside;
   writes_add_up = c.writes_add_up.ensures.sum;
 }
+  where
+    keys : (command : NetCommand) (key text : List ℕ) → IsBadKey command key text ↔ IsFirstBadKey command key text
+    keys Serve key text = (c.serve_is_read_exactly.ensures.bad text key, c.serve_is_read_exactly.ensures.only_bad text key)
+    keys Client key text = (c.client_is_read_exactly.ensures.bad text key, c.client_is_read_exactly.ensures.only_bad text key)
+    keys Carry key text = (c.carry_is_read_exactly.ensures.bad text key, c.carry_is_read_exactly.ensures.only_bad text key)
