@@ -1,10 +1,9 @@
 -- One visit after another.
-use Rattle.std.proofs.Common.{◌≡◌, ℕ, ◌+◌, ◌<◌, ◌≤◌, true, List, [], ◌∷◌, ◌++◌, length, Option, Some, None, refl, sym, ap, ◌∙◌, subst, arith}
+use Rattle.std.proofs.Common.{◌≡◌, ℕ, ◌+◌, ◌<◌, true, List, [], ◌∷◌, ◌++◌, length, Option, refl, sym, subst, arith}
 use Rattle.std.specs.Prelude.{All, flat_map}
 use Rattle.std.proofs.lemmas.List.{length-append, flat_map_more}
 use Rattle.std.proofs.lemmas.List.Elements.{All-nil, All-push, All-weaker}
 use Rattle.express_words.specs.Seen.{Seen}
-use Rattle.express_words.specs.Streams.{Stream}
 use Rattle.express_words.specs.Causes.{next}
 use Rattle.express_words.specs.Calls.{Call, Accepted}
 use Rattle.node_journal.specs.Disk.{DiskSeen}
@@ -20,11 +19,11 @@ use Rattle.node_restart.specs.Frames.{Handed}
 use Rattle.node_restart.specs.Kept.{KeptState}
 use Rattle.node_keep.specs.declared.stop.Halt.{Halt}
 use Rattle.node_keep.specs.declared.stop.Halt.TheVariants as halt
-use Rattle.node_keep.specs.Keeping.{Keeps, KeepsUpTo}
+use Rattle.node_restart.specs.Keeping.{Keeps}
 use Rattle.node_keep.specs.Visits.{Standing, standing, IsVisit, Visits, none, then, Broken, broken_calls, IsBroken, IsOfBrokenTold}
-use Rattle.node_keep.specs.Hosting.{ServesAll, DoorFails, KeepFails, OnDoor, OnFault}
-use Rattle.node_keep.proofs.KeepLaws.{keeps_none, keeps_both}
-use Rattle.node_keep.proofs.UpToLaws.{keeps_then}
+use Rattle.node_keep.specs.Hosting.{DoorFails, KeepFails, OnDoor, OnFault}
+use Rattle.node_restart.proofs.KeepLaws.{keeps_none, keeps_both}
+use Rattle.node_restart.proofs.UpToLaws.{keeps_then}
 use Rattle.node_keep.proofs.VisitLaws.{visit_keeps}
 
 pub on_door : (why : Halt) (P Q : Type 0) → (P → Q) → OnDoor why P → OnDoor why Q

@@ -1,10 +1,3 @@
-pub mod KeepLaws
-pub mod HandLaws
-pub mod UpToLaws
-pub mod TellLaws
-pub mod StandLaws
-pub mod LeadLaws
-pub mod ServeLaws
+pub mod OpenLaws
 pub mod VisitLaws
 pub mod HostLaws
-pub mod OpenLaws

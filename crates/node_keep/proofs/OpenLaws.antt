@@ -1,5 +1,5 @@
 -- What is said of a disk that was handed back is said of the disk before.
-use Rattle.std.proofs.Common.{◌≡◌, ◌≢◌, ℕ, List, [], refl, sym, ap, ◌∙◌, subst}
+use Rattle.std.proofs.Common.{◌≡◌, ◌≢◌, ℕ, List, [], subst}
 use Rattle.node_journal.specs.Disk.{DiskSeen, Within, IsUntouched}
 use Rattle.node_journal.specs.Records.{content}
 use Rattle.node_journal.specs.declared.fault.JournalFault.TheVariants.{Closed, NotEmpty, Full, Disk, Damaged}
@@ -10,10 +10,9 @@ use Rattle.node_restart.specs.declared.fault.KeepFault.TheVariants.{Journal, NoM
 use Rattle.node_restart.specs.Faults.{OnForeign, OnDamaged}
 use Rattle.node_restart.specs.Frames.{IsForeign}
 use Rattle.node_restart.specs.Kept.{KeptState, Stands, IsDamagedAt}
-use Rattle.node_keep.specs.declared.key.SettingsKey.{SettingsKey}
 use Rattle.node_keep.specs.declared.fault.OpenFault.{OpenFault}
 use Rattle.node_keep.specs.declared.fault.OpenFault.TheVariants as opens
-use Rattle.node_keep.specs.Opening.{IsReopened, StandsOther, IsCauseOf, LeavesDisk, CountsOpen}
+use Rattle.node_keep.specs.Opening.{IsReopened, IsCauseOf, LeavesDisk, CountsOpen}
 
 pub untouched_both : (a b c : DiskSeen) → IsUntouched a b → IsUntouched b c → IsUntouched a c
 untouched_both a b c one two = record {

@@ -1,5 +1,5 @@
 -- A connection that was accepted, served and closed is a visit.
-use Rattle.std.proofs.Common.{◌≡◌, ◌≢◌, ◌⊎◌, inl, inr, ℕ, false, List, [], ◌∷◌, ◌++◌, Option, Some, None, Err, refl, sym, ap, ◌∙◌, subst}
+use Rattle.std.proofs.Common.{◌≡◌, ◌≢◌, ◌⊎◌, inl, inr, ℕ, false, List, [], Option, Some, None, Err, refl, sym, ap, ◌∙◌, subst}
 use Rattle.express_words.specs.Streams.{Stream, Gave, IsBlank}
 use Rattle.express_words.specs.Calls.{Call, Accepted, Adds, AddsClose, GivesTelling}
 use Rattle.node_journal.specs.Disk.{DiskSeen}
@@ -24,21 +24,22 @@ use Rattle.node_restart.specs.declared.server.Core.TheVariants.{Lead, Help}
 use Rattle.node_restart.specs.declared.fault.KeepFault.{KeepFault}
 use Rattle.node_restart.specs.Frames.{Handed}
 use Rattle.node_restart.specs.Kept.{KeptState}
-use Rattle.node_keep.specs.Keeping.{Keeps, KeepsUpTo}
-use Rattle.node_keep.specs.Serving.{IsHelp, Serves}
-use Rattle.node_keep.specs.Stopping.{LeadStops, Stops}
-use Rattle.node_keep.proofs.KeepLaws.{keeps_none}
+use Rattle.node_restart.specs.Keeping.{Keeps, KeepsUpTo}
+use Rattle.node_serve.specs.Handling.{IsHelp}
+use Rattle.node_serve.specs.Responding.{Responds, Stretch, meanwhile}
+use Rattle.node_serve.specs.Stopping.{LeadStops, Stops}
+use Rattle.node_restart.proofs.KeepLaws.{keeps_none}
 use Rattle.node_keep.specs.Visits.{Standing, standing, IsCutOff, IsStepped, IsVisit, Broken, broken_calls, IsBroken, IsOfBrokenTold}
 
 -- ---- a server's own calls
 
-serves_told : (peer : List ℕ) (core : Core) (bytes : List ℕ) (new : Core) (frames : List Handed) (a b : Option (List Call)) (count : ℕ) (why : Served) (reply : List ℕ)
-    → Serves peer core bytes new frames a b count why reply → (IsHelp core → b ≡ a)
-    → (calls : List Call) × Makes a b calls × Serves peer core bytes new frames (Some []) (Some calls) count why reply × (IsHelp core → calls ≡ [])
-serves_told peer (Help h) bytes new frames a b count why reply serves rests =
-    ([], subst (λ (x : Option (List Call)). Makes a x []) (sym (rests tt)) (makes_none a), serves, λ is. refl)
-serves_told peer (Lead l) bytes new frames a b count why reply (now, is, (made, on, leads)) rests =
-    let calls = told peer made a b [] on in
+responds_told : (peer : List ℕ) (core : Core) (bytes : List ℕ) (new : Core) (frames : List Handed) (net : Stretch) (why : Served) (reply : List ℕ)
+    → Responds peer core bytes new frames net why reply → (IsHelp core → net.now ≡ net.before)
+    → (calls : List Call) × Makes net.before net.now calls × Responds peer core bytes new frames (meanwhile calls net.count) why reply × (IsHelp core → calls ≡ [])
+responds_told peer (Help h) bytes new frames net why reply responds rests =
+    ([], subst (λ (x : Option (List Call)). Makes net.before x []) (sym (rests tt)) (makes_none net.before), responds, λ is. refl)
+responds_told peer (Lead l) bytes new frames net why reply (now, is, (made, on, leads)) rests =
+    let calls = told peer made net.before net.now [] on in
     (calls.0, calls.1, (now, is, (made, calls.2, leads)), λ none. absurd none)
 
 lead_told : (found : Option PlainFrame) (peer : List ℕ) (l : Leader) (bytes : List ℕ) (new : Core) (frames : List Handed) (refused : Handed) (a b : Option (List Call))
@@ -69,7 +70,7 @@ pub record ServedBy {D : Type 0} (shows : D → DiskSeen) (peer : List ℕ)
   pub stays : decoded held ≡ Err Short → new ≡ old
   pub rests : decoded held ≡ Err Short → c ≡ b
   pub untold : decoded held ≡ Err Short → x ≡ w
-  pub serves : decoded held ≢ Err Short → (reply : List ℕ) × ((frames : List Handed) × Serves peer old.core held new.core frames b c count answer reply
+  pub serves : decoded held ≢ Err Short → (reply : List ℕ) × ((frames : List Handed) × Responds peer old.core held new.core frames (record { before = b; now = c; count = count }) answer reply
       × WritesTold answer w x before now reply × Keeps shows old new frames)
   pub alone : IsHelp old.core → c ≡ b
 
@@ -108,11 +109,11 @@ visited_step : {D : Type 0} (shows : D → DiskSeen) (peer : List ℕ)
 visited_step shows peer old new answer a b c d before count after s t w x n given enough h accept tells blank gave wanted link close closes =
     let step = h.serves enough in
     let frames : List Handed = step.1.0 in
-    let own = serves_told peer old.core (gathered [] given) new.core frames b c count answer step.0 step.1.1 h.alone in
+    let own = responds_told peer old.core (gathered [] given) new.core frames (record { before = b; now = c; count = count }) answer step.0 step.1.1 h.alone in
     let written : Wrote answer w x n step.0 = wrote answer w x n step.0 blank step.1.2 in
     let v : Visit = record { given = given; left = left_in t; taken = written.0; faults = n; calls = own.0; answer = answer } in
     let stepped : IsStepped shows peer v old new frames count =
-    record { reply = step.0; serves = own.2; writes = written.1; keeps = step.1.3; alone = own.3 } in
+    record { reply = step.0; responds = own.2; writes = written.1; keeps = step.1.3; alone = own.3 } in
     let is : IsVisit shows peer v frames (standing old before) (standing new after) = record {
       wanted = wanted;
       count = count;

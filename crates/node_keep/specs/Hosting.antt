@@ -2,12 +2,11 @@
 use Rattle.std.specs.Prelude.{◌≡◌, ℕ, ◌<◌, ◌≤◌, true, List, [], ◌∷◌, ◌++◌, length, flat_map}
 use Rattle.std.specs.Prelude.{Option, Result, Ok, Err}
 use Rattle.express_words.specs.Causes.{Rose, next}
-use Rattle.express_words.specs.Streams.{Stream}
 use Rattle.express_words.specs.Calls.{Call, Accepted}
 use Rattle.node_journal.specs.Disk.{DiskSeen}
 use Rattle.node_serve.specs.Exchanging.{Makes}
 use Rattle.node_host.specs.declared.tally.Tally.{Tally}
-use Rattle.node_host.specs.Tallies.{tally_of, total}
+use Rattle.node_host.specs.Tallies.{tally_of}
 use Rattle.node_host.specs.Visits.{Visit, visit_calls}
 use Rattle.node_restart.specs.declared.fault.KeepFault.{KeepFault}
 use Rattle.node_restart.specs.Faults.{CountsFault}
@@ -15,8 +14,8 @@ use Rattle.node_restart.specs.Frames.{Handed}
 use Rattle.node_keep.specs.declared.stop.Halt.{Halt}
 use Rattle.node_keep.specs.declared.stop.Halt.TheVariants as halt
 use Rattle.node_keep.specs.declared.stop.Stop.{Stop}
-use Rattle.node_keep.specs.Keeping.{Keeps, KeepsUpTo}
-use Rattle.node_keep.specs.Visits.{Standing, standing, Visits, Broken, broken_calls, IsBroken, IsOfBrokenTold}
+use Rattle.node_restart.specs.Keeping.{Keeps, KeepsUpTo}
+use Rattle.node_keep.specs.Visits.{Standing, standing, Visits, Broken, broken_calls, IsBroken}
 
 -- so many visits were made, and no other call
 pub record ServesAll {D : Type 0} (shows : D → DiskSeen) (peer : List ℕ) (connections : ℕ) (tally : Tally)

@@ -1,9 +1,3 @@
-pub mod Keeping
-pub mod Handing
-pub mod Stopping
-pub mod Leading
-pub mod Serving
-pub mod Helping
 pub mod Opening
 pub mod Visits
 pub mod Hosting

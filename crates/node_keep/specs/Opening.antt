@@ -1,6 +1,5 @@
 -- How a server is opened, from its settings or from its journal.
-use Rattle.std.specs.Prelude.{◌≡◌, ◌≢◌, ℕ, ◌≤◌, nat_eq, cond, true, false, List, [], ◌++◌, codes}
-use Rattle.express_words.specs.declared.settings.Settings.{Settings}
+use Rattle.std.specs.Prelude.{◌≡◌, ◌≢◌, ℕ, nat_eq, cond, true, false, List, [], ◌++◌, codes}
 use Rattle.node_journal.specs.Disk.{DiskSeen, Within, IsUntouched}
 use Rattle.node_journal.specs.Records.{content, IsUndamaged}
 use Rattle.node_journal.specs.declared.fault.JournalFault.TheVariants.{Closed, NotEmpty, Full, Disk, Damaged}
@@ -8,7 +7,6 @@ use Rattle.node_restart.specs.declared.opening.Opening.{Opening}
 use Rattle.node_restart.specs.declared.opening.Role.{Role}
 use Rattle.node_restart.specs.declared.opening.Role.TheVariants as role
 use Rattle.node_restart.specs.declared.server.Core.{Core}
-use Rattle.node_restart.specs.declared.fault.KeepFault.{KeepFault}
 use Rattle.node_restart.specs.declared.fault.KeepFault.TheVariants.{Journal, NoMemory, Foreign}
 use Rattle.node_restart.specs.Faults.{CountsFault}
 use Rattle.node_restart.specs.Frames.{Handed, IsForeign}

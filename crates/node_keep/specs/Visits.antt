@@ -15,9 +15,10 @@ use Rattle.node_host.specs.Visits as host
 use Rattle.node_restart.specs.declared.fault.KeepFault.{KeepFault}
 use Rattle.node_restart.specs.Frames.{Handed}
 use Rattle.node_restart.specs.Kept.{KeptState}
-use Rattle.node_keep.specs.Keeping.{Keeps, KeepsUpTo}
-use Rattle.node_keep.specs.Serving.{IsHelp, Serves}
-use Rattle.node_keep.specs.Stopping.{Stops}
+use Rattle.node_restart.specs.Keeping.{Keeps, KeepsUpTo}
+use Rattle.node_serve.specs.Handling.{IsHelp}
+use Rattle.node_serve.specs.Responding.{Responds, meanwhile}
+use Rattle.node_serve.specs.Stopping.{Stops}
 
 -- where a server stands: it with its journal and disk, and its net's count of faults
 pub record Standing (D : Type 0) : Type 0 where
@@ -40,8 +41,7 @@ pub record IsCutOff {D : Type 0} (v : Visit) (old new : KeptState D) (frames : L
 pub record IsStepped {D : Type 0} (shows : D → DiskSeen) (peer : List ℕ) (v : Visit) (old new : KeptState D)
     (frames : List Handed) (count : ℕ) : Type 0 where
   pub reply : List ℕ
-  pub serves : Serves peer old.core (host.handed v) new.core frames (Some []) (Some v.calls) count v.answer
-      reply
+  pub responds : Responds peer old.core (host.handed v) new.core frames (meanwhile v.calls count) v.answer reply
   pub writes : WritesTold v.answer (Some []) (Some v.taken) 0 v.faults reply
   pub keeps : Keeps shows old new frames
   pub alone : IsHelp old.core → v.calls ≡ []

@@ -8,12 +8,11 @@ ghost use Rattle.node_restart.specs.Frames.{Handed};
 ghost use Rattle.node_keep.specs.Hosting.{OnDoor, OnFault, DoorBy, DiskBy};
 ghost use Rattle.node_keep.specs.Visits.{standing, IsVisit, Broken, broken_calls, IsBroken, IsOfBroken};
 
-use crate::serving::serve_kept;
 use crate::stop::Halt;
 use express_words::outside::Net;
 use node_journal::Disk;
 use node_restart::Kept;
-use node_serve::Served;
+use node_serve::{Served, serve_kept};
 use wire_frames::Gather;
 
 /// Accepts the next connection, serves it with `gather`, and closes it.

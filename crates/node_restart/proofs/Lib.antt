@@ -1,6 +1,9 @@
 pub mod FaultLaws
 pub mod FrameLaws
+pub mod HandLaws
+pub mod KeepLaws
 pub mod KeptLaws
 pub mod OpeningLaws
 pub mod ReplayLaws
 pub mod StepLaws
+pub mod UpToLaws

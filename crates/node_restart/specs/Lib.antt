@@ -1,5 +1,6 @@
 pub mod Faults
 pub mod Frames
+pub mod Keeping
 pub mod Kept
 pub mod Openings
 pub mod Replays

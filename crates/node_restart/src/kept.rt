@@ -239,8 +239,8 @@ impl<D: Disk> Kept<D> {
         self.take(Sender::Peer, frame, out)
     }
 
-    // A frame, of whichever sender.
-    fn take(&mut self, sender: Sender, frame: &[u8], out: &mut [u8]) -> Result<Did, KeepFault>
+    /// A frame, of whichever sender. Where the bytes are exactly one frame they are on the disk before the step.
+    pub fn take(&mut self, sender: Sender, frame: &[u8], out: &mut [u8]) -> Result<Did, KeepFault>
         requires room { HasRoom out.old }
         // The step is that of the tables. Where the answer is a fault no step was taken and nothing written.
         ensures step { IfOk result (λ did. Takes (step_of self.old.core sender frame.now)

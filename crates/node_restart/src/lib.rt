@@ -19,3 +19,4 @@ pub use frames::Sender;
 pub use kept::Kept;
 pub use opening::{Opening, Role};
 pub use server::Core;
+pub use steps::{help_client, help_peer, lead_client, lead_peer};

@@ -9,9 +9,9 @@ use helper_core::Helper;
 use leader_core::Leader;
 use server_steps::{carry_command, take_request};
 
-/// A client's frame at the leader.
+/// A client's frame at the leader, which is stepped with it. What it writes stands at the front of `out`.
 #[tactic(auto, unfolding(crate::specs::Steps::lead_client))]
-pub(crate) fn lead_client(leader: &mut Leader, frame: &[u8], out: &mut [u8]) -> Did
+pub fn lead_client(leader: &mut Leader, frame: &[u8], out: &mut [u8]) -> Did
     requires room { HasRoom out.old }
     ensures takes { Takes (lead_client leader.old frame.now) (Core.Lead leader.new) result out.old out.new }
     ensures settings { leader.new.settings ≡ leader.old.settings }
@@ -19,9 +19,9 @@ pub(crate) fn lead_client(leader: &mut Leader, frame: &[u8], out: &mut [u8]) -> 
     Did::Lead(take_request(leader, frame, out))
 }
 
-/// Bytes of the helper at the leader.
+/// Bytes of the helper at the leader, likewise.
 #[tactic(auto, unfolding(crate::specs::Steps::lead_peer))]
-pub(crate) fn lead_peer(leader: &mut Leader, frame: &[u8], out: &mut [u8]) -> Did
+pub fn lead_peer(leader: &mut Leader, frame: &[u8], out: &mut [u8]) -> Did
     requires room { HasRoom out.old }
     ensures takes { Takes (lead_peer leader.old frame.now) (Core.Lead leader.new) result out.old out.new }
     ensures settings { leader.new.settings ≡ leader.old.settings }
@@ -29,9 +29,9 @@ pub(crate) fn lead_peer(leader: &mut Leader, frame: &[u8], out: &mut [u8]) -> Di
     Did::Acked(leader.on_link_reply(frame, out))
 }
 
-/// A client's frame at the helper.
+/// A client's frame at the helper, likewise.
 #[tactic(auto, unfolding(crate::specs::Steps::help_client))]
-pub(crate) fn help_client(helper: &mut Helper, frame: &[u8], out: &mut [u8]) -> Did
+pub fn help_client(helper: &mut Helper, frame: &[u8], out: &mut [u8]) -> Did
     requires room { HasRoom out.old }
     ensures takes { Takes (help_client helper.old frame.now) (Core.Help helper.new) result out.old out.new }
     ensures settings { helper.new.server.settings ≡ helper.old.server.settings }
@@ -39,9 +39,9 @@ pub(crate) fn help_client(helper: &mut Helper, frame: &[u8], out: &mut [u8]) -> 
     Did::Replied(helper.on_client(frame, out))
 }
 
-/// Bytes of the leader at the helper.
+/// Bytes of the leader at the helper, likewise.
 #[tactic(auto, unfolding(crate::specs::Steps::help_peer))]
-pub(crate) fn help_peer(helper: &mut Helper, frame: &[u8], out: &mut [u8]) -> Did
+pub fn help_peer(helper: &mut Helper, frame: &[u8], out: &mut [u8]) -> Did
     requires room { HasRoom out.old }
     ensures takes { Takes (help_peer helper.old frame.now) (Core.Help helper.new) result out.old out.new }
     ensures settings { helper.new.server.settings ≡ helper.old.server.settings }

@@ -1,5 +1,5 @@
 -- Where nothing failed, a frame is answered.
-use Rattle.std.proofs.Common.{◌≡◌, ℕ, List, Option, refl, inl, inr}
+use Rattle.std.proofs.Common.{ℕ, List, Option, refl, inl, inr}
 use Rattle.express_words.specs.Calls.{Call}
 use Rattle.node_serve.specs.Draining.{FaultIn}
 use Rattle.node_serve.specs.Serving.{IsComplete, NoneFailed, Serves, WritesTold}

@@ -1,11 +1,9 @@
 -- What is said and written where an exchange broke.
-use Rattle.std.proofs.Common.{◌≡◌, ℕ, List, Option, Some, Result, Ok, Err, sym, subst, inl, inr}
-use Rattle.frame_rules.specs.Frames.{PlainFrame}
-use Rattle.frame_rules.specs.Spelling.{spelling}
+use Rattle.std.proofs.Common.{ℕ, List, Option, Result, Ok, Err, sym, subst, inl, inr}
 use Rattle.step_rules.specs.Leader.{Leader}
 use Rattle.node_serve.specs.Exchanging.{Exchange}
 use Rattle.node_serve.specs.Draining.{Breaks}
-use Rattle.node_serve.specs.Leading.{BreaksDown, IsSent, Leads, link_down}
+use Rattle.node_serve.specs.Leading.{BreaksDown, IsSent}
 use Rattle.node_serve.specs.Serving.{IsPut, WritesTold}
 use Rattle.node_serve.specs.declared.exchanging.Broken.{Broken}
 use Rattle.node_serve.specs.declared.exchanging.Broken.TheVariants as broken
@@ -26,14 +24,6 @@ off_link a (Err (broken.Wrong fault)) why e = subst IsLink (sym e) tt
 pub down_link : (a : Leader) (bytes : List ℕ) (b : Leader) (made : List Exchange) (why : Served) → BreaksDown a bytes b made why → IsLink why
 down_link a bytes b made why (inl off) = off_link b off.failed.answer why off.broken
 down_link a bytes b made why (inr late) = off_link b late.second.failed.answer why late.second.broken
-
-pub leads_down : (f : PlainFrame) (a : Leader) (bytes : List ℕ) (b : Leader) (made : List Exchange) (count : ℕ) (why : Served) (reply : List ℕ)
-    → BreaksDown a bytes b made why → reply ≡ spelling (link_down f count) → Leads (Some f) a bytes b made count why reply
-leads_down f a bytes b made count served.Answered reply down is = absurd (down_link a bytes b made served.Answered down)
-leads_down f a bytes b made count (served.ConnFault n) reply down is = absurd (down_link a bytes b made (served.ConnFault n) down)
-leads_down f a bytes b made count served.Ended reply down is = absurd (down_link a bytes b made served.Ended down)
-leads_down f a bytes b made count (served.LinkFault n) reply down is = (down, is)
-leads_down f a bytes b made count served.LinkBad reply down is = (down, is)
 
 put_is : (sent : Served) (old new : Option (List ℕ)) (before now : ℕ) (reply : List ℕ) → IsSent sent → WritesTold sent old new before now reply → IsPut old new before now reply
 put_is served.Answered old new before now reply is w = inl w

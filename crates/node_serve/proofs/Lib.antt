@@ -7,3 +7,5 @@ pub mod HeldLaws
 pub mod EarlyLaws
 pub mod DownLaws
 pub mod CompleteLaws
+pub mod TellLaws
+pub mod RespondLaws

@@ -1,11 +1,21 @@
 -- What one exchange more makes of a drain.
-use Rattle.std.proofs.Common.{◌≡◌, ◌≢◌, ℕ, List, [], ◌∷◌, ◌++◌, Option, None, refl, sym, ap, ◌∙◌, subst}
+use Rattle.std.proofs.Common.{◌≡◌, ◌≢◌, ℕ, List, [], ◌∷◌, ◌++◌, Option, Some, Ok, refl, sym, ap, ◌∙◌, subst, append_assoc, option_map}
+use Rattle.std.proofs.lemmas.List.{append-nil}
 use Rattle.express_words.specs.Calls.{Call}
+use Rattle.frame_rules.specs.Spelling.{spelling}
 use Rattle.step_rules.specs.Leader.{Leader, Ignored}
-use Rattle.step_rules.specs.LeaderReplies.{on_reply_bytes, resent}
+use Rattle.step_rules.specs.LeaderReplies.{on_reply_bytes}
 use Rattle.node_serve.specs.Exchanging.{Exchange}
-use Rattle.node_serve.specs.Draining.{ExchangeOn, ExchangesOn, Stand, IsOldest, reply_of, answered, Drains, then, Drained, Breaks, BreaksOff, Replied, Unanswered}
+use Rattle.node_serve.specs.Draining.{ExchangeOn, ExchangesOn, Stand, stand, IsOldest, reply_of, answered, then, Drained, Breaks, BreaksOff}
+use Rattle.node_serve.specs.Draining as serve
 use Rattle.node_serve.specs.declared.node.Served.{Served}
+use Rattle.node_restart.specs.declared.server.Core.{Core}
+use Rattle.node_restart.specs.declared.server.Core.TheVariants.{Lead, Help}
+use Rattle.node_restart.specs.Frames.{Handed}
+use Rattle.node_restart.specs.Steps.{resent_by}
+use Rattle.node_serve.specs.Handing.{answer_frames, answers_in}
+use Rattle.node_serve.specs.Handling.{IsLead, Replies, Fails, DrainBreaks}
+use Rattle.node_serve.specs.Stopping.{Unkept, StopsAt, DrainStops}
 
 pub exchanges_more : (peer : List ℕ) (es : List Exchange) (e : Exchange) (a b c : Option (List Call)) → ExchangesOn peer es a b → ExchangeOn peer e b c → ExchangesOn peer (es ++ e ∷ []) a c
 exchanges_more peer [] e a b c same more = (c, subst (λ (x : Option (List Call)). ExchangeOn peer e x c) same more, refl)
@@ -15,42 +25,89 @@ pub exchanges_both : (peer : List ℕ) (es fs : List Exchange) (a b c : Option (
 exchanges_both peer [] fs a b c same more = subst (λ (x : Option (List Call)). ExchangesOn peer fs x c) same more
 exchanges_both peer (d ∷ es) fs a b c (next, first, others) more = (next, first, exchanges_both peer es fs next b c others more)
 
--- where a drain stands
-pub record Stands (start : Stand) (peer : List ℕ) (now : Leader) (reply : List ℕ) (a b : Option (List Call)) : Type 0 where
+pub answers_both : (es fs : List Exchange) → answers_in (es ++ fs) ≡ answers_in es ++ answers_in fs
+answers_both [] fs = refl
+answers_both (e ∷ es) fs = ap (λ (l : List Handed). answer_frames e.answer ++ l) (answers_both es fs) ∙ sym (append_assoc (answer_frames e.answer) (answers_in es) (answers_in fs))
+
+answers_one : (e : Exchange) → answers_in (e ∷ []) ≡ answer_frames e.answer
+answers_one e = append-nil (answer_frames e.answer)
+
+-- where a drain stands that began at this leader
+pub record StandsBy (a : Leader) (told peer : List ℕ) (now : Core) (reply : List ℕ) (frames : List Handed) (x y : Option (List Call)) : Type 0 where
   pub at : Stand
-  pub drains : Drains start at
-  pub leader : now ≡ at.leader
+  pub drains : serve.Drains (stand a told) at
+  pub leader : now ≡ Lead at.leader
   pub reply_is : reply ≡ at.reply
-  pub calls : ExchangesOn peer at.made a b
+  pub frames_are : frames ≡ answers_in at.made
+  pub calls : ExchangesOn peer at.made x y
 
-pub stands_more : (start : Stand) (peer : List ℕ) (old new : Leader) (before sent reply : List ℕ) (a b c : Option (List Call))
-    → Stands start peer old before a b → IsOldest old sent → Replied peer old new sent reply b c → Stands start peer new reply a c
-stands_more start peer old new before sent reply a b c s oldest r = record {
-  at = answered s.at sent r.bytes;
-  drains = then s.at sent r.bytes s.drains (subst (λ (x : Leader). IsOldest x sent) s.leader oldest) (subst (λ (x : Leader). (on_reply_bytes x r.bytes).ack ≢ Ignored) s.leader r.fits);
-  leader = r.leader ∙ ap (λ (x : Leader). (on_reply_bytes x r.bytes).leader) s.leader;
-  reply_is = r.reply_is ∙ ap (λ (x : Leader). reply_of (on_reply_bytes x r.bytes).ack) s.leader;
-  calls = exchanges_more peer s.at.made _ a b c s.calls r.calls;
-}
+abbrev pub Stands : Core → (told peer : List ℕ) → Core → List ℕ → List Handed → (x y : Option (List Call)) → Type 0
+Stands (Lead a) told peer now reply frames x y = StandsBy a told peer now reply frames x y
+Stands (Help h) told peer now reply frames x y = ⊥
 
-pub stands_end : (start : Stand) (peer : List ℕ) (now : Leader) (reply : List ℕ) (a b : Option (List Call))
-    → Stands start peer now reply a b → resent now ≡ None
-    → (end : Stand) × Drained start end × (now ≡ end.leader) × (reply ≡ end.reply) × ExchangesOn peer end.made a b
-stands_end start peer now reply a b s none =
-    (s.at, record { drains = s.drains; empty = subst (λ (x : Leader). resent x ≡ None) s.leader none }, s.leader, s.reply_is, s.calls)
+pub stands_first : (start : Core) (told peer : List ℕ) (x : Option (List Call)) → IsLead start → Stands start told peer start told [] x x
+stands_first (Lead a) told peer x lead = record { at = stand a told; drains = serve.none; leader = refl; reply_is = refl; frames_are = refl; calls = refl }
+stands_first (Help h) told peer x lead = absurd lead
 
-pub stands_broken : (start : Stand) (peer : List ℕ) (old new : Leader) (before sent : List ℕ) (a b c : Option (List Call)) (why : Served)
-    → Stands start peer old before a b → IsOldest old sent → Unanswered peer old new sent b c why
-    → (made : List Exchange) × BreaksOff start new made why × ExchangesOn peer made a c
-stands_broken start peer old new before sent a b c why s oldest u =
+abbrev OldestOf : Core → List ℕ → Type 0
+OldestOf core sent = option_map spelling (resent_by core) ≡ Some sent
+
+pub stands_more : (start : Core) (told peer : List ℕ) (old new : Core) (before sent reply : List ℕ) (frames more : List Handed) (x y z : Option (List Call))
+    → Stands start told peer old before frames x y → OldestOf old sent → Replies peer old new sent reply more y z
+    → Stands start told peer new reply (frames ++ more) x z
+stands_more (Help h) told peer old new before sent reply frames more x y z s oldest r = absurd s
+stands_more (Lead a) told peer (Help h) new before sent reply frames more x y z s oldest r = absurd r
+stands_more (Lead a) told peer (Lead b) new before sent reply frames more x y z s oldest r =
+    let same : b ≡ s.at.leader = cc s.leader in
+    let last : Exchange = record { sent = sent; answer = Ok r.bytes } in
+    record {
+      at = answered s.at sent r.bytes;
+      drains = then s.at sent r.bytes s.drains (subst (λ (l : Leader). IsOldest l sent) same oldest) (subst (λ (l : Leader). (on_reply_bytes l r.bytes).ack ≢ Ignored) same r.fits);
+      leader = r.step ∙ ap (λ (l : Leader). Lead (on_reply_bytes l r.bytes).leader) same;
+      reply_is = r.reply_is ∙ ap (λ (l : Leader). reply_of (on_reply_bytes l r.bytes).ack) same;
+      frames_are = ap (λ (l : List Handed). l ++ more) s.frames_are ∙ ap (λ (l : List Handed). answers_in s.at.made ++ l) r.frames_are ∙ sym (answers_both s.at.made (last ∷ []));
+      calls = exchanges_more peer s.at.made last x y z s.calls r.calls;
+    }
+
+pub stands_broken : (start : Core) (told peer : List ℕ) (old new : Core) (before sent : List ℕ) (frames more : List Handed) (x y z : Option (List Call)) (why : Served)
+    → Stands start told peer old before frames x y → OldestOf old sent → Fails peer old new sent more y z why
+    → DrainBreaks peer start told new (frames ++ more) x z why
+stands_broken (Help h) told peer old new before sent frames more x y z why s oldest u = absurd s
+stands_broken (Lead a) told peer (Help h) new before sent frames more x y z why s oldest u = absurd u
+stands_broken (Lead a) told peer (Lead b) new before sent frames more x y z why s oldest u =
+    let same : b ≡ s.at.leader = cc s.leader in
     let last : Exchange = record { sent = sent; answer = u.answer } in
-    let off : BreaksOff start new (s.at.made ++ last ∷ []) why = record {
+    let off : BreaksOff (stand a told) b (s.at.made ++ last ∷ []) why = record {
       last = s.at;
       drains = s.drains;
-      stays = u.stays ∙ s.leader;
+      stays = same;
       failed = last;
-      oldest = subst (λ (x : Leader). IsOldest x sent) (sym u.stays) oldest;
-      broken = subst (λ (x : Leader). Breaks x u.answer why) (sym u.stays) u.broken;
+      oldest = oldest;
+      broken = u.broken;
       all = refl;
     } in
-    (s.at.made ++ last ∷ [], off, exchanges_more peer s.at.made last a b c s.calls u.calls)
+    let all : frames ++ more ≡ answers_in (s.at.made ++ last ∷ []) =
+    ap (λ (l : List Handed). l ++ more) s.frames_are ∙ ap (λ (l : List Handed). answers_in s.at.made ++ l) (u.frames_are ∙ sym (answers_one last)) ∙ sym (answers_both s.at.made (last ∷ [])) in
+    (b, u.stays, (s.at.made ++ last ∷ [], off, all, exchanges_more peer s.at.made last x y z s.calls u.calls))
+
+pub stands_stopped : (start : Core) (told peer : List ℕ) (old new : Core) (before sent : List ℕ) (frames : List Handed) (more : List Handed) (refused : Handed) (x y z : Option (List Call))
+    → Stands start told peer old before frames x y → OldestOf old sent → Unkept peer old new sent more refused y z
+    → DrainStops peer start told new (frames ++ more) refused x z
+stands_stopped (Help h) told peer old new before sent frames more refused x y z s oldest u = absurd s
+stands_stopped (Lead a) told peer (Help h) new before sent frames more refused x y z s oldest u = absurd (cc s.leader)
+stands_stopped (Lead a) told peer (Lead b) new before sent frames more refused x y z s oldest u =
+    let same : b ≡ s.at.leader = cc s.leader in
+    let last : Exchange = record { sent = sent; answer = Ok u.bytes } in
+    let stops : StopsAt (stand a told) b (s.at.made ++ last ∷ []) refused = record {
+      last = s.at;
+      drains = s.drains;
+      stays = same;
+      sent = sent;
+      oldest = oldest;
+      bytes = u.bytes;
+      is = u.is;
+      all = refl;
+    } in
+    let all : frames ++ more ≡ answers_in s.at.made =
+    ap (λ (l : List Handed). frames ++ l) u.none ∙ append-nil frames ∙ s.frames_are in
+    (b, u.stays, (s.at.made ++ last ∷ [], exchanges_more peer s.at.made last x y z s.calls u.calls, (stops, all)))

@@ -93,30 +93,9 @@ rounds body = 1
 abbrev pub rounds_left : List PlainFrame → ℕ
 rounds_left commands = sum_by (λ c. rounds c.body) commands
 
--- ---- one exchange of a drain
-
--- these bytes were sent, and the helper answered with a reply that fits
-pub record Replied (peer : List ℕ) (old new : Leader) (sent reply : List ℕ)
-    (before now : Option (List Call)) : Type 0 where
-  pub bytes : List ℕ
-  pub fits : (on_reply_bytes old bytes).ack ≢ Ignored
-  pub leader : new ≡ (on_reply_bytes old bytes).leader
-  pub reply_is : reply ≡ reply_of (on_reply_bytes old bytes).ack
-  pub calls : ExchangeOn peer (record { sent = sent; answer = Ok bytes }) before now
-
--- these bytes were sent, and no reply came that fits
-pub record Unanswered (peer : List ℕ) (old new : Leader) (sent : List ℕ)
-    (before now : Option (List Call)) (why : Served) : Type 0 where
-  pub stays : new ≡ old
-  pub answer : Result (List ℕ) Broken
-  pub broken : Breaks old answer why
-  pub calls : ExchangeOn peer (record { sent = sent; answer = answer }) before now
+-- ---- the net's count
 
 -- the net's count by what is said of the exchanges: it rose where one failed, and only then
 abbrev pub FaultIn : Served → (before now : ℕ) → Type 0
 FaultIn (served.LinkFault count) before now = Rose before now × (count ≡ now)
 FaultIn other before now = now ≡ before
-
-abbrev pub FaultBy : {A : Type 0} → Result A Served → (before now : ℕ) → Type 0
-FaultBy (Ok x) before now = now ≡ before
-FaultBy (Err why) before now = FaultIn why before now

@@ -1,19 +1,28 @@
-//! One connection of a server: a frame is read, the core takes its step, and one reply is written.
+//! One connection of a server: a frame is read, the server takes its step once its log has the frame, and one reply is
+//! written. A log is a journal, or nowhere.
 #![tactic(auto)]
 
+mod answering;
+mod broke;
 mod draining;
 mod exchanging;
+mod faces;
+mod handing;
 mod helping;
+mod journaled;
 mod leading;
+mod logged;
+mod never;
 mod node;
 mod reading;
 mod serving;
+mod unlogged;
 mod wanting;
 
 pub use exchanging::{Broken, exchange};
 pub use express_words::outside;
-pub use helping::is_from_leader;
-pub use leading::{say_link_down, taken_in};
+pub use faces::{serve_kept, serve_one};
+pub use logged::Logged;
+pub use never::Never;
 pub use node::{Node, Served};
-pub use reading::Reading;
-pub use serving::{gather_frame, send, serve_one};
+pub use serving::serve;

@@ -1,6 +1,6 @@
-use Rattle.std.proofs.Common.{take, refl, ◌∙◌, arith}
-use Rattle.node_serve.specs.Draining.{stand, none}
-use Rattle.node_serve.proofs.StandLaws.{stands_more, stands_broken}
+use Rattle.std.proofs.Common.{ℕ, [], ◌++◌, Err, take, refl, ◌∙◌, arith}
+use Rattle.node_serve.proofs.LeadLaws.{if_link, if_keep}
+use Rattle.node_serve.proofs.StandLaws.{stands_first, stands_more, stands_broken, stands_stopped}
 use Rattle.node_serve.proofs.draining.drain.Goals as goal
 
 pub draining-init : goal.draining-init
@@ -8,20 +8,51 @@ draining-init g c = record {
   room = c.requires.room;
   answer_room = c.requires.answer_room;
   within = c.requires.within;
-  stands = record { at = stand c.args.leader.now (take c.args.told c.args.out.now); drains = none; leader = refl; reply_is = refl; calls = refl };
+  stands = (
+    [],
+    stands_first (g.S.Logged.log.core c.args.server.now) (take c.args.told c.args.out.now) c.args.peer.now (g.N.Counted.seen c.args.net.now).calls c.requires.lead,
+    g.met.S.Logged.none c.args.server.now,
+  );
   count = refl;
+  failures = refl;
   door = refl;
 }
 
 pub draining-preserved : goal.draining-preserved
-draining-preserved g c = record {
-  room = omega (arith, c.draining.invariant.room, c.resend.auto.out, c.exchange_one.auto.out);
-  answer_room = omega (arith, c.draining.invariant.answer_room, c.exchange_one.auto.answer);
-  within = c.in-Ok.ensures.within;
-  stands = stands_more _ _ _ _ _ _ _ _ _ _ c.draining.invariant.stands c.in-Some.ensures.written c.in-Ok.ensures.replied;
-  count = c.in-Ok.ensures.fault ∙ c.draining.invariant.count;
-  door = c.exchange_one.ensures.door ∙ c.draining.invariant.door;
-}
+draining-preserved g c =
+    let s = c.draining.invariant.stands in
+    let r = c.in-Ok.ensures.replied in
+    record {
+      room = omega (arith, c.draining.invariant.room, c.oldest.auto.out, c.exchange_one.auto.out);
+      answer_room = omega (arith, c.draining.invariant.answer_room, c.exchange_one.auto.answer);
+      within = c.in-Ok.ensures.within;
+      stands = (
+        s.0 ++ r.0,
+        stands_more _ _ _ _ _ _ _ _ _ _ _ _ _ s.1 c.in-Some.ensures.written r.1,
+        g.met.S.Logged.both _ _ _ s.0 r.0 s.2 r.2,
+      );
+      count = c.in-Ok.ensures.fault ∙ c.draining.invariant.count;
+      failures = c.in-Ok.ensures.counts ∙ c.draining.invariant.failures;
+      door = c.exchange_one.ensures.door ∙ c.draining.invariant.door;
+    }
 
 pub returns-in-Err-clause-broken : goal.returns-in-Err-clause-broken
-returns-in-Err-clause-broken g c = stands_broken _ _ _ _ _ _ _ _ _ _ c.draining.invariant.stands c.in-Some.ensures.written c.in-Err.ensures.unanswered
+returns-in-Err-clause-broken g c =
+    let s = c.draining.invariant.stands in
+    if_link {T = ℕ} (Err c.in-Err.why) _ _ (λ why h. (
+      s.0 ++ h.0,
+      stands_broken _ _ _ _ _ _ _ _ _ _ _ _ why s.1 c.in-Some.ensures.written h.1,
+      g.met.S.Logged.both _ _ _ s.0 h.0 s.2 h.2,
+    )) c.in-Err.ensures.failed
+
+pub returns-in-Err-clause-stopped : goal.returns-in-Err-clause-stopped
+returns-in-Err-clause-stopped g c =
+    let s = c.draining.invariant.stands in
+    if_keep {T = ℕ} (Err c.in-Err.why) _ _ (λ fault h. (
+      s.0 ++ h.0,
+      (
+        h.1.0,
+        stands_stopped _ _ _ _ _ _ _ s.0 h.0 h.1.0 _ _ _ s.1 c.in-Some.ensures.written h.1.1,
+        g.met.S.Logged.halts _ _ _ s.0 h.0 h.1.0 fault s.2 h.1.2,
+      ),
+    )) c.in-Err.ensures.unkept

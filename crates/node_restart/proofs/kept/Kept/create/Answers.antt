@@ -2,7 +2,6 @@ use Rattle.std.proofs.Common.{◌≡◌, ◌≢◌, ◌<◌, ℕ, List, [], ◌�
 use Rattle.node_journal.specs.Journal.{JournalState}
 use Rattle.node_restart.specs.Steps.{settings_of, role_of}
 use Rattle.node_journal.specs.declared.fault.JournalFault.{JournalFault}
-use Rattle.node_journal.specs.declared.fault.JournalFault.TheVariants.{NotEmpty, Full}
 use Rattle.node_restart.proofs.FaultLaws.{on_full, on_not_empty}
 use Rattle.node_restart.proofs.StepLaws.{opened_settings, opened_role}
 use Rattle.node_restart.proofs.kept.Kept.create.Goals as goal

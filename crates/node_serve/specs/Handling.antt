@@ -1,0 +1,120 @@
+-- A server's exchanges and steps, with the frames that it was handed on the way.
+use Rattle.std.specs.Prelude.{◌≡◌, ℕ, List, [], ◌∷◌, Option, Result, Ok}
+use Rattle.std.proofs.Common.{inl, inr}
+use Rattle.express_words.specs.Calls.{Call}
+use Rattle.step_rules.specs.Leader.{Leader, Ignored}
+use Rattle.step_rules.specs.LeaderClients.{on_client}
+use Rattle.step_rules.specs.LeaderReplies.{on_reply_bytes}
+use Rattle.node_serve.specs.Exchanging.{Exchange}
+use Rattle.node_serve.specs.Draining.{ExchangeOn, ExchangesOn, Stand, stand, Drained, BreaksOff}
+use Rattle.node_serve.specs.Draining.{Breaks, reply_of, rounds_left}
+use Rattle.node_serve.specs.Helping.{helper_step}
+use Rattle.node_serve.specs.Leading.{reply_to, Handles, BreaksDown}
+use Rattle.node_serve.specs.declared.exchanging.Broken.{Broken}
+use Rattle.node_serve.specs.declared.node.Served.{Served}
+use Rattle.node_restart.specs.declared.server.Core.{Core}
+use Rattle.node_restart.specs.declared.server.Core.TheVariants.{Lead, Help}
+use Rattle.node_restart.specs.declared.frames.Sender.TheVariants.{Peer}
+use Rattle.node_restart.specs.Frames.{Handed, handed}
+use Rattle.node_serve.specs.Handing.{answer_frames, answers_in, around}
+
+abbrev pub IsLead : Core → Type 0
+IsLead (Lead a) = Unit {0}
+IsLead (Help h) = ⊥
+
+abbrev pub IsHelp : Core → Type 0
+IsHelp (Help h) = Unit {0}
+IsHelp (Lead a) = ⊥
+
+-- a bound on the exchanges that a drain still makes
+abbrev pub rounds_of : Core → ℕ
+rounds_of (Lead a) = rounds_left a.outstanding
+rounds_of (Help h) = 0
+
+-- ---- one exchange
+
+-- these bytes were sent, and the helper answered those, which fit
+pub record RepliesBy (peer : List ℕ) (a : Leader) (new : Core) (sent reply : List ℕ) (frames : List Handed)
+    (before now : Option (List Call)) : Type 0 where
+  pub bytes : List ℕ
+  pub step : new ≡ Lead (on_reply_bytes a bytes).leader
+  pub fits : (on_reply_bytes a bytes).ack ≡ Ignored → ⊥
+  pub reply_is : reply ≡ reply_of (on_reply_bytes a bytes).ack
+  pub frames_are : frames ≡ handed Peer bytes ∷ []
+  pub calls : ExchangeOn peer (record { sent = sent; answer = Ok bytes }) before now
+
+-- these bytes were sent, and no reply came that fits
+pub record FailsBy (peer : List ℕ) (a : Leader) (new : Core) (sent : List ℕ) (frames : List Handed)
+    (before now : Option (List Call)) (why : Served) : Type 0 where
+  pub stays : new ≡ Lead a
+  pub answer : Result (List ℕ) Broken
+  pub broken : Breaks a answer why
+  pub frames_are : frames ≡ answer_frames answer
+  pub calls : ExchangeOn peer (record { sent = sent; answer = answer }) before now
+
+abbrev pub Replies : List ℕ → Core → Core → (sent reply : List ℕ) → List Handed →
+    (before now : Option (List Call)) → Type 0
+Replies peer (Lead a) new sent reply frames before now = RepliesBy peer a new sent reply frames before now
+Replies peer (Help h) new sent reply frames before now = ⊥
+
+abbrev pub Fails : List ℕ → Core → Core → List ℕ → List Handed → (before now : Option (List Call)) →
+    Served → Type 0
+Fails peer (Lead a) new sent frames before now why = FailsBy peer a new sent frames before now why
+Fails peer (Help h) new sent frames before now why = ⊥
+
+-- ---- a drain
+
+abbrev pub Drains : List ℕ → Core → List ℕ → Core → List Handed → List ℕ → (before now : Option (List Call)) →
+    Type 0
+Drains peer (Lead a) told new frames reply before now =
+    (end : Stand) × Drained (stand a told) end × (new ≡ Lead end.leader) × (reply ≡ end.reply)
+    × (frames ≡ answers_in end.made) × ExchangesOn peer end.made before now
+Drains peer (Help h) told new frames reply before now = ⊥
+
+abbrev pub DrainBreaks : List ℕ → Core → List ℕ → Core → List Handed → (before now : Option (List Call)) →
+    Served → Type 0
+DrainBreaks peer (Lead a) told new frames before now why =
+    (b : Leader) × (new ≡ Lead b) × ((made : List Exchange) × BreaksOff (stand a told) b made why
+    × (frames ≡ answers_in made) × ExchangesOn peer made before now)
+DrainBreaks peer (Help h) told new frames before now why = ⊥
+
+-- ---- a drain, the step at a client's frame, and a drain
+
+-- what a leader was handed on that way
+abbrev pub frames_handled : {a : Leader} {bytes : List ℕ} {b : Leader} {reply : List ℕ} {made : List Exchange}
+    → Handles a bytes b reply made → List Handed
+frames_handled {a} {bytes} h = around h.before.made bytes h.after.made
+
+-- and where one of the drains broke off
+abbrev pub frames_broken : (a : Leader) (bytes : List ℕ) (b : Leader) (made : List Exchange) (why : Served)
+    → BreaksDown a bytes b made why → List Handed
+frames_broken a bytes b made why (inl early) = answers_in made
+frames_broken a bytes b made why (inr late) = around late.before.made bytes late.more
+
+abbrev pub HandlesAll : List ℕ → Core → List ℕ → Core → List Handed → List ℕ →
+    (before now : Option (List Call)) → Type 0
+HandlesAll peer (Lead a) bytes new frames reply before now =
+    (b : Leader) × (new ≡ Lead b) × ((made : List Exchange) × ExchangesOn peer made before now
+    × ((h : Handles a bytes b reply made) × (frames ≡ frames_handled h)))
+HandlesAll peer (Help h) bytes new frames reply before now = ⊥
+
+abbrev pub HandleBreaks : List ℕ → Core → List ℕ → Core → List Handed → (before now : Option (List Call)) →
+    Served → Type 0
+HandleBreaks peer (Lead a) bytes new frames before now why =
+    (b : Leader) × (new ≡ Lead b) × ((made : List Exchange) × ExchangesOn peer made before now
+    × ((h : BreaksDown a bytes b made why) × (frames ≡ frames_broken a bytes b made why h)))
+HandleBreaks peer (Help h) bytes new frames before now why = ⊥
+
+-- the step alone, and the reply that it gives at once
+abbrev pub Steps : Core → List ℕ → Core → List ℕ → Type 0
+Steps (Lead a) bytes new reply =
+    (new ≡ Lead (on_client a bytes).leader) × (reply ≡ reply_to (on_client a bytes).answer)
+Steps (Help h) bytes new reply = ⊥
+
+-- ---- a helper
+
+-- it takes its step, and these bytes are its answer
+abbrev pub Helps : Core → List ℕ → Core → List ℕ → Type 0
+Helps (Help h) bytes new answer =
+    (new ≡ Help (helper_step h bytes).helper) × (answer ≡ (helper_step h bytes).answer)
+Helps (Lead a) bytes new answer = ⊥

@@ -1,0 +1,144 @@
+//! The server takes its step at what a connection brought, and its reply is written.
+ghost use Rattle.std.specs.Prelude.{◌≡◌, List, ℕ, None, IfOk, IfErr, OnErr};
+ghost use Rattle.express_words.specs.Seen.{Seen};
+ghost use Rattle.frame_rules.specs.Whole.{whole};
+ghost use Rattle.node_serve.specs.Draining.{FaultIn};
+ghost use Rattle.node_serve.specs.Exchanging.{EarlyAtEnd};
+ghost use Rattle.node_serve.specs.Handling.{IsHelp, IsLead};
+ghost use Rattle.node_serve.specs.Leading.{taken_in, IsSent};
+ghost use Rattle.node_serve.specs.Logs.{CountsLog};
+ghost use Rattle.node_serve.specs.Responding.{Answers, StopsShort, moved, stretch};
+ghost use Rattle.node_serve.specs.Serving.{WritesReply};
+
+use crate::broke::Broke;
+use crate::helping::step_helper;
+use crate::leading::{handle, say_link_down, step_leader, taken_in};
+use crate::logged::Logged;
+use crate::node::Served;
+use express_words::outside::{Conn, Net};
+use frame_rules::FRAME_MAX;
+use node_restart::Role;
+
+/// Writes a reply, if there is one. ConnFault has the connection's count of faults where that failed.
+fn send<C: Conn>(conn: &mut C, reply: &[u8]) -> Served
+    ensures writes { WritesReply result (C.seen conn.old) (C.seen conn.new) reply.now }
+    ensures sent { IsSent result }
+    ensures content { (C.seen conn.new).content ≡ (C.seen conn.old).content }
+{
+    if reply.is_empty() {
+        return Served::Answered;
+    }
+    match conn.put(reply) {
+        Ok(()) => Served::Answered,
+        Err(_) => Served::ConnFault(conn.faults()),
+    }
+}
+
+fn serve_helper<C: Conn, S: Logged>(
+    server: &mut S,
+    frame: &[u8],
+    conn: &mut C,
+) -> Result<Served, S::Fault>
+    requires help { IsHelp (S.log.core server.old) }
+    ensures answers { (peer : List ℕ) (net : Seen) → IfOk result (Answers S.log peer frame.now
+        (moved server.old server.new) (stretch net net) (moved (C.seen conn.old) (C.seen conn.new))) }
+    ensures stops { (peer : List ℕ) (net : Seen) → IfErr result (StopsShort S.log peer frame.now
+        (moved server.old server.new) (stretch net net)) }
+    ensures sent { IfOk result IsSent }
+    ensures untouched { OnErr result (conn.new ≡ conn.old) }
+    ensures content { (C.seen conn.new).content ≡ (C.seen conn.old).content }
+    ensures counts { CountsLog S.rises (S.failures server.old) (S.failures server.new) result }
+{
+    let mut out = [0u8; FRAME_MAX];
+    match step_helper(server, frame, &mut out) {
+        Ok(told) => Ok(send(conn, &out[..told])),
+        Err(fault) => Err(fault),
+    }
+}
+
+// Bytes that are no frame that a leader takes from clients get their refusal, and no exchange is made.
+fn refuse<C: Conn, S: Logged>(
+    server: &mut S,
+    frame: &[u8],
+    conn: &mut C,
+) -> Result<Served, S::Fault>
+    requires lead { IsLead (S.log.core server.old) }
+    requires none { None ≡ taken_in (whole frame.now) }
+    ensures answers { (peer : List ℕ) (net : Seen) → IfOk result (Answers S.log peer frame.now
+        (moved server.old server.new) (stretch net net) (moved (C.seen conn.old) (C.seen conn.new))) }
+    ensures stops { (peer : List ℕ) (net : Seen) → IfErr result (StopsShort S.log peer frame.now
+        (moved server.old server.new) (stretch net net)) }
+    ensures sent { IfOk result IsSent }
+    ensures untouched { OnErr result (conn.new ≡ conn.old) }
+    ensures content { (C.seen conn.new).content ≡ (C.seen conn.old).content }
+    ensures counts { CountsLog S.rises (S.failures server.old) (S.failures server.new) result }
+{
+    let mut out = [0u8; FRAME_MAX];
+    match step_leader(server, frame, &mut out) {
+        Ok(told) => Ok(send(conn, &out[..told])),
+        Err(fault) => Err(fault),
+    }
+}
+
+fn serve_leader<C: Conn, N: Net, S: Logged>(
+    server: &mut S,
+    peer: &str,
+    frame: &[u8],
+    conn: &mut C,
+    net: &mut N,
+) -> Result<Served, S::Fault>
+    requires lead { IsLead (S.log.core server.old) }
+    ensures answers { IfOk result (Answers S.log peer.now frame.now (moved server.old server.new)
+        (stretch (N.seen net.old) (N.seen net.new)) (moved (C.seen conn.old) (C.seen conn.new))) }
+    ensures stops { IfErr result (StopsShort S.log peer.now frame.now (moved server.old server.new)
+        (stretch (N.seen net.old) (N.seen net.new))) }
+    ensures early { IfOk result (λ why. why ≡ Served.LinkBad → EarlyAtEnd (N.seen net.new).calls N.Conn.seen) }
+    ensures fault { IfOk result (λ why. FaultIn why (N.seen net.old).faults (N.seen net.new).faults) }
+    ensures unfailed { OnErr result ((N.seen net.new).faults ≡ (N.seen net.old).faults) }
+    ensures door { (N.seen net.new).doors ≡ (N.seen net.old).doors }
+    ensures untouched { OnErr result (conn.new ≡ conn.old) }
+    ensures content { (C.seen conn.new).content ≡ (C.seen conn.old).content }
+    ensures counts { CountsLog S.rises (S.failures server.old) (S.failures server.new) result }
+{
+    let client = match taken_in(frame) {
+        Some(client) => client,
+        None => return refuse(server, frame, conn),
+    };
+    let mut out = [0u8; FRAME_MAX];
+    match handle(server, peer, frame, net, &mut out) {
+        Ok(told) => Ok(send(conn, &out[..told])),
+        Err(Broke::Link(why)) => {
+            let told = say_link_down(&client, net.faults(), &mut out);
+            let _ = send(conn, &out[..told]);
+            Ok(why)
+        }
+        Err(Broke::Keep(fault)) => Err(fault),
+    }
+}
+
+/// The server takes its step at bytes that are a frame, or known to be none.
+pub(crate) fn answer<C: Conn, N: Net, S: Logged>(
+    server: &mut S,
+    peer: &str,
+    frame: &[u8],
+    conn: &mut C,
+    net: &mut N,
+) -> Result<Served, S::Fault>
+    ensures answers { IfOk result (Answers S.log peer.now frame.now (moved server.old server.new)
+        (stretch (N.seen net.old) (N.seen net.new)) (moved (C.seen conn.old) (C.seen conn.new))) }
+    ensures stops { IfErr result (StopsShort S.log peer.now frame.now (moved server.old server.new)
+        (stretch (N.seen net.old) (N.seen net.new))) }
+    ensures early { IfOk result (λ why. why ≡ Served.LinkBad → EarlyAtEnd (N.seen net.new).calls N.Conn.seen) }
+    ensures fault { IfOk result (λ why. FaultIn why (N.seen net.old).faults (N.seen net.new).faults) }
+    ensures unfailed { OnErr result ((N.seen net.new).faults ≡ (N.seen net.old).faults) }
+    ensures door { (N.seen net.new).doors ≡ (N.seen net.old).doors }
+    ensures untouched { OnErr result (conn.new ≡ conn.old) }
+    ensures content { (C.seen conn.new).content ≡ (C.seen conn.old).content }
+    ensures counts { CountsLog S.rises (S.failures server.old) (S.failures server.new) result }
+    ensures helper_rests { IsHelp (S.log.core server.old) → net.new ≡ net.old }
+{
+    match server.role() {
+        Role::Leader => serve_leader(server, peer, frame, conn, net),
+        Role::Helper => serve_helper(server, frame, conn),
+    }
+}
