@@ -7,7 +7,7 @@ use Rattle.step_rules.specs.Client.{Client, Current, Fault, Spent, Turn, Progres
 use Rattle.step_rules.specs.ClientAsks.{asked, asked_with, fault_at, own_fault, with_request}
 use Rattle.step_rules.specs.ClientReplies.{on_reply}
 use Rattle.client_restart.specs.Steps.{CoreState, boxes_with, errand_of, heard, untold_with}
-use Rattle.client_restart.specs.Turns.{Moves, Turns}
+use Rattle.client_restart.proofs.Turns.{Moves, Turns}
 use Rattle.client_restart.proofs.TurnLaws.{reply_turns}
 
 -- ---- a request that is taken

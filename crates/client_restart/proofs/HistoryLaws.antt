@@ -13,7 +13,7 @@ use Rattle.client_restart.specs.declared.owned_box.OwnedBox.{OwnedBox}
 use Rattle.client_restart.specs.Histories.{Happening, AreOfOne, noted_by, notes_of, after, told_by, told_in}
 use Rattle.client_restart.specs.Notes.{Noted, Asked, Heard, Told, GivenUp, Owned as OwnedNote, Remark}
 use Rattle.client_restart.specs.Steps.{CoreState, EndedRequest, client_or, ended, fold_from, opened, owned_with, step_of, untold_with}
-use Rattle.client_restart.specs.Turns.{Moves, Turns, owned_after}
+use Rattle.client_restart.proofs.Turns.{Moves, Turns, owned_after}
 use Rattle.client_restart.proofs.TurnLaws.{reply_turns}
 
 -- ---- histories

@@ -8,3 +8,4 @@ pub mod OpeningLaws
 pub mod ReplayLaws
 pub mod StepLaws
 pub mod TurnLaws
+pub mod Turns

@@ -10,7 +10,7 @@ use Rattle.mailbox_rules.specs.Requests.{Request, Register, Write, Read, Retire}
 use Rattle.step_rules.specs.Client.{Client, Current, Owned, Step, Deposits, Submits, ProvesToHelper, ProvesToLeader, Turn}
 use Rattle.step_rules.specs.ClientReplies.{by_step, by_refusal, ended, finished, if_current, if_whole, ignores, is_mine, of_no_frame, on_challenge, on_deposit, on_helper_proof, on_leader_proof, on_message, on_refusal, on_registered, on_reply, on_submission, refusal_in, unmasked}
 use Rattle.step_rules.specs.Client.{Message}
-use Rattle.client_restart.specs.Turns.{Moves, Turns}
+use Rattle.client_restart.proofs.Turns.{Moves, Turns}
 
 abbrev MovesTo : Client → Request → Turn → Type 0
 MovesTo c request t = Moves c request t.client t.progress

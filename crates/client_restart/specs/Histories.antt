@@ -27,7 +27,7 @@ after o happened = fold o (notes_of happened)
 
 -- ---- one serial, one request
 
--- Both are frames of one request, at whichever steps, of one lane and seed: so they are made of the same words.
+-- Both send for one request, at whichever steps, with one lane and seed: so of the same words.
 pub record AreOfOne (c d : Client) : Type 0 where
   pub request : Request
   pub first : Step

@@ -1,5 +1,6 @@
 -- What a call does that notes something before its step.
-use Rattle.std.specs.Prelude.{◌≡◌, ℕ, ◌+◌, ◌≤◌, List, [], ◌∷◌, ◌++◌, true, false, Result, IsErrOf, OnOk, OnErr}
+use Rattle.std.specs.Prelude.{◌≡◌, ℕ, ◌+◌, ◌≤◌, List, [], ◌∷◌, ◌++◌, true, false}
+use Rattle.std.specs.Prelude.{Result, IsErrOf, OnOk, OnErr}
 use Rattle.express_words.specs.Seen.{Seen}
 use Rattle.node_journal.specs.Disk.{DiskSeen, LeavesOnly, Within}
 use Rattle.node_journal.specs.Journal.{JournalState, Passes, longer, broken}

@@ -4,10 +4,10 @@ pub mod Hears
 pub mod Histories
 pub mod Keeps
 pub mod Kept
+pub mod Laws
 pub mod Notes
 pub mod Openings
 pub mod Records
 pub mod Replays
 pub mod Steps
 pub mod Texts
-pub mod Turns

@@ -28,8 +28,8 @@ StepsOnce start end before now reads = (r : List ℕ) × StepsBy r before now
     × ((c : List ℕ) → reads c → records_from start c ≡ r ∷ records_from end c)
 
 -- These notes stand from this byte on to that, and their steps were taken.
-pub record StepsThrough (notes : List Noted) (start end : ℕ) (before now : CoreState) (reads : List ℕ → Type 0)
-    : Type 0 where
+pub record StepsThrough (notes : List Noted) (start end : ℕ) (before now : CoreState)
+    (reads : List ℕ → Type 0) : Type 0 where
   pub whole : AllNotes notes
   pub folded : now ≡ fold_from before notes
   pub split : (c : List ℕ) → reads c → records_from start c ≡ map note_record notes ++ records_from end c

@@ -62,7 +62,8 @@ untold_with untold serial now progress = untold
 
 -- behind the others the box, where one was registered
 abbrev pub boxes_with : List OwnedBox → ℕ → Progress → List OwnedBox
-boxes_with boxes serial (Finished (Registered number)) = boxes ++ record { number = number; serial = serial } ∷ []
+boxes_with boxes serial (Finished (Registered number)) =
+    boxes ++ record { number = number; serial = serial } ∷ []
 boxes_with boxes serial progress = boxes
 
 abbrev pub heard : CoreState → List ℕ → CoreState

@@ -2,7 +2,7 @@
 ghost use Rattle.client_restart.specs.Notes.{FitsRecord, plain_note};
 
 use client_core::Request;
-use client_restart::{ClientOpening, NOTE_MAX, Note};
+use client_restart::{ClientOpening, NOTE_MAX, Note, OwnedBox};
 use std::test::Fail;
 
 fn is_record(note: &Note<'_>, bytes: &[u8]) -> bool
@@ -27,6 +27,12 @@ fn client_notes_are_as_the_table_has_them(rt: HostRuntime) -> Result<(), Fail> {
     assert!(rt; is_record(&Note::Asked(Request::Retire { own: 258 }), &[7, 0, 0, 1, 2]));
     assert!(rt; is_record(&Note::Told, &[9]));
     assert!(rt; is_record(&Note::GivenUp, &[10]));
+    let owned = OwnedBox {
+        number: 258,
+        serial: 3,
+    };
+    assert!(rt; is_record(&Note::Owned(owned), &[11, 0, 0, 1, 2, 0, 0, 0, 3]));
+    assert!(rt; is_record(&Note::Remark(b"hi"), &[12, 104, 105]));
     Ok(())
 }
 

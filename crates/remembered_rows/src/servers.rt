@@ -55,8 +55,11 @@ impl Servers {
     {
         let mut length = command;
         for _turn in 0..2u8 {
-            let LinkTurn::Carried(reply) = carry_command(&mut self.helper, front(out, length), frame)
-            else {
+            let LinkTurn::Carried(reply) = carry_command(
+                &mut self.helper,
+                front(out, length),
+                frame,
+            ) else {
                 return 0;
             };
             match self.leader.on_link_reply(front(frame, reply), out) {
