@@ -1,5 +1,5 @@
 -- What a run promises follows from what it may come to.
-use Rattle.std.proofs.Common.{◌≡◌, ◌≢◌, ℕ, List, ◌∙◌, ap, sym, subst}
+use Rattle.std.proofs.Common.{◌≡◌, ◌≢◌, ℕ, List, ap, sym, subst}
 use Rattle.clap.specs.Words.{Text}
 use Rattle.express_cli.specs.Around.{Around, Outside}
 use Rattle.express_cli.specs.Ends.{PrintsBy, status_of}

@@ -1,5 +1,7 @@
 -- What may come of a command over a net, by what its parts may come to.
-use Rattle.std.proofs.Common.{◌≡◌, ◌≢◌, ◌⊎◌, inl, inr, ℕ, List, [], ◌∷◌, ◌++◌, All, Option, Err, false, string_bytes, refl, sym, ap, subst}
+use Rattle.std.proofs.Common.{◌≡◌, ◌≢◌, ◌⊎◌, inl, inr, ℕ, List, ◌++◌, Option, Err, false, string_bytes, refl, sym, ap, subst}
+use Rattle.std.specs.Prelude.{All}
+use Rattle.std.proofs.lemmas.List.Elements.{All-weaker}
 use Rattle.clap.specs.Words.{Text}
 use Rattle.express_words.specs.Calls.{Listened, Adds}
 use Rattle.express_words.specs.Streams.{TookPrefix}
@@ -61,8 +63,9 @@ first_failed May old new before now ends.TooLong front more h other may = absurd
 -- ---- a server
 
 pub were_there : {C : Type 0} (shows : C → Seen) (now : Seen) (visits : List Visit) → All (λ v. (conn : C) × IsOf now.calls v (shows conn)) visits → WereThere (Shown shows) now visits
-were_there shows now [] all = tt
-were_there shows now (v ∷ visits) all = ((shows all.0.0, (all.0.0, refl), all.0.1), were_there shows now visits all.1)
+were_there {C} shows now visits all =
+    All-weaker (λ (v : Visit). (conn : C) × IsOf now.calls v (shows conn)) (λ (v : Visit). (conn : Seen) × Shown shows conn × IsOf now.calls v conn)
+    (λ v found. (shows found.0, (found.0, refl), found.1)) visits all
 
 pub door_may : (shown : Seen → Type 0) (settings : ServeSettings) (node : Node) (before at_door now : Seen) → Adds before.calls at_door.calls (Listened settings.listen false)
     → at_door.faults ≡ before.faults → at_door.doors ≡ before.doors

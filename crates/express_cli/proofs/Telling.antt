@@ -1,5 +1,5 @@
 -- What is told of a run whose lines are put as its requests come to their ends.
-use Rattle.std.proofs.Common.{◌≡◌, ℕ, List, [], ◌∷◌, ◌++◌, length, Option, Result, Ok, Err, append_assoc, inl, inr, refl, sym, ap, ◌∙◌, subst}
+use Rattle.std.proofs.Common.{◌≡◌, ℕ, List, [], ◌++◌, length, Option, Ok, Err, append_assoc, inl, inr, refl, sym, ap, ◌∙◌, subst}
 use Rattle.express_words.specs.Causes.{Rose}
 use Rattle.express_words.specs.Calls.{Call}
 use Rattle.clap.specs.Words.{Text}
@@ -14,11 +14,10 @@ use Rattle.client_run.specs.declared.cut.Untold.{Untold}
 use Rattle.client_run.specs.declared.cut.Untold.TheVariants as untold
 use Rattle.client_run.specs.declared.ran.Ran.{Ran}
 use Rattle.client_run.specs.declared.ran.RunEnd.{RunEnd}
-use Rattle.client_run.specs.declared.ran.RunEnd.TheVariants as run
-use Rattle.client_run.specs.Carries.{CarryComes, ComesBy, FetchComes, SendComes, SendEnded, CarryRuns, carry_plan, carry_text, send_end, told_by}
-use Rattle.client_run.specs.Runs.{Plan, IsNext, between, outcome, ended, CameTo, EndsWith, BreaksOff as BrokeOff, Comes, ClientEnded, ClientComes, ClientRuns, RunFault, client_plan}
+use Rattle.client_run.specs.Carries.{CarryComes, ComesBy, SendEnded, CarryRuns, carry_plan, carry_text, told_by}
+use Rattle.client_run.specs.Runs.{Plan, between, outcome, ended, CameTo, EndsWith, BreaksOff as BrokeOff, Comes, ClientEnded, ClientComes, ClientRuns, RunFault, client_plan}
 use Rattle.client_run.specs.Telling.{Moment, TookPart, PutSink, lines_of}
-use Rattle.client_run.specs.Texts.{outcome_line, end_line}
+use Rattle.client_run.specs.Texts.{outcome_line}
 use Rattle.client_run.proofs.PassedLaws.{lines_more, part_behind, took_nothing, took_part}
 use Rattle.express_cli.specs.Around.{Around}
 use Rattle.express_cli.specs.CommandLine.{AsksNet}

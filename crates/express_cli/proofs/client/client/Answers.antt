@@ -50,8 +50,8 @@ returns-in-Err-clause-early g c = inl refl
 
 pub returns-in-Ok-run_client-clause-early : goal.returns-in-Ok-run_client-clause-early
 returns-in-Ok-run_client-clause-early g c =
-    left_nothing g.N.Counted.seen g.N.Conn.Counted.seen _ _ _ c.run_client.ensures.early
+    left_nothing g.N.Counted.seen g.N.Conn.Counted.seen c.args.seed.now _ _ c.run_client.ensures.early
 
 pub returns-clause-early : goal.returns-clause-early
 returns-clause-early g c =
-    left_nothing g.N.Counted.seen g.N.Conn.Counted.seen _ _ _ c.run_client.ensures.early
+    left_nothing g.N.Counted.seen g.N.Conn.Counted.seen c.args.seed.now _ _ c.run_client.ensures.early

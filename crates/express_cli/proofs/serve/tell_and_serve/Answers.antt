@@ -1,9 +1,10 @@
 use Rattle.std.proofs.Common.{refl, ◌∙◌, inl, inr, [], arith}
 use Rattle.express_cli.specs.Ends.{out_of_memory_text}
+use Rattle.std.proofs.lemmas.List.Elements.{All-nil}
 use Rattle.node_host.specs.Visits.Visits.{none as nothing}
 use Rattle.node_host.proofs.CallLaws.{makes_none}
 use Rattle.express_cli.specs.Around.{Seen, Shown}
-use Rattle.express_cli.specs.Talking.{HostMay, ListeningMay, listening}
+use Rattle.express_cli.specs.Talking.{HostMay, ListeningMay, ServesSome, listening}
 use Rattle.express_cli.proofs.Causes.{took_as}
 use Rattle.express_cli.proofs.Following.{follows}
 use Rattle.express_cli.proofs.Serving.{done_is_no_fault, first_failed, told_is_no_key}
@@ -24,7 +25,8 @@ returns-in-Done-clause-told g c = λ other. c.serve_all.ensures.told other ∙ c
 pub returns-in_default : goal.returns-in_default
 returns-in_default g c =
     let before : Seen = g.N.Counted.seen c.args.net.now in
-    let none = record { visits = []; end = c.args.node.now; few = omega arith; made = nothing; calls = makes_none before.calls; there = tt } in
+    let none : ServesSome (Shown g.N.Conn.Counted.seen) c.args.connections c.args.node.now before before
+    = record { visits = []; end = c.args.node.now; few = omega arith; made = nothing; calls = makes_none before.calls; there = All-nil _ } in
     record {
       ends = first_failed (ListeningMay (Shown g.N.Conn.Counted.seen) c.args.connections c.args.node.now before before) _ _ _ _ _ listening out_of_memory_text c.say.ensures.says c.in_default.not-Done (out_of_memory_text, (none, refl), refl);
       told = c.say.ensures.told;
