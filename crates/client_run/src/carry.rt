@@ -1,7 +1,7 @@
 //! The run of a carrier.
 ghost use Rattle.std.specs.Prelude.{◌≡◌, ◌≤◌, ◌⊎◌, length, map, All, IfOk};
 ghost use Rattle.client_core.specs.Requests.{plain_request};
-ghost use Rattle.node_serve.specs.Exchanging.{EarlyAtEnd};
+ghost use Rattle.node_exchange.specs.Exchanging.{EarlyAtEnd};
 ghost use Rattle.node_client.specs.Work.{Fits};
 ghost use Rattle.settings_text.specs.declared.carry.CarryJob.TheVariants.{Fetch};
 ghost use Rattle.client_run.specs.Carrying.{IsCarrier, carry_end};

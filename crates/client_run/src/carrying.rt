@@ -1,6 +1,6 @@
 //! A carrier's requests, worked off up to the first that doesn't carry.
 ghost use Rattle.std.specs.Prelude.{◌≡◌, ◌≤◌, ◌⊎◌, List, None, length, map, All, IfOk};
-ghost use Rattle.node_serve.specs.Exchanging.{EarlyAtEnd};
+ghost use Rattle.node_exchange.specs.Exchanging.{EarlyAtEnd};
 ghost use Rattle.client_core.specs.Requests.{plain_request};
 ghost use Rattle.node_client.specs.Talks.{Talk, TalksOn};
 ghost use Rattle.node_client.specs.Work.{Fits};

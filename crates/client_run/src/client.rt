@@ -1,6 +1,6 @@
 //! The run of a client.
 ghost use Rattle.std.specs.Prelude.{◌≡◌, ◌⊎◌, IfOk};
-ghost use Rattle.node_serve.specs.Exchanging.{EarlyAtEnd};
+ghost use Rattle.node_exchange.specs.Exchanging.{EarlyAtEnd};
 ghost use Rattle.client_run.specs.Accounts.{IsClient};
 ghost use Rattle.client_run.specs.Runs.{ClientComes, RunFault, end_of};
 ghost use Rattle.client_run.specs.Telling.{moment, PutSink};

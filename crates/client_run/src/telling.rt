@@ -1,7 +1,7 @@
 //! Requests worked off and told one by one.
 ghost use Rattle.std.specs.Prelude.{◌≡◌, ◌⊎◌, length, map, All, Err, OnOk};
 ghost use Rattle.client_core.specs.Requests.{plain_request};
-ghost use Rattle.node_serve.specs.Exchanging.{EarlyAtEnd};
+ghost use Rattle.node_exchange.specs.Exchanging.{EarlyAtEnd};
 ghost use Rattle.node_client.specs.Work.{Fits};
 ghost use Rattle.client_run.specs.Telling.{carries, goes_on, moment, IsReady, TellsOff, CutFault, CutSink};
 

@@ -2,7 +2,7 @@
 ghost use Rattle.std.specs.Prelude.{◌≡◌, ◌≤◌, ◌⊎◌, length, IfOk, OnOk, string_bytes};
 ghost use Rattle.express_words.specs.Limits.{IsWidth};
 ghost use Rattle.client_core.specs.Requests.{plain_request};
-ghost use Rattle.node_serve.specs.Exchanging.{EarlyAtEnd};
+ghost use Rattle.node_exchange.specs.Exchanging.{EarlyAtEnd};
 ghost use Rattle.node_client.specs.Work.{Fits, line};
 ghost use Rattle.client_run.specs.Accounts.{account_in, opened};
 ghost use Rattle.client_run.specs.Texts.{outcome_line};

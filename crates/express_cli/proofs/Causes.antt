@@ -4,7 +4,7 @@ use Rattle.clap.specs.Words.{Text}
 use Rattle.express_words.specs.Causes.{Rose}
 use Rattle.express_words.specs.Streams.{Stream, Took, TookPrefix}
 use Rattle.express_cli.specs.CommandLine.{AskSome, AskNothing}
-use Rattle.express_cli.specs.Reading.{GaveSome, GaveMore, most_bytes}
+use Rattle.input_reading.specs.Reading.{GaveSome, GaveMore, most_bytes}
 use Rattle.express_cli.specs.Ends.{PrintsBy, status_of, usage_text, read_fault_text, too_long_text}
 use Rattle.express_cli.specs.Around.{Around}
 use Rattle.express_cli.specs.Talking.{WantsFirst}

@@ -11,7 +11,7 @@ use Rattle.express_texts.specs.Spelling.{SpellsBatch}
 use Rattle.express_texts.specs.declared.cloak.CloakGame.{CloakGame}
 use Rattle.express_texts.specs.GameSpelling.{SpellsGame}
 use Rattle.express_cli.specs.CommandLine.{Asks, AsksMill, AskSome}
-use Rattle.express_cli.specs.Reading.{most_bytes}
+use Rattle.input_reading.specs.Reading.{most_bytes}
 use Rattle.express_cli.specs.Batches.{SortsOut, IsBatchText, batch_text}
 use Rattle.express_cli.specs.Cloaks.{old_view, new_view, cloak_text, IsCloakText}
 use Rattle.express_cli.specs.Mills.{mill_text}

@@ -12,5 +12,4 @@ pub mod Telling
 pub mod BatchText
 pub mod CloakLemmas
 pub mod MillText
-pub mod Seeding
 pub mod Announcing

@@ -18,7 +18,7 @@ use Rattle.settings_text.specs.declared.carry.CarrySettings.{CarrySettings}
 use Rattle.client_run.specs.declared.ran.RunEnd.{RunEnd}
 use Rattle.client_run.specs.declared.ran.RunEnd.TheVariants as run
 use Rattle.node_serve.specs.declared.node.Node.{Node}
-use Rattle.node_serve.specs.Exchanging.{EarlyAtEnd}
+use Rattle.node_exchange.specs.Exchanging.{EarlyAtEnd}
 use Rattle.node_host.specs.Opening.{IsOpened}
 use Rattle.node_host.specs.Visits.{Visit, IsOf}
 use Rattle.express_cli.specs.CommandLine.{AsksNet}

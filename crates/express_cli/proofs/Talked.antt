@@ -10,7 +10,7 @@ use Rattle.settings_text.specs.declared.client.ClientSettings.{ClientSettings}
 use Rattle.settings_text.specs.declared.carry.CarrySettings.{CarrySettings}
 use Rattle.settings_text.specs.declared.serve.ServeSettings.{ServeSettings}
 use Rattle.express_cli.specs.CommandLine.{AsksNet}
-use Rattle.express_cli.specs.Reading.{most_bytes}
+use Rattle.input_reading.specs.Reading.{most_bytes}
 use Rattle.express_cli.specs.Ends.{PrintsBy, status_of, bad_settings}
 use Rattle.express_cli.specs.Around.{Around}
 use Rattle.express_cli.specs.Talking.{CarryMay, ClientMay, IsBadKey, ServeMay, SpellsCarry, SpellsClient, SpellsServe, TalkMay}

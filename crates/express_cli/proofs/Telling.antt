@@ -21,7 +21,7 @@ use Rattle.client_run.specs.Texts.{outcome_line}
 use Rattle.client_run.proofs.PassedLaws.{lines_more, part_behind, took_nothing, took_part}
 use Rattle.express_cli.specs.Around.{Around}
 use Rattle.express_cli.specs.CommandLine.{AsksNet}
-use Rattle.express_cli.specs.Reading.{GaveAll}
+use Rattle.input_reading.specs.Reading.{GaveAll}
 use Rattle.express_cli.specs.Ends.{PrintsBy, Said, out_of_memory_text}
 use Rattle.express_cli.specs.Talking.{Breaks, BreaksOff, CarryBreaks, CarryRan, CarryWants, ClientRan, SaysUntold, SpellsCarry, SpellsClient, TalkMay, Wants, end_by}
 use Rattle.express_cli.specs.declared.words.NetCommand.{NetCommand}

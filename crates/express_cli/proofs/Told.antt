@@ -2,9 +2,9 @@
 use Rattle.std.proofs.Common.{◌≡◌, ℕ, ◌+◌, ◌≤◌, List, ◌++◌, length, Option, Some, None, arith, sym, subst, ◌∙◌, ap, append-nil, length-append}
 use Rattle.express_words.specs.Causes.{Rose}
 use Rattle.express_words.specs.Streams.{Stream, Gave}
-use Rattle.express_cli.specs.Reading.{GaveAll, GaveSome, GaveMore, Stopped, most_bytes}
-use Rattle.express_cli.specs.declared.reading.InputFault.{InputFault}
-use Rattle.express_cli.specs.declared.reading.InputFault.TheVariants.{Failed, TooLong}
+use Rattle.input_reading.specs.Reading.{GaveAll, GaveSome, GaveMore, Stopped, most_bytes}
+use Rattle.input_reading.specs.declared.reading.InputFault.{InputFault}
+use Rattle.input_reading.specs.declared.reading.InputFault.TheVariants.{Failed, TooLong}
 
 -- a source that gave all its bytes gave those that it had left
 pub gave_left : (s : Stream) (to : Option Stream) (bytes : List ℕ) → GaveAll (Some s) to bytes → bytes ≡ s.left

@@ -3,7 +3,7 @@ use Rattle.std.proofs.Common.{◌≡◌, ℕ, List, Option, Some, inl, inr, refl
 use Rattle.clap.specs.Words.{Text}
 use Rattle.express_words.specs.Streams.{Stream}
 use Rattle.express_cli.specs.CommandLine.{Asks, AsksMill, AsksNet, AskSome, IsAsked}
-use Rattle.express_cli.specs.Reading.{GaveAll}
+use Rattle.input_reading.specs.Reading.{GaveAll}
 use Rattle.express_cli.specs.Work.{IsBad}
 use Rattle.express_cli.specs.Ends.{PrintsBy, Said, BadLineMay, WorkMay, MillMay, bad_line}
 use Rattle.express_cli.specs.Around.{Around}

@@ -4,7 +4,7 @@ use Rattle.clap.specs.Words.{Text}
 use Rattle.express_words.specs.Causes.{Rose}
 use Rattle.express_words.specs.Streams.{Stream, Took}
 use Rattle.express_cli.specs.CommandLine.{Asks, AsksMill}
-use Rattle.express_cli.specs.Reading.{GaveAll}
+use Rattle.input_reading.specs.Reading.{GaveAll}
 use Rattle.express_cli.specs.Work.{IsOutput, IsBad}
 use Rattle.express_cli.specs.Mills.{mill_text}
 use Rattle.express_cli.specs.Ends.{bad_line, out_of_memory_text}

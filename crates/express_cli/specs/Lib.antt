@@ -1,6 +1,4 @@
 pub mod CommandLine
-pub mod Reading
-pub mod Seeds
 pub mod Batches
 pub mod Cloaks
 pub mod Mills
@@ -13,4 +11,3 @@ pub mod Runs
 pub mod Headline
 pub mod Ran
 pub mod Laws
-pub mod Texts

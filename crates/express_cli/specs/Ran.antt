@@ -15,7 +15,7 @@ use Rattle.settings_text.specs.declared.carry.CarrySettings.{CarrySettings}
 use Rattle.settings_text.specs.declared.client.ClientSettings.{ClientSettings}
 use Rattle.settings_text.specs.declared.serve.ServeSettings.{ServeSettings}
 use Rattle.express_cli.specs.CommandLine.{Asks, AsksMill, AsksNet, AskSome, AskNothing}
-use Rattle.express_cli.specs.Reading.{most_bytes, GaveSome, GaveMore}
+use Rattle.input_reading.specs.Reading.{most_bytes, GaveSome, GaveMore}
 use Rattle.express_cli.specs.Batches.{SortsOut, batch_text}
 use Rattle.express_cli.specs.Cloaks.{old_view, new_view, cloak_text}
 use Rattle.express_cli.specs.Mills.{mill_text}

@@ -4,7 +4,7 @@ use Rattle.express_words.specs.Causes.{Rose}
 use Rattle.express_words.specs.Streams.{Stream}
 use Rattle.clap.specs.Words.{Text}
 use Rattle.express_cli.specs.CommandLine.{Asks, AsksMill, AsksNet, AskSome, AskNothing}
-use Rattle.express_cli.specs.Reading.{GaveAll, GaveSome, most_bytes}
+use Rattle.input_reading.specs.Reading.{GaveAll, GaveSome, most_bytes}
 use Rattle.express_cli.specs.Mills.{mill_text}
 use Rattle.express_cli.specs.Ends.{WorkMay, usage_text, read_fault_text, out_of_memory_text, too_long_text}
 use Rattle.express_cli.specs.Around.{Around}

@@ -16,7 +16,7 @@ use Rattle.settings_text.specs.declared.carry.CarryJob.TheVariants.{Send, Fetch}
 use Rattle.settings_text.specs.declared.carry.CarrySettings.{CarrySettings}
 use Rattle.node_serve.specs.declared.node.Node.{Node}
 use Rattle.node_host.specs.Opening.{IsOpened}
-use Rattle.node_serve.specs.Exchanging.{ClosedAtEnd, EndsShort, Makes}
+use Rattle.node_exchange.specs.Exchanging.{ClosedAtEnd, EndsShort, Makes}
 use Rattle.node_host.specs.Visits.{Visit, Visits, IsOf, standing, visit_calls}
 use Rattle.node_host.specs.Hosting.{Hosts}
 use Rattle.node_host.specs.Tallies.{tally_text}

@@ -1,13 +1,13 @@
 //! The whole input, or how a run ends without it.
 ghost use Rattle.std.specs.Prelude.{◌≡◌, ◌≢◌, ◌≤◌, IfOk, IfErr, OnOk, Err};
-ghost use Rattle.express_cli.specs.Reading.{GaveAll, LastFailed};
+ghost use Rattle.input_reading.specs.Reading.{GaveAll, LastFailed};
 ghost use Rattle.express_cli.specs.Ends.{Prints};
 ghost use Rattle.express_cli.specs.Runs.{UnreadMay};
 
 use crate::End;
-use crate::reading::{InputFault, read_all};
 use crate::texts::{OUT_OF_MEMORY, READ_FAULT, TOO_LONG, say};
 use express_words::outside::{Sink, Source};
+use input_reading::{InputFault, read_all};
 use std::alloc::Global;
 
 /// Reads the whole input, of at most 67,108,864 bytes. Where that fails it is told, and how the run ends is given.

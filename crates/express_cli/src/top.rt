@@ -5,7 +5,7 @@ ghost use Rattle.express_cli.specs.Around.{around, outside, Shown};
 ghost use Rattle.express_cli.specs.Ends.{Prints};
 ghost use Rattle.express_cli.specs.Runs.{MayLeave, RunMay, SinkFailed, WaitsForNet};
 ghost use Rattle.express_cli.specs.Ran.{Ran};
-ghost use Rattle.express_cli.specs.Reading.{LastFailed};
+ghost use Rattle.input_reading.specs.Reading.{LastFailed};
 ghost use Rattle.express_cli.specs.Laws.{Laws};
 
 use crate::End;

@@ -11,7 +11,7 @@ use Rattle.node_keep.specs.declared.fault.OpenFault.{OpenFault}
 use Rattle.node_keep.specs.declared.fault.OpenFault.TheVariants as opening
 use Rattle.node_keep.specs.declared.key.SettingsKey.{SettingsKey}
 use Rattle.express_cli.specs.Around.{Around, Outside}
-use Rattle.express_cli.specs.Reading.{GaveAll}
+use Rattle.input_reading.specs.Reading.{GaveAll}
 use Rattle.express_cli.specs.Ends.{BadKeyMay, bad_settings}
 use Rattle.express_cli.specs.Talking.{SpellsServe, IsBadKey, IsStill, BreaksOff}
 use Rattle.express_cli.specs.Runs.{UnreadMay}

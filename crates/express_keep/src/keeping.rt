@@ -2,7 +2,7 @@
 ghost use Rattle.std.specs.Prelude.{◌≡◌, ◌≢◌, ◌≤◌, ◌⊎◌};
 ghost use Rattle.express_words.specs.Limits.{KeepsLimits};
 ghost use Rattle.express_cli.specs.Around.{around, outside, Shown};
-ghost use Rattle.express_cli.specs.Reading.{LastFailed};
+ghost use Rattle.input_reading.specs.Reading.{LastFailed};
 ghost use Rattle.express_cli.specs.Talking.{BreaksOff, ServeBreaks};
 ghost use Rattle.express_cli.specs.declared.words.NetCommand.TheVariants.{Serve};
 ghost use Rattle.express_keep.specs.Endings.{DiskCounts};

@@ -5,7 +5,7 @@ ghost use Rattle.express_cli.specs.Around.{around, outside, Shown};
 ghost use Rattle.express_cli.specs.CommandLine.{AskSome, AskTalk};
 ghost use Rattle.express_cli.specs.Laws.{Laws};
 ghost use Rattle.express_cli.specs.Ran.{Ran};
-ghost use Rattle.express_cli.specs.Reading.{LastFailed};
+ghost use Rattle.input_reading.specs.Reading.{LastFailed};
 ghost use Rattle.express_keep.specs.Keeping.{KeepRan};
 ghost use Rattle.express_keep.specs.Words.{AsksKeep};
 

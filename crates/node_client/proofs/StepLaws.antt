@@ -9,8 +9,8 @@ use Rattle.step_rules.specs.ClientAsks.{Sent, sends}
 use Rattle.client_core.specs.Answers.{addressed, bytes_of, progress_in, message_or}
 use Rattle.client_core.specs.declared.progress.Progress.{Progress}
 use Rattle.client_core.specs.declared.progress.Progress.TheVariants as progress
-use Rattle.node_serve.specs.Exchanging.{Makes, Exchange, IsExchange}
-use Rattle.node_serve.specs.declared.exchanging.Broken.{Broken}
+use Rattle.node_exchange.specs.Exchanging.{Makes, Exchange, IsExchange}
+use Rattle.node_exchange.specs.declared.exchanging.Broken.{Broken}
 use Rattle.node_client.specs.declared.finished.Told.{Told}
 use Rattle.node_client.specs.declared.finished.Told.TheVariants as told
 use Rattle.node_client.specs.declared.peers.Peers.{Peers}

@@ -7,7 +7,7 @@ use Rattle.step_rules.specs.Client.{Client}
 use Rattle.step_rules.specs.ClientAsks.{sends}
 use Rattle.step_rules.specs.ClientReplies.{on_reply}
 use Rattle.client_core.specs.Answers.{message_or}
-use Rattle.node_serve.specs.declared.exchanging.Broken.{Broken}
+use Rattle.node_exchange.specs.declared.exchanging.Broken.{Broken}
 use Rattle.node_client.specs.declared.finished.Told.{Told}
 use Rattle.node_client.specs.declared.peers.Peers.{Peers}
 use Rattle.node_client.specs.declared.stop.Stop.{Stop}

@@ -7,8 +7,8 @@ use Rattle.step_rules.specs.Client.{Client, Turn, Outcome, Progress, Message, Ig
 use Rattle.step_rules.specs.ClientAsks.{Sent, sends}
 use Rattle.step_rules.specs.ClientReplies.{on_reply, ignores}
 use Rattle.client_core.specs.Answers.{outcome_in, message_or}
-use Rattle.node_serve.specs.declared.exchanging.Broken.{Broken}
-use Rattle.node_serve.specs.declared.exchanging.Broken.TheVariants as broken
+use Rattle.node_exchange.specs.declared.exchanging.Broken.{Broken}
+use Rattle.node_exchange.specs.declared.exchanging.Broken.TheVariants as broken
 use Rattle.node_client.specs.declared.finished.Told.{Told}
 use Rattle.node_client.specs.declared.finished.Told.TheVariants as told
 use Rattle.node_client.specs.declared.peers.Peers.{Peers}

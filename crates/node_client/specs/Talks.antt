@@ -1,7 +1,7 @@
 -- Exchanges with two servers, one after another.
 use Rattle.std.specs.Prelude.{◌≡◌, ℕ, zero, suc, List, [], ◌∷◌, Option}
 use Rattle.express_words.specs.Calls.{Call}
-use Rattle.node_serve.specs.Exchanging.{Makes, Exchange, IsExchange}
+use Rattle.node_exchange.specs.Exchanging.{Makes, Exchange, IsExchange}
 use Rattle.node_client.specs.declared.peers.Peers.{Peers}
 
 -- the leader is 0, the helper 1

@@ -1,7 +1,7 @@
 //! One request.
 ghost use Rattle.std.specs.Prelude.{◌≡◌, ◌⊎◌, None, length, OnOk};
 ghost use Rattle.client_core.specs.Requests.{plain_request};
-ghost use Rattle.node_serve.specs.Exchanging.{EarlyAtEnd};
+ghost use Rattle.node_exchange.specs.Exchanging.{EarlyAtEnd};
 ghost use Rattle.node_client.specs.Steps.{FaultBy};
 ghost use Rattle.node_client.specs.Work.{Came, Fits};
 

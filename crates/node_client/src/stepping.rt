@@ -1,7 +1,7 @@
 //! The steps of a request, each by one exchange.
 ghost use Rattle.std.specs.Prelude.{◌≡◌, ◌≢◌, None, length};
 ghost use Rattle.step_rules.specs.ClientAsks.{sends};
-ghost use Rattle.node_serve.specs.Exchanging.{EarlyAtEnd};
+ghost use Rattle.node_exchange.specs.Exchanging.{EarlyAtEnd};
 ghost use Rattle.node_client.specs.Steps.{Stepped, Walked, FaultBy};
 
 use crate::finished::Told;
@@ -10,7 +10,7 @@ use crate::stop::Stop;
 use client_core::{Client, Progress};
 use express_words::outside::Net;
 use frame_rules::FRAME_MAX;
-use node_serve::exchange;
+use node_exchange::exchange;
 
 /// One step: its frame goes to its server, and the client hears the answer. Gives None where the request goes
 /// on, and else how it ended; a message that it read stands in `message` then.

@@ -4,7 +4,7 @@ ghost use Rattle.node_client.specs.Texts.{stop_text};
 ghost use Rattle.node_client.specs.Steps.{stop_at};
 
 use express_words::Refusal;
-use node_serve::Broken;
+use node_exchange::Broken;
 use std::fmt;
 
 /// Why a client's requests aren't worked off to the last.

@@ -3,8 +3,8 @@ use Rattle.std.proofs.Common.{◌≡◌, ◌≢◌, ℕ, ◌==◌, false, List, 
 use Rattle.std.proofs.lemmas.List.{append-nil}
 use Rattle.express_words.specs.Streams.{Stream, Gave}
 use Rattle.express_words.specs.Calls.{Call, Accepted, Closed, Adds, AddsClose, GivesTelling}
-use Rattle.node_serve.specs.Exchanging.{Makes, Exchange}
-use Rattle.node_serve.specs.Draining.{ExchangesOn}
+use Rattle.node_exchange.specs.Exchanging.{Makes, Exchange}
+use Rattle.node_exchange.specs.Exchanging.{ExchangesOn}
 use Rattle.node_serve.specs.Serving.{IsHelper, Serves}
 use Rattle.node_serve.specs.declared.node.Node.{Node}
 use Rattle.node_serve.specs.declared.node.Node.TheVariants as node

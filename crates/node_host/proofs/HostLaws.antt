@@ -9,7 +9,7 @@ use Rattle.express_words.specs.Streams.{Stream}
 use Rattle.express_words.specs.Causes.{next}
 use Rattle.express_words.specs.Calls.{Call, Accepted}
 use Rattle.express_words.specs.declared.outside.Failed.{Failed}
-use Rattle.node_serve.specs.Exchanging.{Makes}
+use Rattle.node_exchange.specs.Exchanging.{Makes}
 use Rattle.node_serve.specs.declared.node.Node.{Node}
 use Rattle.node_serve.specs.declared.node.Served.{Served}
 use Rattle.node_host.specs.declared.tally.Tally.{Tally}

@@ -7,8 +7,8 @@ use Rattle.frame_rules.specs.Gathering.{gathered}
 use Rattle.frame_rules.specs.Reading.{decoded}
 use Rattle.frame_rules.specs.declared.fault.FrameFault.{FrameFault}
 use Rattle.frame_rules.specs.declared.fault.FrameFault.TheVariants.{Short, Malformed, Version}
-use Rattle.node_serve.specs.Taking.{IsWanted}
-use Rattle.node_serve.specs.Exchanging.{Makes}
+use Rattle.node_exchange.specs.Taking.{IsWanted}
+use Rattle.node_exchange.specs.Exchanging.{Makes}
 use Rattle.node_serve.specs.Draining.{FaultIn}
 use Rattle.node_serve.specs.Serving.{Brings, IsCut, IsHelper, Serves, WritesTold}
 use Rattle.node_serve.specs.declared.node.Node.{Node}

@@ -4,7 +4,7 @@ use Rattle.std.specs.Prelude.{Err}
 use Rattle.express_words.specs.Causes.{next}
 use Rattle.express_words.specs.Calls.{Call, Accepted}
 use Rattle.express_words.specs.declared.outside.Failed.{Failed}
-use Rattle.node_serve.specs.Exchanging.{Makes}
+use Rattle.node_exchange.specs.Exchanging.{Makes}
 use Rattle.node_host.specs.declared.tally.Tally.{Tally}
 use Rattle.node_host.specs.Tallies.{tally_of}
 use Rattle.node_host.specs.Visits.{Visit, visit_calls, Standing, standing, Visits}

@@ -7,7 +7,7 @@ use Rattle.express_words.specs.Calls.{Call, Accepted, Closed}
 use Rattle.frame_rules.specs.Gathering.{gathered}
 use Rattle.frame_rules.specs.Reading.{decoded}
 use Rattle.frame_rules.specs.declared.fault.FrameFault.TheVariants.{Short}
-use Rattle.node_serve.specs.Taking.{IsWanted}
+use Rattle.node_exchange.specs.Taking.{IsWanted}
 use Rattle.node_serve.specs.Draining.{FaultIn}
 use Rattle.node_serve.specs.Serving.{IsCut, IsHelper, Serves, WritesTold}
 use Rattle.node_serve.specs.declared.node.Node.{Node}

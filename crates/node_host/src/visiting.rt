@@ -2,7 +2,7 @@
 ghost use Rattle.std.specs.Prelude.{◌≡◌, ◌≤◌, true, [], ◌∷◌, IfOk, OnErr};
 ghost use Rattle.express_words.specs.Causes.{next, CountsFailure};
 ghost use Rattle.express_words.specs.Calls.{Accepted};
-ghost use Rattle.node_serve.specs.Exchanging.{Makes};
+ghost use Rattle.node_exchange.specs.Exchanging.{Makes};
 ghost use Rattle.node_host.specs.Visits.{Visit, visit_calls, standing, IsVisit, IsOf};
 
 use express_words::outside::{Failed, Net};

@@ -7,7 +7,7 @@ use Rattle.express_words.specs.Seen.{Seen}
 use Rattle.express_words.specs.Causes.{next}
 use Rattle.express_words.specs.Calls.{Call, Accepted}
 use Rattle.node_journal.specs.Disk.{DiskSeen}
-use Rattle.node_serve.specs.Exchanging.{Makes}
+use Rattle.node_exchange.specs.Exchanging.{Makes}
 use Rattle.node_serve.specs.declared.node.Served.{Served}
 use Rattle.node_host.specs.declared.tally.Tally.{Tally}
 use Rattle.node_host.specs.Tallies.{tally_of}

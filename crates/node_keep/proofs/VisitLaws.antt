@@ -9,8 +9,8 @@ use Rattle.frame_rules.specs.Reading.{decoded}
 use Rattle.frame_rules.specs.Whole.{whole}
 use Rattle.frame_rules.specs.declared.fault.FrameFault.TheVariants.{Short}
 use Rattle.step_rules.specs.Leader.{Leader}
-use Rattle.node_serve.specs.Taking.{IsWanted}
-use Rattle.node_serve.specs.Exchanging.{Makes}
+use Rattle.node_exchange.specs.Taking.{IsWanted}
+use Rattle.node_exchange.specs.Exchanging.{Makes}
 use Rattle.node_serve.specs.Draining.{FaultIn}
 use Rattle.node_serve.specs.Leading.{taken_in}
 use Rattle.node_serve.specs.Serving.{Brings, IsCut, WritesTold}

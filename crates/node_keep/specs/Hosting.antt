@@ -4,7 +4,7 @@ use Rattle.std.specs.Prelude.{Option, Result, Ok, Err}
 use Rattle.express_words.specs.Causes.{Rose, next}
 use Rattle.express_words.specs.Calls.{Call, Accepted}
 use Rattle.node_journal.specs.Disk.{DiskSeen}
-use Rattle.node_serve.specs.Exchanging.{Makes}
+use Rattle.node_exchange.specs.Exchanging.{Makes}
 use Rattle.node_host.specs.declared.tally.Tally.{Tally}
 use Rattle.node_host.specs.Tallies.{tally_of}
 use Rattle.node_host.specs.Visits.{Visit, visit_calls}

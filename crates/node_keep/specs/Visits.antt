@@ -7,7 +7,7 @@ use Rattle.node_journal.specs.Disk.{DiskSeen}
 use Rattle.frame_rules.specs.Gathering.{gathered}
 use Rattle.frame_rules.specs.Reading.{decoded}
 use Rattle.frame_rules.specs.declared.fault.FrameFault.TheVariants.{Short}
-use Rattle.node_serve.specs.Taking.{IsWanted}
+use Rattle.node_exchange.specs.Taking.{IsWanted}
 use Rattle.node_serve.specs.Draining.{FaultIn}
 use Rattle.node_serve.specs.Serving.{IsCut, WritesTold}
 use Rattle.node_host.specs.Visits.{Visit, ClosesWith}

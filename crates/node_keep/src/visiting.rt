@@ -2,7 +2,7 @@
 ghost use Rattle.std.specs.Prelude.{◌≡◌, ◌≤◌, true, List, [], ◌∷◌, IfOk, IfErr};
 ghost use Rattle.express_words.specs.Causes.{next};
 ghost use Rattle.express_words.specs.Calls.{Accepted};
-ghost use Rattle.node_serve.specs.Exchanging.{Makes};
+ghost use Rattle.node_exchange.specs.Exchanging.{Makes};
 ghost use Rattle.node_host.specs.Visits.{Visit, visit_calls, IsOf};
 ghost use Rattle.node_restart.specs.Frames.{Handed};
 ghost use Rattle.node_keep.specs.Hosting.{OnDoor, OnFault, DoorBy, DiskBy};

@@ -1,12 +1,12 @@
 -- What is said and written where an exchange broke.
 use Rattle.std.proofs.Common.{ℕ, List, Option, Result, Ok, Err, sym, subst, inl, inr}
 use Rattle.step_rules.specs.Leader.{Leader}
-use Rattle.node_serve.specs.Exchanging.{Exchange}
+use Rattle.node_exchange.specs.Exchanging.{Exchange}
 use Rattle.node_serve.specs.Draining.{Breaks}
 use Rattle.node_serve.specs.Leading.{BreaksDown, IsSent}
 use Rattle.node_serve.specs.Serving.{IsPut, WritesTold}
-use Rattle.node_serve.specs.declared.exchanging.Broken.{Broken}
-use Rattle.node_serve.specs.declared.exchanging.Broken.TheVariants as broken
+use Rattle.node_exchange.specs.declared.exchanging.Broken.{Broken}
+use Rattle.node_exchange.specs.declared.exchanging.Broken.TheVariants as broken
 use Rattle.node_serve.specs.declared.node.Served.{Served}
 use Rattle.node_serve.specs.declared.node.Served.TheVariants as served
 

@@ -1,10 +1,6 @@
-pub mod TakingLaws
-pub mod CallLaws
 pub mod DrainLaws
 pub mod StandLaws
 pub mod LeadLaws
-pub mod HeldLaws
-pub mod EarlyLaws
 pub mod DownLaws
 pub mod CompleteLaws
 pub mod TellLaws

@@ -7,7 +7,7 @@ use Rattle.frame_rules.specs.Spelling.{spelling}
 use Rattle.frame_rules.specs.Whole.{whole}
 use Rattle.step_rules.specs.Leader.{Leader}
 use Rattle.step_rules.specs.LeaderClients.{on_client}
-use Rattle.node_serve.specs.Exchanging.{Exchange}
+use Rattle.node_exchange.specs.Exchanging.{Exchange}
 use Rattle.node_serve.specs.Draining.{FaultIn}
 use Rattle.node_serve.specs.Leading.{taken_in, link_down, IsSent, Handles, BreaksDown, Leads}
 use Rattle.node_serve.specs.Helping.{helper_step}

@@ -5,8 +5,9 @@ use Rattle.express_words.specs.Calls.{Call}
 use Rattle.frame_rules.specs.Spelling.{spelling}
 use Rattle.step_rules.specs.Leader.{Leader, Ignored}
 use Rattle.step_rules.specs.LeaderReplies.{on_reply_bytes}
-use Rattle.node_serve.specs.Exchanging.{Exchange}
-use Rattle.node_serve.specs.Draining.{ExchangeOn, ExchangesOn, Stand, stand, IsOldest, reply_of, answered, then, Drained, Breaks, BreaksOff}
+use Rattle.node_exchange.specs.Exchanging.{Exchange}
+use Rattle.node_serve.specs.Draining.{Stand, stand, IsOldest, reply_of, answered, then, Drained, Breaks, BreaksOff}
+use Rattle.node_exchange.specs.Exchanging.{ExchangeOn, ExchangesOn}
 use Rattle.node_serve.specs.Draining as serve
 use Rattle.node_serve.specs.declared.node.Served.{Served}
 use Rattle.node_restart.specs.declared.server.Core.{Core}

@@ -12,10 +12,11 @@ use Rattle.step_rules.specs.Helper as helper
 use Rattle.step_rules.specs.Refusals.{AckLeaves}
 use Rattle.step_rules.proofs.LeaderRefusals.{requests}
 use Rattle.frame_rules.specs.Whole.{whole}
-use Rattle.node_serve.specs.Draining.{ExchangeOn, Breaks, reply_of, rounds_left}
+use Rattle.node_serve.specs.Draining.{Breaks, reply_of, rounds_left}
+use Rattle.node_exchange.specs.Exchanging.{ExchangeOn}
 use Rattle.node_serve.specs.Helping.{is_from_leader, step_by}
 use Rattle.node_serve.specs.Leading.{reply_to}
-use Rattle.node_serve.specs.declared.exchanging.Broken.{Broken}
+use Rattle.node_exchange.specs.declared.exchanging.Broken.{Broken}
 use Rattle.node_serve.specs.declared.node.Served.{Served}
 use Rattle.node_serve.specs.declared.node.Served.TheVariants as served
 use Rattle.node_serve.proofs.DrainLaws.{nearer}

@@ -8,22 +8,11 @@ use Rattle.frame_rules.specs.Frames.{PlainFrame, PlainBody}
 use Rattle.frame_rules.specs.Spelling.{spelling}
 use Rattle.step_rules.specs.Leader.{Leader, Ack, ToLane, Settles, Ignored}
 use Rattle.step_rules.specs.LeaderReplies.{on_reply_bytes, resent}
-use Rattle.node_serve.specs.Exchanging.{Makes, Exchange, IsExchange}
-use Rattle.node_serve.specs.declared.exchanging.Broken.{Broken}
-use Rattle.node_serve.specs.declared.exchanging.Broken.TheVariants as broken
+use Rattle.node_exchange.specs.Exchanging.{Makes, Exchange, IsExchange}
+use Rattle.node_exchange.specs.declared.exchanging.Broken.{Broken}
+use Rattle.node_exchange.specs.declared.exchanging.Broken.TheVariants as broken
 use Rattle.node_serve.specs.declared.node.Served.{Served}
 use Rattle.node_serve.specs.declared.node.Served.TheVariants as served
-
--- ---- one after another
-
--- from one state of a net to another these exchanges were made, and nothing else
-abbrev pub ExchangeOn : List ℕ → Exchange → Option (List Call) → Option (List Call) → Type 0
-ExchangeOn peer e before now = (calls : List Call) × Makes before now calls × IsExchange peer e calls
-
-abbrev pub ExchangesOn : List ℕ → List Exchange → Option (List Call) → Option (List Call) → Type 0
-ExchangesOn peer [] before now = now ≡ before
-ExchangesOn peer (e ∷ others) before now =
-    (next : Option (List Call)) × ExchangeOn peer e before next × ExchangesOn peer others next now
 
 -- ---- a drain
 

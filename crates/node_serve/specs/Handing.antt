@@ -4,8 +4,8 @@ use Rattle.leader_core.specs.declared.turn.Turn.TheVariants as turn
 use Rattle.leader_core.specs.declared.turn.Ack.TheVariants as ack
 use Rattle.helper_core.specs.declared.helper.LinkTurn.TheVariants as link
 use Rattle.node_serve.specs.Draining.{FaultIn}
-use Rattle.node_serve.specs.Exchanging.{Exchange}
-use Rattle.node_serve.specs.declared.exchanging.Broken.{Broken}
+use Rattle.node_exchange.specs.Exchanging.{Exchange}
+use Rattle.node_exchange.specs.declared.exchanging.Broken.{Broken}
 use Rattle.node_serve.specs.declared.node.Served.{Served}
 use Rattle.node_restart.specs.declared.did.Did.{Did}
 use Rattle.node_restart.specs.declared.did.Did.TheVariants as did

@@ -5,12 +5,13 @@ use Rattle.express_words.specs.Calls.{Call}
 use Rattle.step_rules.specs.Leader.{Leader, Ignored}
 use Rattle.step_rules.specs.LeaderClients.{on_client}
 use Rattle.step_rules.specs.LeaderReplies.{on_reply_bytes}
-use Rattle.node_serve.specs.Exchanging.{Exchange}
-use Rattle.node_serve.specs.Draining.{ExchangeOn, ExchangesOn, Stand, stand, Drained, BreaksOff}
+use Rattle.node_exchange.specs.Exchanging.{Exchange}
+use Rattle.node_serve.specs.Draining.{Stand, stand, Drained, BreaksOff}
+use Rattle.node_exchange.specs.Exchanging.{ExchangeOn, ExchangesOn}
 use Rattle.node_serve.specs.Draining.{Breaks, reply_of, rounds_left}
 use Rattle.node_serve.specs.Helping.{helper_step}
 use Rattle.node_serve.specs.Leading.{reply_to, Handles, BreaksDown}
-use Rattle.node_serve.specs.declared.exchanging.Broken.{Broken}
+use Rattle.node_exchange.specs.declared.exchanging.Broken.{Broken}
 use Rattle.node_serve.specs.declared.node.Served.{Served}
 use Rattle.node_restart.specs.declared.server.Core.{Core}
 use Rattle.node_restart.specs.declared.server.Core.TheVariants.{Lead, Help}

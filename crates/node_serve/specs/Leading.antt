@@ -9,7 +9,7 @@ use Rattle.frame_rules.specs.Spelling.{spelling}
 use Rattle.frame_rules.specs.Whole.{answer}
 use Rattle.step_rules.specs.Leader.{Leader, Answer, Reply, Link, StillWaiting}
 use Rattle.step_rules.specs.LeaderClients.{on_client}
-use Rattle.node_serve.specs.Exchanging.{Exchange}
+use Rattle.node_exchange.specs.Exchanging.{Exchange}
 use Rattle.node_serve.specs.Draining.{Stand, stand, Drained, BreaksOff}
 use Rattle.node_serve.specs.declared.node.Served.{Served}
 use Rattle.node_serve.specs.declared.node.Served.TheVariants as served

@@ -1,5 +1,3 @@
-pub mod Taking
-pub mod Exchanging
 pub mod Helping
 pub mod Draining
 pub mod Leading
@@ -11,4 +9,3 @@ pub mod Handing
 pub mod Handling
 pub mod Stopping
 pub mod Responding
-pub mod Texts

@@ -6,8 +6,8 @@ use Rattle.frame_rules.specs.Frames.{PlainFrame}
 use Rattle.frame_rules.specs.Whole.{whole}
 use Rattle.step_rules.specs.Leader.{Leader}
 use Rattle.node_serve.specs.Helping.{helper_step}
-use Rattle.node_serve.specs.Exchanging.{Exchange}
-use Rattle.node_serve.specs.Draining.{ExchangesOn}
+use Rattle.node_exchange.specs.Exchanging.{Exchange}
+use Rattle.node_exchange.specs.Exchanging.{ExchangesOn}
 use Rattle.node_serve.specs.Leading.{taken_in, IsSent, Leads}
 use Rattle.node_serve.specs.declared.node.Served.{Served}
 use Rattle.node_serve.specs.declared.node.Served.TheVariants as served

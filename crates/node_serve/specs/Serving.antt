@@ -7,10 +7,10 @@ use Rattle.express_words.specs.Calls.{Call}
 use Rattle.frame_rules.specs.Gathering.{gathered}
 use Rattle.frame_rules.specs.Whole.{whole}
 use Rattle.step_rules.specs.Leader.{Leader}
-use Rattle.node_serve.specs.Taking.{IsWanted}
+use Rattle.node_exchange.specs.Taking.{IsWanted}
 use Rattle.node_serve.specs.Helping.{helper_step}
-use Rattle.node_serve.specs.Exchanging.{Exchange}
-use Rattle.node_serve.specs.Draining.{ExchangesOn}
+use Rattle.node_exchange.specs.Exchanging.{Exchange}
+use Rattle.node_exchange.specs.Exchanging.{ExchangesOn}
 use Rattle.node_serve.specs.Leading.{taken_in, IsSent, Leads}
 use Rattle.node_serve.specs.declared.node.Node.{Node}
 use Rattle.node_serve.specs.declared.node.Node.TheVariants as node

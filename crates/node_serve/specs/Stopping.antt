@@ -4,8 +4,9 @@ use Rattle.express_words.specs.Calls.{Call}
 use Rattle.frame_rules.specs.Frames.{PlainFrame}
 use Rattle.frame_rules.specs.Whole.{whole}
 use Rattle.step_rules.specs.Leader.{Leader}
-use Rattle.node_serve.specs.Exchanging.{Exchange}
-use Rattle.node_serve.specs.Draining.{ExchangeOn, ExchangesOn, Stand, stand, IsOldest, Drained}
+use Rattle.node_exchange.specs.Exchanging.{Exchange}
+use Rattle.node_serve.specs.Draining.{Stand, stand, IsOldest, Drained}
+use Rattle.node_exchange.specs.Exchanging.{ExchangeOn, ExchangesOn}
 use Rattle.node_serve.specs.Draining as draining
 use Rattle.node_serve.specs.Helping.{is_from_leader}
 use Rattle.node_serve.specs.Leading.{taken_in, stepped}

@@ -3,7 +3,7 @@ ghost use Rattle.std.specs.Prelude.{◌≡◌, List, ℕ, None, IfOk, IfErr, OnE
 ghost use Rattle.express_words.specs.Seen.{Seen};
 ghost use Rattle.frame_rules.specs.Whole.{whole};
 ghost use Rattle.node_serve.specs.Draining.{FaultIn};
-ghost use Rattle.node_serve.specs.Exchanging.{EarlyAtEnd};
+ghost use Rattle.node_exchange.specs.Exchanging.{EarlyAtEnd};
 ghost use Rattle.node_serve.specs.Handling.{IsHelp, IsLead};
 ghost use Rattle.node_serve.specs.Leading.{taken_in, IsSent};
 ghost use Rattle.node_serve.specs.Logs.{CountsLog};

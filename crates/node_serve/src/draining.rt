@@ -4,18 +4,19 @@ ghost use Rattle.frame_rules.specs.Spelling.{spelling};
 ghost use Rattle.frame_rules.specs.Room.{HasRoom};
 ghost use Rattle.node_restart.specs.Frames.{Handed};
 ghost use Rattle.node_restart.specs.Steps.{resent_by};
-ghost use Rattle.node_serve.specs.Exchanging.{EarlyAtEnd};
+ghost use Rattle.node_exchange.specs.Exchanging.{EarlyAtEnd};
 ghost use Rattle.node_serve.specs.Handing.{IfLink, IfKeep, LogFault, NetFault};
 ghost use Rattle.node_serve.specs.Handling.{IsLead, rounds_of, Replies, Fails, Drains, DrainBreaks};
 ghost use Rattle.node_serve.specs.Logs.{TakesThrough, StopsUpTo};
 ghost use Rattle.node_serve.specs.Stopping.{Unkept, DrainStops};
 
 use crate::broke::Broke;
-use crate::exchanging::{Broken, exchange};
+
 use crate::handing::{is_ignored, told};
 use crate::logged::Logged;
 use crate::node::Served;
 use express_words::outside::Net;
+use node_exchange::{Broken, exchange};
 use node_restart::Sender;
 
 /// One exchange: the command of `size` bytes at the front of `out` goes to the helper, and its answer to the leader.

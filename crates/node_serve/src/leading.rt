@@ -6,7 +6,7 @@ ghost use Rattle.frame_rules.specs.Whole.{whole as whole_bytes, is_from_client};
 ghost use Rattle.frame_rules.specs.Room.{HasRoom};
 ghost use Rattle.node_restart.specs.declared.frames.Sender.TheVariants.{Client};
 ghost use Rattle.node_restart.specs.Frames.{handed};
-ghost use Rattle.node_serve.specs.Exchanging.{EarlyAtEnd};
+ghost use Rattle.node_exchange.specs.Exchanging.{EarlyAtEnd};
 ghost use Rattle.node_serve.specs.Handing.{IfLink, IfKeep, LogFault, NetFault};
 ghost use Rattle.node_serve.specs.Handling.{IsLead, Steps, HandlesAll, HandleBreaks};
 ghost use Rattle.node_serve.specs.Leading.{is_taken, taken_in, link_down};

@@ -5,7 +5,6 @@
 mod answering;
 mod broke;
 mod draining;
-mod exchanging;
 mod faces;
 mod handing;
 mod helping;
@@ -14,12 +13,9 @@ mod leading;
 mod logged;
 mod never;
 mod node;
-mod reading;
 mod serving;
 mod unlogged;
-mod wanting;
 
-pub use exchanging::{Broken, exchange};
 pub use express_words::outside;
 pub use faces::{serve_kept, serve_one};
 pub use logged::Logged;

@@ -5,23 +5,23 @@ ghost use Rattle.express_words.specs.Streams.{IsAtEnd};
 ghost use Rattle.frame_rules.specs.Reading.{decoded};
 ghost use Rattle.frame_rules.specs.declared.fault.FrameFault.TheVariants.{Short};
 ghost use Rattle.node_serve.specs.Draining.{FaultIn};
-ghost use Rattle.node_serve.specs.Exchanging.{EarlyAtEnd};
+ghost use Rattle.node_exchange.specs.Exchanging.{EarlyAtEnd};
 ghost use Rattle.node_serve.specs.Handling.{IsHelp};
 ghost use Rattle.node_serve.specs.Logs.{CountsLog};
 ghost use Rattle.node_serve.specs.Responding.{Answers, StopsShort, moved, stretch};
 ghost use Rattle.node_serve.specs.Serving.{Brings, IsCut};
-ghost use Rattle.node_serve.specs.Taking.{EndsBy};
+ghost use Rattle.node_exchange.specs.Taking.{EndsBy};
 
 use crate::answering::answer;
 use crate::logged::Logged;
 use crate::node::Served;
-use crate::reading::{Reading, read_frame};
 use express_words::outside::{Conn, Net, Source};
 use frame_rules::FRAME_MAX;
+use node_exchange::{Reading, read_frame};
 use wire_frames::Gather;
 
 /// Reads one frame, of which `gather` holds then what is handed on.
-#[tactic(auto, using(crate::proofs::HeldLaws::ends_fed))]
+#[tactic(auto, using(node_exchange::proofs::HeldLaws::ends_fed))]
 fn gather_frame<S: Source>(source: &mut S, gather: &mut Gather) -> Reading
     ensures brings { Brings (S.seen source.old).content (S.seen source.new).content gather.new }
     ensures ends { EndsBy result gather.new }

@@ -1,5 +1,5 @@
 use Rattle.std.proofs.Common.{◌≡◌, length, refl, inl, sym, ap, ◌∙◌, arith}
-use Rattle.node_serve.specs.Exchanging.{EarlyAtEnd}
+use Rattle.node_exchange.specs.Exchanging.{EarlyAtEnd}
 use Rattle.node_client.proofs.EarlyLaws.{still_or}
 use Rattle.node_client.proofs.WorkLaws.{working, request_at, works_more, works_stop}
 use Rattle.client_run.proofs.CarryLaws.{none_carry, none_whole, one_carries, one_whole, one_more_told, breaks}

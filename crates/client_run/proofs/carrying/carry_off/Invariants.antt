@@ -1,5 +1,5 @@
 use Rattle.std.proofs.Common.{◌≡◌, ◌≤◌, ◌⊎◌, length, None, map}
-use Rattle.node_serve.specs.Exchanging.{EarlyAtEnd}
+use Rattle.node_exchange.specs.Exchanging.{EarlyAtEnd}
 use Rattle.client_core.specs.Requests.{plain_request}
 use Rattle.node_client.proofs.WorkLaws.{Working}
 use Rattle.client_run.specs.Carrying.{AllCarry}

@@ -1,7 +1,7 @@
 use Rattle.std.proofs.Common.{refl, inl, sym, ◌∙◌, arith}
 use Rattle.std.proofs.lemmas.List.{take_all, length-map}
 use Rattle.client_core.specs.Requests.{plain_request}
-use Rattle.node_serve.specs.Exchanging.{EarlyAtEnd}
+use Rattle.node_exchange.specs.Exchanging.{EarlyAtEnd}
 use Rattle.node_client.proofs.EarlyLaws.{still_or}
 use Rattle.node_client.proofs.WorkLaws.{request_at}
 use Rattle.client_run.proofs.TellLaws.{telling_first, telling_more, telling_breaks, telling_cut, telling_all}

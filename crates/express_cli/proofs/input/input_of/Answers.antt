@@ -1,9 +1,9 @@
 use Rattle.std.proofs.Common.{refl, subst}
 use Rattle.express_cli.specs.Ends.{out_of_memory_text, read_fault_text, too_long_text}
-use Rattle.express_cli.specs.Reading.{Stopped}
+use Rattle.input_reading.specs.Reading.{Stopped}
 use Rattle.express_cli.specs.Runs.{UnreadMay}
 use Rattle.express_cli.specs.declared.ends.End.TheVariants as ends
-use Rattle.express_cli.specs.declared.reading.InputFault.{InputFault}
+use Rattle.input_reading.specs.declared.reading.InputFault.{InputFault}
 use Rattle.express_cli.proofs.Writing.{said}
 use Rattle.express_cli.proofs.input.input_of.Goals as goal
 

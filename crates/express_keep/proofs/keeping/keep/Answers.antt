@@ -1,5 +1,5 @@
 use Rattle.std.proofs.Common.{refl, ap, sym, subst, inl, inr, List, ℕ, Option, ◌∙◌}
-use Rattle.express_cli.specs.Reading.{GaveAll}
+use Rattle.input_reading.specs.Reading.{GaveAll}
 use Rattle.express_cli.specs.Runs.{UnreadMay}
 use Rattle.express_keep.specs.declared.ending.Ending.TheVariants.{Plain}
 use Rattle.express_keep.proofs.CountLaws.{plain_counts}

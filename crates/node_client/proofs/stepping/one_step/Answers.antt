@@ -1,5 +1,5 @@
 use Rattle.std.proofs.Common.{Err, refl, ap}
-use Rattle.node_serve.proofs.EarlyLaws.{exchange_long}
+use Rattle.node_exchange.proofs.EarlyLaws.{exchange_long}
 use Rattle.node_client.proofs.StepLaws.{step_told, err_is, stepped}
 use Rattle.node_client.proofs.EarlyLaws.{broken_short}
 use Rattle.node_client.proofs.stepping.one_step.Goals as goal

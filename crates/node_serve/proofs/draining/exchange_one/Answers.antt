@@ -3,10 +3,10 @@ use Rattle.step_rules.specs.Leader.{Leader}
 use Rattle.node_restart.specs.declared.frames.Sender.TheVariants.{Peer}
 use Rattle.node_restart.specs.Frames.{handed}
 use Rattle.node_serve.specs.Handling.{Replies}
-use Rattle.node_serve.specs.declared.exchanging.Broken.{Broken}
-use Rattle.node_serve.specs.declared.exchanging.Broken.TheVariants as broken
+use Rattle.node_exchange.specs.declared.exchanging.Broken.{Broken}
+use Rattle.node_exchange.specs.declared.exchanging.Broken.TheVariants as broken
 use Rattle.node_serve.specs.declared.node.Served.TheVariants as served
-use Rattle.node_serve.proofs.EarlyLaws.{IsDecided, exchange_long}
+use Rattle.node_exchange.proofs.EarlyLaws.{IsDecided, exchange_long}
 use Rattle.node_serve.proofs.TellLaws.{fails_unheard, fails_ignored, replies_by, nearer_by, told_within}
 use Rattle.node_serve.proofs.draining.exchange_one.Goals as goal
 

@@ -1,0 +1,26 @@
+-- Taking a seed from a source.
+use Rattle.std.specs.Prelude.{◌≡◌, ℕ, ◌<◌, Option, List, codes, ◌++◌}
+use Rattle.std.specs.Fmt.{decimal}
+use Rattle.express_words.specs.Causes.{next}
+use Rattle.express_words.specs.Streams.{Stream, IsAtEnd}
+use Rattle.input_reading.specs.Reading.{GaveSome}
+use Rattle.input_reading.specs.declared.seed.SeedFault.{SeedFault}
+use Rattle.input_reading.specs.declared.seed.SeedFault.TheVariants.{Failed, Early}
+
+-- a seed has so many bytes
+abbrev pub seed_bytes : ℕ
+seed_bytes = 32
+
+-- Why a source gave no seed: it failed once, and this is its count now; or it ended, without a fault, after
+-- this many bytes, which are too few.
+abbrev pub GaveNoSeed : Option Stream → Option Stream → ℕ → ℕ → SeedFault → Type 0
+GaveNoSeed old new before now (Failed count) =
+    (now ≡ next before) × (count ≡ now) × GaveSome old new (λ n. n < seed_bytes)
+GaveNoSeed old new before now (Early length) =
+    (length < seed_bytes) × (now ≡ before) × IsAtEnd new × GaveSome old new (λ n. n ≡ length)
+
+abbrev pub seed_fault_text : SeedFault → List ℕ
+seed_fault_text (Failed count) =
+    codes "the source of random bytes failed (faults: " ++ (decimal count ++ codes ")")
+seed_fault_text (Early length) =
+    codes "the source of random bytes ended after " ++ (decimal length ++ codes " bytes")

@@ -1,0 +1,4 @@
+pub mod TakingLaws
+pub mod CallLaws
+pub mod HeldLaws
+pub mod EarlyLaws
