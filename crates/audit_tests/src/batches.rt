@@ -18,7 +18,7 @@ fn is_good(zero: &[Closing], one: &[Closing], rho: u128) -> bool {
 }
 
 #[test]
-fn the_one_bad_value(rt: HostRuntime) {
+fn bad_pairs_pass_at_their_one_bad_value_alone(rt: HostRuntime) {
     let zero = [Closing { o: 2, tau: 0 }, Closing { o: 1, tau: 0 }];
     let one = [NOTHING; 2];
     assert!(rt; is_good(&zero, &one, 2));
@@ -47,7 +47,7 @@ fn judged_of(zero: &[Closing], one: &[Closing], rejected: &mut [bool]) -> Option
 }
 
 #[test]
-fn the_second_of_two(rt: HostRuntime) {
+fn of_two_pairs_the_bad_second_is_rejected(rt: HostRuntime) {
     let zero = [NOTHING, Closing { o: 1, tau: 0 }];
     let one = [NOTHING; 2];
     let mut rejected = [true, false];
@@ -97,7 +97,7 @@ fn sorted_of(alloc: Global, pairs: usize, step: usize) -> Result<(Option<u32>, b
 }
 
 #[test]
-fn a_thousand_pairs(rt: HostRuntime) -> Result<(), Fail> {
+fn of_a_thousand_pairs_just_the_bad_are_rejected(rt: HostRuntime) -> Result<(), Fail> {
     for (step, judged) in [(2048, 1), (1024, 21), (64, 223), (1, 2047)] {
         let sorted = sorted_of(rt.alloc(), 1024, step)?;
         assert!(rt; sorted == (Some(judged), true), "each {step}-th");

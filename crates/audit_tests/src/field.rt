@@ -13,7 +13,7 @@ fn is_inverse(a: u128, inverse: Option<u128>) -> bool {
 }
 
 #[test]
-fn worked_products(rt: HostRuntime) {
+fn products_are_the_worked_ones(rt: HostRuntime) {
     let rows: [(u128, u128, u128); 7] = [
         (2, 2, 3),
         (2, 3, 1),
@@ -29,7 +29,7 @@ fn worked_products(rt: HostRuntime) {
 }
 
 #[test]
-fn worked_inverses(rt: HostRuntime) {
+fn inverses_are_the_worked_ones_and_zero_has_none(rt: HostRuntime) {
     assert!(rt; is_inverse(2, Some(3)));
     assert!(rt; is_inverse(1 << 64, Some((1 << 64) + (1 << 32))));
     assert!(rt; is_inverse(Gf128::zero().value(), None));
@@ -45,7 +45,7 @@ fn is_lawful<F: Field>(x: F) -> bool {
 }
 
 #[test]
-fn generic_code(rt: HostRuntime) {
+fn levels_of_the_tower_keep_the_laws_of_a_field(rt: HostRuntime) {
     let two: Quad<Bit> = Quad::twist();
     let four: Quad<Quad<Bit>> = Quad::twist();
     assert!(rt; is_lawful(Bit(true)) && is_lawful(Bit(false)));

@@ -5,7 +5,7 @@ use poly_roots::{eval, through3, times};
 use tower_field::{Bit, Field, Gf128, Quad, Tower};
 
 #[test]
-fn through_three_values(rt: HostRuntime) {
+fn three_values_give_their_polynomial(rt: HostRuntime) {
     let f = through3(0, 2, 1);
     assert_eq!(rt; f, [0, 0, 2]);
     let coefficients = f.map(|c| Gf128(c));
@@ -23,7 +23,7 @@ fn squares<F: Field>(p: &[F], square: &mut [F]) -> bool
 }
 
 #[test]
-fn squares_at_three_fields(rt: HostRuntime) {
+fn a_square_expands_over_three_fields(rt: HostRuntime) {
     assert!(rt; squares(&[Bit(true); 2], &mut [Bit(false); 3]));
     let one = Quad::<Bit>::one();
     assert!(rt; squares(&[one; 2], &mut [one; 3]));

@@ -99,7 +99,7 @@ fn is_inverse(a: u128, inverse: u128) -> bool {
 }
 
 #[test]
-fn rows_of_another_program(rt: HostRuntime) {
+fn products_and_inverses_match_an_independent_program(rt: HostRuntime) {
     let tables = Tables::new();
     for row in &ROWS {
         assert!(rt; is_product(row.a, row.b, row.product));
@@ -109,7 +109,7 @@ fn rows_of_another_program(rt: HostRuntime) {
 }
 
 #[test]
-fn worked_products(rt: HostRuntime) {
+fn products_by_tables_are_the_worked_ones(rt: HostRuntime) {
     let tables = Tables::new();
     let rows: [(u128, u128, u128); 7] = [
         (2, 2, 3),

@@ -371,7 +371,7 @@ fn closes(row: &Row) -> bool {
 }
 
 #[test]
-fn rows_of_another_program(rt: HostRuntime) {
+fn shares_openings_and_closings_match_an_independent_program(rt: HostRuntime) {
     for row in &ROWS {
         assert!(rt; proves(row));
         assert!(rt; opens(&row.sums, &row.shares.0, row.sigma, &row.openings));
@@ -402,7 +402,7 @@ fn closes_with(constant: u128, c: u128, closing: Closing) -> bool {
 
 /// The proof as it is, with another constant of h, and with a triple's error that hides this at the point.
 #[test]
-fn worked_verdicts(rt: HostRuntime) {
+fn a_wrong_proof_passes_only_where_a_triple_hides_it(rt: HostRuntime) {
     let nothing = Closing { o: 0, tau: 0 };
     for (constant, c, tau) in [(0u128, 1u128, 0u128), (1, 1, 4), (1, 5, 0)] {
         let closing = Closing { o: 0, tau };
@@ -435,7 +435,7 @@ fn both_accept(
 /// Leaves that differ at the second of three addresses, with an honest proof and with one whose triple is
 /// wrong.
 #[test]
-fn both_servers(rt: HostRuntime) {
+fn both_servers_accept_an_honest_proof_and_no_wrong_triple(rt: HostRuntime) {
     let addresses = [3u128, 1 << 90, u128::MAX];
     let ckey = [9u8; 32];
     let (zero, one) = shares_at(&addresses, &ckey, 12 ^ (1 << 70));

@@ -157,14 +157,14 @@ fn has_sums(states: &[u128], addresses: &[u128], ckey: &[u8; 32], wanted: &Sums)
 }
 
 #[test]
-fn rows_of_another_program(rt: HostRuntime) {
+fn sums_match_an_independent_program(rt: HostRuntime) {
     for row in &ROWS {
         assert!(rt; has_sums(row.states, row.addresses, &row.ckey, &row.sums));
     }
 }
 
 #[test]
-fn no_boxes(rt: HostRuntime) {
+fn sums_over_no_boxes_are_zero(rt: HostRuntime) {
     let zeros = Sums {
         x: 0,
         y: 0,

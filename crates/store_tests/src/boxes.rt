@@ -53,7 +53,7 @@ fn same_addresses(arrays: &Registry, plain: &PlainRegistry) -> bool {
 
 // Both answer each call alike, and hold the same boxes then.
 #[test]
-fn both_agree(rt: HostRuntime) -> Result<(), Fail> {
+fn both_registries_answer_alike(rt: HostRuntime) -> Result<(), Fail> {
     let mut arrays = Registry::open(rt.alloc(), 3)?;
     let mut plain = PlainRegistry::open(rt.alloc(), 3);
     for k in 0..7 {
@@ -70,7 +70,7 @@ fn both_agree(rt: HostRuntime) -> Result<(), Fail> {
 
 // As many boxes as may stand: the last one has its address and key.
 #[test]
-fn largest_settings(rt: HostRuntime) -> Result<(), Fail> {
+fn the_last_of_4096_boxes_stands_and_one_more_is_full(rt: HostRuntime) -> Result<(), Fail> {
     let mut boxes = Registry::open(rt.alloc(), 4096)?;
     for address in 0..4096u32 {
         assert!(rt; array_adds(&mut boxes, u128::from(address), &[7; 32], Ok(address)));

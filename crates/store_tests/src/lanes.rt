@@ -59,7 +59,7 @@ fn set_and_keep(rt: &impl Abort, lanes: &mut Lanes)
 }
 
 #[test]
-fn two_lanes(rt: HostRuntime) -> Result<(), Fail> {
+fn each_lane_keeps_its_own_row_and_reply(rt: HostRuntime) -> Result<(), Fail> {
     let mut lanes = Lanes::open(rt.alloc(), 2, 4)?;
     set_and_keep(&rt, &mut lanes);
     Ok(())
@@ -70,7 +70,7 @@ fn gates(row: &Row, serial: u32, want: Want) -> (Gate, Gate) {
 }
 
 #[test]
-fn gates_of_one_row(rt: HostRuntime) {
+fn gates_judge_serials_and_wants_against_a_row(rt: HostRuntime) {
     let cases = [
         (6, Want::Write, Gate::Stale(7), Gate::Stale(7)),
         (7, Want::Write, Gate::Same, Gate::Same),
@@ -97,7 +97,7 @@ fn keep_longest(rt: &impl Abort, lanes: &mut Lanes, reply: &[u8; 8213])
 
 // The most lanes, each with room for the longest frame.
 #[test]
-fn largest_settings(rt: HostRuntime) -> Result<(), Fail> {
+fn the_last_of_256_lanes_keeps_the_longest_reply(rt: HostRuntime) -> Result<(), Fail> {
     let mut lanes = Lanes::open(rt.alloc(), 256, 8213)?;
     keep_longest(&rt, &mut lanes, &[7; 8213]);
     Ok(())

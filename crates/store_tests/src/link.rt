@@ -56,7 +56,7 @@ fn two_wait(rt: &impl Abort, two: &mut Outgoing)
 }
 
 #[test]
-fn commands_that_wait(rt: HostRuntime) -> Result<(), Fail> {
+fn commands_wait_within_the_window_and_go_in_order(rt: HostRuntime) -> Result<(), Fail> {
     let mut one = Outgoing::open(rt.alloc(), 1, 16)?;
     one_waits(&rt, &mut one);
     let mut two = Outgoing::open(rt.alloc(), 2, 16)?;
@@ -113,7 +113,7 @@ fn two_are_kept(rt: &impl Abort, two: &Incoming) {
 }
 
 #[test]
-fn replies_that_are_kept(rt: HostRuntime) -> Result<(), Fail> {
+fn the_last_replies_are_kept_and_other_numbers_pass(rt: HostRuntime) -> Result<(), Fail> {
     let mut one = Incoming::open(rt.alloc(), 1, 16)?;
     one_is_kept(&rt, &mut one);
     let mut two = Incoming::open(rt.alloc(), 2, 16)?;
@@ -144,7 +144,7 @@ fn most_replies(rt: &impl Abort, alloc: Global, frame: &[u8; 8213]) -> Result<()
 }
 
 #[test]
-fn largest_settings(rt: HostRuntime) -> Result<(), Fail> {
+fn the_most_commands_and_replies_of_the_longest_are_kept(rt: HostRuntime) -> Result<(), Fail> {
     let frame = [7; 8213];
     most_commands(&rt, rt.alloc(), &frame)?;
     most_replies(&rt, rt.alloc(), &frame)?;

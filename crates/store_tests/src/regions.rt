@@ -75,7 +75,7 @@ fn give_each_its_own(one: &mut Region, other: &mut Region) -> bool
 const CLASS: Class = Class { size: 16, count: 2 };
 
 #[test]
-fn two_blocks_of_one_class(rt: HostRuntime) -> Result<(), Fail> {
+fn a_class_of_two_has_no_third_block_and_gives_zeros(rt: HostRuntime) -> Result<(), Fail> {
     let mut region = Region::open(rt.alloc(), &[CLASS])?;
     assert!(rt; no_third_block(&mut region));
     let mut region = Region::open(rt.alloc(), &[CLASS])?;
@@ -84,7 +84,7 @@ fn two_blocks_of_one_class(rt: HostRuntime) -> Result<(), Fail> {
 }
 
 #[test]
-fn two_regions(rt: HostRuntime) -> Result<(), Fail> {
+fn each_region_takes_its_own_block_back(rt: HostRuntime) -> Result<(), Fail> {
     let mut one = Region::open(rt.alloc(), &[CLASS])?;
     let mut other = Region::open(rt.alloc(), &[CLASS])?;
     assert!(rt; give_each_its_own(&mut one, &mut other));
@@ -129,7 +129,7 @@ fn last_block(alloc: Global, size: u32, count: u32) -> Result<bool, NoMemory>
 }
 
 #[test]
-fn largest_settings(rt: HostRuntime) -> Result<(), Fail> {
+fn the_last_block_of_the_largest_arrays_is_written(rt: HostRuntime) -> Result<(), Fail> {
     assert!(rt; last_block(rt.alloc(), 4096, 4096)?);
     assert!(rt; last_block(rt.alloc(), 8213, 256)?);
     assert!(rt; last_block(rt.alloc(), 8213, 32)?);

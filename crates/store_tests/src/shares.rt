@@ -76,7 +76,7 @@ fn is_sum(sum: &[u8; 16], left: &[u8; 16], right: &[u8; 16]) -> bool {
 }
 
 #[test]
-fn one_write(rt: HostRuntime) -> Result<(), Fail> {
+fn a_write_reaches_the_live_boxes_below_its_count(rt: HostRuntime) -> Result<(), Fail> {
     let mut public = [0; 2080];
     write_keys(&MESSAGE, ROOTS[0], ROOTS[1], &mut public);
     let part = PublicPart::of(&public).ok_or("length")?;
@@ -114,7 +114,7 @@ fn is_clear(store: &ShareStore, box_number: u32) -> bool
 }
 
 #[test]
-fn largest_settings(rt: HostRuntime) -> Result<(), Fail> {
+fn the_last_of_4096_widest_boxes_is_retired(rt: HostRuntime) -> Result<(), Fail> {
     let mut store = ShareStore::open(rt.alloc(), 4096, 4096)?;
     let mut out = [7; 4096];
     retire_last(&mut store, &mut out);

@@ -110,7 +110,7 @@ fn mask_over(key: &[u8; 32], lane: u16, serial: u32, out: &mut [u8])
 }
 
 #[test]
-fn children_of_states(rt: HostRuntime) {
+fn children_match_an_independent_program(rt: HostRuntime) {
     assert!(rt; has_children(0, ZERO_PAIR));
     assert!(rt; has_children(1, ZERO_PAIR));
     for i in 0..8 {
@@ -119,7 +119,7 @@ fn children_of_states(rt: HostRuntime) {
 }
 
 #[test]
-fn block_of_a_state(rt: HostRuntime) {
+fn a_block_matches_an_independent_program(rt: HostRuntime) {
     let mut block = [0u8; 128];
     fill_block(0x9842059055e2ae8a1fc3f96286c923a3, &mut block);
     let expected =
@@ -129,7 +129,7 @@ fn block_of_a_state(rt: HostRuntime) {
 
 // Equal states, all zeros, all ones, and eight that differ.
 #[test]
-fn eight_lanes(rt: HostRuntime) {
+fn eight_nodes_at_once_have_the_children_of_each(rt: HostRuntime) {
     assert!(rt; have_children(&[0; 8], &[ZERO_PAIR; 8]));
     assert!(rt; have_children(&[u128::MAX; 8], &[children(u128::MAX); 8]));
     assert!(rt; have_children(&[STATES[0]; 8], &[CHILDREN[0]; 8]));
@@ -138,7 +138,7 @@ fn eight_lanes(rt: HostRuntime) {
 
 // One lane differs from the others, each in turn.
 #[test]
-fn one_lane_apart(rt: HostRuntime) {
+fn a_lane_that_differs_changes_its_own_children_alone(rt: HostRuntime) {
     for lane in 0..8 {
         let mut states = [STATES[0]; 8];
         states[lane] = STATES[1];
@@ -149,7 +149,7 @@ fn one_lane_apart(rt: HostRuntime) {
 }
 
 #[test]
-fn draws(rt: HostRuntime) {
+fn draws_match_an_independent_program(rt: HostRuntime) {
     assert!(rt; has_draw(&ZEROS, 0, &ZERO_BLOCK));
     let seed =
         b"\x60\x03\xbc\x0b\xd8\xe8\x91\x8c\x0c\x63\xb0\x39\x99\x53\xfb\x88\x9c\x8f\xf3\x69\x12\xc2\x8a\x70\xe2\x4f\x0a\xbb\x27\x5e\x49\x62";
@@ -159,7 +159,7 @@ fn draws(rt: HostRuntime) {
 }
 
 #[test]
-fn keys_and_choices(rt: HostRuntime) {
+fn keys_and_choices_match_an_independent_program(rt: HostRuntime) {
     let seed =
         b"\x72\x94\x25\xfa\xc4\xf0\xc3\xa2\xc6\x98\xb8\xbe\x2a\xbe\xd7\x8d\x52\x10\x7a\x5a\x4b\x11\x05\x7f\xbe\x78\xf9\x33\xf0\xd1\xe6\x41";
     let zero =
@@ -191,7 +191,7 @@ fn keys_and_choices(rt: HostRuntime) {
 }
 
 #[test]
-fn challenges(rt: HostRuntime) {
+fn challenges_match_an_independent_program(rt: HostRuntime) {
     assert!(rt; is_challenge(&ZEROS, 0, ZERO_PAIR));
     let ckey =
         b"\xe6\x1f\x10\x02\xd0\x68\xa0\x32\x8b\x71\xda\x43\xe6\x74\xec\xd7\xcd\x84\x55\x2b\x00\xdd\xd3\x01\xbd\x1d\x15\x3d\x0c\x80\x9d\xdc";
@@ -216,7 +216,7 @@ fn has_at(block: &[u8], at: usize, bytes: &[u8; 16]) -> bool {
 
 // Two runs of eight blocks, and five blocks more: the bytes at the ends of each.
 #[test]
-fn many_blocks(rt: HostRuntime) {
+fn many_blocks_are_right_at_the_ends_of_their_runs(rt: HostRuntime) {
     let first = b"\xcc\x28\x83\xd2\xbe\x09\xbb\xb3\x9a\x85\xc4\x2a\xc0\x29\xbd\x02";
     let second = b"\xe8\x99\x93\xca\x47\x14\x08\x29\x91\xe8\xab\x5f\x53\xbd\x9d\xc3";
     let last = b"\xfb\xfe\xa0\x00\xd8\x6a\xcf\xf4\x29\x4b\x08\x90\x75\x04\x49\xdd";
@@ -228,7 +228,7 @@ fn many_blocks(rt: HostRuntime) {
 }
 
 #[test]
-fn two_runs_of_blocks(rt: HostRuntime) {
+fn two_whole_runs_of_blocks_are_right_at_their_ends(rt: HostRuntime) {
     let first = b"\xcc\x28\x83\xd2\xbe\x09\xbb\xb3\x9a\x85\xc4\x2a\xc0\x29\xbd\x02";
     let second = b"\x14\xb8\x96\x12\xda\x5d\xd3\xdd\xe8\x99\x93\xca\x47\x14\x08\x29";
     let mut block = [0u8; 1024];
@@ -238,7 +238,7 @@ fn two_runs_of_blocks(rt: HostRuntime) {
 }
 
 #[test]
-fn eight_challenges(rt: HostRuntime) {
+fn eight_challenges_at_once_match_an_independent_program(rt: HostRuntime) {
     let ckey =
         b"\xe6\x1f\x10\x02\xd0\x68\xa0\x32\x8b\x71\xda\x43\xe6\x74\xec\xd7\xcd\x84\x55\x2b\x00\xdd\xd3\x01\xbd\x1d\x15\x3d\x0c\x80\x9d\xdc";
     let addresses = [
@@ -290,7 +290,7 @@ fn eight_challenges(rt: HostRuntime) {
 }
 
 #[test]
-fn tokens_and_masks(rt: HostRuntime) {
+fn tokens_and_masks_match_an_independent_program(rt: HostRuntime) {
     assert!(rt; is_token(&ZEROS, 0, 0, ZERO_PAIR.0));
     let mut out = [0u8; 16];
     mask_over(&ZEROS, 0, 0, &mut out);

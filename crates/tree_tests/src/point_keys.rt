@@ -135,7 +135,7 @@ fn check(rt: &impl Abort, case: &Case) -> Result<(), Fail> {
 }
 
 #[test]
-fn outside_vectors(rt: HostRuntime) -> Result<(), Fail> {
+fn leaves_and_write_bytes_match_an_independent_program(rt: HostRuntime) -> Result<(), Fail> {
     check(&rt, &FIRST)?;
     check(&rt, &SECOND)?;
     assert!(rt; PublicPart::of(&[0; 2079]).is_none());
