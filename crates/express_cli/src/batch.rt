@@ -1,5 +1,6 @@
 //! Judges pairs of closings, and says which are rejected.
 ghost use Rattle.std.specs.Prelude.{◌≡◌, ◌≢◌, ◌≤◌, ◌++◌, length, IfOk, OnOk, string_bytes};
+ghost use Rattle.express_texts.specs.Batch.{most_pairs};
 ghost use Rattle.express_texts.specs.Judging.{batch_in};
 ghost use Rattle.express_cli.specs.Batches.{verdict_line, rejected_lines, batch_text, IsBatchText};
 ghost use Rattle.express_cli.specs.Ends.{Prints, WorkMay};
@@ -8,7 +9,7 @@ ghost use Rattle.express_cli.specs.declared.words.Command.TheVariants.{Batch};
 use crate::End;
 use crate::texts::{OUT_OF_MEMORY, say, say_bad_line};
 use batch_audit::sort_out;
-use express_texts::{BatchPairs, MOST_PAIRS, TextFault, read_batch};
+use express_texts::{BatchPairs, TextFault, read_batch};
 use express_words::NoMemory;
 use express_words::outside::Sink;
 use std::alloc::{AllocError, Global};
@@ -50,9 +51,10 @@ fn text_of(alloc: Global, rejected: &[bool], judged: u32) -> Result<String, Allo
 }
 
 // The text of the pairs' sort.
+#[tactic(auto, unfolding(express_texts::specs::Batch::most_pairs))]
 fn batch_text(alloc: Global, pairs: &BatchPairs) -> Result<String, NoMemory>
-    requires few { length pairs.now.zero.items ≤ MOST_PAIRS }
-    requires as_many { length pairs.now.one.items ≡ length pairs.now.zero.items }
+    requires few { length pairs.now.zero ≤ most_pairs }
+    requires as_many { length pairs.now.one ≡ length pairs.now.zero }
     ensures { IfOk result (λ text. IsBatchText (batch_in pairs.now) (string_bytes text)) }
 {
     let zero = pairs.zero.as_slice();
