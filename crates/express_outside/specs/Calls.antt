@@ -1,7 +1,7 @@
 -- What the system was asked and what it answered, call by call. An object that tells none of its calls has None in
 -- place of their list, and then these say nothing.
 use Rattle.std.specs.Prelude.{◌≡◌, ℕ, List, [], ◌∷◌, ◌++◌, Option, Result, Ok, Err, option_map}
-use Rattle.express.specs.declared.calls.Trouble.{Trouble}
+use Rattle.express_outside.specs.declared.calls.Trouble.{Trouble}
 
 -- a call on what takes bytes, with its answer: a write, which took so many, or a flush
 pub data WriteCall : Type 0 where

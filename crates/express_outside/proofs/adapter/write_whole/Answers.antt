@@ -1,5 +1,5 @@
-use Rattle.express.proofs.Written.{took_more, took_some}
-use Rattle.express.proofs.adapter.write_whole.Goals as goal
+use Rattle.express_outside.proofs.Written.{took_more, took_some}
+use Rattle.express_outside.proofs.adapter.write_whole.Goals as goal
 
 pub writing-preserved : goal.writing-preserved
 writing-preserved g c = took_more _ _ _ c.args.bytes.now _ _ c.writing.invariant c.in-Ok.ensures.bytes

@@ -3,8 +3,8 @@ ghost use Rattle.std.specs.Prelude.{◌≡◌, ◌≤◌, List, Option, None, So
 ghost use Rattle.std.specs.Duration.{as_nanos};
 ghost use Rattle.express_words.specs.Seen.{netted};
 ghost use Rattle.express_words.specs.Causes.{HasCause, CountsFault, CountsFailure, next};
-ghost use Rattle.express.specs.Calls.{added, EndedBy};
-ghost use Rattle.express.specs.Patience.{seconds};
+ghost use Rattle.express_outside.specs.Calls.{added, EndedBy};
+ghost use Rattle.express_outside.specs.Patience.{seconds};
 
 use crate::adapter::Adapter;
 use crate::calls::Trouble;
@@ -26,7 +26,7 @@ pub struct Connected<S> {
 /// The system's calls on a door and on what is behind addresses.
 pub trait Ports {
     ghost use Rattle.std.specs.declared.time.Instant.{Instant};
-    ghost use Rattle.express.specs.declared.calls.Trouble.{Trouble};
+    ghost use Rattle.express_outside.specs.declared.calls.Trouble.{Trouble};
 
     /// A connected socket.
     type Socket: Socket + Drop;

@@ -2,7 +2,7 @@
 ghost use Rattle.std.specs.Prelude.{◌≡◌, ◌≤◌, ◌<◌, ℕ, List, length, Option, true, false, Ok, IfOk, OnOk};
 ghost use Rattle.express_words.specs.Seen.{silent};
 ghost use Rattle.express_words.specs.Causes.{HasCause, CountsFault, next};
-ghost use Rattle.express.specs.Calls.{FileCall, ReadAt, WroteAt, Synced, Named, added, EndedBy};
+ghost use Rattle.express_outside.specs.Calls.{FileCall, ReadAt, WroteAt, Synced, Named, added, EndedBy};
 
 use crate::calls::Trouble;
 use express_words::outside::{Counted, Failed};

@@ -3,9 +3,9 @@ use Rattle.std.specs.Prelude.{◌≡◌, ℕ, ◌-◌, ◌*◌, List, Option, So
 use Rattle.std.specs.Duration.{as_nanos}
 use Rattle.std.specs.Time.{instant_nanos}
 use Rattle.std.specs.declared.time.Instant.{Instant}
-use Rattle.express.specs.Calls.{added}
-use Rattle.express.specs.declared.calls.Trouble.{Trouble}
-use Rattle.express.specs.declared.patience.Limit.{Limit}
+use Rattle.express_outside.specs.Calls.{added}
+use Rattle.express_outside.specs.declared.calls.Trouble.{Trouble}
+use Rattle.express_outside.specs.declared.patience.Limit.{Limit}
 
 -- A call on a socket: a look at the clock, which told this time; a read and a write that may wait so long, with
 -- their answers.

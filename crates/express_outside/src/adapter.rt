@@ -4,7 +4,7 @@ ghost use Rattle.std.specs.Io.KnownBytes.{ReadConsumes, WriteAppends};
 ghost use Rattle.express_words.specs.Seen.{silent};
 ghost use Rattle.express_words.specs.Causes.{HasCause, CountsFault};
 ghost use Rattle.express_words.specs.Streams.{Took, TookPrefix};
-ghost use Rattle.express.specs.Calls.{Flushed, Wrote, EndedBy, IsRefusal};
+ghost use Rattle.express_outside.specs.Calls.{Flushed, Wrote, EndedBy, IsRefusal};
 
 use crate::calls::{Reads, Trouble, Writes};
 use express_words::outside::{Conn, Counted, Failed, Sink, Source};

@@ -2,7 +2,7 @@
 ghost use Rattle.std.specs.Prelude.{◌≡◌, ◌≢◌, ◌≤◌, ℕ, List, length, Option, None, Result, Ok, IfOk};
 ghost use Rattle.std.specs.Io.KnownBytes.{Keeps, ReadConsumes, WriteAppends};
 ghost use Rattle.std.specs.IoError.{error_kind};
-ghost use Rattle.express.specs.Calls.{WriteCall, Wrote, Flushed, added};
+ghost use Rattle.express_outside.specs.Calls.{WriteCall, Wrote, Flushed, added};
 
 use std::io;
 use std::io::{ErrorKind, Read, Write};
@@ -30,7 +30,7 @@ pub fn trouble_of(error: io::Error) -> Trouble
 
 /// What gives bytes.
 pub trait Reads {
-    ghost use Rattle.express.specs.declared.calls.Trouble.{Trouble};
+    ghost use Rattle.express_outside.specs.declared.calls.Trouble.{Trouble};
 
     /// The bytes that reads will give from here on, where they are known.
     ghost remaining: { Self → Option (List ℕ) };

@@ -2,8 +2,8 @@
 ghost use Rattle.std.specs.Prelude.{◌≡◌, ◌≤◌, ◌<◌, ℕ, List, length, Option, None, Some, IfOk, IfSome};
 ghost use Rattle.std.specs.Duration.{as_nanos};
 ghost use Rattle.std.specs.Time.{instant_nanos};
-ghost use Rattle.express.specs.Calls.{added};
-ghost use Rattle.express.specs.Patience.{SocketCall, Told, ReadWithin, WroteWithin, IsWithin, begin_at, left_of, seconds};
+ghost use Rattle.express_outside.specs.Calls.{added};
+ghost use Rattle.express_outside.specs.Patience.{SocketCall, Told, ReadWithin, WroteWithin, IsWithin, begin_at, left_of, seconds};
 
 use crate::calls::{Reads, Trouble, Writes};
 use std::time::{Duration, Instant};
