@@ -94,7 +94,9 @@ fn write_back<F: FileCalls>(file: &mut F) -> Result<(), Trouble>
 
 impl<F: FileCalls> FileDisk<F> {
     /// The file, which isn't touched yet.
-    pub fn new(file: F) -> Self {
+    pub fn new(file: F) -> Self
+        ensures { result ≡ record { file = file; is_open = false; faults = 0 } }
+    {
         FileDisk {
             file,
             is_open: false,

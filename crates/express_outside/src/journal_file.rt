@@ -15,11 +15,22 @@ const MODE: u32 = 0o600;
 /// What of a file's mode lets group or others read or write it.
 const OTHERS: u32 = 0o066;
 
-/// A file of the folder that the program runs in, which is opened or made by `open`.
+/// Where a journal's file stands.
+#[derive(Clone, Copy)]
+pub struct Place<'a> {
+    /// The folder that has its names.
+    pub folder: &'a str,
+    /// The path by which it is opened.
+    pub path: &'a str,
+    /// The path of the folder that it may be moved to while it is open, or again the same path.
+    pub moved: &'a str,
+}
+
+/// A file that is opened or made by `open`.
 #[derive(Drop)]
 pub struct JournalFile<'a> {
     rt: &'a HostRuntime,
-    name: &'a str,
+    place: Place<'a>,
     file: Option<File>,
 }
 
@@ -50,9 +61,9 @@ fn check_private(found: &Metadata) -> io::Result<()> {
     }
 }
 
-// Whether there is a file of this name, which must be private then.
-fn is_there(rt: &HostRuntime, name: &str) -> io::Result<bool> {
-    match fs::symlink_metadata(rt, name) {
+// Whether there is a file at this path, which must be private then.
+fn is_there(rt: &HostRuntime, path: &str) -> io::Result<bool> {
+    match fs::symlink_metadata(rt, path) {
         Ok(found) => {
             check_private(&found)?;
             Ok(true)
@@ -62,11 +73,19 @@ fn is_there(rt: &HostRuntime, name: &str) -> io::Result<bool> {
     }
 }
 
-// Fails where the name isn't the file's.
-fn check_same(rt: &HostRuntime, name: &str, file: &File) -> io::Result<()> {
-    let named = fs::symlink_metadata(rt, name)?;
+// Whether this path names the open file.
+fn is_named(rt: &HostRuntime, path: &str, file: &File) -> io::Result<bool> {
     let open = file.metadata()?;
-    if named.dev() == open.dev() && named.ino() == open.ino() {
+    match fs::symlink_metadata(rt, path) {
+        Ok(named) => Ok(named.dev() == open.dev() && named.ino() == open.ino()),
+        Err(error) if error.kind() == ErrorKind::NotFound => Ok(false),
+        Err(error) => Err(error),
+    }
+}
+
+// Fails where neither path of the place names the open file.
+fn check_named(rt: &HostRuntime, place: Place<'_>, file: &File) -> io::Result<()> {
+    if is_named(rt, place.path, file)? || is_named(rt, place.moved, file)? {
         Ok(())
     } else {
         Err(io::Error::from(ErrorKind::NotFound))
@@ -74,24 +93,34 @@ fn check_same(rt: &HostRuntime, name: &str, file: &File) -> io::Result<()> {
 }
 
 // Opens or makes the file, for this process alone, and waits until the disk has its name.
-fn opened(rt: &HostRuntime, name: &str) -> io::Result<File> {
-    let is_new = !is_there(rt, name)?;
-    let file = options(is_new).mode(MODE).open(rt, name)?;
+fn opened(rt: &HostRuntime, place: Place<'_>) -> io::Result<File> {
+    let is_new = !is_there(rt, place.path)?;
+    let file = options(is_new).mode(MODE).open(rt, place.path)?;
     check_private(&file.metadata()?)?;
-    check_same(rt, name, &file)?;
+    check_named(rt, place, &file)?;
     if file.try_lock().is_err() {
         return Err(io::Error::from(ErrorKind::WouldBlock));
     }
-    File::open(rt, ".")?.sync_all()?;
+    File::open(rt, place.folder)?.sync_all()?;
     Ok(file)
 }
 
 impl<'a> JournalFile<'a> {
-    /// The file of this name, which isn't touched yet.
+    /// The file of this name in the folder that the program runs in. It isn't touched yet.
     pub fn new(rt: &'a HostRuntime, name: &'a str) -> Self {
+        let place = Place {
+            folder: ".",
+            path: name,
+            moved: name,
+        };
+        JournalFile::at(rt, place)
+    }
+
+    /// The file at this place, which isn't touched yet.
+    pub fn at(rt: &'a HostRuntime, place: Place<'a>) -> Self {
         JournalFile {
             rt,
-            name,
+            place,
             file: None,
         }
     }
@@ -101,7 +130,7 @@ impl<'a> FileCalls for JournalFile<'a> {
     ghost calls = { λ _. None };
 
     fn open(&mut self) -> Result<(), Trouble> {
-        self.file = Some(opened(self.rt, self.name).map_err(trouble_of)?);
+        self.file = Some(opened(self.rt, self.place).map_err(trouble_of)?);
         Ok(())
     }
 
@@ -128,7 +157,7 @@ impl<'a> FileCalls for JournalFile<'a> {
 
     fn check_name(&mut self) -> Result<(), Trouble> {
         match &self.file {
-            Some(file) => check_same(self.rt, self.name, file).map_err(trouble_of),
+            Some(file) => check_named(self.rt, self.place, file).map_err(trouble_of),
             None => Err(Trouble::Broken),
         }
     }

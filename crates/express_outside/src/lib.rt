@@ -13,7 +13,7 @@ mod tcp_ports;
 pub use adapter::Adapter;
 pub use calls::{Direct, Reads, Trouble, Writes, trouble_of};
 pub use file_disk::{FileCalls, FileDisk};
-pub use journal_file::JournalFile;
+pub use journal_file::{JournalFile, Place};
 pub use patience::{Limit, Socket, Timed};
 pub use tcp_net::{Connected, Ports, TcpNet};
 pub use tcp_ports::{TcpPorts, TcpSocket};

@@ -2,7 +2,7 @@
 ghost use Rattle.std.specs.Prelude.{None};
 
 use super::*;
-use crate::journal_file::JournalFile;
+use crate::journal_file::{JournalFile, Place};
 use std::fs;
 use std::fs::Permissions;
 use std::os::unix::fs::{PermissionsExt, symlink};
@@ -243,5 +243,28 @@ fn a_file_that_was_removed_or_replaced_is_a_fault(rt: HostRuntime) -> Result<(),
     assert!(rt; keeps(&mut second, 0, b"bytes"));
     assert!(rt; !keeps(&mut disk, 0, b"lost") && disk.faults() == 2);
     fs::remove_file(&rt, GONE)?;
+    Ok(())
+}
+
+const HERE: &str = "file_disk_tests.here";
+
+const THERE: &str = "file_disk_tests.there";
+
+const ELSEWHERE: &str = "file_disk_tests.elsewhere";
+
+#[test]
+fn a_file_may_be_moved_to_one_other_name(rt: HostRuntime) -> Result<(), Fail> {
+    let place = Place {
+        folder: ".",
+        path: HERE,
+        moved: THERE,
+    };
+    let mut disk = FileDisk::new(JournalFile::at(&rt, place));
+    assert!(rt; keeps(&mut disk, 0, b"bytes"));
+    fs::rename(&rt, HERE, THERE)?;
+    assert!(rt; keeps(&mut disk, 0, b"moved") && ends_with(&mut disk, 0, b"moved"));
+    fs::rename(&rt, THERE, ELSEWHERE)?;
+    assert!(rt; !keeps(&mut disk, 0, b"lost"));
+    fs::remove_file(&rt, ELSEWHERE)?;
     Ok(())
 }
