@@ -5,27 +5,14 @@ ghost use Rattle.std.specs.Prelude.{◌≡◌, ◌≢◌, [], ◌∷◌, Contain
 ghost use Rattle.std.specs.IoError.{error_kind};
 ghost use Rattle.std.specs.Process.{exit_status};
 
-mod adapter;
-mod calls;
-mod file_disk;
-mod journal_file;
-mod patience;
-mod tcp_net;
-mod tcp_ports;
-
-use adapter::Adapter;
-use calls::Direct;
-use express_cli::seed_of;
 use express_keep::run_kept;
-use file_disk::FileDisk;
-use journal_file::JournalFile;
+use express_outside::{Adapter, Direct, FileDisk, JournalFile, TcpNet, TcpPorts};
+use input_reading::seed_of;
 use std::fs::File;
 use std::io::ErrorKind;
 use std::process::ExitCode;
 use std::rt::{Env, Files};
 use std::{env, io};
-use tcp_net::TcpNet;
-use tcp_ports::TcpPorts;
 
 /// The journal of a server under `keep`, in the folder that the program runs in.
 const JOURNAL: &str = "express.journal";

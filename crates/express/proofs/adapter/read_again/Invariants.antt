@@ -1,5 +1,0 @@
-use Rattle.std.specs.Io.KnownBytes.{Keeps}
-use Rattle.express.proofs.adapter.read_again.Given as goal
-
-abbrev pub invariant-loop : goal.invariant-loop
-invariant-loop g l = Keeps (g.T.Reads.remaining l.initial.inner) (g.T.Reads.remaining l.inner)

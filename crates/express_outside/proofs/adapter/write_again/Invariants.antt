@@ -1,0 +1,5 @@
+use Rattle.std.specs.Io.KnownBytes.{Keeps}
+use Rattle.express_outside.proofs.adapter.write_again.Given as goal
+
+abbrev pub invariant-loop : goal.invariant-loop
+invariant-loop g l = Keeps (g.T.Writes.contents l.initial.inner) (g.T.Writes.contents l.inner)

@@ -1,0 +1,32 @@
+-- What the system was asked and what it answered, call by call. An object that tells none of its calls has None in
+-- place of their list, and then these say nothing.
+use Rattle.std.specs.Prelude.{◌≡◌, ℕ, List, [], ◌∷◌, ◌++◌, Option, Result, Ok, Err, option_map}
+use Rattle.express_outside.specs.declared.calls.Trouble.{Trouble}
+
+-- a call on what takes bytes, with its answer: a write, which took so many, or a flush
+pub data WriteCall : Type 0 where
+  Wrote : Result ℕ Trouble → WriteCall
+  Flushed : Result (Unit {0}) Trouble → WriteCall
+
+-- a call that ends a write that isn't whole
+abbrev pub IsRefusal : WriteCall → Type 0
+IsRefusal (Wrote (Ok count)) = count ≡ 0
+IsRefusal (Wrote (Err why)) = Unit {0}
+IsRefusal (Flushed (Ok done)) = ⊥
+IsRefusal (Flushed (Err why)) = Unit {0}
+
+-- a call on a file, with its answer: a read at an offset, a whole write at one, a wait for the disk, and whether the
+-- name that the file was opened by is still its own
+pub data FileCall : Type 0 where
+  ReadAt : ℕ → Result ℕ Trouble → FileCall
+  WroteAt : ℕ → Result (Unit {0}) Trouble → FileCall
+  Synced : Result (Unit {0}) Trouble → FileCall
+  Named : Result (Unit {0}) Trouble → FileCall
+
+-- the calls so far, and one more
+abbrev pub added : {A : Type 0} → A → Option (List A) → Option (List A)
+added call calls = option_map (λ known. known ++ call ∷ []) calls
+
+-- this call was the last one
+abbrev pub EndedBy : {A : Type 0} → Option (List A) → A → Type 0
+EndedBy {A} calls last = (before : Option (List A)) × (calls ≡ added last before)

@@ -1,0 +1,33 @@
+-- How long a connection may take, by the clock. Times are in nanoseconds.
+use Rattle.std.specs.Prelude.{◌≡◌, ℕ, ◌-◌, ◌*◌, List, Option, Some, None, Result}
+use Rattle.std.specs.Duration.{as_nanos}
+use Rattle.std.specs.Time.{instant_nanos}
+use Rattle.std.specs.declared.time.Instant.{Instant}
+use Rattle.express_outside.specs.Calls.{added}
+use Rattle.express_outside.specs.declared.calls.Trouble.{Trouble}
+use Rattle.express_outside.specs.declared.patience.Limit.{Limit}
+
+-- A call on a socket: a look at the clock, which told this time; a read and a write that may wait so long, with
+-- their answers.
+pub data SocketCall : Type 0 where
+  Told : ℕ → SocketCall
+  ReadWithin : ℕ → Result ℕ Trouble → SocketCall
+  WroteWithin : ℕ → Result ℕ Trouble → SocketCall
+
+abbrev pub seconds : ℕ → ℕ
+seconds n = n * 1_000_000_000
+
+-- a limit begins at this moment where it hasn't begun
+abbrev pub begin_at : Instant → Option Instant → Instant
+begin_at now None = now
+begin_at now (Some began) = began
+
+-- what is left of a limit at this moment
+abbrev pub left_of : Limit → Instant → ℕ
+left_of limit now = as_nanos limit.allowed - (instant_nanos now - instant_nanos (begin_at now limit.began))
+
+-- The clock was looked at, and then one call was made that may wait for as long as the limit has left.
+abbrev pub IsWithin : (ℕ → Result ℕ Trouble → SocketCall) → Limit → Option (List SocketCall)
+    → Option (List SocketCall) → Result ℕ Trouble → Type 0
+IsWithin call limit old new answer = (now : Instant)
+    × (new ≡ added (call (left_of limit now) answer) (added (Told (instant_nanos now)) old))

@@ -1,0 +1,133 @@
+//! What gives bytes, takes them, or both, as sources, sinks and connections with a count of their faults.
+ghost use Rattle.std.specs.Prelude.{◌≡◌, ◌≤◌, length, Ok, Err, IfOk, OnOk, OnErr, MatchBool, MatchResult};
+ghost use Rattle.std.specs.Io.KnownBytes.{ReadConsumes, WriteAppends};
+ghost use Rattle.express_words.specs.Seen.{silent};
+ghost use Rattle.express_words.specs.Causes.{HasCause, CountsFault};
+ghost use Rattle.express_words.specs.Streams.{Took, TookPrefix};
+ghost use Rattle.express_outside.specs.Calls.{Flushed, Wrote, EndedBy, IsRefusal};
+
+use crate::calls::{Reads, Trouble, Writes};
+use express_words::outside::{Conn, Counted, Failed, Sink, Source};
+
+/// So many times a call is made while each is interrupted.
+const MOST_TRIES: u32 = 1000;
+
+/// What gives bytes, takes them, or both. Each error is a fault but an interruption, after which the call is made
+/// again, and so is a write that takes nothing.
+///
+/// As a source and a sink it doesn't tell its bytes; over an object whose bytes are known the clauses `bytes` say
+/// what of them was given and taken, and over one that tells its calls the clauses `ended` which of them was the
+/// last, with its answer.
+#[derive(Drop)]
+pub struct Adapter<T> {
+    inner: T,
+    faults: u64,
+}
+
+impl<T> Adapter<T> {
+    /// No call of it has failed yet.
+    pub fn new(inner: T) -> Self
+        ensures { result ≡ record { inner = inner; faults = 0 } }
+    {
+        Adapter { inner, faults: 0 }
+    }
+}
+
+impl<T> Counted for Adapter<T> {
+    ghost seen = { λ a. silent a.faults };
+
+    fn faults(&self) -> u64 {
+        self.faults
+    }
+}
+
+// A read that is made again where it was interrupted.
+fn read_again<T: Reads>(inner: &mut T, buf: &mut [u8]) -> Result<usize, Trouble>
+    ensures bound { IfOk result (λ n. n ≤ length buf.new) }
+    ensures bytes { ReadConsumes (T.remaining inner.old) (T.remaining inner.new) result buf.new }
+    ensures ended { EndedBy (T.answers inner.new) result }
+{
+    for _ in 1..MOST_TRIES {
+        match inner.read(buf) {
+            Ok(count) => return Ok(count),
+            Err(Trouble::Broken) => return Err(Trouble::Broken),
+            Err(Trouble::Interrupted) => {}
+        }
+    }
+    inner.read(buf)
+}
+
+impl<T: Reads> Source for Adapter<T> {
+    fn take(&mut self, buf: &mut [u8]) -> Result<usize, Failed>
+        ensures bound { IfOk result (λ n. n ≤ length buf.new) }
+        ensures bytes { ReadConsumes (T.remaining self.old.inner) (T.remaining self.new.inner) result buf.new }
+        ensures ended { MatchResult result (λ n. EndedBy (T.answers self.new.inner) (Ok n))
+            (λ _. (why : _) × EndedBy (T.answers self.new.inner) (Err why)) }
+        ensures cause { HasCause self.old.faults self.new.faults result }
+        ensures counts { CountsFault self.old.faults self.new.faults result }
+    {
+        match read_again(&mut self.inner, buf) {
+            Ok(count) => Ok(count),
+            Err(_) => {
+                self.faults = self.faults.saturating_add(1);
+                Err(Failed)
+            }
+        }
+    }
+}
+
+// A write that is made again where it was interrupted.
+fn write_again<T: Writes>(inner: &mut T, bytes: &[u8]) -> Result<usize, Trouble>
+    ensures bound { IfOk result (λ n. n ≤ length bytes.now) }
+    ensures bytes { WriteAppends (T.contents inner.old) (T.contents inner.new) result bytes.now }
+    ensures ended { EndedBy (T.calls inner.new) (Wrote result) }
+{
+    for _ in 1..MOST_TRIES {
+        match inner.write(bytes) {
+            Ok(count) => return Ok(count),
+            Err(Trouble::Broken) => return Err(Trouble::Broken),
+            Err(Trouble::Interrupted) => {}
+        }
+    }
+    inner.write(bytes)
+}
+
+// Writes all of the bytes and hands them on, and says whether that went well.
+fn write_whole<T: Writes>(inner: &mut T, bytes: &[u8]) -> bool
+    ensures bytes { MatchBool result (Took (T.contents inner.old) (T.contents inner.new) bytes.now)
+        (TookPrefix (T.contents inner.old) (T.contents inner.new) bytes.now) }
+    ensures ended { MatchBool result (EndedBy (T.calls inner.new) (Flushed (Ok tt)))
+        ((last : _) × IsRefusal last × EndedBy (T.calls inner.new) last) }
+{
+    let mut done = 0;
+    'writing: while done < bytes.len() {
+        match write_again(inner, &bytes[done..]) {
+            Err(_) | Ok(0) => return false,
+            Ok(count) => done += count,
+        }
+    }
+    inner.flush().is_ok()
+}
+
+impl<T: Writes> Sink for Adapter<T> {
+    fn put(&mut self, bytes: &[u8]) -> Result<(), Failed>
+        ensures bytes { MatchResult result (λ _. Took (T.contents self.old.inner) (T.contents self.new.inner) bytes.now)
+            (λ _. TookPrefix (T.contents self.old.inner) (T.contents self.new.inner) bytes.now) }
+        ensures ended { MatchResult result (λ _. EndedBy (T.calls self.new.inner) (Flushed (Ok tt)))
+            (λ _. (last : _) × IsRefusal last × EndedBy (T.calls self.new.inner) last) }
+        ensures cause { HasCause self.old.faults self.new.faults result }
+        ensures counts { CountsFault self.old.faults self.new.faults result }
+    {
+        if write_whole(&mut self.inner, bytes) {
+            Ok(())
+        } else {
+            self.faults = self.faults.saturating_add(1);
+            Err(Failed)
+        }
+    }
+}
+
+impl<T: Reads + Writes> Conn for Adapter<T> {}
+
+#[cfg(test)]
+mod tests;

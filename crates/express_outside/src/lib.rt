@@ -1,0 +1,19 @@
+//! Real files and sockets as what the crates above are generic over: sources, sinks, connections, a net and a journal's
+//! disk.
+#![tactic(auto)]
+
+mod adapter;
+mod calls;
+mod file_disk;
+mod journal_file;
+mod patience;
+mod tcp_net;
+mod tcp_ports;
+
+pub use adapter::Adapter;
+pub use calls::{Direct, Reads, Trouble, Writes, trouble_of};
+pub use file_disk::{FileCalls, FileDisk};
+pub use journal_file::{JournalFile, Place};
+pub use patience::{Limit, Socket, Timed};
+pub use tcp_net::{Connected, Ports, TcpNet};
+pub use tcp_ports::{TcpPorts, TcpSocket};

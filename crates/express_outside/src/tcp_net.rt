@@ -1,0 +1,178 @@
+//! A net over the system's ports.
+ghost use Rattle.std.specs.Prelude.{◌≡◌, ◌≤◌, List, Option, None, Some, Result, Ok, Err, IfOk, MatchResult};
+ghost use Rattle.std.specs.Duration.{as_nanos};
+ghost use Rattle.express_words.specs.Seen.{netted};
+ghost use Rattle.express_words.specs.Causes.{HasCause, CountsFault, CountsFailure, next};
+ghost use Rattle.express_outside.specs.Calls.{added, EndedBy};
+ghost use Rattle.express_outside.specs.Patience.{seconds};
+
+use crate::adapter::Adapter;
+use crate::calls::Trouble;
+use crate::patience::{Socket, Timed};
+use express_words::outside::{Counted, Failed, Net};
+use std::time::Instant;
+
+/// So many times an accept is tried: an error of one pending connection, or of the system for a moment, isn't the
+/// door's.
+const MOST_ACCEPTS: u32 = 10;
+
+/// A connected socket, and the moment at which it was connected.
+#[derive(Drop)]
+pub struct Connected<S> {
+    pub socket: S,
+    pub at: Instant,
+}
+
+/// The system's calls on a door and on what is behind addresses.
+pub trait Ports {
+    ghost use Rattle.std.specs.declared.time.Instant.{Instant};
+    ghost use Rattle.express_outside.specs.declared.calls.Trouble.{Trouble};
+
+    /// A connected socket.
+    type Socket: Socket + Drop;
+
+    /// What its accepts answered so far, if it tells.
+    ghost accepts: { Self → Option (List (Result Instant Trouble)) };
+
+    /// Opens the door at an address.
+    fn listen(&mut self, at: &str) -> Result<(), Trouble>;
+
+    /// One accept: the next connection at the door.
+    fn accept(&mut self) -> Result<Connected<Self::Socket>, Trouble>
+        ensures told { MatchResult result (λ made. accepts self.new ≡ added (Ok made.at) (accepts self.old))
+            (λ why. accepts self.new ≡ added (Err why) (accepts self.old)) };
+
+    /// A connection to the program at an address.
+    fn dial(&mut self, peer: &str) -> Result<Connected<Self::Socket>, Trouble>;
+
+    /// Waits for a moment.
+    fn pause(&mut self)
+        ensures { accepts self.new ≡ accepts self.old };
+}
+
+/// Sockets of the system, each with an end to its patience. Each error is a fault, but for those after which an
+/// accept is tried again, and so is an accept where nothing listens. The net doesn't tell its calls.
+#[derive(Drop)]
+pub struct TcpNet<P: Ports> {
+    ports: P,
+    faults: u64,
+    doors: u64,
+}
+
+impl<P: Ports> TcpNet<P> {
+    /// Listens nowhere yet; no call has failed.
+    pub fn new(ports: P) -> Self {
+        TcpNet {
+            ports,
+            faults: 0,
+            doors: 0,
+        }
+    }
+
+    // A dial failed, or a connection that is closed had faults.
+    fn count_fault(&mut self)
+        ensures faults { self.new.faults ≡ next self.old.faults }
+        ensures later { self.old.faults ≤ self.new.faults }
+        ensures doors { self.new.doors ≡ self.old.doors }
+        ensures ports { self.new.ports ≡ self.old.ports }
+    {
+        self.faults = self.faults.saturating_add(1);
+    }
+
+    // A listen or an accept failed, which both counts count.
+    fn count_door_fault(&mut self)
+        ensures faults { self.new.faults ≡ next self.old.faults }
+        ensures later { self.old.faults ≤ self.new.faults }
+        ensures doors { self.new.doors ≡ next self.old.doors }
+        ensures doors_later { self.old.doors ≤ self.new.doors }
+        ensures ports { self.new.ports ≡ self.old.ports }
+    {
+        self.count_fault();
+        self.doors = self.doors.saturating_add(1);
+    }
+}
+
+// The next connection at the door, which is tried again where an accept fails.
+fn accept_again<P: Ports>(ports: &mut P) -> Result<Connected<P::Socket>, Trouble>
+    ensures ended { MatchResult result (λ made. EndedBy (P.accepts ports.new) (Ok made.at))
+        (λ why. EndedBy (P.accepts ports.new) (Err why)) }
+{
+    for _ in 1..MOST_ACCEPTS {
+        match ports.accept() {
+            Ok(made) => return Ok(made),
+            Err(_) => ports.pause(),
+        }
+    }
+    ports.accept()
+}
+
+impl<P: Ports> Counted for TcpNet<P> {
+    ghost seen = { λ n. netted None n.faults n.doors };
+
+    fn faults(&self) -> u64 {
+        self.faults
+    }
+}
+
+impl<P: Ports> Net for TcpNet<P> {
+    type Conn = Adapter<Timed<P::Socket>>;
+
+    fn listen(&mut self, at: &str) -> Result<(), Failed> {
+        match self.ports.listen(at) {
+            Ok(()) => Ok(()),
+            Err(_) => {
+                self.count_door_fault();
+                Err(Failed)
+            }
+        }
+    }
+
+    fn accept(&mut self) -> Result<Adapter<Timed<P::Socket>>, Failed>
+        ensures whole { IfOk result (λ conn. conn.faults ≡ 0) }
+        ensures door { CountsFailure self.old.doors self.new.doors result }
+        ensures cause { HasCause self.old.faults self.new.faults result }
+        ensures counts { CountsFault self.old.faults self.new.faults result }
+        ensures ended { MatchResult result
+            (λ conn. (at : _) × (conn.inner.reading.began ≡ Some at)
+            × EndedBy (P.accepts self.new.ports) (Ok at))
+            (λ _. (why : _) × EndedBy (P.accepts self.new.ports) (Err why)) }
+        ensures reading { IfOk result (λ conn. as_nanos conn.inner.reading.allowed ≡ seconds 10) }
+        ensures writing { IfOk result (λ conn. (conn.inner.writing.began ≡ None)
+            × (as_nanos conn.inner.writing.allowed ≡ seconds 10)) }
+    {
+        match accept_again(&mut self.ports) {
+            Ok(made) => Ok(Adapter::new(Timed::accepted(made.socket, made.at))),
+            Err(_) => {
+                self.count_door_fault();
+                Err(Failed)
+            }
+        }
+    }
+
+    fn dial(&mut self, peer: &str) -> Result<Adapter<Timed<P::Socket>>, Failed>
+        ensures whole { IfOk result (λ conn. conn.faults ≡ 0) }
+        ensures door { self.new.doors ≡ self.old.doors }
+        ensures cause { HasCause self.old.faults self.new.faults result }
+        ensures counts { CountsFault self.old.faults self.new.faults result }
+        ensures one_limit { IfOk result (λ conn. conn.inner.writing ≡ conn.inner.reading) }
+        ensures limit { IfOk result (λ conn. as_nanos conn.inner.reading.allowed ≡ seconds 60) }
+        ensures begun { IfOk result (λ conn. (at : _) × (conn.inner.reading.began ≡ Some at)) }
+    {
+        match self.ports.dial(peer) {
+            Ok(made) => Ok(Adapter::new(Timed::dialled(made.socket, made.at))),
+            Err(_) => {
+                self.count_fault();
+                Err(Failed)
+            }
+        }
+    }
+
+    fn close(&mut self, conn: Adapter<Timed<P::Socket>>) {
+        if conn.faults() != 0 {
+            self.count_fault();
+        }
+    }
+}
+
+#[cfg(test)]
+mod tests;
