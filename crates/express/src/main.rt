@@ -6,12 +6,10 @@ ghost use Rattle.std.specs.IoError.{error_kind};
 ghost use Rattle.std.specs.Process.{exit_status};
 
 use express_keep::run_kept;
-use express_outside::{Adapter, Direct, FileDisk, JournalFile, TcpNet, TcpPorts};
-use input_reading::seed_of;
-use std::fs::File;
+use express_outside::{Adapter, Direct, FileDisk, JournalFile, TcpNet, TcpPorts, random_seed};
 use std::io::ErrorKind;
 use std::process::ExitCode;
-use std::rt::{Env, Files};
+use std::rt::Env;
 use std::{env, io};
 
 /// The journal of a server under `keep`, in the folder that the program runs in.
@@ -47,14 +45,6 @@ fn words_of<R: Env + AllocGlobal>(rt: &R) -> Result<Vec<String>, u8>
     all.skip(1).collect(rt.alloc()).map_err(|_| OUT_OF_MEMORY)
 }
 
-// 32 random bytes, or the status without them.
-fn random_seed<R: Files>(rt: &R) -> Result<[u8; 32], u8>
-    ensures { IfErr result (λ status. status ≡ 9) }
-{
-    let random = File::open(rt, "/dev/urandom").map_err(|_| NO_SEED)?;
-    seed_of(&mut Adapter::new(Direct(random))).map_err(|_| NO_SEED)
-}
-
 // Hands the real objects to the top call, and answers its status.
 fn work(rt: &HostRuntime, words: &Vec<String>, seed: &[u8; 32]) -> u8 {
     let mut input = Adapter::new(Direct(rt.reader()));
@@ -78,7 +68,7 @@ fn start(rt: &HostRuntime) -> Result<u8, u8>
     ensures { IfErr result (λ status. Contains (7 ∷ 9 ∷ 14 ∷ []) status) }
 {
     let words = words_of(rt)?;
-    let seed = random_seed(rt)?;
+    let seed = random_seed(rt).map_err(|_| NO_SEED)?;
     Ok(work(rt, &words, &seed))
 }
 
@@ -94,6 +84,3 @@ fn exit_of(started: Result<u8, u8>) -> ExitCode
 fn main(rt: HostRuntime) -> ExitCode {
     exit_of(start(&rt))
 }
-
-#[cfg(test)]
-mod tests;

@@ -1,5 +1,5 @@
 //! Batches of closings. The worked outputs are an independent program's.
-use super::{is_end, ran};
+use crate::runs::{is_end, ran};
 use std::alloc::Global;
 use std::test::Fail;
 

@@ -1,12 +1,7 @@
 //! The top call over objects in memory.
 ghost use Rattle.express_words.specs.Seen.{silent};
 
-mod batch;
-mod cases;
-mod cloak;
-mod seed;
-
-use cases::{CASES, Case, SMALLEST};
+use crate::cases::{CASES, Case, SMALLEST};
 use express_cli::run;
 use express_words::outside::{Counted, Failed, MemoryNet, MemorySink, MemorySource, Source};
 use std::alloc::{AllocError, Global};
@@ -61,7 +56,7 @@ fn ran_over<S: Source>(
 }
 
 // The status of a run over an input, and the bytes written. The calls with these numbers fail.
-fn ran(
+pub(crate) fn ran(
     alloc: Global,
     words: &[&str],
     input: &[u8],
@@ -73,7 +68,7 @@ fn ran(
 }
 
 // Whether a run had this status and wrote this.
-fn is_end(ran: &(u8, Vec<u8>), status: u8, written: &[u8]) -> bool {
+pub(crate) fn is_end(ran: &(u8, Vec<u8>), status: u8, written: &[u8]) -> bool {
     ran.0 == status && ran.1.as_slice() == written
 }
 

@@ -1,5 +1,5 @@
 //! Games. The outputs are an independent program's; both views of a game are the same.
-use super::{is_end, ran};
+use crate::runs::{is_end, ran};
 use std::alloc::Global;
 use std::test::Fail;
 

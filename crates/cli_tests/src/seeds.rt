@@ -1,7 +1,6 @@
 //! A seed of a source that has bytes to spare, of one that ends too early, and of one that fails.
-use crate::random_seed;
-use express_cli::{SeedFault, seed_of};
 use express_words::outside::MemorySource;
+use input_reading::{SeedFault, seed_of};
 use std::test::Fail;
 
 // What comes of this many bytes, with the numbers of the calls that are to fail.
@@ -53,19 +52,5 @@ fn each_fault_has_its_text(rt: HostRuntime) -> Result<(), Fail> {
     assert!(rt; tells(&rt, SeedFault::Early(31), early)?);
     let failed = "the source of random bytes failed (faults: 1)";
     assert!(rt; tells(&rt, SeedFault::Failed(1), failed)?);
-    Ok(())
-}
-
-// Two seeds of the system, if there are two.
-fn two_seeds(rt: &HostRuntime) -> Option<([u8; 32], [u8; 32])> {
-    let first = random_seed(rt).ok()?;
-    let second = random_seed(rt).ok()?;
-    Some((first, second))
-}
-
-#[test]
-fn no_two_runs_have_the_same_seed(rt: HostRuntime) -> Result<(), Fail> {
-    let (first, second) = two_seeds(&rt).ok_or("no seed")?;
-    assert!(rt; first != second && first != [0; 32] && second != [0; 32]);
     Ok(())
 }
