@@ -1,4 +1,5 @@
 pub mod Answers
+pub mod Begins
 pub mod Lanes
 pub mod Outboxes
 pub mod Places

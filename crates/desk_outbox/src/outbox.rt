@@ -2,7 +2,7 @@
 ghost use Rattle.std.specs.Prelude.{◌≡◌};
 
 use crate::place::Place;
-use client_restart::KeptClient;
+use client_restart::{ClientOpening, KeptClient};
 use desk_texts::Sheet;
 use node_journal::Disk;
 use std::marker::Model;
@@ -42,6 +42,13 @@ impl<D: Disk> Outbox<D> {
         ensures { result.now ≡ self.now.card }
     {
         &self.card
+    }
+
+    /// How the try's client is opened: its lane, first serial and seed.
+    pub fn opening(&self) -> &ClientOpening
+        ensures { result.now ≡ self.now.kept.opening }
+    {
+        self.client.opening()
     }
 
     /// The disk, as the last call left it.

@@ -1,6 +1,20 @@
 //! How a try begins, and how it is taken up again.
-ghost use Rattle.std.specs.Prelude.{◌≡◌, ◌≤◌, IfOk, length};
-ghost use Rattle.desk_outbox.specs.Outboxes.{IsCardSheet};
+ghost use Rattle.std.specs.Prelude.{◌≡◌, ◌≤◌, ◌<◌, ◌++◌, ◌∷◌, [], ℕ, Ok, List, Some, IfOk, IfErr, OnOk, length};
+ghost use Rattle.mailbox_rules.specs.Requests.{Write};
+ghost use Rattle.rand_core.specs.Stream.{Stream, fill_bytes, next_u64};
+ghost use Rattle.step_rules.specs.Client.{Deposits};
+ghost use Rattle.client_restart.specs.Kept.{Stands};
+ghost use Rattle.client_restart.specs.Openings.{IsOpening};
+ghost use Rattle.client_restart.specs.Steps.{fold};
+ghost use Rattle.desk_draws.specs.Streams.{stream_from};
+ghost use Rattle.desk_letters.specs.Letters.{letter_of, room};
+ghost use Rattle.desk_texts.specs.Lines.{lines_in};
+ghost use Rattle.desk_texts.specs.Sheets.{sheet_of};
+ghost use Rattle.desk_texts.specs.Spelling.{IsSheet};
+ghost use Rattle.desk_texts.specs.declared.sheet.Head.TheVariants.{Card};
+ghost use Rattle.desk_outbox.specs.Begins.{Begins, target_at};
+ghost use Rattle.desk_outbox.specs.Outboxes.{IsCardSheet, IsNewTry, Writes};
+ghost use Rattle.desk_outbox.specs.Places.{first_place, next_place, place_record};
 
 use crate::drawing::{first_lane, next_lane_and_serial};
 use crate::fault::StartFault;
@@ -30,7 +44,11 @@ struct Try<'a> {
 }
 
 // The card once more, and its text.
-fn copied(alloc: Global, card: &Sheet) -> Result<(Sheet, Vec<u8>), NoMemory> {
+fn copied(alloc: Global, card: &Sheet) -> Result<(Sheet, Vec<u8>), NoMemory>
+    requires { IsSheet card.now }
+    ensures same { IfOk result (λ r. r.0 ≡ card.now) }
+    ensures text { IfOk result (λ r. sheet_of (lines_in r.1.items) ≡ Ok card.now) }
+{
     let text = print(alloc, card)?;
     match read_sheet(alloc, &text) {
         Ok(card) => Ok((card, text)),
@@ -40,7 +58,10 @@ fn copied(alloc: Global, card: &Sheet) -> Result<(Sheet, Vec<u8>), NoMemory> {
     }
 }
 
-fn head_of(card: &Sheet) -> CardHead {
+fn head_of(card: &Sheet) -> CardHead
+    requires { IsCardSheet card.now }
+    ensures { card.now.head ≡ Card result }
+{
     match card.head {
         Head::Card(head) => head,
         Head::Pair(_) => unreachable!(),
@@ -48,7 +69,10 @@ fn head_of(card: &Sheet) -> CardHead {
 }
 
 // The address at which a try stands.
-fn target_of(card: &Sheet, place: &Place) -> u128 {
+fn target_of(card: &Sheet, place: &Place) -> u128
+    requires { 1 ≤ length card.now.addresses }
+    ensures { result ≡ target_at card.now place.now }
+{
     let addresses = card.addresses.as_slice();
     let at = usize::from(place.first) + usize::from(place.address);
     addresses[at % addresses.len()]
