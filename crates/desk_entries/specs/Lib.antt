@@ -1,4 +1,6 @@
+pub mod Desks
 pub mod Entries
+pub mod Fronts
 pub mod Letters
 pub mod Names
 pub mod Records

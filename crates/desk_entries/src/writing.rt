@@ -2,7 +2,7 @@
 ghost use Rattle.std.specs.Prelude.{◌≡◌, ◌≤◌, ◌++◌, ◌∷◌, length, OnOk, IfOk};
 ghost use Rattle.std.specs.Int.{w64, w128, to_be_bytes};
 ghost use Rattle.std.specs.List.{flat_map};
-ghost use Rattle.desk_entries.specs.Entries.{IsEntry};
+ghost use Rattle.desk_entries.specs.Entries.{IsFormed};
 ghost use Rattle.desk_entries.specs.Records.{box_record, content, denial_byte, denied_record, entry_record, flag, held_record, named_record, reading_record, tag};
 
 use crate::entry::{BoxAt, Denial, Denied, Entry, Held, NamedBoxes, Reading};
@@ -122,7 +122,7 @@ fn tag(entry: &Entry) -> u8
 
 // What stands behind it.
 fn put_content(bytes: &mut Vec<u8>, entry: &Entry) -> Result<(), NoMemory>
-    requires { IsEntry entry.now }
+    requires { IsFormed entry.now }
     ensures { OnOk result (bytes.new.items ≡ bytes.old.items ++ content entry.now) }
 {
     match entry {
@@ -139,7 +139,7 @@ fn put_content(bytes: &mut Vec<u8>, entry: &Entry) -> Result<(), NoMemory>
 impl Entry {
     /// The entry's record: a tag of one byte, and what the entry holds, numbers big-endian.
     pub fn record(&self, alloc: Global) -> Result<Vec<u8>, NoMemory>
-        requires { IsEntry self.now }
+        requires { IsFormed self.now }
         ensures { IfOk result (λ bytes. bytes.items ≡ entry_record self.now) }
     {
         let mut bytes = Vec::new(alloc);

@@ -5,8 +5,9 @@ mod fault;
 mod ledger;
 mod opening;
 mod pair;
-mod storing;
+mod starting;
 mod stored;
+mod storing;
 mod task;
 
 pub use fault::{ForgetFault, NameFault, OpenFault};
