@@ -49,11 +49,19 @@ address_of (Registered b ∷ entries) registered =
     if b.serial == registered then Some b.address else address_of entries registered
 address_of (e ∷ entries) registered = address_of entries registered
 
+-- the name, where this address was drawn for it
+abbrev pub name_with : ℕ → Entry → Option (List ℕ)
+name_with address (Named n) = if is_among address n.addresses then Some n.name else None
+name_with address e = None
+
+abbrev pub name_or : Option (List ℕ) → List ℕ → List ℕ
+name_or (Some name) other = name
+name_or None other = other
+
 -- the name for which this address was drawn
 abbrev pub name_at : List Entry → ℕ → List ℕ
 name_at [] address = []
-name_at (Named n ∷ entries) address = if is_among address n.addresses then n.name else name_at entries address
-name_at (e ∷ entries) address = name_at entries address
+name_at (e ∷ entries) address = name_or (name_with address e) (name_at entries address)
 
 abbrev pub name_by : List Entry → Option ℕ → List ℕ
 name_by entries (Some address) = name_at entries address
@@ -65,11 +73,18 @@ name_of entries registered = name_by entries (address_of entries registered)
 
 -- ---- what is left to be done
 
+abbrev pub named_in : Entry → Option NamedBoxes
+named_in (Named n) = Some n
+named_in e = None
+
 -- of a name that isn't to be retired the addresses of which nothing was heard
-abbrev pub waiting_of : List Entry → Entry → List ℕ
-waiting_of entries (Named n) =
+abbrev pub waiting_by : List Entry → Option NamedBoxes → List ℕ
+waiting_by entries (Some n) =
     if is_retiring entries n.name then [] else filter (stands entries Waiting) n.addresses
-waiting_of entries e = []
+waiting_by entries None = []
+
+abbrev pub waiting_of : List Entry → Entry → List ℕ
+waiting_of entries e = waiting_by entries (named_in e)
 
 -- the addresses at which boxes are to be registered yet
 abbrev pub waiting : List Entry → List ℕ

@@ -1,8 +1,8 @@
 //! What is so of a desk after its entries.
-ghost use Rattle.std.specs.Prelude.{◌≡◌, ◌++◌, IfOk, OnOk};
+ghost use Rattle.std.specs.Prelude.{◌≡◌, ◌++◌, Some, IfOk, OnOk};
 ghost use Rattle.std.specs.List.{filter, flat_map, list_any};
 ghost use Rattle.std.specs.Option.{option_copied};
-ghost use Rattle.desk_entries.specs.Desks.{address_of, are_new, draws, is_drawn, is_outcome, has_outcome, is_retiring, name_at, name_of, named, retires_name, waiting, waiting_of};
+ghost use Rattle.desk_entries.specs.Desks.{address_of, are_new, draws, is_drawn, is_outcome, has_outcome, is_retiring, name_at, name_of, name_with, named, named_in, retires_name, waiting, waiting_by, waiting_of};
 ghost use Rattle.desk_entries.specs.Standings.{stands};
 
 use crate::entry::{Entry, NamedBoxes};
@@ -90,16 +90,30 @@ fn address_of(entries: &[Entry], registered: u32) -> Option<u128>
     None
 }
 
+// The name, where this address was drawn for it.
+fn name_with(entry: &Entry, address: u128) -> Option<&str>
+    ensures { option_copied result ≡ name_with address entry.now }
+{
+    match entry {
+        Entry::Named(named) => {
+            if named.addresses.as_slice().contains(&address) {
+                Some(named.name.as_str())
+            } else {
+                None
+            }
+        }
+        _ => None,
+    }
+}
+
 // The name for which this address was drawn, or nothing.
 fn name_at(entries: &[Entry], address: u128) -> &str
     ensures { result.now ≡ name_at entries.now address }
 {
     let mut rest = entries;
     while let [entry, behind @ ..] = rest {
-        if let Entry::Named(named) = entry
-            && named.addresses.as_slice().contains(&address)
-        {
-            return named.name.as_str();
+        if let Some(name) = name_with(entry, address) {
+            return name;
         }
         rest = behind;
     }
@@ -130,14 +144,30 @@ pub fn addresses(
     Ok(found)
 }
 
+fn named_in(entry: &Entry) -> Option<&NamedBoxes>
+    ensures { option_copied result ≡ named_in entry.now }
+{
+    match entry {
+        Entry::Named(named) => Some(named),
+        _ => None,
+    }
+}
+
+fn add_named(entries: &[Entry], named: &NamedBoxes, found: &mut Vec<u128>) -> Result<(), NoMemory>
+    ensures { OnOk result (found.new.items ≡ found.old.items ++ waiting_by entries.now (Some named.now)) }
+{
+    if is_retiring(entries, named.name.as_str().as_bytes()) {
+        return Ok(());
+    }
+    add_standing(entries, Standing::Waiting, named.addresses.as_slice(), found)
+}
+
 fn add_waiting(entries: &[Entry], entry: &Entry, found: &mut Vec<u128>) -> Result<(), NoMemory>
     ensures { OnOk result (found.new.items ≡ found.old.items ++ waiting_of entries.now entry.now) }
 {
-    match entry {
-        Entry::Named(named) if !is_retiring(entries, named.name.as_str().as_bytes()) => {
-            add_standing(entries, Standing::Waiting, named.addresses.as_slice(), found)
-        }
-        _ => Ok(()),
+    match named_in(entry) {
+        Some(named) => add_named(entries, named, found),
+        None => Ok(()),
     }
 }
 

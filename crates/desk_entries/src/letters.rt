@@ -17,13 +17,26 @@ fn has_id(reading: &Reading, id: u64) -> bool
     }
 }
 
+fn has_id_among(told: &[&Reading], id: u64) -> bool
+    ensures { result ≡ list_any (has_id id) (map (λ r. r.now) told.now) }
+{
+    let mut rest = told;
+    while let [reading, behind @ ..] = rest {
+        if has_id(reading, id) {
+            return true;
+        }
+        rest = behind;
+    }
+    false
+}
+
 // Whether a box held something that wasn't told already: letters that met, or a letter with a new id.
 fn is_anew(told: &[&Reading], held: &Held) -> bool
     ensures { result ≡ is_anew (map (λ r. r.now) told.now) held.now }
 {
     match held {
         Held::Nothing => false,
-        Held::Letter { id, text: _ } => !told.iter().any(|reading| has_id(reading, *id)),
+        Held::Letter { id, text: _ } => !has_id_among(told, *id),
         Held::Met => true,
     }
 }

@@ -1,6 +1,6 @@
 //! The records of entries.
 ghost use Rattle.std.specs.Prelude.{◌≡◌, ◌≤◌, ◌++◌, ◌∷◌, length, OnOk, IfOk};
-ghost use Rattle.std.specs.Int.{w64, w128, to_be_bytes};
+ghost use Rattle.std.specs.Int.{w32, w64, w128, to_be_bytes};
 ghost use Rattle.std.specs.List.{flat_map};
 ghost use Rattle.desk_entries.specs.Entries.{IsFormed};
 ghost use Rattle.desk_entries.specs.Records.{box_record, content, denial_byte, denied_record, entry_record, flag, held_record, named_record, reading_record, tag};
@@ -25,6 +25,7 @@ fn flag(last: bool) -> u8
 }
 
 // Behind the bytes of a record those of the addresses.
+#[tactic(auto, using(crate::proofs::AddressLaws::behind_address))]
 fn put_addresses(bytes: &mut Vec<u8>, addresses: &[u128]) -> Result<(), NoMemory>
     ensures { OnOk result (bytes.new.items ≡ bytes.old.items ++ flat_map (to_be_bytes w128) addresses.now) }
 {
@@ -88,13 +89,22 @@ fn put_held(bytes: &mut Vec<u8>, held: &Held) -> Result<(), NoMemory>
     }
 }
 
+// What a reading says before what the box held.
+fn front_bytes(reading: &Reading) -> [u8; 17]
+    ensures { result ≡ flag reading.now.last ∷ to_be_bytes w32 reading.now.serial
+        ++ to_be_bytes w32 reading.now.registered ++ to_be_bytes w64 reading.now.seconds }
+{
+    let [a, b, c, d] = reading.serial.to_be_bytes();
+    let [e, f, g, h] = reading.registered.to_be_bytes();
+    let [i, j, k, l, m, n, o, p] = reading.seconds.to_be_bytes();
+    let last = flag(reading.last);
+    [last, a, b, c, d, e, f, g, h, i, j, k, l, m, n, o, p]
+}
+
 fn put_reading(bytes: &mut Vec<u8>, reading: &Reading) -> Result<(), NoMemory>
     ensures { OnOk result (bytes.new.items ≡ bytes.old.items ++ reading_record reading.now) }
 {
-    bytes.push(flag(reading.last))?;
-    bytes.extend_from_slice(&reading.serial.to_be_bytes())?;
-    bytes.extend_from_slice(&reading.registered.to_be_bytes())?;
-    bytes.extend_from_slice(&reading.seconds.to_be_bytes())?;
+    bytes.extend_from_slice(&front_bytes(reading))?;
     put_held(bytes, &reading.held)
 }
 

@@ -1,0 +1,5 @@
+use Rattle.desk_entries.proofs.TextLaws.{name_utf8}
+use Rattle.desk_entries.proofs.reading.name_in.Goals as goal
+
+pub unreachable-requires : goal.unreachable-requires
+unreachable-requires c = c.in-Err.ensures.cases.0 (name_utf8 c.args.bytes.now ?)
