@@ -127,3 +127,13 @@ one_list (x ∷ xs) (y ∷ ys) ax ay is =
     let heads : entry_record x ≡ entry_record y = cc in
     let tails : map entry_record xs ≡ map entry_record ys = cc in
     ap (λ (z : Entry). z ∷ xs) (one_entry x y ax.0 ay.0 heads) ∙ ap (λ (l : List Entry). y ∷ l) (one_list xs ys ax.1 ay.1 tails)
+
+-- ---- one entry more
+
+pub are_push : (entries : List Entry) (e : Entry) → AreEntries entries → IsEntry e → AreEntries (entries ++ e ∷ [])
+are_push [] e are is = (is, tt)
+are_push (x ∷ entries) e are is = (are.0, are_push entries e are.1 is)
+
+pub records_push : (entries : List Entry) (e : Entry) → map entry_record (entries ++ e ∷ []) ≡ map entry_record entries ++ entry_record e ∷ []
+records_push [] e = refl
+records_push (x ∷ entries) e = ap (λ (l : List (List ℕ)). entry_record x ∷ l) (records_push entries e)

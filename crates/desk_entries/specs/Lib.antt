@@ -1,5 +1,6 @@
 pub mod Desks
 pub mod Entries
+pub mod Forgetting
 pub mod Fronts
 pub mod Letters
 pub mod Names

@@ -73,6 +73,8 @@ pub enum ForgetFault {
     Busy,
     /// All serials are spent.
     Spent,
+    /// More boxes are live than a client has room for.
+    NoRoom,
     /// The new ledger's journal fails.
     Keep(KeepFault),
 }
@@ -84,6 +86,7 @@ impl fmt::Display for ForgetFault {
         match self {
             ForgetFault::Busy => f.write_str("a request is under way"),
             ForgetFault::Spent => f.write_str("all serials are spent"),
+            ForgetFault::NoRoom => f.write_str("no room for the boxes"),
             ForgetFault::Keep(fault) => write!(f, "{fault}"),
         }
     }

@@ -25,7 +25,7 @@ use crate::stored::Stored;
 use crate::storing::entry_of;
 use crate::task::Task;
 use client_core::AskFault;
-use client_restart::{Ended, KeepFault, KeptClient};
+use client_restart::{Ended, KeepFault, KeptClient, OwnedBox};
 use desk_entries::{Entry, MOST_AT_ONCE, NamedBoxes, Reading, Standing};
 use desk_entries::{addresses, are_new, has_outcome, is_name, is_retired, is_retiring, letters_of};
 use desk_entries::{name_of, named, shown_of, waiting};
@@ -192,25 +192,15 @@ impl<D: Disk> Ledger<D> {
         ensures { length self.now.client.core.boxes ≤ 2 ^ 32
             → result ≡ place_of (is_leaving self.now.entries) 0 self.now.client.core.boxes }
     {
-        let mut place = 0u64;
-        let mut rest = self.client.boxes();
+        let boxes = self.client.boxes();
+        let mut rest = boxes;
         while let [owned, behind @ ..] = rest {
-            if self.is_live(owned.serial) && self.is_retiring(owned.serial) {
-                return u32::try_from(place).ok();
+            if is_leaving(&self.entries, owned) {
+                return u32::try_from(boxes.len() - rest.len()).ok();
             }
-            place = place.saturating_add(1);
             rest = behind;
         }
         None
-    }
-
-    fn is_live(&self, registered: u32) -> bool {
-        !is_retired(&self.entries, registered)
-    }
-
-    fn is_retiring(&self, registered: u32) -> bool {
-        let name = name_of(&self.entries, registered);
-        is_retiring(&self.entries, name.as_bytes())
     }
 
     /// The live boxes, in order, each by its place among the desk's own.
@@ -218,16 +208,15 @@ impl<D: Disk> Ledger<D> {
         ensures { length self.now.client.core.boxes ≤ 2 ^ 32 → IfOk result (λ live.
             live.items ≡ places_of (is_live self.now.entries) 0 self.now.client.core.boxes) }
     {
+        let boxes = self.client.boxes();
         let mut live = Vec::new(self.alloc);
-        let mut place = 0u64;
-        let mut rest = self.client.boxes();
+        let mut rest = boxes;
         while let [owned, behind @ ..] = rest {
-            if self.is_live(owned.serial)
-                && let Ok(own) = u32::try_from(place)
+            if is_live(&self.entries, owned)
+                && let Ok(own) = u32::try_from(boxes.len() - rest.len())
             {
                 live.push(own)?;
             }
-            place = place.saturating_add(1);
             rest = behind;
         }
         Ok(live)
@@ -402,6 +391,19 @@ impl<D: Disk> Ledger<D> {
     }
 }
 
+fn is_live(entries: &[Entry], owned: &OwnedBox) -> bool
+    ensures { result ≡ is_live entries.now owned.now }
+{
+    !is_retired(entries, owned.serial)
+}
+
+fn is_leaving(entries: &[Entry], owned: &OwnedBox) -> bool
+    ensures { result ≡ is_leaving entries.now owned.now }
+{
+    is_live(entries, owned)
+        && is_retiring(entries, name_of(entries, owned.serial).as_bytes())
+}
+
 fn named_boxes(alloc: Global, name: &str, addresses: &[u128]) -> Result<NamedBoxes, NoMemory>
     ensures { IfOk result (λ n. n ≡ record { name = name.now; addresses = addresses.now }) }
 {
@@ -413,7 +415,7 @@ fn named_boxes(alloc: Global, name: &str, addresses: &[u128]) -> Result<NamedBox
     })
 }
 
-fn copy_of(alloc: Global, text: &Text) -> Result<Text, NoMemory>
+pub(crate) fn copy_of(alloc: Global, text: &Text) -> Result<Text, NoMemory>
     ensures { IfOk result (λ copy. copy ≡ text.now) }
 {
     let text = String::from_str(alloc, text.as_str())?;

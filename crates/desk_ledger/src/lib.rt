@@ -2,6 +2,7 @@
 #![tactic(auto)]
 
 mod fault;
+mod forgetting;
 mod ledger;
 mod opening;
 mod pair;
@@ -9,6 +10,7 @@ mod starting;
 mod stored;
 mod storing;
 mod task;
+mod working;
 
 pub use fault::{ForgetFault, NameFault, OpenFault};
 pub use ledger::Ledger;

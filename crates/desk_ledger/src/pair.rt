@@ -1,5 +1,5 @@
 //! The pair of servers of a desk.
-ghost use Rattle.std.specs.Prelude.{IfOk, IfErr};
+ghost use Rattle.std.specs.Prelude.{◌≡◌, IfOk, IfErr};
 ghost use Rattle.desk_texts.specs.Spelling.{IsPair, SpellsSheet};
 ghost use Rattle.desk_ledger.specs.Ledgers.{SaysPair};
 ghost use Rattle.desk_ledger.specs.Opening.{IsOfText};
@@ -9,6 +9,7 @@ use client_restart::KeepFault;
 use desk_texts::{Head, PairHead, Sheet, read_sheet};
 use express_texts::TextFault;
 use express_words::Text;
+use node_client::Peers;
 use std::alloc::Global;
 
 /// A pair of servers, as its pair file says.
@@ -20,6 +21,17 @@ pub struct Pair {
     pub leader: Text,
     /// Where the helper is reached.
     pub helper: Text,
+}
+
+/// The places of a pair's servers.
+pub(crate) fn peers(pair: &Pair) -> Peers<'_>
+    ensures leader { result.leader.now ≡ pair.now.leader }
+    ensures helper { result.helper.now ≡ pair.now.helper }
+{
+    Peers {
+        leader: pair.leader.as_str(),
+        helper: pair.helper.as_str(),
+    }
 }
 
 fn sheet_in(alloc: Global, text: &[u8]) -> Result<Sheet, OpenFault>
