@@ -93,6 +93,7 @@ fn name_in(alloc: Global, bytes: &[u8]) -> Result<Option<Text>, NoMemory>
     }
 }
 
+#[tactic(auto, using(crate::proofs::NamedLaws::none_zero, crate::proofs::NamedLaws::none_many, crate::proofs::NamedLaws::none_short))]
 fn named_in(alloc: Global, bytes: &[u8]) -> Result<Option<NamedBoxes>, NoMemory>
     ensures { IfOk result (λ found. MatchOption found (IsNoNamed bytes.now)
         (λ n. IsNamed n × (bytes.now ≡ named_record n))) }
@@ -101,7 +102,13 @@ fn named_in(alloc: Global, bytes: &[u8]) -> Result<Option<NamedBoxes>, NoMemory>
         return Ok(None);
     };
     let used = usize::from(*count) * 16;
-    if *count == 0 || *count > 64 || rest.len() < used {
+    if *count == 0 {
+        return Ok(None);
+    }
+    if *count > 64 {
+        return Ok(None);
+    }
+    if rest.len() < used {
         return Ok(None);
     }
     let (front, rest) = rest.split_at(used);

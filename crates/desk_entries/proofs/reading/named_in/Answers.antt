@@ -1,7 +1,6 @@
+use Rattle.std.proofs.Common.{arith}
+use Rattle.desk_entries.proofs.NamedLaws.{none_many, none_short, none_unnamed, none_zero}
 use Rattle.desk_entries.proofs.reading.named_in.Goals as goal
-
-pub returns-then-count-eq0 : goal.returns-then-count-eq0
-returns-then-count-eq0 c = ?
 
 pub returns-in-Some : goal.returns-in-Some
 returns-in-Some c = ?
