@@ -1,0 +1,5 @@
+pub mod AddressLaws
+pub mod EntryLaws
+pub mod LetterLaws
+pub mod NamedLaws
+pub mod TextLaws
