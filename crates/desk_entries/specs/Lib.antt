@@ -1,0 +1,5 @@
+pub mod Entries
+pub mod Letters
+pub mod Names
+pub mod Records
+pub mod Standings

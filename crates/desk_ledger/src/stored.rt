@@ -1,0 +1,28 @@
+//! What was stored of a request that has ended.
+use client_restart::{Ended, Errand, KeptOutcome};
+use express_words::Refusal;
+
+/// A request that has ended, whose outcome is stored.
+#[derive(Clone, Copy, Debug, PartialEq, Eq)]
+pub struct Stored {
+    pub serial: u32,
+    pub errand: Errand,
+    /// Why a server refused it.
+    pub refusal: Option<Refusal>,
+}
+
+impl Stored {
+    pub(crate) fn of(ended: &Ended) -> Stored {
+        let refusal = match ended.outcome {
+            KeptOutcome::Refused(refusal) => Some(refusal),
+            KeptOutcome::Registered(_) => None,
+            KeptOutcome::Accepted => None,
+            KeptOutcome::Message(_) => None,
+        };
+        Stored {
+            serial: ended.serial,
+            errand: ended.errand,
+            refusal,
+        }
+    }
+}
