@@ -1,0 +1,59 @@
+//! The word `box`.
+ghost use Rattle.std.specs.Prelude.{◌≡◌};
+
+use crate::around::Around;
+use crate::cards::show_card;
+use crate::carrying::carry_on;
+use crate::saying::say;
+use crate::trouble::Trouble;
+use desk_draws::Draws;
+use desk_ledger::{Ledger, NameFault};
+use desk_outside::{Clock, Folder, Papers};
+use express_words::NoMemory;
+use express_words::outside::{Net, Sink, Source};
+use node_journal::Disk;
+use std::alloc::Global;
+
+// So many addresses, drawn by this seed.
+fn drawn(alloc: Global, seed: &[u8; 32], count: u32) -> Result<Vec<u128>, NoMemory> {
+    let mut draws = Draws::from_seed(seed);
+    let mut addresses = Vec::new(alloc);
+    for _ in 0..count {
+        addresses.push(draws.address())?;
+    }
+    Ok(addresses)
+}
+
+// Wants so many boxes with a name, where there are none yet.
+fn want<'a, D: Disk>(
+    alloc: Global,
+    ledger: &mut Ledger<D>,
+    name: &str,
+    count: u32,
+    seed: &[u8; 32],
+) -> Result<(), Trouble<'a>> {
+    let addresses = drawn(alloc, seed, count)?;
+    match ledger.add_name(name, &addresses)? {
+        Ok(()) => Ok(()),
+        Err(NameFault::Used) => Ok(()),
+        Err(fault) => Err(Trouble::Name(fault)),
+    }
+}
+
+/// Registers so many boxes under a name, and prints their card. Boxes of that name that are there stay.
+pub(crate) fn open_boxes<'a, S: Source, K: Sink, N: Net, F: Folder, P: Papers, C: Clock>(
+    alloc: Global,
+    name: &'a str,
+    count: u32,
+    seed: &[u8; 32],
+    ledger: &mut Ledger<F::File>,
+    around: &mut Around<S, K, N, F, P, C>,
+) -> Result<(), Trouble<'a>> {
+    want(alloc, ledger, name, count, seed)?;
+    carry_on(ledger, &mut around.net, &mut around.clock)?;
+    show_card(alloc, ledger, name, &mut around.out)?;
+    say(
+        &mut around.out,
+        "\nThis is the card of these boxes: hand out its lines as they stand.\n",
+    )
+}

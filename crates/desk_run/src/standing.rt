@@ -1,0 +1,82 @@
+//! The word `status`.
+ghost use Rattle.std.specs.Prelude.{◌≡◌};
+
+use crate::ledgers::{hundredths, ledger_in};
+use crate::saying::say;
+use crate::trouble::Trouble;
+use desk_entries::{Desk, Entry, NamedBoxes, Standing};
+use desk_ledger::{Ledger, Pair};
+use desk_outside::{DeskFile, Folder};
+use express_words::NoMemory;
+use express_words::outside::Sink;
+use node_journal::Disk;
+use std::alloc::Global;
+
+fn pair_text(alloc: Global, pair: &Pair) -> Result<String, NoMemory> {
+    let leader = pair.leader.as_str();
+    let helper = pair.helper.as_str();
+    let text = format!(in alloc; "servers: {leader} and {helper}\n")?;
+    Ok(text)
+}
+
+fn boxes_text(alloc: Global, desk: &Desk, named: &NamedBoxes) -> Result<String, NoMemory> {
+    let name = named.name.as_str();
+    let live = desk.addresses(alloc, named, Standing::Live)?.len();
+    let waiting = desk.addresses(alloc, named, Standing::Waiting)?.len();
+    let retired = desk.addresses(alloc, named, Standing::Retired)?.len();
+    let text = format!(in alloc; "box {name}: {live} in use, {waiting} to be made yet, {retired} retired\n")?;
+    Ok(text)
+}
+
+fn say_boxes<'a, K: Sink>(alloc: Global, desk: &Desk, out: &mut K) -> Result<(), Trouble<'a>> {
+    for entry in desk.entries().iter() {
+        if let Entry::Named(named) = entry {
+            let text = boxes_text(alloc, desk, named)?;
+            say(out, text.as_str())?;
+        }
+    }
+    Ok(())
+}
+
+fn work_text<D: Disk>(alloc: Global, ledger: &Ledger<D>) -> Result<String, NoMemory> {
+    let is_done = ledger.is_idle() && ledger.next_task()?.is_none();
+    let work = if is_done {
+        "nothing is under way"
+    } else {
+        "something is under way: run resume"
+    };
+    let letters = ledger.letters()?.len();
+    let new = letters.saturating_sub(ledger.shown() as usize);
+    let full = hundredths(ledger.used());
+    let text = format!(in alloc; "{work}\nletters: {letters}, of which {new} weren't shown yet\nthe desk is {full}% full; forget empties it\n")?;
+    Ok(text)
+}
+
+fn say_ledger<'a, D: Disk, K: Sink>(
+    alloc: Global,
+    ledger: &Ledger<D>,
+    out: &mut K,
+) -> Result<(), Trouble<'a>> {
+    let pair = pair_text(alloc, ledger.pair())?;
+    say(out, pair.as_str())?;
+    say_boxes(alloc, ledger.desk(), out)?;
+    let work = work_text(alloc, ledger)?;
+    say(out, work.as_str())
+}
+
+/// Tells how the desk stands, and whether a letter is on its way.
+pub(crate) fn status<'a, F: Folder, K: Sink>(
+    alloc: Global,
+    folder: &mut F,
+    out: &mut K,
+) -> Result<(), Trouble<'a>> {
+    match ledger_in(alloc, folder)? {
+        Some(ledger) => say_ledger(alloc, &ledger, out)?,
+        None => say(out, "there is no desk here\n")?,
+    }
+    match folder.is_there(DeskFile::Outbox) {
+        Ok(true) => say(out, "a letter of yours is on its way: run resume\n"),
+        Ok(false) => Ok(()),
+        Err(_) => Err(Trouble::Folder),
+    }
+}

@@ -1,0 +1,102 @@
+//! Why a word isn't done.
+ghost use Rattle.std.specs.Prelude.{◌≡◌};
+
+use client_restart::KeepFault;
+use desk_ledger::NameFault;
+use desk_letters::SealFault;
+use express_words::{NoMemory, Refusal};
+use kept_errands::Halt;
+use node_client::Stop;
+use node_journal::JournalFault;
+
+/// Why a word isn't done. A text is the path, the folder or the name that the words have.
+#[derive(Clone, Copy, Debug, PartialEq, Eq)]
+pub enum Trouble<'a> {
+    /// The output failed, so nothing can be told.
+    Out,
+    NoMemory,
+    /// The standard input failed.
+    Input,
+    /// The desk's folder, or a file in it, failed.
+    Folder,
+    Clock,
+    /// The file can't be read.
+    Unread(&'a str),
+    /// A letter's file can't be written into the folder.
+    Unwritten(&'a str),
+    /// Another process has the desk's folder.
+    InUse,
+    /// The file's first bad line, counted from 1.
+    BadLine(&'a str, u32),
+    /// The file is no pair file.
+    NoPairFile(&'a str),
+    /// The file is no card.
+    NoCard(&'a str),
+    /// The text makes no letter.
+    NoLetter(SealFault),
+    /// No desk was opened in the folder.
+    NoDesk,
+    /// A desk for another pair of servers is there.
+    OtherDesk,
+    /// The desk has no live box of this name.
+    NoName(&'a str),
+    /// The name isn't taken.
+    Name(NameFault),
+    /// A file of the desk isn't what was written into it.
+    Damaged,
+    /// The ledger is full.
+    Full,
+    /// The lane's last number was used.
+    Spent,
+    /// A server wasn't reached, or the connection broke off.
+    Unreached,
+    /// A server gave no whole answer.
+    NoAnswer,
+    /// A server asks to come again later.
+    Later,
+    /// A server refused the request.
+    Refused(Refusal),
+    /// A letter that was to be sent before is on its way still.
+    OnItsWay,
+}
+
+impl From<NoMemory> for Trouble<'_> {
+    fn from(_: NoMemory) -> Self {
+        Trouble::NoMemory
+    }
+}
+
+impl From<KeepFault> for Trouble<'_> {
+    fn from(fault: KeepFault) -> Self {
+        match fault {
+            KeepFault::NoMemory => Trouble::NoMemory,
+            KeepFault::Journal(JournalFault::Full(_)) => Trouble::Full,
+            KeepFault::Journal(JournalFault::Disk(_)) => Trouble::Folder,
+            KeepFault::Journal(JournalFault::Closed) => Trouble::Folder,
+            KeepFault::Journal(JournalFault::NotEmpty) => Trouble::Damaged,
+            KeepFault::Journal(JournalFault::Damaged(_)) => Trouble::Damaged,
+            KeepFault::Foreign(_) => Trouble::Damaged,
+        }
+    }
+}
+
+impl From<Stop> for Trouble<'_> {
+    fn from(stop: Stop) -> Self {
+        match stop {
+            Stop::Answer => Trouble::NoAnswer,
+            Stop::Later(_) => Trouble::Later,
+            Stop::Spent => Trouble::Spent,
+            Stop::Full => Trouble::Full,
+            Stop::Fault(_) => Trouble::Unreached,
+        }
+    }
+}
+
+impl From<Halt> for Trouble<'_> {
+    fn from(halt: Halt) -> Self {
+        match halt {
+            Halt::Keep(fault) => Trouble::from(fault),
+            Halt::Stop(stop) => Trouble::from(stop),
+        }
+    }
+}
