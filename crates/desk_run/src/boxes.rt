@@ -14,9 +14,8 @@ use express_words::outside::{Net, Sink, Source};
 use node_journal::Disk;
 use std::alloc::Global;
 
-// So many addresses, drawn by this seed.
-fn drawn(alloc: Global, seed: &[u8; 32], count: u32) -> Result<Vec<u128>, NoMemory> {
-    let mut draws = Draws::from_seed(seed);
+// So many addresses, drawn by lot.
+fn drawn(alloc: Global, draws: &mut Draws, count: u32) -> Result<Vec<u128>, NoMemory> {
     let mut addresses = Vec::new(alloc);
     for _ in 0..count {
         addresses.push(draws.address())?;
@@ -30,9 +29,9 @@ fn want<'a, D: Disk>(
     ledger: &mut Ledger<D>,
     name: &str,
     count: u32,
-    seed: &[u8; 32],
+    draws: &mut Draws,
 ) -> Result<(), Trouble<'a>> {
-    let addresses = drawn(alloc, seed, count)?;
+    let addresses = drawn(alloc, draws, count)?;
     match ledger.add_name(name, &addresses)? {
         Ok(()) => Ok(()),
         Err(NameFault::Used) => Ok(()),
@@ -40,16 +39,16 @@ fn want<'a, D: Disk>(
     }
 }
 
-/// Registers so many boxes under a name, and prints their card. Boxes of that name that are there stay.
+/// Registers boxes under a name, so many as are wanted, and prints their card. Boxes of that name that are there stay.
 pub(crate) fn open_boxes<'a, S: Source, K: Sink, N: Net, F: Folder, P: Papers, C: Clock>(
     alloc: Global,
-    name: &'a str,
-    count: u32,
-    seed: &[u8; 32],
+    wanted: (&'a str, u32),
+    draws: &mut Draws,
     ledger: &mut Ledger<F::File>,
     around: &mut Around<S, K, N, F, P, C>,
 ) -> Result<(), Trouble<'a>> {
-    want(alloc, ledger, name, count, seed)?;
+    let (name, count) = wanted;
+    want(alloc, ledger, name, count, draws)?;
     carry_on(ledger, &mut around.net, &mut around.clock)?;
     show_card(alloc, ledger, name, &mut around.out)?;
     say(

@@ -27,7 +27,7 @@ pub(crate) fn trouble_of<'a>(fault: OpenFault) -> Trouble<'a> {
     match fault {
         OpenFault::Keep(fault) => Trouble::from(fault),
         OpenFault::BadLine(_) | OpenFault::NoPairFile => Trouble::Damaged,
-        OpenFault::NoPair | OpenFault::NoEntry(_) => Trouble::Damaged,
+        OpenFault::NoPair | OpenFault::NoEntry(_) | OpenFault::TooLong => Trouble::Damaged,
     }
 }
 

@@ -5,6 +5,7 @@ mod around;
 mod boxes;
 mod carrying;
 mod cards;
+mod ending;
 mod forgetting;
 mod ledgers;
 mod letters;

@@ -1,15 +1,17 @@
 //! The word `open`.
 ghost use Rattle.std.specs.Prelude.{◌≡◌};
 
+use crate::around::Around;
 use crate::ledgers::{LIMIT, empty_file, ledger_in, trouble_of};
 use crate::reading::{Unread, read_all};
 use crate::saying::say;
 use crate::trouble::Trouble;
 use desk_ledger::{Ledger, OpenFault};
-use desk_outside::{DeskFile, Folder, Papers};
+use desk_draws::Draws;
+use desk_outside::{Clock, DeskFile, Folder, Papers};
 use desk_texts::{Head, Sheet, read_sheet};
 use express_texts::TextFault;
-use express_words::outside::Sink;
+use express_words::outside::{Net, Sink, Source};
 use node_journal::Disk;
 use std::alloc::Global;
 
@@ -56,11 +58,11 @@ fn make<'a, F: Folder>(
     alloc: Global,
     path: &'a str,
     text: &[u8],
-    seed: &[u8; 32],
+    draws: &mut Draws,
     folder: &mut F,
 ) -> Result<(), Trouble<'a>> {
     let disk = empty_file(folder, DeskFile::NextLedger)?;
-    match Ledger::open(alloc, text, *seed, disk, LIMIT) {
+    match Ledger::open(alloc, text, draws.seed(), disk, LIMIT) {
         Ok(_) => {}
         Err((OpenFault::NoPairFile, _)) => return Err(Trouble::NoPairFile(path)),
         Err((fault, _)) => return Err(trouble_of(fault)),
@@ -72,24 +74,22 @@ fn make<'a, F: Folder>(
 }
 
 /// Makes a desk for the pair of servers of a pair file, where there is none. One for the same pair that is there stays.
-pub(crate) fn open<'a, P: Papers, F: Folder, K: Sink>(
+pub(crate) fn open<'a, S: Source, K: Sink, N: Net, F: Folder, P: Papers, C: Clock>(
     alloc: Global,
     path: &'a str,
-    seed: &[u8; 32],
-    papers: &mut P,
-    folder: &mut F,
-    out: &mut K,
+    draws: &mut Draws,
+    around: &mut Around<S, K, N, F, P, C>,
 ) -> Result<(), Trouble<'a>> {
-    let text = paper_at(alloc, papers, path)?;
+    let text = paper_at(alloc, &mut around.papers, path)?;
     let sheet = sheet_in(alloc, path, &text)?;
     match sheet.head {
         Head::Pair(_) => {}
         Head::Card(_) => return Err(Trouble::NoPairFile(path)),
     }
-    match ledger_in(alloc, folder)? {
+    match ledger_in(alloc, &mut around.folder)? {
         Some(ledger) if is_of(&ledger, &sheet) => {}
         Some(_) => return Err(Trouble::OtherDesk),
-        None => make(alloc, path, &text, seed, folder)?,
+        None => make(alloc, path, &text, draws, &mut around.folder)?,
     }
-    say(out, "the desk is open; make boxes and a card with box NAME\n")
+    say(&mut around.out, "the desk is open; make boxes and a card with box NAME\n")
 }

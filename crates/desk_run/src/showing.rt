@@ -4,7 +4,7 @@ ghost use Rattle.std.specs.Prelude.{◌≡◌};
 use crate::moment::moment_text;
 use crate::saying::say;
 use crate::trouble::Trouble;
-use desk_entries::{Desk, Held, Reading};
+use desk_entries::{Held, Reading};
 use desk_ledger::Ledger;
 use desk_letters::screen_text;
 use express_words::outside::Sink;
@@ -56,15 +56,15 @@ fn is_met(reading: &Reading) -> bool {
 }
 
 // Prints these, and says whether letters met in one of their boxes.
-fn show_all<'a, K: Sink>(
+fn show_all<'a, D: Disk, K: Sink>(
     alloc: Global,
-    desk: &Desk,
+    ledger: &Ledger<D>,
     readings: &[&Reading],
     out: &mut K,
 ) -> Result<bool, Trouble<'a>> {
     let mut met = false;
     for reading in readings.iter() {
-        let name = desk.name_of(reading.registered);
+        let name = ledger.name_of(reading.registered);
         let text = shown_text(alloc, name, reading)?;
         say(out, text.as_str())?;
         met = met || is_met(reading);
@@ -89,7 +89,7 @@ fn show_those<'a, D: Disk, K: Sink>(
     let letters = ledger.letters()?;
     let count = letters.len();
     let from = (ledger.shown() as usize).min(count);
-    let met = show_all(alloc, ledger.desk(), &letters[from..], out)?;
+    let met = show_all(alloc, ledger, &letters[from..], out)?;
     Ok(Shown {
         count,
         any: from < count,

@@ -4,7 +4,7 @@ ghost use Rattle.std.specs.Prelude.{◌≡◌};
 use crate::ledgers::{hundredths, ledger_in};
 use crate::saying::say;
 use crate::trouble::Trouble;
-use desk_entries::{Desk, Entry, NamedBoxes, Standing};
+use desk_entries::{Entry, NamedBoxes, Standing, addresses};
 use desk_ledger::{Ledger, Pair};
 use desk_outside::{DeskFile, Folder};
 use express_words::NoMemory;
@@ -19,19 +19,37 @@ fn pair_text(alloc: Global, pair: &Pair) -> Result<String, NoMemory> {
     Ok(text)
 }
 
-fn boxes_text(alloc: Global, desk: &Desk, named: &NamedBoxes) -> Result<String, NoMemory> {
+fn count_of(
+    alloc: Global,
+    entries: &[Entry],
+    named: &NamedBoxes,
+    standing: Standing,
+) -> Result<usize, NoMemory> {
+    let found = addresses(alloc, entries, named, standing)?;
+    Ok(found.len())
+}
+
+fn boxes_text(
+    alloc: Global,
+    entries: &[Entry],
+    named: &NamedBoxes,
+) -> Result<String, NoMemory> {
     let name = named.name.as_str();
-    let live = desk.addresses(alloc, named, Standing::Live)?.len();
-    let waiting = desk.addresses(alloc, named, Standing::Waiting)?.len();
-    let retired = desk.addresses(alloc, named, Standing::Retired)?.len();
+    let live = count_of(alloc, entries, named, Standing::Live)?;
+    let waiting = count_of(alloc, entries, named, Standing::Waiting)?;
+    let retired = count_of(alloc, entries, named, Standing::Retired)?;
     let text = format!(in alloc; "box {name}: {live} in use, {waiting} to be made yet, {retired} retired\n")?;
     Ok(text)
 }
 
-fn say_boxes<'a, K: Sink>(alloc: Global, desk: &Desk, out: &mut K) -> Result<(), Trouble<'a>> {
-    for entry in desk.entries().iter() {
+fn say_boxes<'a, K: Sink>(
+    alloc: Global,
+    entries: &[Entry],
+    out: &mut K,
+) -> Result<(), Trouble<'a>> {
+    for entry in entries.iter() {
         if let Entry::Named(named) = entry {
-            let text = boxes_text(alloc, desk, named)?;
+            let text = boxes_text(alloc, entries, named)?;
             say(out, text.as_str())?;
         }
     }
@@ -59,7 +77,7 @@ fn say_ledger<'a, D: Disk, K: Sink>(
 ) -> Result<(), Trouble<'a>> {
     let pair = pair_text(alloc, ledger.pair())?;
     say(out, pair.as_str())?;
-    say_boxes(alloc, ledger.desk(), out)?;
+    say_boxes(alloc, ledger.entries(), out)?;
     let work = work_text(alloc, ledger)?;
     say(out, work.as_str())
 }

@@ -37,7 +37,7 @@ impl Trouble<'_> {
             Trouble::NoAnswer => f.write_str("not done yet: a server gave no whole answer; nothing is lost, run it again\n"),
             Trouble::Later => f.write_str("not done yet: a server is busy; nothing is lost, run it again in a moment\n"),
             Trouble::Refused(refusal) => write!(f, "not done: a server refused it ({refusal}); show this to your operator\n"),
-            Trouble::OnItsWay => f.write_str("not sent yet: an earlier letter is still on its way; run resume\n"),
+            Trouble::NoLane => f.write_str("not sent: this card is used up; ask for a new one\n"),
             _ => Ok(()),
         }
     }

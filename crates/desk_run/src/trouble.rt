@@ -56,8 +56,8 @@ pub enum Trouble<'a> {
     Later,
     /// A server refused the request.
     Refused(Refusal),
-    /// A letter that was to be sent before is on its way still.
-    OnItsWay,
+    /// The numbers of the card's lanes are used up.
+    NoLane,
 }
 
 impl From<NoMemory> for Trouble<'_> {

@@ -5,7 +5,7 @@ use crate::moment::moment_text;
 use crate::saying::say;
 use crate::showing::{Shown, note_shown};
 use crate::trouble::Trouble;
-use desk_entries::{Desk, Held, Reading};
+use desk_entries::{Held, Reading};
 use desk_ledger::Ledger;
 use desk_outside::Papers;
 use express_words::NoMemory;
@@ -66,17 +66,17 @@ fn write_letter<'a, P: Papers, K: Sink>(
     }
 }
 
-fn write_all<'a, P: Papers, K: Sink>(
+fn write_all<'a, D: Disk, P: Papers, K: Sink>(
     alloc: Global,
     folder: &'a str,
-    desk: &Desk,
+    ledger: &Ledger<D>,
     readings: &[&Reading],
     papers: &mut P,
     out: &mut K,
 ) -> Result<bool, Trouble<'a>> {
     let mut met = false;
     for reading in readings.iter() {
-        let name = desk.name_of(reading.registered);
+        let name = ledger.name_of(reading.registered);
         write_letter(alloc, folder, name, reading, papers, out)?;
         met = met || matches!(reading.held, Held::Met);
     }
@@ -93,7 +93,7 @@ fn write_those<'a, D: Disk, P: Papers, K: Sink>(
 ) -> Result<Shown, Trouble<'a>> {
     let letters = ledger.letters()?;
     let count = letters.len();
-    let met = write_all(alloc, folder, ledger.desk(), &letters, papers, out)?;
+    let met = write_all(alloc, folder, ledger, &letters, papers, out)?;
     Ok(Shown {
         count,
         any: 0 < count,
