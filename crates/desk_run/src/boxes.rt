@@ -1,5 +1,6 @@
 //! The word `box`.
 ghost use Rattle.std.specs.Prelude.{◌≡◌};
+ghost use Rattle.desk_run.specs.Ends.{Unfailed};
 
 use crate::around::Around;
 use crate::cards::show_card;
@@ -46,7 +47,10 @@ pub(crate) fn open_boxes<'a, S: Source, K: Sink, N: Net, F: Folder, P: Papers, C
     draws: &mut Draws,
     ledger: &mut Ledger<F::File>,
     around: &mut Around<S, K, N, F, P, C>,
-) -> Result<(), Trouble<'a>> {
+) -> Result<(), Trouble<'a>>
+    ensures sink { Unfailed (K.seen around.old.out).faults (K.seen around.new.out).faults result }
+    ensures net { Unfailed (N.seen around.old.net).faults (N.seen around.new.net).faults result }
+{
     let (name, count) = wanted;
     want(alloc, ledger, name, count, draws)?;
     carry_on(ledger, &mut around.net, &mut around.clock)?;

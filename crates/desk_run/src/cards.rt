@@ -1,5 +1,6 @@
 //! Cards.
 ghost use Rattle.std.specs.Prelude.{◌≡◌};
+ghost use Rattle.desk_run.specs.Ends.{Unfailed};
 
 use crate::ledgers::desk_in;
 use crate::saying::say_bytes;
@@ -17,7 +18,9 @@ pub(crate) fn show_card<'a, D: Disk, K: Sink>(
     ledger: &Ledger<D>,
     name: &'a str,
     out: &mut K,
-) -> Result<(), Trouble<'a>> {
+) -> Result<(), Trouble<'a>>
+    ensures sink { Unfailed (K.seen out.old).faults (K.seen out.new).faults result }
+{
     match ledger.card(name)? {
         Some(card) => {
             let text = print(alloc, &card)?;
@@ -33,7 +36,9 @@ pub(crate) fn card<'a, F: Folder, K: Sink>(
     name: &'a str,
     folder: &mut F,
     out: &mut K,
-) -> Result<(), Trouble<'a>> {
+) -> Result<(), Trouble<'a>>
+    ensures sink { Unfailed (K.seen out.old).faults (K.seen out.new).faults result }
+{
     let ledger = desk_in(alloc, folder)?;
     show_card(alloc, &ledger, name, out)
 }

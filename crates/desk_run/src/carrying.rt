@@ -1,5 +1,6 @@
 //! What is left to be done, carried on.
 ghost use Rattle.std.specs.Prelude.{◌≡◌};
+ghost use Rattle.desk_run.specs.Ends.{Unfailed};
 
 use crate::ledgers::is_full;
 use crate::trouble::Trouble;
@@ -48,7 +49,9 @@ pub(crate) fn settle<'a, D: Disk, N: Net, C: Clock>(
     ledger: &mut Ledger<D>,
     net: &mut N,
     clock: &mut C,
-) -> Result<(), Trouble<'a>> {
+) -> Result<(), Trouble<'a>>
+    ensures net { Unfailed (N.seen net.old).faults (N.seen net.new).faults result }
+{
     ledger.work(net)?;
     let Ok(seconds) = clock.now() else {
         return Err(Trouble::Clock);
@@ -65,7 +68,9 @@ pub(crate) fn do_task<'a, D: Disk, N: Net, C: Clock>(
     task: Task,
     net: &mut N,
     clock: &mut C,
-) -> Result<(), Trouble<'a>> {
+) -> Result<(), Trouble<'a>>
+    ensures net { Unfailed (N.seen net.old).faults (N.seen net.new).faults result }
+{
     if is_full(ledger.used()) {
         return Err(Trouble::Full);
     }
@@ -80,9 +85,11 @@ pub(crate) fn carry_on<'a, D: Disk, N: Net, C: Clock>(
     ledger: &mut Ledger<D>,
     net: &mut N,
     clock: &mut C,
-) -> Result<(), Trouble<'a>> {
+) -> Result<(), Trouble<'a>>
+    ensures net { Unfailed (N.seen net.old).faults (N.seen net.new).faults result }
+{
     settle(ledger, net, clock)?;
-    for _ in 0..MOST_TASKS {
+    'tasks: for _ in 0..MOST_TASKS {
         match ledger.next_task()? {
             None => return Ok(()),
             Some(task) => do_task(ledger, task, net, clock)?,

@@ -1,5 +1,6 @@
 //! How a word ends.
 ghost use Rattle.std.specs.Prelude.{◌≡◌};
+ghost use Rattle.desk_run.specs.Ends.{status_by, status_of};
 
 use crate::trouble::Trouble;
 
@@ -18,7 +19,9 @@ pub(crate) fn end_by(met: bool) -> End {
     if met { End::Met } else { End::Done }
 }
 
-fn status_by(trouble: &Trouble<'_>) -> u8 {
+fn status_by(trouble: &Trouble<'_>) -> u8
+    ensures { result ≡ status_by trouble.now }
+{
     match *trouble {
         Trouble::BadLine(_, _) => 3,
         Trouble::NoPairFile(_) => 3,
@@ -30,7 +33,9 @@ fn status_by(trouble: &Trouble<'_>) -> u8 {
 }
 
 /// The status that the program ends with.
-pub(crate) fn status_of(outcome: &Result<End, Trouble<'_>>) -> u8 {
+pub(crate) fn status_of(outcome: &Result<End, Trouble<'_>>) -> u8
+    ensures { result ≡ status_of outcome.now }
+{
     match outcome {
         Ok(End::Done) => 0,
         Ok(End::NotWritten) => 1,

@@ -1,5 +1,6 @@
 //! The ledger of a desk's folder.
-ghost use Rattle.std.specs.Prelude.{◌≡◌};
+ghost use Rattle.std.specs.Prelude.{◌≡◌, IfErr};
+ghost use Rattle.desk_run.specs.Ends.{status_by};
 
 use crate::trouble::Trouble;
 use desk_ledger::{Ledger, OpenFault};
@@ -23,7 +24,9 @@ pub(crate) fn hundredths(used: u64) -> u64 {
 }
 
 // What is told where a ledger isn't opened.
-pub(crate) fn trouble_of<'a>(fault: OpenFault) -> Trouble<'a> {
+pub(crate) fn trouble_of<'a>(fault: OpenFault) -> Trouble<'a>
+    ensures { status_by result ≡ 1 }
+{
     match fault {
         OpenFault::Keep(fault) => Trouble::from(fault),
         OpenFault::BadLine(_) | OpenFault::NoPairFile => Trouble::Damaged,
@@ -35,7 +38,9 @@ pub(crate) fn trouble_of<'a>(fault: OpenFault) -> Trouble<'a> {
 pub(crate) fn ledger_in<'a, F: Folder>(
     alloc: Global,
     folder: &mut F,
-) -> Result<Option<Ledger<F::File>>, Trouble<'a>> {
+) -> Result<Option<Ledger<F::File>>, Trouble<'a>>
+    ensures { IfErr result (λ t. status_by t ≡ 1) }
+{
     match folder.is_there(DeskFile::Ledger) {
         Ok(true) => {}
         Ok(false) => return Ok(None),
@@ -54,7 +59,9 @@ pub(crate) fn ledger_in<'a, F: Folder>(
 pub(crate) fn desk_in<'a, F: Folder>(
     alloc: Global,
     folder: &mut F,
-) -> Result<Ledger<F::File>, Trouble<'a>> {
+) -> Result<Ledger<F::File>, Trouble<'a>>
+    ensures { IfErr result (λ t. status_by t ≡ 1) }
+{
     match ledger_in(alloc, folder)? {
         Some(ledger) => Ok(ledger),
         None => Err(Trouble::NoDesk),

@@ -1,5 +1,6 @@
 //! The word `letters`.
 ghost use Rattle.std.specs.Prelude.{◌≡◌};
+ghost use Rattle.desk_run.specs.Ends.{Unfailed};
 
 use crate::carrying::do_task;
 use crate::saying::say;
@@ -18,9 +19,11 @@ fn fetch<'a, D: Disk, N: Net, C: Clock>(
     ledger: &mut Ledger<D>,
     net: &mut N,
     clock: &mut C,
-) -> Result<(), Trouble<'a>> {
+) -> Result<(), Trouble<'a>>
+    ensures net { Unfailed (N.seen net.old).faults (N.seen net.new).faults result }
+{
     let live = ledger.live()?;
-    for own in live.iter() {
+    'boxes: for own in live.iter() {
         do_task(ledger, Task::Read(*own), net, clock)?;
     }
     Ok(())
@@ -32,7 +35,10 @@ pub(crate) fn show<'a, S: Source, K: Sink, N: Net, F: Folder, P: Papers, C: Cloc
     folder: Option<&'a str>,
     ledger: &mut Ledger<F::File>,
     around: &mut Around<S, K, N, F, P, C>,
-) -> Result<Shown, Trouble<'a>> {
+) -> Result<Shown, Trouble<'a>>
+    ensures sink { Unfailed (K.seen around.old.out).faults (K.seen around.new.out).faults result }
+    ensures net { around.new.net ≡ around.old.net }
+{
     match folder {
         None => show_new(alloc, ledger, &mut around.out),
         Some(folder) => write_letters(alloc, folder, ledger, &mut around.papers, &mut around.out),
@@ -45,7 +51,10 @@ pub(crate) fn letters<'a, S: Source, K: Sink, N: Net, F: Folder, P: Papers, C: C
     folder: Option<&'a str>,
     ledger: &mut Ledger<F::File>,
     around: &mut Around<S, K, N, F, P, C>,
-) -> Result<bool, Trouble<'a>> {
+) -> Result<bool, Trouble<'a>>
+    ensures sink { Unfailed (K.seen around.old.out).faults (K.seen around.new.out).faults result }
+    ensures net { Unfailed (N.seen around.old.net).faults (N.seen around.new.net).faults result }
+{
     let fetched = fetch(ledger, &mut around.net, &mut around.clock);
     let shown = show(alloc, folder, ledger, around)?;
     fetched?;

@@ -1,5 +1,6 @@
 //! The word `open`.
 ghost use Rattle.std.specs.Prelude.{◌≡◌};
+ghost use Rattle.desk_run.specs.Ends.{Unfailed};
 
 use crate::around::Around;
 use crate::ledgers::{LIMIT, empty_file, ledger_in, trouble_of};
@@ -79,7 +80,10 @@ pub(crate) fn open<'a, S: Source, K: Sink, N: Net, F: Folder, P: Papers, C: Cloc
     path: &'a str,
     draws: &mut Draws,
     around: &mut Around<S, K, N, F, P, C>,
-) -> Result<(), Trouble<'a>> {
+) -> Result<(), Trouble<'a>>
+    ensures sink { Unfailed (K.seen around.old.out).faults (K.seen around.new.out).faults result }
+    ensures net { around.new.net ≡ around.old.net }
+{
     let text = paper_at(alloc, &mut around.papers, path)?;
     let sheet = sheet_in(alloc, path, &text)?;
     match sheet.head {

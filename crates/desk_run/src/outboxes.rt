@@ -1,5 +1,6 @@
 //! A stranger's letter on its way.
 ghost use Rattle.std.specs.Prelude.{◌≡◌};
+ghost use Rattle.desk_run.specs.Ends.{Unfailed};
 
 use crate::ledgers::empty_file;
 use crate::saying::say;
@@ -92,9 +93,11 @@ pub(crate) fn work_off<'a, F: Folder, N: Net>(
     draws: &mut Draws,
     folder: &mut F,
     net: &mut N,
-) -> Result<End, Trouble<'a>> {
+) -> Result<End, Trouble<'a>>
+    ensures net { Unfailed (N.seen net.old).faults (N.seen net.new).faults result }
+{
     let mut outbox = outbox;
-    for _ in 0..=MOST_FURTHER {
+    'tries: for _ in 0..=MOST_FURTHER {
         match outbox.work(net)? {
             Next::Stop(end) => return Ok(end),
             Next::GoOn | Next::SameAgain => return Err(Trouble::Later),
@@ -123,7 +126,9 @@ pub(crate) fn tell_end<'a, F: Folder, K: Sink>(
     end: End,
     folder: &mut F,
     out: &mut K,
-) -> Result<(), Trouble<'a>> {
+) -> Result<(), Trouble<'a>>
+    ensures sink { Unfailed (K.seen out.old).faults (K.seen out.new).faults result }
+{
     say(out, whose)?;
     say(out, end_text(end))?;
     match folder.remove(DeskFile::Outbox) {

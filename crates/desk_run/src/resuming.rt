@@ -1,5 +1,6 @@
 //! The word `resume`, and what every word does first.
 ghost use Rattle.std.specs.Prelude.{◌≡◌};
+ghost use Rattle.desk_run.specs.Ends.{Unfailed};
 
 use crate::around::Around;
 use crate::carrying::carry_on;
@@ -20,7 +21,10 @@ fn resume_letter<'a, S: Source, K: Sink, N: Net, F: Folder, P: Papers, C: Clock>
     alloc: Global,
     draws: &mut Draws,
     around: &mut Around<S, K, N, F, P, C>,
-) -> Result<Option<LetterEnd>, Trouble<'a>> {
+) -> Result<Option<LetterEnd>, Trouble<'a>>
+    ensures sink { Unfailed (K.seen around.old.out).faults (K.seen around.new.out).faults result }
+    ensures net { Unfailed (N.seen around.old.net).faults (N.seen around.new.net).faults result }
+{
     let Some(outbox) = outbox_in(alloc, &mut around.folder)? else {
         return Ok(None);
     };
@@ -33,7 +37,10 @@ fn resume_letter<'a, S: Source, K: Sink, N: Net, F: Folder, P: Papers, C: Clock>
 pub(crate) fn resume_desk<'a, S: Source, K: Sink, N: Net, F: Folder, P: Papers, C: Clock>(
     alloc: Global,
     around: &mut Around<S, K, N, F, P, C>,
-) -> Result<Option<Ledger<F::File>>, Trouble<'a>> {
+) -> Result<Option<Ledger<F::File>>, Trouble<'a>>
+    ensures sink { Unfailed (K.seen around.old.out).faults (K.seen around.new.out).faults result }
+    ensures net { Unfailed (N.seen around.old.net).faults (N.seen around.new.net).faults result }
+{
     let Some(mut ledger) = ledger_in(alloc, &mut around.folder)? else {
         return Ok(None);
     };
@@ -55,7 +62,10 @@ pub(crate) fn resume<'a, S: Source, K: Sink, N: Net, F: Folder, P: Papers, C: Cl
     alloc: Global,
     draws: &mut Draws,
     around: &mut Around<S, K, N, F, P, C>,
-) -> Result<End, Trouble<'a>> {
+) -> Result<End, Trouble<'a>>
+    ensures sink { Unfailed (K.seen around.old.out).faults (K.seen around.new.out).faults result }
+    ensures net { Unfailed (N.seen around.old.net).faults (N.seen around.new.net).faults result }
+{
     let letter = resume_letter(alloc, draws, around);
     let _ = resume_desk(alloc, around)?;
     let end = letter?;

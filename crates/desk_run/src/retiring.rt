@@ -1,5 +1,6 @@
 //! The word `retire`.
 ghost use Rattle.std.specs.Prelude.{◌≡◌};
+ghost use Rattle.desk_run.specs.Ends.{Unfailed};
 
 use crate::around::Around;
 use crate::carrying::carry_on;
@@ -18,7 +19,10 @@ pub(crate) fn retire<'a, S: Source, K: Sink, N: Net, F: Folder, P: Papers, C: Cl
     name: &'a str,
     ledger: &mut Ledger<F::File>,
     around: &mut Around<S, K, N, F, P, C>,
-) -> Result<bool, Trouble<'a>> {
+) -> Result<bool, Trouble<'a>>
+    ensures sink { Unfailed (K.seen around.old.out).faults (K.seen around.new.out).faults result }
+    ensures net { Unfailed (N.seen around.old.net).faults (N.seen around.new.net).faults result }
+{
     if !ledger.retire_name(name)? {
         return Err(Trouble::NoName(name));
     }

@@ -1,5 +1,6 @@
 //! The word `send`.
 ghost use Rattle.std.specs.Prelude.{◌≡◌};
+ghost use Rattle.desk_run.specs.Ends.{Unfailed};
 
 use crate::around::Around;
 use crate::ledgers::empty_file;
@@ -90,7 +91,10 @@ fn begin<'a, S: Source, K: Sink, N: Net, F: Folder, P: Papers, C: Clock>(
     text: &[u8],
     draws: &mut Draws,
     around: &mut Around<S, K, N, F, P, C>,
-) -> Result<Outbox<F::File>, Trouble<'a>> {
+) -> Result<Outbox<F::File>, Trouble<'a>>
+    ensures sink { Unfailed (K.seen around.old.out).faults (K.seen around.new.out).faults result }
+    ensures net { Unfailed (N.seen around.old.net).faults (N.seen around.new.net).faults result }
+{
     match outbox_in(alloc, &mut around.folder)? {
         Some(outbox) if is_of(&outbox, card, text) => return Ok(outbox),
         Some(outbox) => {
@@ -109,7 +113,10 @@ pub(crate) fn send<'a, S: Source, K: Sink, N: Net, F: Folder, P: Papers, C: Cloc
     file: Option<&'a str>,
     draws: &mut Draws,
     around: &mut Around<S, K, N, F, P, C>,
-) -> Result<End, Trouble<'a>> {
+) -> Result<End, Trouble<'a>>
+    ensures sink { Unfailed (K.seen around.old.out).faults (K.seen around.new.out).faults result }
+    ensures net { Unfailed (N.seen around.old.net).faults (N.seen around.new.net).faults result }
+{
     let card = card_at(alloc, &mut around.papers, path)?;
     let text = text_of(alloc, file, &mut around.input, &mut around.papers)?;
     check_text(&card, &text)?;

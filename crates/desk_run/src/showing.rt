@@ -1,5 +1,9 @@
 //! Letters, shown.
-ghost use Rattle.std.specs.Prelude.{◌≡◌};
+ghost use Rattle.std.specs.Prelude.{◌≡◌, ◌++◌, ℕ, List, codes, IfOk, string_bytes};
+ghost use Rattle.std.specs.Str.{IsUtf8};
+ghost use Rattle.desk_letters.specs.Screen.{shown_text};
+ghost use Rattle.desk_run.specs.Ends.{Unfailed};
+ghost use Rattle.desk_run.specs.Shown.{Shows};
 
 use crate::moment::moment_text;
 use crate::saying::say;
@@ -13,7 +17,10 @@ use node_journal::Disk;
 use std::alloc::Global;
 
 // The line above a letter.
-fn head_text(alloc: Global, name: &str, seconds: u64) -> Result<String, NoMemory> {
+fn head_text(alloc: Global, name: &str, seconds: u64) -> Result<String, NoMemory>
+    ensures { IfOk result (λ head. (moment : List ℕ) × (string_bytes head
+        ≡ codes "letter from box " ++ name.now ++ codes ", read " ++ moment ++ codes "\n")) }
+{
     let moment = moment_text(alloc, seconds)?;
     let moment = moment.as_str();
     let text = format!(in alloc; "letter from box {name}, read {moment}\n")?;
@@ -21,7 +28,9 @@ fn head_text(alloc: Global, name: &str, seconds: u64) -> Result<String, NoMemory
 }
 
 // What is shown of a letter's text.
-fn body_text(alloc: Global, text: &[u8]) -> Result<String, NoMemory> {
+fn body_text(alloc: Global, text: &[u8]) -> Result<String, NoMemory>
+    ensures { IsUtf8 text.now → IfOk result (λ body. string_bytes body ≡ shown_text text.now ++ codes "\n\n") }
+{
     if let Some(shown) = screen_text(alloc, text)? {
         let shown = shown.as_str();
         let body = format!(in alloc; "{shown}\n\n")?;
@@ -32,13 +41,18 @@ fn body_text(alloc: Global, text: &[u8]) -> Result<String, NoMemory> {
     Ok(body)
 }
 
-fn met_text(alloc: Global, name: &str) -> Result<String, NoMemory> {
+fn met_text(alloc: Global, name: &str) -> Result<String, NoMemory>
+    ensures { IfOk result (λ text. string_bytes text
+        ≡ codes "two letters met in box " ++ name.now ++ codes ": neither can be read\n\n") }
+{
     let text = format!(in alloc; "two letters met in box {name}: neither can be read\n\n")?;
     Ok(text)
 }
 
 // What is shown of what a box held.
-fn shown_text(alloc: Global, name: &str, reading: &Reading) -> Result<String, NoMemory> {
+fn reading_text(alloc: Global, name: &str, reading: &Reading) -> Result<String, NoMemory>
+    ensures { IfOk result (λ text. Shows name.now reading.now.held (string_bytes text)) }
+{
     match &reading.held {
         Held::Nothing => Ok(String::new(alloc)),
         Held::Met => met_text(alloc, name),
@@ -61,11 +75,13 @@ fn show_all<'a, D: Disk, K: Sink>(
     ledger: &Ledger<D>,
     readings: &[&Reading],
     out: &mut K,
-) -> Result<bool, Trouble<'a>> {
+) -> Result<bool, Trouble<'a>>
+    ensures sink { Unfailed (K.seen out.old).faults (K.seen out.new).faults result }
+{
     let mut met = false;
-    for reading in readings.iter() {
+    'readings: for reading in readings.iter() {
         let name = ledger.name_of(reading.registered);
-        let text = shown_text(alloc, name, reading)?;
+        let text = reading_text(alloc, name, reading)?;
         say(out, text.as_str())?;
         met = met || is_met(reading);
     }
@@ -85,7 +101,9 @@ fn show_those<'a, D: Disk, K: Sink>(
     alloc: Global,
     ledger: &Ledger<D>,
     out: &mut K,
-) -> Result<Shown, Trouble<'a>> {
+) -> Result<Shown, Trouble<'a>>
+    ensures sink { Unfailed (K.seen out.old).faults (K.seen out.new).faults result }
+{
     let letters = ledger.letters()?;
     let count = letters.len();
     let from = (ledger.shown() as usize).min(count);
@@ -102,7 +120,9 @@ pub(crate) fn show_new<'a, D: Disk, K: Sink>(
     alloc: Global,
     ledger: &mut Ledger<D>,
     out: &mut K,
-) -> Result<Shown, Trouble<'a>> {
+) -> Result<Shown, Trouble<'a>>
+    ensures sink { Unfailed (K.seen out.old).faults (K.seen out.new).faults result }
+{
     let shown = show_those(alloc, ledger, out)?;
     if shown.any {
         note_shown(ledger, shown.count)?;

@@ -1,5 +1,6 @@
 //! The word `status`.
 ghost use Rattle.std.specs.Prelude.{◌≡◌};
+ghost use Rattle.desk_run.specs.Ends.{Unfailed};
 
 use crate::ledgers::{hundredths, ledger_in};
 use crate::saying::say;
@@ -46,8 +47,10 @@ fn say_boxes<'a, K: Sink>(
     alloc: Global,
     entries: &[Entry],
     out: &mut K,
-) -> Result<(), Trouble<'a>> {
-    for entry in entries.iter() {
+) -> Result<(), Trouble<'a>>
+    ensures sink { Unfailed (K.seen out.old).faults (K.seen out.new).faults result }
+{
+    'entries: for entry in entries.iter() {
         if let Entry::Named(named) = entry {
             let text = boxes_text(alloc, entries, named)?;
             say(out, text.as_str())?;
@@ -74,7 +77,9 @@ fn say_ledger<'a, D: Disk, K: Sink>(
     alloc: Global,
     ledger: &Ledger<D>,
     out: &mut K,
-) -> Result<(), Trouble<'a>> {
+) -> Result<(), Trouble<'a>>
+    ensures sink { Unfailed (K.seen out.old).faults (K.seen out.new).faults result }
+{
     let pair = pair_text(alloc, ledger.pair())?;
     say(out, pair.as_str())?;
     say_boxes(alloc, ledger.entries(), out)?;
@@ -87,7 +92,9 @@ pub(crate) fn status<'a, F: Folder, K: Sink>(
     alloc: Global,
     folder: &mut F,
     out: &mut K,
-) -> Result<(), Trouble<'a>> {
+) -> Result<(), Trouble<'a>>
+    ensures sink { Unfailed (K.seen out.old).faults (K.seen out.new).faults result }
+{
     match ledger_in(alloc, folder)? {
         Some(ledger) => say_ledger(alloc, &ledger, out)?,
         None => say(out, "there is no desk here\n")?,

@@ -1,5 +1,8 @@
 //! The top call.
-ghost use Rattle.std.specs.Prelude.{◌≡◌};
+ghost use Rattle.std.specs.Prelude.{◌≡◌, ◌≢◌, ◌∷◌, [], true, Contains, map, string_bytes};
+ghost use Rattle.desk_words.specs.CommandLine.{AskSome};
+ghost use Rattle.desk_run.specs.Ends.{Unfailed, status_of};
+ghost use Rattle.desk_run.specs.Quiet.{AskServers, is_quiet};
 
 use crate::around::Around;
 use crate::boxes::open_boxes;
@@ -38,7 +41,10 @@ fn at_desk<'a, S: Source, K: Sink, N: Net, F: Folder, P: Papers, C: Clock>(
     task: DeskTask<'a>,
     draws: &mut Draws,
     around: &mut Around<S, K, N, F, P, C>,
-) -> Result<End, Trouble<'a>> {
+) -> Result<End, Trouble<'a>>
+    ensures sink { Unfailed (K.seen around.old.out).faults (K.seen around.new.out).faults result }
+    ensures net { Unfailed (N.seen around.old.net).faults (N.seen around.new.net).faults result }
+{
     let Some(mut ledger) = resume_desk(alloc, around)? else {
         return Err(Trouble::NoDesk);
     };
@@ -68,7 +74,11 @@ fn in_folder<'a, S: Source, K: Sink, N: Net, F: Folder, P: Papers, C: Clock>(
     task: DeskTask<'a>,
     draws: &mut Draws,
     around: &mut Around<S, K, N, F, P, C>,
-) -> Result<End, Trouble<'a>> {
+) -> Result<End, Trouble<'a>>
+    ensures sink { Unfailed (K.seen around.old.out).faults (K.seen around.new.out).faults result }
+    ensures net { Unfailed (N.seen around.old.net).faults (N.seen around.new.net).faults result }
+    ensures quiet { is_quiet task.entry ≡ true → around.new.net ≡ around.old.net }
+{
     hold(&mut around.folder)?;
     match task {
         DeskTask::Open { pair } => {
@@ -95,7 +105,11 @@ fn do_task<'a, S: Source, K: Sink, N: Net, F: Folder, P: Papers, C: Clock>(
     task: DeskTask<'a>,
     seed: &[u8; 32],
     around: &mut Around<S, K, N, F, P, C>,
-) -> Result<End, Trouble<'a>> {
+) -> Result<End, Trouble<'a>>
+    ensures sink { Unfailed (K.seen around.old.out).faults (K.seen around.new.out).faults result }
+    ensures net { Unfailed (N.seen around.old.net).faults (N.seen around.new.net).faults result }
+    ensures quiet { is_quiet task.entry ≡ true → around.new.net ≡ around.old.net }
+{
     if task == DeskTask::Help {
         say(&mut around.out, HELP)?;
         return Ok(End::Done);
@@ -104,27 +118,63 @@ fn do_task<'a, S: Source, K: Sink, N: Net, F: Folder, P: Papers, C: Clock>(
     in_folder(alloc, task, &mut draws, around)
 }
 
+// What the outcome is told as. Where that can't be printed the word isn't done.
+fn finish<K: Sink>(alloc: Global, outcome: Result<End, Trouble<'_>>, out: &mut K) -> u8
+    ensures sink { result ≢ 1 → (K.seen out.new).faults ≡ (K.seen out.old).faults }
+    ensures status { result ≢ 1 → result ≡ status_of outcome.entry }
+    ensures not_wrong { result ≢ 2 }
+{
+    if let Err(trouble) = &outcome
+        && !tell(alloc, trouble, out)
+    {
+        return 1;
+    }
+    status_of(&outcome)
+}
+
+// What wrong words are told.
+fn refuse<K: Sink>(out: &mut K) -> u8
+    ensures either { Contains (2 ∷ 1 ∷ []) result }
+    ensures sink { result ≢ 1 → (K.seen out.new).faults ≡ (K.seen out.old).faults }
+{
+    match out.put(USAGE.as_bytes()) {
+        Ok(()) => 2,
+        Err(_) => 1,
+    }
+}
+
 /// Does what the words ask for, and gives the status of the program: 0 where it is done, 1 where it isn't, 2 where the
 /// words aren't those of a desk, 3 where a card, a pair file or a letter isn't right, 4 where another process has the
 /// desk, and 5 where it is done and letters met. What is printed says what a person can do.
 ///
 /// All that is drawn by lot is drawn out of `seed`, of which no other run may know.
+#[tactic(auto, using(crate::proofs::Asked::asked_none, crate::proofs::Asked::asked_some, crate::proofs::Asked::quiet))]
 pub fn run_desk<S: Source, K: Sink, N: Net, F: Folder, P: Papers, C: Clock>(
     alloc: Global,
     words: &Vec<String>,
     seed: &[u8; 32],
     around: &mut Around<S, K, N, F, P, C>,
-) -> u8 {
+) -> u8
+    ensures statuses { Contains (0 ∷ 1 ∷ 2 ∷ 3 ∷ 4 ∷ 5 ∷ []) result }
+    // Status 2 comes only with wrong words, and with these, where it can be printed, nothing else.
+    ensures wrong { result ≡ 2 → AskSome (map string_bytes words.now.items) → ⊥ }
+    ensures refused { (AskSome (map string_bytes words.now.items) → ⊥) → Contains (2 ∷ 1 ∷ []) result }
+    // With wrong words nothing is touched but the output.
+    ensures input_rests { (AskSome (map string_bytes words.now.items) → ⊥) → around.new.input ≡ around.old.input }
+    ensures net_rests { (AskSome (map string_bytes words.now.items) → ⊥) → around.new.net ≡ around.old.net }
+    ensures folder_rests { (AskSome (map string_bytes words.now.items) → ⊥) → around.new.folder ≡ around.old.folder }
+    ensures papers_rest { (AskSome (map string_bytes words.now.items) → ⊥) → around.new.papers ≡ around.old.papers }
+    ensures clock_rests { (AskSome (map string_bytes words.now.items) → ⊥) → around.new.clock ≡ around.old.clock }
+    // A word that needs no server makes no call on the net.
+    ensures quiet { (AskServers (map string_bytes words.now.items) → ⊥) → around.new.net ≡ around.old.net }
+    // A fault of the net or of the output is told as a word that isn't done.
+    ensures sink { result ≢ 1 → (K.seen around.new.out).faults ≡ (K.seen around.old.out).faults }
+    ensures net { result ≢ 1 → (N.seen around.new.net).faults ≡ (N.seen around.old.net).faults }
+{
     let outcome = match asked_of(alloc, words) {
         Ok(Some(asked)) => do_task(alloc, asked.task, seed, around),
-        Ok(None) => {
-            let _ = around.out.put(USAGE.as_bytes());
-            return 2;
-        }
+        Ok(None) => return refuse(&mut around.out),
         Err(_) => Err(Trouble::NoMemory),
     };
-    if let Err(trouble) = &outcome {
-        tell(alloc, trouble, &mut around.out);
-    }
-    status_of(&outcome)
+    finish(alloc, outcome, &mut around.out)
 }

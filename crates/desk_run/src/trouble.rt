@@ -61,12 +61,20 @@ pub enum Trouble<'a> {
 }
 
 impl From<NoMemory> for Trouble<'_> {
+    ghost use Rattle.desk_run.specs.Ends.{status_by};
+
+    ghost from_gives = { λ _ trouble. status_by trouble ≡ 1 };
+
     fn from(_: NoMemory) -> Self {
         Trouble::NoMemory
     }
 }
 
 impl From<KeepFault> for Trouble<'_> {
+    ghost use Rattle.desk_run.specs.Ends.{status_by};
+
+    ghost from_gives = { λ _ trouble. status_by trouble ≡ 1 };
+
     fn from(fault: KeepFault) -> Self {
         match fault {
             KeepFault::NoMemory => Trouble::NoMemory,
@@ -81,6 +89,10 @@ impl From<KeepFault> for Trouble<'_> {
 }
 
 impl From<Stop> for Trouble<'_> {
+    ghost use Rattle.desk_run.specs.Ends.{status_by};
+
+    ghost from_gives = { λ _ trouble. status_by trouble ≡ 1 };
+
     fn from(stop: Stop) -> Self {
         match stop {
             Stop::Answer => Trouble::NoAnswer,
@@ -93,6 +105,10 @@ impl From<Stop> for Trouble<'_> {
 }
 
 impl From<Halt> for Trouble<'_> {
+    ghost use Rattle.desk_run.specs.Ends.{status_by};
+
+    ghost from_gives = { λ _ trouble. status_by trouble ≡ 1 };
+
     fn from(halt: Halt) -> Self {
         match halt {
             Halt::Keep(fault) => Trouble::from(fault),

@@ -1,5 +1,6 @@
 //! Letters, written to files.
 ghost use Rattle.std.specs.Prelude.{◌≡◌};
+ghost use Rattle.desk_run.specs.Ends.{Unfailed};
 
 use crate::moment::moment_text;
 use crate::saying::say;
@@ -45,7 +46,9 @@ fn write_letter<'a, P: Papers, K: Sink>(
     reading: &Reading,
     papers: &mut P,
     out: &mut K,
-) -> Result<(), Trouble<'a>> {
+) -> Result<(), Trouble<'a>>
+    ensures sink { Unfailed (K.seen out.old).faults (K.seen out.new).faults result }
+{
     match &reading.held {
         Held::Nothing => Ok(()),
         Held::Met => {
@@ -73,9 +76,11 @@ fn write_all<'a, D: Disk, P: Papers, K: Sink>(
     readings: &[&Reading],
     papers: &mut P,
     out: &mut K,
-) -> Result<bool, Trouble<'a>> {
+) -> Result<bool, Trouble<'a>>
+    ensures sink { Unfailed (K.seen out.old).faults (K.seen out.new).faults result }
+{
     let mut met = false;
-    for reading in readings.iter() {
+    'readings: for reading in readings.iter() {
         let name = ledger.name_of(reading.registered);
         write_letter(alloc, folder, name, reading, papers, out)?;
         met = met || matches!(reading.held, Held::Met);
@@ -90,7 +95,9 @@ fn write_those<'a, D: Disk, P: Papers, K: Sink>(
     ledger: &Ledger<D>,
     papers: &mut P,
     out: &mut K,
-) -> Result<Shown, Trouble<'a>> {
+) -> Result<Shown, Trouble<'a>>
+    ensures sink { Unfailed (K.seen out.old).faults (K.seen out.new).faults result }
+{
     let letters = ledger.letters()?;
     let count = letters.len();
     let met = write_all(alloc, folder, ledger, &letters, papers, out)?;
@@ -108,7 +115,9 @@ pub(crate) fn write_letters<'a, D: Disk, P: Papers, K: Sink>(
     ledger: &mut Ledger<D>,
     papers: &mut P,
     out: &mut K,
-) -> Result<Shown, Trouble<'a>> {
+) -> Result<Shown, Trouble<'a>>
+    ensures sink { Unfailed (K.seen out.old).faults (K.seen out.new).faults result }
+{
     let written = write_those(alloc, folder, ledger, papers, out)?;
     if (ledger.shown() as usize) < written.count {
         note_shown(ledger, written.count)?;
