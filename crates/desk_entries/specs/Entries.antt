@@ -37,15 +37,11 @@ pub record IsReading (r : Reading) : Type 0 where
   pub held : IsHeld r.held
 
 -- numbers fit their bytes, and names are names
-abbrev pub IsEntry : Entry → Type 0
-IsEntry (Pair text) = Unit {0}
-IsEntry (Named n) = IsNamed n
-IsEntry (Registered b) = (b.serial < 2 ^ 32) × IsAddress b.address
-IsEntry (Refused d) = (d.serial < 2 ^ 32) × IsAddress d.address
-IsEntry (Read r) = IsReading r
-IsEntry (Retiring name) = is_name name ≡ true
-IsEntry (Shown count) = count < 2 ^ 32
-
-abbrev pub AreEntries : List Entry → Type 0
-AreEntries [] = Unit {0}
-AreEntries (e ∷ entries) = IsEntry e × AreEntries entries
+abbrev pub IsFormed : Entry → Type 0
+IsFormed (Pair text) = Unit {0}
+IsFormed (Named n) = IsNamed n
+IsFormed (Registered b) = (b.serial < 2 ^ 32) × IsAddress b.address
+IsFormed (Refused d) = (d.serial < 2 ^ 32) × IsAddress d.address
+IsFormed (Read r) = IsReading r
+IsFormed (Retiring name) = is_name name ≡ true
+IsFormed (Shown count) = count < 2 ^ 32

@@ -1,5 +1,5 @@
 -- The letters of a desk.
-use Rattle.std.specs.Prelude.{ℕ, ◌==◌, ◌||◌, not, if◌then◌else◌, Bool, true, false, List, [], ◌∷◌, ◌++◌}
+use Rattle.std.specs.Prelude.{◌≡◌, ℕ, ◌==◌, ◌||◌, not, if◌then◌else◌, Bool, true, false, List, [], ◌∷◌, ◌++◌}
 use Rattle.std.specs.List.{fold, list_any}
 use Rattle.desk_entries.specs.declared.entry.Entry.{Entry}
 use Rattle.desk_entries.specs.declared.entry.Entry.TheVariants.{Pair, Named, Registered, Refused, Read, Retiring, Shown}
@@ -47,3 +47,7 @@ shown_with shown e = shown
 -- how many of the letters were shown: what was noted last
 abbrev pub shown_of : List Entry → ℕ
 shown_of entries = fold shown_with 0 entries
+
+-- they aren't one letter: no id is both's
+abbrev pub Differ : Reading → Reading → Type 0
+Differ a b = (id : ℕ) → has_id id a ≡ true → has_id id b ≡ true → ⊥

@@ -1,4 +1,7 @@
+pub mod Desks
 pub mod Entries
+pub mod Forgetting
+pub mod Fronts
 pub mod Letters
 pub mod Names
 pub mod Records

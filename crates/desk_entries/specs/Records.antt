@@ -1,5 +1,5 @@
 -- The records of entries. Numbers are big-endian.
-use Rattle.std.specs.Prelude.{◌≡◌, ℕ, Bool, true, false, List, [], ◌∷◌, ◌++◌, length}
+use Rattle.std.specs.Prelude.{◌≡◌, ◌≤◌, ℕ, Bool, true, false, List, [], ◌∷◌, ◌++◌, length}
 use Rattle.std.specs.Int.{w32, w64, w128, to_be_bytes}
 use Rattle.std.specs.List.{flat_map}
 use Rattle.desk_entries.specs.declared.entry.BoxAt.{BoxAt}
@@ -12,7 +12,7 @@ use Rattle.desk_entries.specs.declared.entry.Held.{Held}
 use Rattle.desk_entries.specs.declared.entry.Held.TheVariants.{Nothing, Letter, Met}
 use Rattle.desk_entries.specs.declared.entry.NamedBoxes.{NamedBoxes}
 use Rattle.desk_entries.specs.declared.entry.Reading.{Reading}
-use Rattle.desk_entries.specs.Entries.{IsEntry}
+use Rattle.desk_entries.specs.Entries.{IsFormed, IsNamed}
 
 -- how many addresses, the addresses in 16 bytes each, and the name
 abbrev pub named_record : NamedBoxes → List ℕ
@@ -42,6 +42,9 @@ reading_record r =
     flag r.last ∷ to_be_bytes w32 r.serial ++ to_be_bytes w32 r.registered ++ to_be_bytes w64 r.seconds
     ++ held_record r.held
 
+abbrev pub IsNoNamed : List ℕ → Type 0
+IsNoNamed bytes = (n : NamedBoxes) → IsNamed n → bytes ≡ named_record n → ⊥
+
 -- ---- any entry
 
 abbrev pub tag : Entry → ℕ
@@ -65,6 +68,17 @@ content (Shown count) = to_be_bytes w32 count
 -- a tag for each kind, and behind it what the entry holds
 abbrev pub entry_record : Entry → List ℕ
 entry_record e = tag e ∷ content e
+
+-- ---- which values are entries
+
+-- an entry of the form, with a record of at most 8,213 bytes
+pub record IsEntry (e : Entry) : Type 0 where
+  pub formed : IsFormed e
+  pub few : length (entry_record e) ≤ 8213
+
+abbrev pub AreEntries : List Entry → Type 0
+AreEntries [] = Unit {0}
+AreEntries (e ∷ entries) = IsEntry e × AreEntries entries
 
 -- the record is no entry's
 abbrev pub IsNoEntry : List ℕ → Type 0

@@ -1,190 +1,203 @@
-//! What an owner's desk is after its entries.
-ghost use Rattle.std.specs.Prelude.{◌≡◌, ◌≤◌, ◌<◌, ◌++◌, ◌∷◌, [], length, map, vec_capacity, IfOk, option_copied};
-ghost use Rattle.std.specs.List.{filter, flat_map};
-ghost use Rattle.desk_entries.specs.Letters.{letters_of, shown_of};
+//! What is so of a desk after its entries.
+ghost use Rattle.std.specs.Prelude.{◌≡◌, ◌++◌, Some, IfOk, OnOk};
+ghost use Rattle.std.specs.List.{filter, flat_map, list_any};
+ghost use Rattle.std.specs.Option.{option_copied};
+ghost use Rattle.desk_entries.specs.Desks.{address_of, are_new, draws, is_drawn, is_outcome, has_outcome, is_retiring, name_at, name_of, name_with, named, named_in, retires_name, waiting, waiting_by, waiting_of};
+ghost use Rattle.desk_entries.specs.Standings.{stands};
 
-use crate::entry::{BoxAt, Entry, NamedBoxes, Reading};
-use crate::letters::{letters_of, shown_of};
-use crate::standing::{Standing, add_standing, is_retired, standing_of};
+use crate::entry::{Entry, NamedBoxes};
+use crate::standing::{Standing, add_standing};
 use express_words::NoMemory;
 use std::alloc::Global;
 
 /// At most so many addresses are drawn for one name: as many as stand on a card.
 pub const MOST_AT_ONCE: usize = 64;
 
-/// A desk: its entries, in order.
-#[derive(Drop)]
-pub struct Desk {
-    entries: Vec<Entry>,
+/// The boxes with this name.
+pub fn named<'a>(entries: &'a [Entry], name: &[u8]) -> Option<&'a NamedBoxes>
+    ensures { option_copied result ≡ named entries.now name.now }
+{
+    let mut rest = entries;
+    while let [entry, behind @ ..] = rest {
+        if let Entry::Named(named) = entry
+            && named.name.as_str().as_bytes() == name
+        {
+            return Some(named);
+        }
+        rest = behind;
+    }
+    None
 }
 
-// Whether the boxes with this name are to be retired.
-fn is_retiring(entries: &[Entry], name: &[u8]) -> bool {
-    entries.iter().any(|entry| retires_name(entry, name))
-}
-
-fn retires_name(entry: &Entry, name: &[u8]) -> bool {
+fn retires_name(entry: &Entry, name: &[u8]) -> bool
+    ensures { result ≡ retires_name name.now entry.now }
+{
     match entry {
         Entry::Retiring(other) => other.as_str().as_bytes() == name,
         _ => false,
     }
 }
 
-impl Desk {
-    /// A desk without entries.
-    pub fn new(alloc: Global) -> Desk {
-        Desk {
-            entries: Vec::new(alloc),
-        }
-    }
-
-    /// The entries, in order.
-    pub fn entries(&self) -> &[Entry] {
-        &self.entries
-    }
-
-    /// Takes the memory for one entry more.
-    pub fn reserve(&mut self) -> Result<(), NoMemory> {
-        self.entries.reserve(1)?;
-        Ok(())
-    }
-
-    /// Notes an entry behind the others.
-    pub fn note(&mut self, entry: Entry) {
-        self.entries.push_reserved(entry);
-    }
-
-    /// The boxes with this name.
-    pub fn named(&self, name: &[u8]) -> Option<&NamedBoxes> {
-        let mut rest = self.entries.as_slice();
-        while let [entry, behind @ ..] = rest {
-            if let Entry::Named(named) = entry && named.name.as_str().as_bytes() == name {
-                return Some(named);
-            }
-            rest = behind;
-        }
-        None
-    }
-
-    /// Whether these addresses are all different, and none of them was drawn before.
-    pub fn are_new(&self, addresses: &[u128]) -> bool {
-        let mut rest = addresses;
-        while let [address, behind @ ..] = rest {
-            if behind.contains(address) || self.is_drawn(*address) {
-                return false;
-            }
-            rest = behind;
-        }
-        true
-    }
-
-    fn is_drawn(&self, address: u128) -> bool {
-        self.entries.iter().any(|entry| draws(entry, address))
-    }
-
-    /// The name of the box that this serial registered, or nothing.
-    pub fn name_of(&self, registered: u32) -> &str {
-        match self.address_of(registered) {
-            Some(address) => self.name_at(address),
-            None => "",
-        }
-    }
-
-    // The address of the box that this serial registered.
-    fn address_of(&self, registered: u32) -> Option<u128> {
-        let mut rest = self.entries.as_slice();
-        while let [entry, behind @ ..] = rest {
-            if let Entry::Registered(found) = entry && found.serial == registered {
-                return Some(found.address);
-            }
-            rest = behind;
-        }
-        None
-    }
-
-    // The name for which this address was drawn, or nothing.
-    fn name_at(&self, address: u128) -> &str {
-        let mut rest = self.entries.as_slice();
-        while let [entry, behind @ ..] = rest {
-            if let Entry::Named(named) = entry && named.addresses.as_slice().contains(&address) {
-                return named.name.as_str();
-            }
-            rest = behind;
-        }
-        ""
-    }
-
-    /// How an address stands.
-    pub fn standing(&self, address: u128) -> Standing {
-        standing_of(&self.entries, address)
-    }
-
-    /// Whether the box that this serial registered is retired.
-    pub fn is_retired(&self, registered: u32) -> bool {
-        is_retired(&self.entries, registered)
-    }
-
-    /// Whether the boxes with this name are to be retired, or are.
-    pub fn is_retiring(&self, name: &[u8]) -> bool {
-        is_retiring(&self.entries, name)
-    }
-
-    /// The addresses of a name that stand so, in order.
-    pub fn addresses(&self, alloc: Global, named: &NamedBoxes, standing: Standing) -> Result<Vec<u128>, NoMemory> {
-        let mut found = Vec::new(alloc);
-        add_standing(&self.entries, standing, named.addresses.as_slice(), &mut found)?;
-        Ok(found)
-    }
-
-    /// The addresses at which boxes are to be registered yet, in order: those of names that aren't to be retired.
-    pub fn waiting(&self, alloc: Global) -> Result<Vec<u128>, NoMemory> {
-        let mut found = Vec::new(alloc);
-        let mut rest = self.entries.as_slice();
-        while let [entry, behind @ ..] = rest {
-            if let Entry::Named(named) = entry {
-                self.add_waiting(named, &mut found)?;
-            }
-            rest = behind;
-        }
-        Ok(found)
-    }
-
-    fn add_waiting(&self, named: &NamedBoxes, found: &mut Vec<u128>) -> Result<(), NoMemory> {
-        if self.is_retiring(named.name.as_str().as_bytes()) {
-            return Ok(());
-        }
-        add_standing(&self.entries, Standing::Waiting, named.addresses.as_slice(), found)
-    }
-
-    /// Whether the outcome of the request of this serial is noted.
-    pub fn has_outcome(&self, serial: u32) -> bool {
-        self.entries.iter().any(|entry| is_outcome(entry, serial))
-    }
-
-    /// The letters, and the boxes in which letters met, in the order in which they were read. A letter that comes twice,
-    /// by its id, is there once.
-    pub fn letters(&self, alloc: Global) -> Result<Vec<&Reading>, NoMemory> {
-        letters_of(alloc, &self.entries)
-    }
-
-    /// How many of the letters were shown.
-    pub fn shown(&self) -> u32 {
-        shown_of(&self.entries)
-    }
+/// Whether the boxes with this name are to be retired, or are.
+pub fn is_retiring(entries: &[Entry], name: &[u8]) -> bool
+    ensures { result ≡ is_retiring entries.now name.now }
+{
+    entries.iter().any(|entry| retires_name(entry, name))
 }
 
-fn draws(entry: &Entry, address: u128) -> bool {
+fn draws(entry: &Entry, address: u128) -> bool
+    ensures { result ≡ draws address entry.now }
+{
     match entry {
         Entry::Named(named) => named.addresses.as_slice().contains(&address),
         _ => false,
     }
 }
 
-fn is_outcome(entry: &Entry, serial: u32) -> bool {
+fn is_drawn(entries: &[Entry], address: u128) -> bool
+    ensures { result ≡ is_drawn entries.now address }
+{
+    entries.iter().any(|entry| draws(entry, address))
+}
+
+/// Whether these addresses are all different, and none of them was drawn before.
+pub fn are_new(entries: &[Entry], addresses: &[u128]) -> bool
+    ensures { result ≡ are_new entries.now addresses.now }
+{
+    let mut rest = addresses;
+    while let [address, behind @ ..] = rest {
+        if behind.contains(address) || is_drawn(entries, *address) {
+            return false;
+        }
+        rest = behind;
+    }
+    true
+}
+
+// The address of the box that this serial registered.
+fn address_of(entries: &[Entry], registered: u32) -> Option<u128>
+    ensures { result ≡ address_of entries.now registered }
+{
+    let mut rest = entries;
+    while let [entry, behind @ ..] = rest {
+        if let Entry::Registered(found) = entry
+            && found.serial == registered
+        {
+            return Some(found.address);
+        }
+        rest = behind;
+    }
+    None
+}
+
+// The name, where this address was drawn for it.
+fn name_with(entry: &Entry, address: u128) -> Option<&str>
+    ensures { option_copied result ≡ name_with address entry.now }
+{
+    match entry {
+        Entry::Named(named) => {
+            if named.addresses.as_slice().contains(&address) {
+                Some(named.name.as_str())
+            } else {
+                None
+            }
+        }
+        _ => None,
+    }
+}
+
+// The name for which this address was drawn, or nothing.
+fn name_at(entries: &[Entry], address: u128) -> &str
+    ensures { result.now ≡ name_at entries.now address }
+{
+    let mut rest = entries;
+    while let [entry, behind @ ..] = rest {
+        if let Some(name) = name_with(entry, address) {
+            return name;
+        }
+        rest = behind;
+    }
+    ""
+}
+
+/// The name of the box that this serial registered, or nothing.
+pub fn name_of(entries: &[Entry], registered: u32) -> &str
+    ensures { result.now ≡ name_of entries.now registered }
+{
+    match address_of(entries, registered) {
+        Some(address) => name_at(entries, address),
+        None => "",
+    }
+}
+
+/// The addresses of a name that stand so, in order.
+pub fn addresses(
+    alloc: Global,
+    entries: &[Entry],
+    named: &NamedBoxes,
+    standing: Standing,
+) -> Result<Vec<u128>, NoMemory>
+    ensures { IfOk result (λ found. found.items ≡ filter (stands entries.now standing) named.now.addresses) }
+{
+    let mut found = Vec::new(alloc);
+    add_standing(entries, standing, named.addresses.as_slice(), &mut found)?;
+    Ok(found)
+}
+
+fn named_in(entry: &Entry) -> Option<&NamedBoxes>
+    ensures { option_copied result ≡ named_in entry.now }
+{
+    match entry {
+        Entry::Named(named) => Some(named),
+        _ => None,
+    }
+}
+
+fn add_named(entries: &[Entry], named: &NamedBoxes, found: &mut Vec<u128>) -> Result<(), NoMemory>
+    ensures { OnOk result (found.new.items ≡ found.old.items ++ waiting_by entries.now (Some named.now)) }
+{
+    if is_retiring(entries, named.name.as_str().as_bytes()) {
+        return Ok(());
+    }
+    add_standing(entries, Standing::Waiting, named.addresses.as_slice(), found)
+}
+
+fn add_waiting(entries: &[Entry], entry: &Entry, found: &mut Vec<u128>) -> Result<(), NoMemory>
+    ensures { OnOk result (found.new.items ≡ found.old.items ++ waiting_of entries.now entry.now) }
+{
+    match named_in(entry) {
+        Some(named) => add_named(entries, named, found),
+        None => Ok(()),
+    }
+}
+
+/// The addresses at which boxes are to be registered yet, in order: those of names that aren't to be retired.
+pub fn waiting(alloc: Global, entries: &[Entry]) -> Result<Vec<u128>, NoMemory>
+    ensures { IfOk result (λ found. found.items ≡ waiting entries.now) }
+{
+    let mut found = Vec::new(alloc);
+    let mut rest = entries;
+    while let [entry, behind @ ..] = rest {
+        add_waiting(entries, entry, &mut found)?;
+        rest = behind;
+    }
+    Ok(found)
+}
+
+fn is_outcome(entry: &Entry, serial: u32) -> bool
+    ensures { result ≡ is_outcome serial entry.now }
+{
     match entry {
         Entry::Registered(registered) => registered.serial == serial,
         Entry::Refused(denied) => denied.serial == serial,
         Entry::Read(reading) => reading.serial == serial,
         _ => false,
     }
+}
+
+/// Whether an outcome of the request of this serial is noted.
+pub fn has_outcome(entries: &[Entry], serial: u32) -> bool
+    ensures { result ≡ has_outcome entries.now serial }
+{
+    entries.iter().any(|entry| is_outcome(entry, serial))
 }

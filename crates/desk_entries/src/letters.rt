@@ -17,17 +17,35 @@ fn has_id(reading: &Reading, id: u64) -> bool
     }
 }
 
+fn has_id_among(told: &[&Reading], id: u64) -> bool
+    ensures { result ≡ list_any (has_id id) (map (λ r. r.now) told.now) }
+{
+    let mut rest = told;
+    while let [reading, behind @ ..] = rest {
+        if has_id(reading, id) {
+            return true;
+        }
+        rest = behind;
+    }
+    false
+}
+
 // Whether a box held something that wasn't told already: letters that met, or a letter with a new id.
-fn is_anew(told: &[&Reading], held: &Held) -> bool {
+fn is_anew(told: &[&Reading], held: &Held) -> bool
+    ensures { result ≡ is_anew (map (λ r. r.now) told.now) held.now }
+{
     match held {
         Held::Nothing => false,
-        Held::Letter { id, text: _ } => !told.iter().any(|reading| has_id(reading, *id)),
+        Held::Letter { id, text: _ } => !has_id_among(told, *id),
         Held::Met => true,
     }
 }
 
-/// The letters of these entries, in order.
-pub(crate) fn letters_of(alloc: Global, entries: &[Entry]) -> Result<Vec<&Reading>, NoMemory> {
+/// The letters that these entries tell, and the boxes in which letters met, in the order in which they were read. A
+/// letter that came twice, by its id, is there once; a box that held nothing isn't.
+pub fn letters_of(alloc: Global, entries: &[Entry]) -> Result<Vec<&Reading>, NoMemory>
+    ensures { IfOk result (λ told. map (λ r. r.now) told.items ≡ letters_of entries.now) }
+{
     let mut told = Vec::new(alloc);
     let mut rest = entries;
     while let [entry, behind @ ..] = rest {
@@ -40,7 +58,9 @@ pub(crate) fn letters_of(alloc: Global, entries: &[Entry]) -> Result<Vec<&Readin
 }
 
 /// How many of the letters were shown.
-pub(crate) fn shown_of(entries: &[Entry]) -> u32 {
+pub fn shown_of(entries: &[Entry]) -> u32
+    ensures { result ≡ shown_of entries.now }
+{
     let mut shown = 0;
     let mut rest = entries;
     while let [entry, behind @ ..] = rest {

@@ -3,13 +3,18 @@
 
 mod desk;
 mod entry;
+mod forgetting;
+pub mod laws;
 mod letters;
 mod name;
 mod reading;
 mod standing;
 mod writing;
 
-pub use desk::{MOST_AT_ONCE, Desk};
+pub use desk::{MOST_AT_ONCE, addresses, are_new, has_outcome, is_retiring, name_of, named, waiting};
 pub use entry::{BoxAt, Denial, Denied, Entry, Held, NamedBoxes, Reading};
+pub use forgetting::kept;
 pub use name::is_name;
-pub use standing::Standing;
+pub use reading::MOST_RECORD;
+pub use letters::{letters_of, shown_of};
+pub use standing::{Standing, is_retired, standing_of};

@@ -18,6 +18,7 @@ fn are_name_bytes(text: &[u8]) -> bool
 }
 
 /// Whether the text is a name of boxes: 1 to 32 lower-case letters, digits and `-`.
+#[tactic(auto, unfolding(crate::specs::Names::is_name))]
 pub fn is_name(text: &[u8]) -> bool
     ensures { result ≡ is_name text.now }
 {

@@ -29,14 +29,14 @@ fn retires(entry: &Entry, registered: u32) -> bool
 }
 
 /// Whether the box that this serial registered is retired.
-pub(crate) fn is_retired(entries: &[Entry], registered: u32) -> bool
+pub fn is_retired(entries: &[Entry], registered: u32) -> bool
     ensures { result ≡ is_retired entries.now registered }
 {
     entries.iter().any(|entry| retires(entry, registered))
 }
 
 /// How an address stands after these entries.
-pub(crate) fn standing_of(entries: &[Entry], address: u128) -> Standing
+pub fn standing_of(entries: &[Entry], address: u128) -> Standing
     ensures { result ≡ standing_in entries.now address entries.now }
 {
     let mut rest = entries;

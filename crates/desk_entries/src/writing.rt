@@ -1,8 +1,8 @@
 //! The records of entries.
 ghost use Rattle.std.specs.Prelude.{◌≡◌, ◌≤◌, ◌++◌, ◌∷◌, length, OnOk, IfOk};
-ghost use Rattle.std.specs.Int.{w64, w128, to_be_bytes};
+ghost use Rattle.std.specs.Int.{w32, w64, w128, to_be_bytes};
 ghost use Rattle.std.specs.List.{flat_map};
-ghost use Rattle.desk_entries.specs.Entries.{IsEntry};
+ghost use Rattle.desk_entries.specs.Entries.{IsFormed};
 ghost use Rattle.desk_entries.specs.Records.{box_record, content, denial_byte, denied_record, entry_record, flag, held_record, named_record, reading_record, tag};
 
 use crate::entry::{BoxAt, Denial, Denied, Entry, Held, NamedBoxes, Reading};
@@ -25,6 +25,7 @@ fn flag(last: bool) -> u8
 }
 
 // Behind the bytes of a record those of the addresses.
+#[tactic(auto, using(crate::proofs::AddressLaws::behind_address))]
 fn put_addresses(bytes: &mut Vec<u8>, addresses: &[u128]) -> Result<(), NoMemory>
     ensures { OnOk result (bytes.new.items ≡ bytes.old.items ++ flat_map (to_be_bytes w128) addresses.now) }
 {
@@ -88,13 +89,22 @@ fn put_held(bytes: &mut Vec<u8>, held: &Held) -> Result<(), NoMemory>
     }
 }
 
+// What a reading says before what the box held.
+fn front_bytes(reading: &Reading) -> [u8; 17]
+    ensures { result ≡ flag reading.now.last ∷ to_be_bytes w32 reading.now.serial
+        ++ to_be_bytes w32 reading.now.registered ++ to_be_bytes w64 reading.now.seconds }
+{
+    let [a, b, c, d] = reading.serial.to_be_bytes();
+    let [e, f, g, h] = reading.registered.to_be_bytes();
+    let [i, j, k, l, m, n, o, p] = reading.seconds.to_be_bytes();
+    let last = flag(reading.last);
+    [last, a, b, c, d, e, f, g, h, i, j, k, l, m, n, o, p]
+}
+
 fn put_reading(bytes: &mut Vec<u8>, reading: &Reading) -> Result<(), NoMemory>
     ensures { OnOk result (bytes.new.items ≡ bytes.old.items ++ reading_record reading.now) }
 {
-    bytes.push(flag(reading.last))?;
-    bytes.extend_from_slice(&reading.serial.to_be_bytes())?;
-    bytes.extend_from_slice(&reading.registered.to_be_bytes())?;
-    bytes.extend_from_slice(&reading.seconds.to_be_bytes())?;
+    bytes.extend_from_slice(&front_bytes(reading))?;
     put_held(bytes, &reading.held)
 }
 
@@ -122,7 +132,7 @@ fn tag(entry: &Entry) -> u8
 
 // What stands behind it.
 fn put_content(bytes: &mut Vec<u8>, entry: &Entry) -> Result<(), NoMemory>
-    requires { IsEntry entry.now }
+    requires { IsFormed entry.now }
     ensures { OnOk result (bytes.new.items ≡ bytes.old.items ++ content entry.now) }
 {
     match entry {
@@ -139,7 +149,7 @@ fn put_content(bytes: &mut Vec<u8>, entry: &Entry) -> Result<(), NoMemory>
 impl Entry {
     /// The entry's record: a tag of one byte, and what the entry holds, numbers big-endian.
     pub fn record(&self, alloc: Global) -> Result<Vec<u8>, NoMemory>
-        requires { IsEntry self.now }
+        requires { IsFormed self.now }
         ensures { IfOk result (λ bytes. bytes.items ≡ entry_record self.now) }
     {
         let mut bytes = Vec::new(alloc);

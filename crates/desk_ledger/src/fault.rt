@@ -1,4 +1,7 @@
 //! Why a call on a ledger is refused.
+ghost use Rattle.std.specs.Prelude.{Some};
+ghost use Rattle.desk_ledger.specs.Texts.{forget_text, name_text, open_text};
+
 use client_restart::KeepFault;
 use std::fmt;
 
@@ -7,21 +10,26 @@ use std::fmt;
 pub enum OpenFault {
     /// The first bad line of the pair file, counted from 1.
     BadLine(u32),
-    /// The text is a card's, or has more than 8,212 bytes.
+    /// The text is a card's.
     NoPairFile,
+    /// The text has more than 8,212 bytes.
+    TooLong,
     /// The ledger's journal fails.
     Keep(KeepFault),
-    /// Nothing of a pair stands in the ledger: it wasn't made to its end.
+    /// The ledger has no pair: it wasn't made to its end.
     NoPair,
     /// The remark of this number, counted from 0, is no entry.
     NoEntry(usize),
 }
 
 impl fmt::Display for OpenFault {
+    ghost output = { λ fault. Some (open_text fault) };
+
     fn fmt<W: fmt::Write>(&self, f: &mut fmt::Formatter<W>) -> fmt::Result {
         match self {
             OpenFault::BadLine(line) => write!(f, "bad line {line}"),
             OpenFault::NoPairFile => f.write_str("not a pair file"),
+            OpenFault::TooLong => f.write_str("the pair file is too long"),
             OpenFault::Keep(fault) => write!(f, "{fault}"),
             OpenFault::NoPair => f.write_str("the ledger isn't whole"),
             OpenFault::NoEntry(number) => write!(f, "ledger foreign {number}"),
@@ -45,6 +53,8 @@ pub enum NameFault {
 }
 
 impl fmt::Display for NameFault {
+    ghost output = { λ fault. Some (name_text fault) };
+
     fn fmt<W: fmt::Write>(&self, f: &mut fmt::Formatter<W>) -> fmt::Result {
         match self {
             NameFault::Form => f.write_str("a name is 1 to 32 lower-case letters, digits and -"),
@@ -63,15 +73,20 @@ pub enum ForgetFault {
     Busy,
     /// All serials are spent.
     Spent,
+    /// More boxes are live than a client has room for.
+    NoRoom,
     /// The new ledger's journal fails.
     Keep(KeepFault),
 }
 
 impl fmt::Display for ForgetFault {
+    ghost output = { λ fault. Some (forget_text fault) };
+
     fn fmt<W: fmt::Write>(&self, f: &mut fmt::Formatter<W>) -> fmt::Result {
         match self {
             ForgetFault::Busy => f.write_str("a request is under way"),
             ForgetFault::Spent => f.write_str("all serials are spent"),
+            ForgetFault::NoRoom => f.write_str("no room for the boxes"),
             ForgetFault::Keep(fault) => write!(f, "{fault}"),
         }
     }

@@ -2,12 +2,15 @@
 #![tactic(auto)]
 
 mod fault;
+mod forgetting;
 mod ledger;
 mod opening;
 mod pair;
-mod storing;
+mod starting;
 mod stored;
+mod storing;
 mod task;
+mod working;
 
 pub use fault::{ForgetFault, NameFault, OpenFault};
 pub use ledger::Ledger;

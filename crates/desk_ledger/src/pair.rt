@@ -1,4 +1,9 @@
 //! The pair of servers of a desk.
+ghost use Rattle.std.specs.Prelude.{◌≡◌, IfOk, IfErr};
+ghost use Rattle.desk_texts.specs.Spelling.{IsPair, SpellsSheet};
+ghost use Rattle.desk_ledger.specs.Ledgers.{SaysPair};
+ghost use Rattle.desk_ledger.specs.Opening.{IsOfText};
+
 use crate::fault::OpenFault;
 use client_restart::KeepFault;
 use desk_texts::{Head, PairHead, Sheet, read_sheet};
@@ -18,28 +23,39 @@ pub struct Pair {
     pub helper: Text,
 }
 
-impl Pair {
-    /// The places of its servers.
-    pub fn peers(&self) -> Peers<'_> {
-        Peers {
-            leader: self.leader.as_str(),
-            helper: self.helper.as_str(),
-        }
+/// The places of a pair's servers.
+pub(crate) fn peers(pair: &Pair) -> Peers<'_>
+    ensures leader { result.leader.now ≡ pair.now.leader }
+    ensures helper { result.helper.now ≡ pair.now.helper }
+{
+    Peers {
+        leader: pair.leader.as_str(),
+        helper: pair.helper.as_str(),
     }
 }
 
-fn sheet_in(alloc: Global, text: &[u8]) -> Result<Sheet, OpenFault> {
+fn sheet_in(alloc: Global, text: &[u8]) -> Result<Sheet, OpenFault>
+    ensures spells { IfOk result (λ sheet. SpellsSheet sheet text.now) }
+    ensures fault { IfErr result (IsOfText text.now) }
+{
     match read_sheet(alloc, text) {
         Ok(sheet) => Ok(sheet),
         Err(TextFault::Wrong(line)) => Err(OpenFault::BadLine(line)),
-        Err(TextFault::WrongKey(_)) => Err(OpenFault::NoPairFile),
+        Err(TextFault::WrongKey(_)) => unreachable!(),
         Err(TextFault::NoMemory) => Err(OpenFault::Keep(KeepFault::NoMemory)),
     }
 }
 
 /// The pair that a pair file's text says.
-pub(crate) fn pair_in(alloc: Global, text: &[u8]) -> Result<Pair, OpenFault> {
-    let sheet = sheet_in(alloc, text)?;
+pub(crate) fn pair_in(alloc: Global, text: &[u8]) -> Result<Pair, OpenFault>
+    ensures says { IfOk result (λ pair. SaysPair pair text.now) }
+    ensures is { IfOk result (λ pair. IsPair pair.head) }
+    ensures fault { IfErr result (IsOfText text.now) }
+{
+    let sheet = match sheet_in(alloc, text) {
+        Ok(sheet) => sheet,
+        Err(fault) => return Err(fault),
+    };
     let Sheet {
         head,
         leader,

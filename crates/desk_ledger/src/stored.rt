@@ -1,4 +1,8 @@
 //! What was stored of a request that has ended.
+ghost use Rattle.std.specs.Prelude.{◌≡◌};
+ghost use Rattle.client_restart.specs.Cores.{ended_in};
+ghost use Rattle.desk_ledger.specs.Storing.{stored_of};
+
 use client_restart::{Ended, Errand, KeptOutcome};
 use express_words::Refusal;
 
@@ -12,7 +16,9 @@ pub struct Stored {
 }
 
 impl Stored {
-    pub(crate) fn of(ended: &Ended) -> Stored {
+    pub(crate) fn of(ended: &Ended) -> Stored
+        ensures { result ≡ stored_of (ended_in ended.now) }
+    {
         let refusal = match ended.outcome {
             KeptOutcome::Refused(refusal) => Some(refusal),
             KeptOutcome::Registered(_) => None,

@@ -1,4 +1,8 @@
 //! What a desk asks the servers.
+ghost use Rattle.std.specs.Prelude.{◌≡◌};
+ghost use Rattle.client_core.specs.Requests.{plain_request};
+ghost use Rattle.desk_ledger.specs.Tasks.{request_of};
+
 use client_core::Request;
 
 /// What a desk asks the servers. A box of the desk's own goes by its place among them, counted from 0 in the order in
@@ -15,7 +19,9 @@ pub enum Task {
 
 impl Task {
     /// The request that is made of it.
-    pub fn request(&self) -> Request<'static> {
+    pub fn request(&self) -> Request<'static>
+        ensures { plain_request result ≡ request_of self.now }
+    {
         match *self {
             Task::Register(address) => Request::Register { address },
             Task::Read(own) => Request::Read { own },
