@@ -1,5 +1,5 @@
 -- A request of a client that remembers, worked off step by step.
-use Rattle.std.specs.Prelude.{◌≡◌, List, [], ◌∷◌, ◌++◌, Option, Some, None, Result, Ok, Err}
+use Rattle.std.specs.Prelude.{◌≡◌, ℕ, List, [], ◌∷◌, ◌++◌, Option, Some, None, Result, Ok, Err}
 use Rattle.express_words.specs.Calls.{Call}
 use Rattle.step_rules.specs.Client.{Client, Current, Outcome}
 use Rattle.client_restart.specs.Steps as kept

@@ -8,6 +8,8 @@ mod door;
 #[cfg(test)]
 mod journal;
 #[cfg(test)]
+mod letters;
+#[cfg(test)]
 mod notes;
 #[cfg(test)]
 mod requests;

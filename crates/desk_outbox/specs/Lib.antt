@@ -1,0 +1,7 @@
+pub mod Answers
+pub mod Begins
+pub mod Lanes
+pub mod Outboxes
+pub mod Places
+pub mod Texts
+pub mod Works

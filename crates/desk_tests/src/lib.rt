@@ -1,0 +1,7 @@
+//! Tests of a desk's words over an outside in memory: what is printed, and the statuses.
+#![tactic(auto)]
+
+#[cfg(test)]
+mod desk;
+#[cfg(test)]
+mod owners;
