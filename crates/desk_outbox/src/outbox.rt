@@ -2,6 +2,7 @@
 ghost use Rattle.std.specs.Prelude.{◌≡◌};
 
 use crate::place::Place;
+use client_core::Request;
 use client_restart::{ClientOpening, KeptClient};
 use desk_texts::Sheet;
 use node_journal::Disk;

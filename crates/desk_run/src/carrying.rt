@@ -4,11 +4,11 @@ ghost use Rattle.desk_run.specs.Ends.{Unfailed};
 
 use crate::ledgers::is_full;
 use crate::trouble::Trouble;
+use client_restart::Errand;
 use desk_ledger::{Ledger, Stored, Task};
 use desk_outside::Clock;
 use express_words::Refusal;
 use express_words::outside::Net;
-use client_restart::Errand;
 use node_journal::Disk;
 
 // More tasks than a desk can have left.

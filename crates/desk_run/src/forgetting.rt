@@ -42,10 +42,7 @@ fn replace<'a, F: Folder>(
 }
 
 // Puts a ledger without letters in the place of this one.
-fn renew<'a, F: Folder>(
-    ledger: &Ledger<F::File>,
-    folder: &mut F,
-) -> Result<(), Trouble<'a>> {
+fn renew<'a, F: Folder>(ledger: &Ledger<F::File>, folder: &mut F) -> Result<(), Trouble<'a>> {
     let disk = empty_file(folder, DeskFile::NextLedger)?;
     match ledger.forget(disk, LIMIT) {
         Ok(next) => replace(ledger, &next, folder),
@@ -64,6 +61,9 @@ pub(crate) fn forget<'a, F: Folder, K: Sink>(
 {
     let shown = show_new(alloc, ledger, out)?;
     renew(ledger, folder)?;
-    say(out, "the letters are forgotten; boxes and cards stay as they are\n")?;
+    say(
+        out,
+        "the letters are forgotten; boxes and cards stay as they are\n",
+    )?;
     Ok(shown.met)
 }

@@ -2,12 +2,12 @@
 ghost use Rattle.std.specs.Prelude.{◌≡◌};
 ghost use Rattle.desk_run.specs.Ends.{Unfailed};
 
+use crate::around::Around;
 use crate::carrying::do_task;
 use crate::saying::say;
 use crate::showing::{Shown, show_new};
 use crate::trouble::Trouble;
 use crate::writing::write_letters;
-use crate::around::Around;
 use desk_ledger::{Ledger, Task};
 use desk_outside::{Clock, Folder, Papers};
 use express_words::outside::{Net, Sink, Source};

@@ -3,8 +3,8 @@
 
 mod around;
 mod boxes;
-mod carrying;
 mod cards;
+mod carrying;
 mod ending;
 mod forgetting;
 mod ledgers;

@@ -28,7 +28,11 @@ fn date_of(days: u64) -> Date {
     let of_year = of_era.saturating_sub(before);
     let shifted_month = (5 * of_year + 2) / 153;
     let day = of_year.saturating_sub((153 * shifted_month + 2) / 5) + 1;
-    let month = if shifted_month < 10 { shifted_month + 3 } else { shifted_month.saturating_sub(9) };
+    let month = if shifted_month < 10 {
+        shifted_month + 3
+    } else {
+        shifted_month.saturating_sub(9)
+    };
     let year = era * 400 + year_of_era + if month <= 2 { 1 } else { 0 };
     Date { year, month, day }
 }

@@ -7,8 +7,8 @@ use crate::ledgers::{LIMIT, empty_file, ledger_in, trouble_of};
 use crate::reading::{Unread, read_all};
 use crate::saying::say;
 use crate::trouble::Trouble;
-use desk_ledger::{Ledger, OpenFault};
 use desk_draws::Draws;
+use desk_ledger::{Ledger, OpenFault};
 use desk_outside::{Clock, DeskFile, Folder, Papers};
 use desk_texts::{Head, Sheet, read_sheet};
 use express_texts::TextFault;
@@ -95,5 +95,8 @@ pub(crate) fn open<'a, S: Source, K: Sink, N: Net, F: Folder, P: Papers, C: Cloc
         Some(_) => return Err(Trouble::OtherDesk),
         None => make(alloc, path, &text, draws, &mut around.folder)?,
     }
-    say(&mut around.out, "the desk is open; make boxes and a card with box NAME\n")
+    say(
+        &mut around.out,
+        "the desk is open; make boxes and a card with box NAME\n",
+    )
 }

@@ -4,8 +4,8 @@ ghost use Rattle.desk_run.specs.Ends.{Unfailed};
 
 use crate::around::Around;
 use crate::carrying::carry_on;
-use crate::ledgers::ledger_in;
 use crate::ending::End;
+use crate::ledgers::ledger_in;
 use crate::outboxes::{outbox_in, tell_end, work_off};
 use crate::saying::say;
 use crate::trouble::Trouble;
@@ -29,7 +29,12 @@ fn resume_letter<'a, S: Source, K: Sink, N: Net, F: Folder, P: Papers, C: Clock>
         return Ok(None);
     };
     let end = work_off(alloc, outbox, draws, &mut around.folder, &mut around.net)?;
-    tell_end("the letter that was on its way: ", end, &mut around.folder, &mut around.out)?;
+    tell_end(
+        "the letter that was on its way: ",
+        end,
+        &mut around.folder,
+        &mut around.out,
+    )?;
     Ok(Some(end))
 }
 

@@ -29,7 +29,9 @@ pub(crate) fn retire<'a, S: Source, K: Sink, N: Net, F: Folder, P: Papers, C: Cl
     let done = carry_on(ledger, &mut around.net, &mut around.clock);
     let shown = show(alloc, None, ledger, around)?;
     done?;
-    let text = format!(in alloc; "the boxes of {name} are retired: its cards are of no use any more\n");
+    let text = format!(in alloc;
+        "the boxes of {name} are retired: its cards are of no use any more\n"
+    );
     match text {
         Ok(text) => say(&mut around.out, text.as_str())?,
         Err(_) => return Err(Trouble::NoMemory),

@@ -3,9 +3,9 @@ ghost use Rattle.std.specs.Prelude.{◌≡◌};
 ghost use Rattle.desk_run.specs.Ends.{Unfailed};
 
 use crate::around::Around;
+use crate::ending::End;
 use crate::ledgers::empty_file;
 use crate::opening::{paper_at, sheet_in};
-use crate::ending::End;
 use crate::outboxes::{is_of, outbox_in, place, tell_end, trouble_of, work_off};
 use crate::reading::{Unread, read_all};
 use crate::trouble::Trouble;
@@ -99,7 +99,12 @@ fn begin<'a, S: Source, K: Sink, N: Net, F: Folder, P: Papers, C: Clock>(
         Some(outbox) if is_of(&outbox, card, text) => return Ok(outbox),
         Some(outbox) => {
             let end = work_off(alloc, outbox, draws, &mut around.folder, &mut around.net)?;
-            tell_end("your earlier letter: ", end, &mut around.folder, &mut around.out)?;
+            tell_end(
+                "your earlier letter: ",
+                end,
+                &mut around.folder,
+                &mut around.out,
+            )?;
         }
         None => {}
     }

@@ -11,8 +11,8 @@ use crate::trouble::Trouble;
 use desk_entries::{Held, Reading};
 use desk_ledger::Ledger;
 use desk_letters::screen_text;
-use express_words::outside::Sink;
 use express_words::NoMemory;
+use express_words::outside::Sink;
 use node_journal::Disk;
 use std::alloc::Global;
 
@@ -37,7 +37,9 @@ fn body_text(alloc: Global, text: &[u8]) -> Result<String, NoMemory>
         return Ok(body);
     }
     let count = text.len();
-    let body = format!(in alloc; "(these {count} bytes are no text: letters --out FOLDER writes them to a file)\n\n")?;
+    let body = format!(in alloc;
+        "(these {count} bytes are no text: letters --out FOLDER writes them to a file)\n\n"
+    )?;
     Ok(body)
 }
 

@@ -30,24 +30,18 @@ fn count_of(
     Ok(found.len())
 }
 
-fn boxes_text(
-    alloc: Global,
-    entries: &[Entry],
-    named: &NamedBoxes,
-) -> Result<String, NoMemory> {
+fn boxes_text(alloc: Global, entries: &[Entry], named: &NamedBoxes) -> Result<String, NoMemory> {
     let name = named.name.as_str();
     let live = count_of(alloc, entries, named, Standing::Live)?;
     let waiting = count_of(alloc, entries, named, Standing::Waiting)?;
     let retired = count_of(alloc, entries, named, Standing::Retired)?;
-    let text = format!(in alloc; "box {name}: {live} in use, {waiting} to be made yet, {retired} retired\n")?;
+    let text = format!(in alloc;
+        "box {name}: {live} in use, {waiting} to be made yet, {retired} retired\n"
+    )?;
     Ok(text)
 }
 
-fn say_boxes<'a, K: Sink>(
-    alloc: Global,
-    entries: &[Entry],
-    out: &mut K,
-) -> Result<(), Trouble<'a>>
+fn say_boxes<'a, K: Sink>(alloc: Global, entries: &[Entry], out: &mut K) -> Result<(), Trouble<'a>>
     ensures sink { Unfailed (K.seen out.old).faults (K.seen out.new).faults result }
 {
     'entries: for entry in entries.iter() {
@@ -69,7 +63,9 @@ fn work_text<D: Disk>(alloc: Global, ledger: &Ledger<D>) -> Result<String, NoMem
     let letters = ledger.letters()?.len();
     let new = letters.saturating_sub(ledger.shown() as usize);
     let full = hundredths(ledger.used());
-    let text = format!(in alloc; "{work}\nletters: {letters}, of which {new} weren't shown yet\nthe desk is {full}% full; forget empties it\n")?;
+    let text = format!(in alloc;
+        "{work}\nletters: {letters}, of which {new} weren't shown yet\nthe desk is {full}% full; forget empties it\n"
+    )?;
     Ok(text)
 }
 

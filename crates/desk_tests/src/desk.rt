@@ -6,8 +6,14 @@ use std::alloc::Global;
 use std::test::Fail;
 
 /// What stands around a desk in memory.
-pub type Memory =
-    Around<MemorySource, MemorySink, MemoryNet, MemoryFolder, MemoryPapers, MemoryClock>;
+pub type Memory = Around<
+    MemorySource,
+    MemorySink,
+    MemoryNet,
+    MemoryFolder,
+    MemoryPapers,
+    MemoryClock,
+>;
 
 pub const PAIR: &[u8] = b"express pair 1 64 4096 15 16 255 98163\n\
     leader 10.0.0.1:7000 30607\n\

@@ -5,3 +5,5 @@
 mod desk;
 #[cfg(test)]
 mod owners;
+#[cfg(test)]
+mod strangers;

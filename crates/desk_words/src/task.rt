@@ -10,13 +10,22 @@ pub const MOST_COUNT: u32 = 64;
 #[derive(Clone, Copy, Debug, PartialEq, Eq)]
 pub enum DeskTask<'a> {
     /// Makes a desk for the pair of servers that the pair file at this path names.
-    Open { pair: &'a str },
+    Open {
+        pair: &'a str,
+    },
     /// Registers so many boxes under a name, 1 to 64, and prints their card.
-    Box { name: &'a str, count: u32 },
+    Box {
+        name: &'a str,
+        count: u32,
+    },
     /// Prints a card again.
-    Card { name: &'a str },
+    Card {
+        name: &'a str,
+    },
     /// Reads each box, and prints the new letters, or writes them into a folder.
-    Letters { out: Option<&'a str> },
+    Letters {
+        out: Option<&'a str>,
+    },
     /// Leaves the letter in the file, or else on the input, with the card at this path.
     Send {
         card: &'a str,
@@ -25,7 +34,9 @@ pub enum DeskTask<'a> {
     /// Finishes what is under way.
     Resume,
     /// Reads the boxes of this name for the last time, and retires them.
-    Retire { name: &'a str },
+    Retire {
+        name: &'a str,
+    },
     /// Forgets letters and old requests.
     Forget,
     /// Tells how the desk stands.
