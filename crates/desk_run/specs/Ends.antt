@@ -24,3 +24,7 @@ status_of (Err t) = status_by t
 abbrev pub Unfailed : {T : Type 0} → ℕ → ℕ → Result T Trouble → Type 0
 Unfailed old new (Ok x) = new ≡ old
 Unfailed old new (Err t) = status_by t ≢ 1 → new ≡ old
+
+-- a trouble that is no fault of the output, and is told as a word that isn't done
+abbrev pub IsCause : Trouble → Type 0
+IsCause t = (status_by t ≡ 1) × (t ≢ trouble.Out)

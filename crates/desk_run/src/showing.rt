@@ -1,8 +1,8 @@
 //! Letters, shown.
-ghost use Rattle.std.specs.Prelude.{◌≡◌, ◌++◌, ℕ, List, codes, IfOk, string_bytes};
+ghost use Rattle.std.specs.Prelude.{◌≡◌, ◌++◌, ℕ, List, codes, Err, IfOk, IfErr, string_bytes};
 ghost use Rattle.std.specs.Str.{IsUtf8};
 ghost use Rattle.desk_letters.specs.Screen.{shown_text};
-ghost use Rattle.desk_run.specs.Ends.{Unfailed};
+ghost use Rattle.desk_run.specs.Ends.{IsCause, Unfailed};
 ghost use Rattle.desk_run.specs.Shown.{Shows};
 
 use crate::moment::moment_text;
@@ -123,6 +123,8 @@ pub(crate) fn show_new<'a, D: Disk, K: Sink>(
     ledger: &mut Ledger<D>,
     out: &mut K,
 ) -> Result<Shown, Trouble<'a>>
+    // Where they couldn't be printed they weren't noted.
+    ensures unshown { result ≡ Err Trouble.Out → ledger.new ≡ ledger.old }
     ensures sink { Unfailed (K.seen out.old).faults (K.seen out.new).faults result }
 {
     let shown = show_those(alloc, ledger, out)?;
@@ -136,7 +138,9 @@ pub(crate) fn show_new<'a, D: Disk, K: Sink>(
 pub(crate) fn note_shown<'a, D: Disk>(
     ledger: &mut Ledger<D>,
     count: usize,
-) -> Result<(), Trouble<'a>> {
+) -> Result<(), Trouble<'a>>
+    ensures cause { IfErr result IsCause }
+{
     match u32::try_from(count) {
         Ok(count) => {
             ledger.mark_shown(count)?;

@@ -61,9 +61,9 @@ pub enum Trouble<'a> {
 }
 
 impl From<NoMemory> for Trouble<'_> {
-    ghost use Rattle.desk_run.specs.Ends.{status_by};
+    ghost use Rattle.desk_run.specs.Ends.{IsCause};
 
-    ghost from_gives = { λ _ trouble. status_by trouble ≡ 1 };
+    ghost from_gives = { λ _ trouble. IsCause trouble };
 
     fn from(_: NoMemory) -> Self {
         Trouble::NoMemory
@@ -71,9 +71,9 @@ impl From<NoMemory> for Trouble<'_> {
 }
 
 impl From<KeepFault> for Trouble<'_> {
-    ghost use Rattle.desk_run.specs.Ends.{status_by};
+    ghost use Rattle.desk_run.specs.Ends.{IsCause};
 
-    ghost from_gives = { λ _ trouble. status_by trouble ≡ 1 };
+    ghost from_gives = { λ _ trouble. IsCause trouble };
 
     fn from(fault: KeepFault) -> Self {
         match fault {
@@ -89,9 +89,9 @@ impl From<KeepFault> for Trouble<'_> {
 }
 
 impl From<Stop> for Trouble<'_> {
-    ghost use Rattle.desk_run.specs.Ends.{status_by};
+    ghost use Rattle.desk_run.specs.Ends.{IsCause};
 
-    ghost from_gives = { λ _ trouble. status_by trouble ≡ 1 };
+    ghost from_gives = { λ _ trouble. IsCause trouble };
 
     fn from(stop: Stop) -> Self {
         match stop {
@@ -105,9 +105,9 @@ impl From<Stop> for Trouble<'_> {
 }
 
 impl From<Halt> for Trouble<'_> {
-    ghost use Rattle.desk_run.specs.Ends.{status_by};
+    ghost use Rattle.desk_run.specs.Ends.{IsCause};
 
-    ghost from_gives = { λ _ trouble. status_by trouble ≡ 1 };
+    ghost from_gives = { λ _ trouble. IsCause trouble };
 
     fn from(halt: Halt) -> Self {
         match halt {
