@@ -3,7 +3,7 @@ ghost use Rattle.std.specs.Prelude.{◌≡◌};
 ghost use Rattle.desk_run.specs.Ends.{Unfailed};
 
 use crate::ledgers::is_full;
-use crate::trouble::Trouble;
+use crate::trouble::{Trouble, halted};
 use client_restart::Errand;
 use desk_ledger::{Ledger, Stored, Task};
 use desk_outside::Clock;
@@ -52,7 +52,9 @@ pub(crate) fn settle<'a, D: Disk, N: Net, C: Clock>(
 ) -> Result<(), Trouble<'a>>
     ensures net { Unfailed (N.seen net.old).faults (N.seen net.new).faults result }
 {
-    ledger.work(net)?;
+    if let Err(halt) = ledger.work(net) {
+        return Err(halted(halt, ledger.server()));
+    }
     let Ok(seconds) = clock.now() else {
         return Err(Trouble::Clock);
     };

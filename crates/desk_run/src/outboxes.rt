@@ -4,7 +4,7 @@ ghost use Rattle.desk_run.specs.Ends.{Unfailed};
 
 use crate::ledgers::empty_file;
 use crate::saying::say;
-use crate::trouble::Trouble;
+use crate::trouble::{Trouble, halted};
 use desk_draws::Draws;
 use desk_letters::{Opened, open};
 use desk_outbox::{Outbox, Reopened, StartFault};
@@ -86,6 +86,16 @@ fn next_try<'a, F: Folder>(
     }
 }
 
+// What is to be done behind the present try.
+fn worked<'a, D: Disk, N: Net>(outbox: &mut Outbox<D>, net: &mut N) -> Result<Next, Trouble<'a>>
+    ensures net { Unfailed (N.seen net.old).faults (N.seen net.new).faults result }
+{
+    match outbox.work(net) {
+        Ok(next) => Ok(next),
+        Err(halt) => Err(halted(halt, outbox.server())),
+    }
+}
+
 /// What becomes of a letter, try by try.
 pub(crate) fn work_off<'a, F: Folder, N: Net>(
     alloc: Global,
@@ -98,7 +108,7 @@ pub(crate) fn work_off<'a, F: Folder, N: Net>(
 {
     let mut outbox = outbox;
     'tries: for _ in 0..=MOST_FURTHER {
-        match outbox.work(net)? {
+        match worked(&mut outbox, net)? {
             Next::Stop(end) => return Ok(end),
             Next::GoOn | Next::SameAgain => return Err(Trouble::Later),
             Next::NewTry | Next::NextAddress => {

@@ -58,11 +58,13 @@ impl Trouble<'_> {
             Trouble::Spent => f.write_str(
                 "not done: this desk has used up its numbers; ask your operator for a new pair file\n",
             ),
-            Trouble::Unreached => f.write_str(
-                "not done yet: a server wasn't reached; nothing is lost, run it again\n",
+            Trouble::Unreached(server) => write!(
+                f,
+                "not done yet: the {server} of the two servers wasn't reached; nothing is lost, run it again\n"
             ),
-            Trouble::NoAnswer => f.write_str(
-                "not done yet: a server gave no whole answer; nothing is lost, run it again\n",
+            Trouble::NoAnswer(server) => write!(
+                f,
+                "not done yet: the {server} of the two servers gave no whole answer; nothing is lost, run it again\n"
             ),
             Trouble::Later => f.write_str(
                 "not done yet: a server is busy; nothing is lost, run it again in a moment\n",

@@ -1,5 +1,6 @@
 //! Why a word isn't done.
 ghost use Rattle.std.specs.Prelude.{◌≡◌};
+ghost use Rattle.desk_run.specs.Ends.{IsCause};
 
 use client_restart::KeepFault;
 use desk_ledger::NameFault;
@@ -8,6 +9,34 @@ use express_words::{NoMemory, Refusal};
 use kept_errands::Halt;
 use node_client::Stop;
 use node_journal::JournalFault;
+use std::fmt;
+
+/// One of the two servers, as cards and pair files call it.
+#[derive(Clone, Copy, Debug, PartialEq, Eq)]
+pub enum Server {
+    Leader,
+    Helper,
+}
+
+impl Server {
+    // The server of this number.
+    fn of(server: Option<u8>) -> Server {
+        match server {
+            Some(1) => Server::Helper,
+            Some(_) => Server::Leader,
+            None => Server::Leader,
+        }
+    }
+}
+
+impl fmt::Display for Server {
+    fn fmt<W: fmt::Write>(&self, f: &mut fmt::Formatter<W>) -> fmt::Result {
+        match self {
+            Server::Leader => f.write_str("leader"),
+            Server::Helper => f.write_str("helper"),
+        }
+    }
+}
 
 /// Why a word isn't done. A text is the path, the folder or the name that the words have.
 #[derive(Clone, Copy, Debug, PartialEq, Eq)]
@@ -48,10 +77,10 @@ pub enum Trouble<'a> {
     Full,
     /// The lane's last number was used.
     Spent,
-    /// A server wasn't reached, or the connection broke off.
-    Unreached,
-    /// A server gave no whole answer.
-    NoAnswer,
+    /// The server wasn't reached, or the connection broke off.
+    Unreached(Server),
+    /// The server gave no whole answer.
+    NoAnswer(Server),
     /// A server asks to come again later.
     Later,
     /// A server refused the request.
@@ -88,31 +117,16 @@ impl From<KeepFault> for Trouble<'_> {
     }
 }
 
-impl From<Stop> for Trouble<'_> {
-    ghost use Rattle.desk_run.specs.Ends.{IsCause};
-
-    ghost from_gives = { λ _ trouble. IsCause trouble };
-
-    fn from(stop: Stop) -> Self {
-        match stop {
-            Stop::Answer => Trouble::NoAnswer,
-            Stop::Later(_) => Trouble::Later,
-            Stop::Spent => Trouble::Spent,
-            Stop::Full => Trouble::Full,
-            Stop::Fault(_) => Trouble::Unreached,
-        }
-    }
-}
-
-impl From<Halt> for Trouble<'_> {
-    ghost use Rattle.desk_run.specs.Ends.{IsCause};
-
-    ghost from_gives = { λ _ trouble. IsCause trouble };
-
-    fn from(halt: Halt) -> Self {
-        match halt {
-            Halt::Keep(fault) => Trouble::from(fault),
-            Halt::Stop(stop) => Trouble::from(stop),
-        }
+/// What is told of a halt at a step that goes to this server.
+pub(crate) fn halted<'a>(halt: Halt, server: Option<u8>) -> Trouble<'a>
+    ensures { IsCause result }
+{
+    match halt {
+        Halt::Keep(fault) => Trouble::from(fault),
+        Halt::Stop(Stop::Answer) => Trouble::NoAnswer(Server::of(server)),
+        Halt::Stop(Stop::Later(_)) => Trouble::Later,
+        Halt::Stop(Stop::Spent) => Trouble::Spent,
+        Halt::Stop(Stop::Full) => Trouble::Full,
+        Halt::Stop(Stop::Fault(_)) => Trouble::Unreached(Server::of(server)),
     }
 }
