@@ -67,3 +67,11 @@ state_at addresses p = record {
 -- which address of the card is tried
 abbrev pub address_at : ℕ → Place → ℕ
 address_at addresses p = (p.first + p.address) % addresses
+
+-- a new try follows
+abbrev pub is_followed : Next → Bool
+is_followed next.GoOn = false
+is_followed next.SameAgain = false
+is_followed next.NewTry = true
+is_followed next.NextAddress = true
+is_followed (next.Stop e) = false

@@ -1,7 +1,7 @@
 //! Where a try stands, and the record of it.
 ghost use Rattle.std.specs.Prelude.{◌≡◌, ◌≤◌, IfSome, IsNone, length, true, false};
 ghost use Rattle.std.specs.Int.{w32, to_be_bytes};
-ghost use Rattle.desk_outbox.specs.Places.{bit_of, code_of, first_place, named_bytes, next_place, place_record, is_under_way, IsNoted};
+ghost use Rattle.desk_outbox.specs.Places.{bit_of, code_of, first_place, named_bytes, next_place, place_record, is_followed, is_under_way, IsNoted};
 
 use desk_tries::{End, MOST_FURTHER, Next};
 
@@ -145,7 +145,19 @@ impl Place {
         ensures some { IfSome result (λ place. record.now ≡ place_record place) }
         ensures noted { IfSome result (λ place. IsNoted place.next) }
     {
-        let [first, address, further, proof_out, next, is_named, a, b, c, d] = record else {
+        let [
+            first,
+            address,
+            further,
+            proof_out,
+            next,
+            is_named,
+            a,
+            b,
+            c,
+            d,
+        ] = record
+        else {
             return None;
         };
         let proof_out = bit_in(*proof_out)?;
@@ -166,5 +178,12 @@ impl Place {
         ensures { result ≡ is_under_way self.now.next }
     {
         matches!(self.next, Next::GoOn)
+    }
+
+    /// Whether a new try follows.
+    pub fn is_followed(&self) -> bool
+        ensures { result ≡ is_followed self.now.next }
+    {
+        matches!(self.next, Next::NewTry | Next::NextAddress)
     }
 }

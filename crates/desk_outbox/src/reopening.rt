@@ -1,5 +1,14 @@
 //! How a try is taken up again.
-ghost use Rattle.std.specs.Prelude.{◌≡◌, ◌≤◌, IfOk, length};
+ghost use Rattle.std.specs.Prelude.{◌≡◌, ℕ, List, IfErr, IfOk};
+ghost use Rattle.node_journal.specs.Disk.{IsUntouched};
+ghost use Rattle.client_restart.specs.Kept.{HoldsNotes, Stands};
+ghost use Rattle.client_restart.specs.Notes.{Noted};
+ghost use Rattle.client_restart.specs.Openings.{IsOpening};
+ghost use Rattle.client_restart.specs.Records.{AllNotes};
+ghost use Rattle.client_restart.specs.Steps.{fold};
+ghost use Rattle.client_restart.specs.declared.opening.ClientOpening.{ClientOpening as Opening};
+ghost use Rattle.desk_outbox.specs.Outboxes.{Remembers, Writes};
+ghost use Rattle.desk_outbox.specs.Reopens.{OnWhole, OnNothing};
 
 use crate::outbox::{OUTBOX_LIMIT, Outbox};
 use crate::place::Place;
@@ -77,7 +86,22 @@ fn held<D: Disk>(alloc: Global, client: KeptClient<D>) -> Result<Reopened<D>, (K
 
 impl<D: Disk> Outbox<D> {
     /// The try that stands on a disk, as it stood.
-    pub fn reopen(alloc: Global, disk: D) -> Result<Reopened<D>, (KeepFault, D)> {
+    pub fn reopen(alloc: Global, disk: D) -> Result<Reopened<D>, (KeepFault, D)>
+        ensures stands { IfOk result (λ r. OnWhole r (λ o.
+            Stands o.kept.opening o.kept.core (D.disk disk).reads)) }
+        ensures told { IfOk result (λ r. OnWhole r (λ o. (opening : Opening) (notes : List Noted) (c : List ℕ)
+            → (D.disk disk).reads c → IsOpening opening → AllNotes notes
+            → HoldsNotes opening notes (D.disk disk).reads
+            → (o.kept.opening ≡ opening) × (o.kept.core ≡ fold opening notes))) }
+        ensures remembers { IfOk result (λ r. OnWhole r (λ o. Remembers o.kept.core.remarks o.card o.place)) }
+        ensures untouched { IfOk result (λ r. OnWhole r (λ o. IsUntouched (D.disk disk) (D.disk o.kept.disk))) }
+        // Where no try is found there is none: the notes of no write stand there.
+        ensures nothing { IfOk result (λ r. OnNothing r (λ d. (opening : Opening) (notes : List Noted) (c : List ℕ)
+            (target : ℕ) (message : List ℕ) → (D.disk disk).reads c → IsOpening opening → AllNotes notes
+            → HoldsNotes opening notes (D.disk disk).reads → Writes (fold opening notes) target message → ⊥)) }
+        ensures same { IfOk result (λ r. OnNothing r (λ d. IsUntouched (D.disk disk) (D.disk d))) }
+        ensures fault { IfErr result (λ x. IsUntouched (D.disk disk) (D.disk x.1)) }
+    {
         match KeptClient::reopen(alloc, disk, OUTBOX_LIMIT) {
             Ok(client) => held(alloc, client),
             Err((KeepFault::Foreign(0), disk)) => Ok(Reopened::Nothing(disk)),

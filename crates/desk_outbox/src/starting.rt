@@ -1,20 +1,19 @@
 //! How a try begins, and how it is taken up again.
-ghost use Rattle.std.specs.Prelude.{◌≡◌, ◌≤◌, ◌<◌, ◌++◌, ◌∷◌, [], ℕ, Ok, List, Some, IfOk, IfErr, OnOk, length};
-ghost use Rattle.mailbox_rules.specs.Requests.{Write};
-ghost use Rattle.rand_core.specs.Stream.{Stream, fill_bytes, next_u64};
-ghost use Rattle.step_rules.specs.Client.{Deposits};
+ghost use Rattle.std.specs.Prelude.{◌≡◌, ◌<◌, ◌≤◌, ◌∷◌, [], ℕ, List as Listed, IfOk, Ok, OnOk, Some, length, true};
+ghost use Rattle.rand_core.specs.Stream.{next_u64};
 ghost use Rattle.client_restart.specs.Kept.{Stands};
 ghost use Rattle.client_restart.specs.Openings.{IsOpening};
-ghost use Rattle.client_restart.specs.Steps.{fold};
+ghost use Rattle.client_restart.specs.Steps.{opened};
+ghost use Rattle.node_journal.specs.Disk.{Within};
 ghost use Rattle.desk_draws.specs.Streams.{stream_from};
-ghost use Rattle.desk_letters.specs.Letters.{letter_of, room};
+ghost use Rattle.desk_letters.specs.Letters.{letter_of};
 ghost use Rattle.desk_texts.specs.Lines.{lines_in};
 ghost use Rattle.desk_texts.specs.Sheets.{sheet_of};
 ghost use Rattle.desk_texts.specs.Spelling.{IsSheet};
 ghost use Rattle.desk_texts.specs.declared.sheet.Head.TheVariants.{Card};
-ghost use Rattle.desk_outbox.specs.Begins.{Begins, target_at};
-ghost use Rattle.desk_outbox.specs.Outboxes.{IsCardSheet, IsNewTry, Writes};
-ghost use Rattle.desk_outbox.specs.Places.{first_place, next_place, place_record};
+ghost use Rattle.desk_outbox.specs.Begins.{Begins, IsAbove, IsDrawn, first_step, target_at, width_of};
+ghost use Rattle.desk_outbox.specs.Outboxes.{IsCardSheet, IsLaneOf, Writes};
+ghost use Rattle.desk_outbox.specs.Places.{first_place, is_followed, next_place, place_record};
 
 use crate::drawing::{first_lane, next_lane_and_serial};
 use crate::fault::StartFault;
@@ -83,7 +82,18 @@ fn note_try<D: Disk>(
     client: &mut KeptClient<D>,
     text: &[u8],
     begun: &Try<'_>,
-) -> Result<(), KeepFault> {
+) -> Result<(), KeepFault>
+    requires fresh { client.old.core ≡ opened client.old.opening }
+    requires opening { IsOpening client.old.opening }
+    requires width { length begun.now.message.now ≡ client.old.opening.width }
+    requires card { 1 ≤ length begun.now.card.now.addresses }
+    ensures opening { client.new.opening ≡ client.old.opening }
+    ensures request { OnOk result (client.new.core.client.current
+        ≡ Some (first_step (target_at begun.now.card.now begun.now.place) begun.now.message.now)) }
+    ensures remarks { OnOk result (client.new.core.remarks ≡ text.now ∷ place_record begun.now.place ∷ []) }
+    ensures stands { OnOk result (Stands client.new.opening client.new.core (D.disk client.new.disk).reads) }
+    ensures durable { OnOk result (Within (D.disk client.new.disk).may_leave (D.disk client.new.disk).reads) }
+{
     if text.len() > WORDS_MAX {
         return Err(KeepFault::Journal(JournalFault::Full(client.used())));
     }
@@ -100,11 +110,16 @@ fn note_try<D: Disk>(
     }
 }
 
-fn begin<D: Disk>(
-    alloc: Global,
-    begun: &Try<'_>,
-    disk: D,
-) -> Result<Outbox<D>, (StartFault, D)> {
+fn begin<D: Disk>(alloc: Global, begun: &Try<'_>, disk: D) -> Result<Outbox<D>, (StartFault, D)>
+    requires card { IsCardSheet begun.now.card.now }
+    requires lane { IsLaneOf begun.now.card.now begun.now.opening.lane }
+    requires opening { IsOpening begun.now.opening }
+    requires width { length begun.now.message.now ≡ begun.now.opening.width }
+    requires first { begun.now.place.first < length begun.now.card.now.addresses }
+    requires address { begun.now.place.address < length begun.now.card.now.addresses }
+    ensures begins { IfOk result (λ o. Begins D.disk begun.now.card.now begun.now.place begun.now.message.now o) }
+    ensures opening { IfOk result (λ o. o.kept.opening ≡ begun.now.opening) }
+{
     let Ok((card, text)) = copied(alloc, begun.card) else {
         return Err((StartFault::Keep(KeepFault::NoMemory), disk));
     };
@@ -133,7 +148,13 @@ impl<D: Disk> Outbox<D> {
         text: &[u8],
         draws: &mut Draws,
         disk: D,
-    ) -> Result<Outbox<D>, (StartFault, D)> {
+    ) -> Result<Outbox<D>, (StartFault, D)>
+        requires card { IsCardSheet card.now }
+        ensures begins { IfOk result (λ o. (first : ℕ) × Begins D.disk card.now (first_place first)
+            (letter_of (width_of card.now.head) (next_u64 (stream_from draws.old)).0 text.now) o) }
+        ensures lane { IfOk result (λ o. IsLaneOf card.now o.kept.opening.lane) }
+        ensures seed { IfOk result (λ o. IsDrawn o.kept.opening (stream_from draws.new)) }
+    {
         let head = head_of(card);
         let mut room = [0u8; MOST_WIDTH as usize];
         let message = &mut room[..head.width as usize];
@@ -164,7 +185,15 @@ impl<D: Disk> Outbox<D> {
         alloc: Global,
         draws: &mut Draws,
         disk: E,
-    ) -> Result<Outbox<E>, (StartFault, E)> {
+    ) -> Result<Outbox<E>, (StartFault, E)>
+        requires followed { is_followed self.now.place.next ≡ true }
+        ensures begins { IfOk result (λ o. (message : Listed ℕ) × (target : ℕ)
+            × Writes self.now.kept.core target message
+            × Begins E.disk self.now.card (next_place self.now.place) message o) }
+        ensures lane { IfOk result (λ o. IsLaneOf self.now.card o.kept.opening.lane) }
+        ensures above { IfOk result (λ o. IsAbove self.now.kept.opening self.now.place o.kept.opening) }
+        ensures seed { IfOk result (λ o. IsDrawn o.kept.opening (stream_from draws.new)) }
+    {
         let Some(Request::Write { message, .. }) = self.client.request() else {
             unreachable!()
         };

@@ -137,12 +137,14 @@ ends start k (Ok bytes) outcome o busy e =
     let owned : (kept.heard k bytes).boxes ≡ boxes_with start.boxes start.client.serial (steps.Finished outcome)
     = ap (boxes_with k.boxes k.client.serial) done
     ∙ ap (λ (x : List OwnedBox). boxes_with x k.client.serial (steps.Finished outcome)) o.boxes
-    ∙ ap (λ (x : ℕ). boxes_with start.boxes x (steps.Finished outcome)) o.serial in
-    (record {
-       request = first.0;
-       was = first.1;
-       outcome = outcome;
-       untold = told ∙ renamed;
-       boxes = owned;
-       idle = ap (λ (c : Client). c.current) m;
-     }, o.remarks)
+    ∙ ap (λ (x : ℕ). boxes_with start.boxes x (steps.Finished outcome)) o.serial in (
+      record {
+        request = first.0;
+        was = first.1;
+        outcome = outcome;
+        untold = told ∙ renamed;
+        boxes = owned;
+        idle = ap (λ (c : Client). c.current) m;
+      },
+      o.remarks,
+    )

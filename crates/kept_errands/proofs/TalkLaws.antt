@@ -7,7 +7,7 @@ use Rattle.step_rules.specs.Client.{Client}
 use Rattle.step_rules.specs.ClientAsks.{Sent, sends}
 use Rattle.client_core.specs.Answers.{addressed, bytes_of}
 use Rattle.node_serve.specs.Draining.{ExchangeOn}
-use Rattle.node_serve.specs.Exchanging.{EndsShort, Exchange, Makes, IsExchange}
+use Rattle.node_serve.specs.Exchanging.{EndsShort, Exchange, Makes, IsExchange, answer_in}
 use Rattle.node_serve.specs.declared.exchanging.Broken.{Broken}
 use Rattle.node_serve.specs.declared.exchanging.Broken.TheVariants as broken
 use Rattle.node_serve.proofs.EarlyLaws.{exchange_long}
@@ -50,3 +50,7 @@ pub early_only : (peer sent : List ℕ) (answer : Result (List ℕ) Broken) (a b
     → ((n : ℕ) → answer ≡ Err (broken.Early n) → P) → ExchangeOn peer (record { sent = sent; answer = answer }) a b → EndsShort b → P
 early_only peer sent (Ok bytes) a b P early on ends = absurd (exchange_long peer _ a b tt on ends)
 early_only peer sent (Err why) a b P early on ends = broken_short peer _ a b why P refl (λ n e. early n (ap Err e)) on ends
+
+pub early_in : (r : Result ℕ Broken) (into : List ℕ) (n : ℕ) → answer_in r into ≡ Err (broken.Early n) → r ≡ Err (broken.Early n)
+early_in (Ok count) into n e = absurd (cc e)
+early_in (Err why) into n e = let same : why ≡ broken.Early n = cc e in ap Err same

@@ -53,16 +53,17 @@ stands_more peers shows counts start old new a b c s t =
     let next : said old.core.client answer ≡ Ok None = ap (said old.core.client) same ∙ came.0.0 in
     let new_is : new.core ≡ heard old.core answer = came.0.1 ∙ ap (heard old.core) (sym same) in
     let sending = step_sends old.core.client talk t.talked.is_step in
-    let near = nearer old.core answer sending next in
-    (record {
-       made = s.made ++ talk ∷ [];
-       steps = subst (λ (k : CoreState). GoesOn start.core k (s.made ++ talk ∷ [])) (sym new_is) (then old.core s.made talk s.steps t.talked.is_step next);
-       onward = subst (Onward start.core) (sym new_is) (goes_on start.core old.core answer s.onward (sends_busy _ sending) next);
-       opening = came.1 ∙ s.opening;
-       calls = talks_more peers s.made talk a b c s.calls t.talked.calls;
-     },
-     subst (λ (k : CoreState). k.client.current ≢ None) (sym new_is) near.0,
-     subst (λ (k : CoreState). steps_left k.client < steps_left old.core.client) (sym new_is) near.1)
+    let near = nearer old.core answer sending next in (
+      record {
+        made = s.made ++ talk ∷ [];
+        steps = subst (λ (k : CoreState). GoesOn start.core k (s.made ++ talk ∷ [])) (sym new_is) (then old.core s.made talk s.steps t.talked.is_step next);
+        onward = subst (Onward start.core) (sym new_is) (goes_on start.core old.core answer s.onward (sends_busy _ sending) next);
+        opening = came.1 ∙ s.opening;
+        calls = talks_more peers s.made talk a b c s.calls t.talked.calls;
+      },
+      subst (λ (k : CoreState). k.client.current ≢ None) (sym new_is) near.0,
+      subst (λ (k : CoreState). steps_left k.client < steps_left old.core.client) (sym new_is) near.1,
+    )
 
 -- ---- the last step
 

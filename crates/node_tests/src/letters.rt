@@ -1,9 +1,10 @@
 //! A stranger's letter on its way, over a net in memory whose servers answer as they are told.
+ghost use Rattle.std.specs.Prelude.{IfOk};
 ghost use Rattle.desk_outbox.specs.Outboxes.{IsCardSheet};
 
 use desk_draws::Draws;
-use desk_outbox::{Outbox, Reopened, StartFault};
-use desk_texts::{Sheet, read_sheet, print, CardHead, Head};
+use desk_outbox::{Outbox, Reopened};
+use desk_texts::{CardHead, Head, Sheet, print, read_sheet};
 use desk_tries::{End, Next};
 use express_words::outside::{MemoryConn, MemoryNet};
 use express_words::{List, Text};
@@ -14,12 +15,20 @@ use std::alloc::{AllocError, Global};
 use std::test::Fail;
 
 const HELD: u8 = 6;
+
 const CHALLENGE: u8 = 7;
+
 const ACCEPTED: u8 = 8;
+
 const REFUSED: u8 = 9;
 
 // An answer to the try's frames, of this kind and body.
-fn answer(outbox: &Outbox<MemoryDisk>, alloc: Global, kind: u8, body: &[u8]) -> Result<Vec<u8>, AllocError> {
+fn answer(
+    outbox: &Outbox<MemoryDisk>,
+    alloc: Global,
+    kind: u8,
+    body: &[u8],
+) -> Result<Vec<u8>, AllocError> {
     let opening = outbox.opening();
     let mut bytes = Vec::new(alloc);
     bytes.extend_from_slice(&(16 + body.len() as u32 % 100).to_be_bytes())?;
@@ -45,7 +54,7 @@ fn text(alloc: Global, text: &str) -> Result<Text, Fail> {
     Ok(Text::from_string(String::from_str(alloc, text)?))
 }
 
-fn card(alloc: Global) -> Result<Sheet, Fail> {
+fn sheet(alloc: Global) -> Result<Sheet, Fail> {
     let addresses = Vec::from_slice(alloc, &[5, 6])?;
     Ok(Sheet {
         head: Head::Card(CardHead {
@@ -58,6 +67,21 @@ fn card(alloc: Global) -> Result<Sheet, Fail> {
         helper: text(alloc, "helper:1")?,
         addresses: List::from_vec(addresses),
     })
+}
+
+// A card as it is read.
+fn card(alloc: Global) -> Result<Sheet, Fail>
+    ensures { IfOk result IsCardSheet }
+{
+    let text = print(alloc, &sheet(alloc)?)?;
+    let card = match read_sheet(alloc, &text) {
+        Ok(card) => card,
+        Err(fault) => return Err(Fail::new(fault)),
+    };
+    match card.head {
+        Head::Card(_) => Ok(card),
+        Head::Pair(_) => Err(Fail::new("a pair file")),
+    }
 }
 
 fn disk(alloc: Global) -> Result<MemoryDisk, Fail> {
@@ -113,6 +137,7 @@ fn tried_again_above_stale(rt: HostRuntime) -> Result<(), Fail> {
     let mut first = net(alloc, &stale)?;
     assert!(rt; outbox.work(&mut first) == Ok(Next::NewTry));
     let mut draws = Draws::from_seed(&[8; 32]);
+    assert!(rt; outbox.place().is_followed());
     let next = match outbox.next_try(alloc, &mut draws, disk(alloc)?) {
         Ok(next) => next,
         Err((fault, _)) => return Err(Fail::new(fault)),
