@@ -6,6 +6,7 @@ mod forgetting;
 mod ledger;
 mod opening;
 mod pair;
+mod reaching;
 mod starting;
 mod stored;
 mod storing;

@@ -7,6 +7,7 @@ mod drawing;
 mod fault;
 mod outbox;
 mod place;
+mod reaching;
 mod reopening;
 mod starting;
 mod working;

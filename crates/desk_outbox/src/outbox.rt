@@ -2,6 +2,7 @@
 ghost use Rattle.std.specs.Prelude.{◌≡◌};
 
 use crate::place::Place;
+use client_core::Request;
 use client_restart::{ClientOpening, KeptClient};
 use desk_texts::Sheet;
 use node_journal::Disk;
@@ -35,6 +36,15 @@ impl<D: Disk> Outbox<D> {
         ensures { result ≡ self.now.place }
     {
         self.place
+    }
+
+    /// The box's bytes, as they go out; none where no write is current.
+    pub fn message(&self) -> &[u8] {
+        match self.client.request() {
+            Some(Request::Write { target: _, message }) => message,
+            Some(_) => &[],
+            None => &[],
+        }
     }
 
     /// The card.
