@@ -194,7 +194,7 @@ impl<D: Disk> Outbox<D> {
         ensures above { IfOk result (λ o. IsAbove self.now.kept.opening self.now.place o.kept.opening) }
         ensures seed { IfOk result (λ o. IsDrawn o.kept.opening (stream_from draws.new)) }
     {
-        let Some(Request::Write { message, .. }) = self.client.request() else {
+        let Some(Request::Write { message: kept, .. }) = self.client.request() else {
             unreachable!()
         };
         let last = *self.client.opening();
@@ -218,7 +218,7 @@ impl<D: Disk> Outbox<D> {
                 first_serial,
                 seed: draws.seed(),
             },
-            message,
+            message: kept,
         };
         begin(alloc, &begun, disk)
     }

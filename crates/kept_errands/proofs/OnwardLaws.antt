@@ -42,9 +42,6 @@ next_only (steps.Finished outcome) e = absurd (cc e)
 next_only (steps.Later refusal) e = absurd (cc e)
 next_only steps.Ignored e = absurd (cc e)
 
-done_same : (x y : Outcome) → Ok (Some (Done x)) ≡ Ok (Some (Done y)) → x ≡ y
-done_same x y e = cc
-
 finished_only : (p : steps.Progress) (outcome : Outcome) → said_of p ≡ Ok (Some (Done outcome)) → p ≡ steps.Finished outcome
 finished_only steps.Next outcome e = absurd (cc e)
 finished_only (steps.Finished other) outcome e = ap steps.Finished (cc e)

@@ -94,11 +94,11 @@ pub stands_by : {D : Type 0} {T : Type 0} (shows : D → DiskSeen) (counts : D �
     → (b ≡ false → IsOk kept × (new ≡ old)) → (b ≡ true → Keeps n (sight shows counts old) (sight shows counts new) kept)
     → (old.journal.closed ≡ false → Stands old.opening old.core (shows old.disk).reads)
     → new.journal.closed ≡ false → Stands new.opening new.core (shows new.disk).reads
-stands_by shows counts old new n kept true still keeps stood open =
+stands_by shows counts old new n kept true still keeps stood still_open =
     let k = keeps refl in
-    subst (λ (o : ClientOpening). Stands o new.core (shows new.disk).reads) (sym k.opening) (k.stands open)
-stands_by {D} shows counts old new n kept false still keeps stood open =
-    subst (λ (k : KeptState D). k.journal.closed ≡ false → Stands k.opening k.core (shows k.disk).reads) (sym (still refl).1) stood open
+    subst (λ (o : ClientOpening). Stands o new.core (shows new.disk).reads) (sym k.opening) (k.stands still_open)
+stands_by {D} shows counts old new n kept false still keeps stood still_open =
+    subst (λ (k : KeptState D). k.journal.closed ≡ false → Stands k.opening k.core (shows k.disk).reads) (sym (still refl).1) stood still_open
 
 -- the disk's count, whatever was heard
 pub counts_by : {D : Type 0} (shows : D → DiskSeen) (counts : D → Seen) (old new : KeptState D) (n : Noted) (kept : Result Progress KeepFault) (b : Bool)
