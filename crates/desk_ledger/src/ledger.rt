@@ -188,6 +188,7 @@ impl<D: Disk> Ledger<D> {
     }
 
     // The first live box whose name is to be retired.
+    #[tactic(auto, using(crate::proofs::PlaceLaws::passed))]
     fn leaving(&self) -> Option<u32>
         ensures { length self.now.client.core.boxes ≤ 2 ^ 32
             → result ≡ place_of (is_leaving self.now.entries) 0 self.now.client.core.boxes }
@@ -204,6 +205,7 @@ impl<D: Disk> Ledger<D> {
     }
 
     /// The live boxes, in order, each by its place among the desk's own.
+    #[tactic(auto, using(crate::proofs::PlaceLaws::left_out, crate::proofs::PlaceLaws::put_in))]
     pub fn live(&self) -> Result<Vec<u32>, NoMemory>
         ensures { length self.now.client.core.boxes ≤ 2 ^ 32 → IfOk result (λ live.
             live.items ≡ places_of (is_live self.now.entries) 0 self.now.client.core.boxes) }
