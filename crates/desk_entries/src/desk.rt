@@ -165,7 +165,12 @@ fn add_named(entries: &[Entry], named: &NamedBoxes, found: &mut Vec<u128>) -> Re
     if is_retiring(entries, named.name.as_str().as_bytes()) {
         return Ok(());
     }
-    add_standing(entries, Standing::Waiting, named.addresses.as_slice(), found)
+    add_standing(
+        entries,
+        Standing::Waiting,
+        named.addresses.as_slice(),
+        found,
+    )
 }
 
 fn add_waiting(entries: &[Entry], entry: &Entry, found: &mut Vec<u128>) -> Result<(), NoMemory>

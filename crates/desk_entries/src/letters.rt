@@ -49,7 +49,9 @@ pub fn letters_of(alloc: Global, entries: &[Entry]) -> Result<Vec<&Reading>, NoM
     let mut told = Vec::new(alloc);
     let mut rest = entries;
     while let [entry, behind @ ..] = rest {
-        if let Entry::Read(reading) = entry && is_anew(&told, &reading.held) {
+        if let Entry::Read(reading) = entry
+            && is_anew(&told, &reading.held)
+        {
             told.push(reading)?;
         }
         rest = behind;

@@ -11,10 +11,12 @@ mod reading;
 mod standing;
 mod writing;
 
-pub use desk::{MOST_AT_ONCE, addresses, are_new, has_outcome, is_retiring, name_of, named, waiting};
+pub use desk::{
+    MOST_AT_ONCE, addresses, are_new, has_outcome, is_retiring, name_of, named, waiting,
+};
 pub use entry::{BoxAt, Denial, Denied, Entry, Held, NamedBoxes, Reading};
 pub use forgetting::kept;
+pub use letters::{letters_of, shown_of};
 pub use name::is_name;
 pub use reading::MOST_RECORD;
-pub use letters::{letters_of, shown_of};
 pub use standing::{Standing, is_retired, standing_of};

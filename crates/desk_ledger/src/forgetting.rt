@@ -57,7 +57,11 @@ fn own_live<D: Disk>(
     Ok(())
 }
 
-fn note_one<D: Disk>(alloc: Global, client: &mut KeptClient<D>, entry: &Entry) -> Result<(), ForgetFault>
+fn note_one<D: Disk>(
+    alloc: Global,
+    client: &mut KeptClient<D>,
+    entry: &Entry,
+) -> Result<(), ForgetFault>
     requires idle { client.old.core.client.current ≡ None }
     requires is { IsEntry entry.now }
     ensures goes_on { OnOk result (GoesOn D.disk client.old client.new) }
@@ -75,7 +79,11 @@ fn note_one<D: Disk>(alloc: Global, client: &mut KeptClient<D>, entry: &Entry) -
     }
 }
 
-fn note_all<D: Disk>(alloc: Global, client: &mut KeptClient<D>, entries: &[Entry]) -> Result<(), ForgetFault>
+fn note_all<D: Disk>(
+    alloc: Global,
+    client: &mut KeptClient<D>,
+    entries: &[Entry],
+) -> Result<(), ForgetFault>
     requires idle { client.old.core.client.current ≡ None }
     requires are { AreEntries entries.now }
     ensures goes_on { OnOk result (GoesOn D.disk client.old client.new) }
@@ -172,7 +180,11 @@ impl<D: Disk> Ledger<D> {
     }
 
     // The new client has the live boxes and the entries.
-    fn hand_over<E: Disk>(&self, client: &mut KeptClient<E>, entries: &[Entry]) -> Result<(), ForgetFault>
+    fn hand_over<E: Disk>(
+        &self,
+        client: &mut KeptClient<E>,
+        entries: &[Entry],
+    ) -> Result<(), ForgetFault>
         requires idle { client.old.core.client.current ≡ None }
         requires are { AreEntries entries.now }
         ensures goes_on { OnOk result (GoesOn E.disk client.old client.new) }

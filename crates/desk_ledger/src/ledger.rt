@@ -1,9 +1,11 @@
 //! An owner's desk on a disk.
-ghost use Rattle.std.specs.Prelude.{◌≡◌, ◌≢◌, ◌≤◌, ◌<◌, ◌^◌, ◌∷◌, [], ℕ, List as Listed, true, false, map, length, Some, None, Ok, Err, IfOk, IfErr, IfSome, IsOk, OnOk, OnErr, MatchOption, nat_le, is_none, is_some};
+ghost use Rattle.std.specs.Prelude.{◌≡◌, ◌≢◌, ◌≤◌, ◌<◌, ◌^◌, ◌∷◌, ◌++◌, [], ℕ, List as Listed, true, false, map, length, Some, None, Ok, Err, IfOk, IfErr, IfSome, IsOk, OnOk, OnErr, MatchOption, nat_le, is_none, is_some};
 ghost use Rattle.std.specs.List.{filter};
+ghost use Rattle.std.specs.Option.{option_to_list};
 ghost use Rattle.node_journal.specs.Disk.{IsUntouched};
 ghost use Rattle.client_core.specs.Requests.{fault_in};
 ghost use Rattle.step_rules.specs.ClientAsks.{asked};
+ghost use Rattle.client_restart.specs.Cores.{ended_in};
 ghost use Rattle.client_restart.specs.Faults.{OnStill};
 ghost use Rattle.client_restart.specs.Keeps.{Keeps, sight};
 ghost use Rattle.client_restart.specs.Kept.{Stands};
@@ -26,9 +28,10 @@ use crate::storing::entry_of;
 use crate::task::Task;
 use client_core::AskFault;
 use client_restart::{Ended, KeepFault, KeptClient, OwnedBox};
-use desk_entries::{Entry, MOST_AT_ONCE, NamedBoxes, Reading, Standing};
-use desk_entries::{addresses, are_new, has_outcome, is_name, is_retired, is_retiring, letters_of};
-use desk_entries::{name_of, named, shown_of, waiting};
+use desk_entries::{
+    Entry, MOST_AT_ONCE, NamedBoxes, Reading, Standing, addresses, are_new, has_outcome, is_name,
+    is_retired, is_retiring, letters_of, name_of, named, shown_of, waiting,
+};
 use desk_texts::{CardHead, Head, Sheet};
 use express_words::{List, NoMemory, Text};
 use node_journal::Disk;
@@ -81,7 +84,11 @@ impl<D: Disk> Ledger<D> {
 
     /// Wants boxes with a name, at these addresses, which were drawn. `Ok(Err(_))` is the refusal, and then nothing is
     /// noted. `next_task` has the requests that register them.
-    pub fn add_name(&mut self, name: &str, addresses: &[u128]) -> Result<Result<(), NameFault>, KeepFault>
+    pub fn add_name(
+        &mut self,
+        name: &str,
+        addresses: &[u128],
+    ) -> Result<Result<(), NameFault>, KeepFault>
         ensures refused { IfOk result (λ taken. IfErr taken (λ fault. name_fault self.old.client.opening.capacity
             self.old.client.core.boxes self.old.entries name.now addresses.now ≡ Some fault)) }
         ensures taken { IfOk result (λ taken. OnOk taken (name_fault self.old.client.opening.capacity
@@ -265,7 +272,13 @@ impl<D: Disk> Ledger<D> {
         Ok(Some(stored))
     }
 
-    fn note_missing(&mut self, entry: Option<Entry>) -> Result<(), KeepFault> {
+    fn note_missing(&mut self, entry: Option<Entry>) -> Result<(), KeepFault>
+        requires is { IfSome entry IsEntry }
+        ensures noted { OnOk result (self.new.entries ≡ self.old.entries ++ option_to_list entry) }
+        ensures not_noted { OnErr result (self.new.entries ≡ self.old.entries) }
+        ensures untold { self.new.client.core.untold ≡ self.old.client.core.untold }
+        ensures pair { self.new.pair ≡ self.old.pair }
+    {
         match entry {
             Some(entry) => self.note(entry),
             None => Ok(()),
@@ -273,7 +286,11 @@ impl<D: Disk> Ledger<D> {
     }
 
     // The entry that an outcome leaves, where it isn't there already.
-    fn missing_entry(&self, ended: &Ended, seconds: u64) -> Result<Option<Entry>, NoMemory> {
+    fn missing_entry(&self, ended: &Ended, seconds: u64) -> Result<Option<Entry>, NoMemory>
+        ensures misses { IfOk result (λ found. Misses self.now.entries self.now.client.core.boxes seconds
+            (ended_in ended.now) found) }
+        ensures is { IfOk result (λ found. IfSome found IsEntry) }
+    {
         if has_outcome(&self.entries, ended.serial) {
             return Ok(None);
         }
@@ -402,8 +419,7 @@ fn is_live(entries: &[Entry], owned: &OwnedBox) -> bool
 fn is_leaving(entries: &[Entry], owned: &OwnedBox) -> bool
     ensures { result ≡ is_leaving entries.now owned.now }
 {
-    is_live(entries, owned)
-        && is_retiring(entries, name_of(entries, owned.serial).as_bytes())
+    is_live(entries, owned) && is_retiring(entries, name_of(entries, owned.serial).as_bytes())
 }
 
 fn named_boxes(alloc: Global, name: &str, addresses: &[u128]) -> Result<NamedBoxes, NoMemory>

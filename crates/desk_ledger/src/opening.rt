@@ -70,7 +70,10 @@ fn pair_of(alloc: Global, entries: &[Entry]) -> Result<Pair, OpenFault>
 }
 
 /// The pair and the entries that remarks tell.
-pub(crate) fn entries_in(alloc: Global, remarks: &[Vec<u8>]) -> Result<(Pair, Vec<Entry>), OpenFault>
+pub(crate) fn entries_in(
+    alloc: Global,
+    remarks: &[Vec<u8>],
+) -> Result<(Pair, Vec<Entry>), OpenFault>
     ensures { IfOk result (λ desk. IsDesk desk.0 desk.1.items (map (λ words. words.items) remarks.now)) }
 {
     let entries = all_in(alloc, remarks)?;

@@ -64,7 +64,12 @@ impl<D: Disk> Ledger<D> {
         let Ok((entries, record)) = first_entry(alloc, text) else {
             return Err((OpenFault::Keep(KeepFault::NoMemory), disk));
         };
-        let mut client = match KeptClient::create(alloc, &opening_of(&pair.head, seed), disk, limit) {
+        let mut client = match KeptClient::create(
+            alloc,
+            &opening_of(&pair.head, seed),
+            disk,
+            limit,
+        ) {
             Ok(client) => client,
             Err((fault, disk)) => return Err((OpenFault::Keep(fault), disk)),
         };

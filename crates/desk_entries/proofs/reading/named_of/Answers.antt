@@ -26,5 +26,5 @@ pub returns-in-None : goal.returns-in-None
 returns-in-None c =
     let no_name : is_name c.split_at.result.1.now ≡ false = rw c.in-None.is at c.in_ok-name.ensures in
     let behind : c.split_at.result.1.now ≡ drop (c.args.count * 16) c.args.rest.now =
-        c.split_at.ensures.back ∙ ap (λ (k : ℕ). drop (k * 16) c.args.rest.now) c.from-used.ensures in
+    c.split_at.ensures.back ∙ ap (λ (k : ℕ). drop (k * 16) c.args.rest.now) c.from-used.ensures in
     none_unnamed c.args.count c.args.rest.now (subst (λ (l : List ℕ). is_name l ≡ false) behind no_name)
