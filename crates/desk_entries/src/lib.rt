@@ -1,4 +1,5 @@
-//! What an owner's desk remembers beside its requests: entries, one record each, and what a desk is after them.
+//! What an owner's desk remembers beside its requests: entries, one record each, and what a desk is after
+//! them.
 #![tactic(auto)]
 
 mod desk;

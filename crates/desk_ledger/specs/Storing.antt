@@ -94,7 +94,8 @@ abbrev pub LeavesBy : List OwnedBox → ℕ → EndedRequest → Errand → Opti
 LeavesBy boxes seconds e (errand.Register address) found = found ≡ of_register e.serial address e.outcome
 LeavesBy boxes seconds e (errand.Write address) found = found ≡ None
 LeavesBy boxes seconds e (errand.Read own) found = OfRead (read_by boxes seconds e own false) e.outcome found
-LeavesBy boxes seconds e (errand.Retire own) found = OfRetire (read_by boxes seconds e own true) e.outcome found
+LeavesBy boxes seconds e (errand.Retire own) found =
+    OfRetire (read_by boxes seconds e own true) e.outcome found
 
 -- the entry that an outcome leaves at this time
 abbrev pub Leaves : List OwnedBox → ℕ → EndedRequest → Option Entry → Type 0

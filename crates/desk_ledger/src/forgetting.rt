@@ -138,8 +138,8 @@ impl<D: Disk> Ledger<D> {
         }
     }
 
-    /// A new ledger on another disk with no byte, without letters and old requests: lane, seed, next serial, live boxes
-    /// and names are those of this one. No more than `limit` bytes of the disk will be used.
+    /// A new ledger on another disk with no byte, without letters and old requests: lane, seed, next serial,
+    /// live boxes and names are those of this one. No more than `limit` bytes of the disk will be used.
     pub fn forget<E: Disk>(&self, disk: E, limit: u64) -> Result<Ledger<E>, (ForgetFault, E)>
         requires limit { limit ≤ 2 ^ 62 }
         ensures opening { IfOk result (λ l. l.client.opening ≡ next_opening self.now.client) }

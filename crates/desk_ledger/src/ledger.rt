@@ -82,20 +82,21 @@ impl<D: Disk> Ledger<D> {
         }
     }
 
-    /// Wants boxes with a name, at these addresses, which were drawn. `Ok(Err(_))` is the refusal, and then nothing is
-    /// noted. `next_task` has the requests that register them.
+    /// Wants boxes with a name, at these addresses, which were drawn. `Ok(Err(_))` is the refusal, and then
+    /// nothing is noted. `next_task` has the requests that register them.
     pub fn add_name(
         &mut self,
         name: &str,
         addresses: &[u128],
     ) -> Result<Result<(), NameFault>, KeepFault>
-        ensures refused { IfOk result (λ taken. IfErr taken (λ fault. name_fault self.old.client.opening.capacity
-            self.old.client.core.boxes self.old.entries name.now addresses.now ≡ Some fault)) }
+        ensures refused { IfOk result (λ taken. IfErr taken (λ fault.
+            name_fault self.old.client.opening.capacity self.old.client.core.boxes self.old.entries
+            name.now addresses.now ≡ Some fault)) }
         ensures taken { IfOk result (λ taken. OnOk taken (name_fault self.old.client.opening.capacity
             self.old.client.core.boxes self.old.entries name.now addresses.now ≡ None)) }
         ensures refused_stays { IfOk result (λ taken. OnErr taken (self.new ≡ self.old)) }
-        ensures notes { name_fault self.old.client.opening.capacity self.old.client.core.boxes self.old.entries
-            name.now addresses.now ≡ None → Notes D.disk D.Counted.seen
+        ensures notes { name_fault self.old.client.opening.capacity self.old.client.core.boxes
+            self.old.entries name.now addresses.now ≡ None → Notes D.disk D.Counted.seen
             (Entry.Named (record { name = name.now; addresses = addresses.now })) self.old self.new result }
         ensures stays { OnStill result (self.new ≡ self.old) }
     {
@@ -150,12 +151,13 @@ impl<D: Disk> Ledger<D> {
         Ok(left as u32)
     }
 
-    /// The boxes with a name are to be retired: `next_task` has the requests for it. `Ok(false)`, and nothing noted, where
-    /// the desk has no such name; nothing is noted either where they are to be retired already.
+    /// The boxes with a name are to be retired: `next_task` has the requests for it. `Ok(false)`, and nothing
+    /// noted, where the desk has no such name; nothing is noted either where they are to be retired already.
     pub fn retire_name(&mut self, name: &str) -> Result<bool, KeepFault>
         ensures unknown { is_some (named self.old.entries name.now) ≡ false
             → (result ≡ Ok false) × (self.new ≡ self.old) }
-        ensures known { is_some (named self.old.entries name.now) ≡ true → IfOk result (λ known. known ≡ true) }
+        ensures known { is_some (named self.old.entries name.now) ≡ true
+            → IfOk result (λ known. known ≡ true) }
         ensures retiring { is_some (named self.old.entries name.now) ≡ true
             → OnOk result (is_retiring self.new.entries name.now ≡ true) }
         ensures twice { is_retiring self.old.entries name.now ≡ true → self.new ≡ self.old }
@@ -231,8 +233,8 @@ impl<D: Disk> Ledger<D> {
         Ok(live)
     }
 
-    /// Asks the servers for something, which is on the disk before its first frame goes. `Ok(Err(_))` is the refusal of
-    /// `KeptClient::ask`, and then nothing is kept.
+    /// Asks the servers for something, which is on the disk before its first frame goes. `Ok(Err(_))` is the
+    /// refusal of `KeptClient::ask`, and then nothing is kept.
     pub fn ask(&mut self, task: Task) -> Result<Result<(), AskFault>, KeepFault>
         ensures refused { IfOk result (λ taken. IfErr taken (λ fault.
             asked self.old.client.core.client (request_of task) ≡ Err (fault_in fault))) }
@@ -252,13 +254,13 @@ impl<D: Disk> Ledger<D> {
         }
     }
 
-    /// Stores the oldest outcome that wasn't stored, at this time, in seconds since 1970 UTC. None where there is none.
-    /// Only once its entry is on the disk is the outcome told to the client; where a crash came between, its serial
-    /// tells that the entry is there.
+    /// Stores the oldest outcome that wasn't stored, at this time, in seconds since 1970 UTC. None where
+    /// there is none. Only once its entry is on the disk is the outcome told to the client; where a crash
+    /// came between, its serial tells that the entry is there.
     pub fn store(&mut self, seconds: u64) -> Result<Option<Stored>, KeepFault>
         ensures none { self.old.client.core.untold ≡ [] → (result ≡ Ok None) × (self.new ≡ self.old) }
-        ensures stores { (e : EndedRequest) (rest : Listed EndedRequest) → self.old.client.core.untold ≡ e ∷ rest
-            → Stores seconds e self.old self.new result }
+        ensures stores { (e : EndedRequest) (rest : Listed EndedRequest)
+            → self.old.client.core.untold ≡ e ∷ rest → Stores seconds e self.old self.new result }
     {
         let Some(ended) = self.client.untold().first() else {
             return Ok(None);
@@ -304,8 +306,8 @@ impl<D: Disk> Ledger<D> {
         self.client.is_idle()
     }
 
-    /// The letters that are on the disk, and the boxes in which letters met, in the order in which they were read. A
-    /// letter that came twice, by its id, is there once; a box that held nothing isn't.
+    /// The letters that are on the disk, and the boxes in which letters met, in the order in which they were
+    /// read. A letter that came twice, by its id, is there once; a box that held nothing isn't.
     pub fn letters(&self) -> Result<Vec<&Reading>, NoMemory>
         ensures letters { IfOk result (λ told. map (λ r. r.now) told.items ≡ letters_of self.now.entries) }
         ensures remarks { self.now.client.core.remarks ≡ map entry_record self.now.entries }

@@ -13,7 +13,8 @@ use desk_entries::Entry;
 use desk_texts::PairHead;
 use std::alloc::Global;
 
-/// How the client of a new desk is opened: on the owner's lane, with room for as many boxes as the servers have.
+/// How the client of a new desk is opened: on the owner's lane, with room for as many boxes as the servers
+/// have.
 pub(crate) fn opening_of(head: &PairHead, seed: [u8; 32]) -> ClientOpening
     requires { IsPair head.now }
     ensures value { result ≡ opening_of head.now seed }

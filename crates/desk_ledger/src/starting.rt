@@ -36,8 +36,8 @@ fn first_entry(alloc: Global, text: &[u8]) -> Result<(Vec<Entry>, Vec<u8>), NoMe
 }
 
 impl<D: Disk> Ledger<D> {
-    /// A desk for the pair of servers of a pair file's text, on a disk with no byte. No more than `limit` bytes of the
-    /// disk will be used. The seed is one that was drawn, and no other desk's.
+    /// A desk for the pair of servers of a pair file's text, on a disk with no byte. No more than `limit`
+    /// bytes of the disk will be used. The seed is one that was drawn, and no other desk's.
     pub fn open(
         alloc: Global,
         text: &[u8],
