@@ -35,9 +35,9 @@ none_unnamed count rest unnamed n named is =
     let size = flat_size n.addresses in
     let used : length (flat_map (to_be_bytes w128) n.addresses) ≡ count * 16 = omega (arith, here, size) in
     let name : drop (count * 16) rest ≡ n.name =
-        ap (λ (k : ℕ). drop k rest) (sym used)
-        ∙ ap (drop (length (flat_map (to_be_bytes w128) n.addresses))) (rest_is count rest n is)
-        ∙ drop-append_seam (flat_map (to_be_bytes w128) n.addresses) n.name in
+    ap (λ (k : ℕ). drop k rest) (sym used)
+    ∙ ap (drop (length (flat_map (to_be_bytes w128) n.addresses))) (rest_is count rest n is)
+    ∙ drop-append_seam (flat_map (to_be_bytes w128) n.addresses) n.name in
     let no_name : is_name n.name ≡ false = subst (λ (l : List ℕ). is_name l ≡ false) name unnamed in
     let a_name = named.name in
     absurd (cc)
@@ -49,11 +49,12 @@ named_is count rest front behind addresses name some few split size spelled are 
     let flat = flat_size addresses in
     let long : length (flat_map (to_be_bytes w128) addresses) ≡ count * 16 = ap length spelled ∙ size in
     let many : length addresses ≡ count = omega (arith, flat, long) in
-    let whole : rest ≡ flat_map (to_be_bytes w128) addresses ++ name = cc (split, spelled, is) in
-    (record {
-      name = subst (λ (l : List ℕ). is_name l ≡ true) (sym is) named;
-      some = omega (arith, many, some);
-      few = omega (arith, many, few);
-      addresses = are;
-    },
-    ap (λ (k : ℕ). k ∷ rest) (sym many) ∙ ap (λ (l : List ℕ). length addresses ∷ l) whole)
+    let whole : rest ≡ flat_map (to_be_bytes w128) addresses ++ name = cc (split, spelled, is) in (
+      record {
+        name = subst (λ (l : List ℕ). is_name l ≡ true) (sym is) named;
+        some = omega (arith, many, some);
+        few = omega (arith, many, few);
+        addresses = are;
+      },
+      ap (λ (k : ℕ). k ∷ rest) (sym many) ∙ ap (λ (l : List ℕ). length addresses ∷ l) whole,
+    )

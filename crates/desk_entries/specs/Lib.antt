@@ -6,3 +6,4 @@ pub mod Letters
 pub mod Names
 pub mod Records
 pub mod Standings
+pub mod Writing

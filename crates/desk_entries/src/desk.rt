@@ -2,7 +2,7 @@
 ghost use Rattle.std.specs.Prelude.{◌≡◌, ◌++◌, Some, IfOk, OnOk};
 ghost use Rattle.std.specs.List.{filter, flat_map, list_any};
 ghost use Rattle.std.specs.Option.{option_copied};
-ghost use Rattle.desk_entries.specs.Desks.{address_of, are_new, draws, is_drawn, is_outcome, has_outcome, is_retiring, name_at, name_of, name_with, named, named_in, retires_name, waiting, waiting_by, waiting_of};
+ghost use Rattle.desk_entries.specs.Desks.{address_of, are_new, draws, is_drawn, is_outcome, has_outcome, is_among, is_retiring, name_at, name_of, name_with, named, named_in, retires_name, waiting, waiting_by, waiting_of};
 ghost use Rattle.desk_entries.specs.Standings.{stands};
 
 use crate::entry::{Entry, NamedBoxes};
@@ -45,11 +45,17 @@ pub fn is_retiring(entries: &[Entry], name: &[u8]) -> bool
     entries.iter().any(|entry| retires_name(entry, name))
 }
 
+fn is_among(address: u128, addresses: &[u128]) -> bool
+    ensures { result ≡ is_among address addresses.now }
+{
+    addresses.contains(&address)
+}
+
 fn draws(entry: &Entry, address: u128) -> bool
     ensures { result ≡ draws address entry.now }
 {
     match entry {
-        Entry::Named(named) => named.addresses.as_slice().contains(&address),
+        Entry::Named(named) => is_among(address, named.addresses.as_slice()),
         _ => false,
     }
 }
@@ -96,7 +102,7 @@ fn name_with(entry: &Entry, address: u128) -> Option<&str>
 {
     match entry {
         Entry::Named(named) => {
-            if named.addresses.as_slice().contains(&address) {
+            if is_among(address, named.addresses.as_slice()) {
                 Some(named.name.as_str())
             } else {
                 None
@@ -159,7 +165,12 @@ fn add_named(entries: &[Entry], named: &NamedBoxes, found: &mut Vec<u128>) -> Re
     if is_retiring(entries, named.name.as_str().as_bytes()) {
         return Ok(());
     }
-    add_standing(entries, Standing::Waiting, named.addresses.as_slice(), found)
+    add_standing(
+        entries,
+        Standing::Waiting,
+        named.addresses.as_slice(),
+        found,
+    )
 }
 
 fn add_waiting(entries: &[Entry], entry: &Entry, found: &mut Vec<u128>) -> Result<(), NoMemory>

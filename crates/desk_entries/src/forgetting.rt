@@ -78,7 +78,8 @@ fn add_staying(alloc: Global, entry: &Entry, found: &mut Vec<Entry>) -> Result<(
     }
 }
 
-/// The entries without letters: of a box that was retired it stays that it is, and how many letters were shown goes.
+/// The entries without letters: of a box that was retired it stays that it is, and how many letters were
+/// shown goes.
 pub fn kept(alloc: Global, entries: &[Entry]) -> Result<Vec<Entry>, NoMemory>
     ensures { IfOk result (λ found. found.items ≡ kept entries.now) }
 {

@@ -8,7 +8,8 @@ ghost use Rattle.desk_entries.specs.declared.entry.Entry.{Entry};
 /// A record tells the entry whose record it is, and so do the records of a list of entries.
 pub fn records_tell()
     ensures one { (a b : Entry) → IsEntry a → IsEntry b → entry_record a ≡ entry_record b → a ≡ b }
-    ensures lists { (a b : List Entry) → AreEntries a → AreEntries b → map entry_record a ≡ map entry_record b → a ≡ b }
+    ensures lists { (a b : List Entry) → AreEntries a → AreEntries b
+        → map entry_record a ≡ map entry_record b → a ≡ b }
 {}
 
 /// An entry more changes nothing of the letters before it, and no two letters have one id.

@@ -41,15 +41,17 @@ fn is_anew(told: &[&Reading], held: &Held) -> bool
     }
 }
 
-/// The letters that these entries tell, and the boxes in which letters met, in the order in which they were read. A
-/// letter that came twice, by its id, is there once; a box that held nothing isn't.
+/// The letters that these entries tell, and the boxes in which letters met, in the order in which they were
+/// read. A letter that came twice, by its id, is there once; a box that held nothing isn't.
 pub fn letters_of(alloc: Global, entries: &[Entry]) -> Result<Vec<&Reading>, NoMemory>
     ensures { IfOk result (λ told. map (λ r. r.now) told.items ≡ letters_of entries.now) }
 {
     let mut told = Vec::new(alloc);
     let mut rest = entries;
     while let [entry, behind @ ..] = rest {
-        if let Entry::Read(reading) = entry && is_anew(&told, &reading.held) {
+        if let Entry::Read(reading) = entry
+            && is_anew(&told, &reading.held)
+        {
             told.push(reading)?;
         }
         rest = behind;

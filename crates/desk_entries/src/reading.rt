@@ -93,32 +93,40 @@ fn name_in(alloc: Global, bytes: &[u8]) -> Result<Option<Text>, NoMemory>
     }
 }
 
+// So many addresses, and a name.
 #[tactic(auto, using(crate::proofs::NamedLaws::none_zero, crate::proofs::NamedLaws::none_many, crate::proofs::NamedLaws::none_short))]
-fn named_in(alloc: Global, bytes: &[u8]) -> Result<Option<NamedBoxes>, NoMemory>
-    ensures { IfOk result (λ found. MatchOption found (IsNoNamed bytes.now)
-        (λ n. IsNamed n × (bytes.now ≡ named_record n))) }
+fn named_of(alloc: Global, count: u8, rest: &[u8]) -> Result<Option<NamedBoxes>, NoMemory>
+    ensures { IfOk result (λ found. MatchOption found (IsNoNamed (count ∷ rest.now))
+        (λ n. IsNamed n × (count ∷ rest.now ≡ named_record n))) }
 {
-    let [count, rest @ ..] = bytes else {
-        return Ok(None);
-    };
-    let used = usize::from(*count) * 16;
-    if *count == 0 {
+    let used = usize::from(count) * 16;
+    if count == 0 {
         return Ok(None);
     }
-    if *count > 64 {
+    if count > 64 {
         return Ok(None);
     }
     if rest.len() < used {
         return Ok(None);
     }
-    let (front, rest) = rest.split_at(used);
+    let (front, behind) = rest.split_at(used);
     let addresses = addresses_in(alloc, front)?;
-    match name_in(alloc, rest)? {
+    match name_in(alloc, behind)? {
         Some(name) => Ok(Some(NamedBoxes {
             name,
             addresses: List::from_vec(addresses),
         })),
         None => Ok(None),
+    }
+}
+
+fn named_in(alloc: Global, bytes: &[u8]) -> Result<Option<NamedBoxes>, NoMemory>
+    ensures { IfOk result (λ found. MatchOption found (IsNoNamed bytes.now)
+        (λ n. IsNamed n × (bytes.now ≡ named_record n))) }
+{
+    match bytes {
+        [count, rest @ ..] => named_of(alloc, *count, rest),
+        [] => Ok(None),
     }
 }
 

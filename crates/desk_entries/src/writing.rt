@@ -1,9 +1,10 @@
 //! The records of entries.
 ghost use Rattle.std.specs.Prelude.{◌≡◌, ◌≤◌, ◌++◌, ◌∷◌, length, OnOk, IfOk};
-ghost use Rattle.std.specs.Int.{w32, w64, w128, to_be_bytes};
+ghost use Rattle.std.specs.Int.{w32, w64, to_be_bytes};
 ghost use Rattle.std.specs.List.{flat_map};
 ghost use Rattle.desk_entries.specs.Entries.{IsFormed};
 ghost use Rattle.desk_entries.specs.Records.{box_record, content, denial_byte, denied_record, entry_record, flag, held_record, named_record, reading_record, tag};
+ghost use Rattle.desk_entries.specs.Writing.{written};
 
 use crate::entry::{BoxAt, Denial, Denied, Entry, Held, NamedBoxes, Reading};
 use express_words::NoMemory;
@@ -24,19 +25,27 @@ fn flag(last: bool) -> u8
     if last { 1 } else { 0 }
 }
 
+#[tactic(auto, unfolding(crate::specs::Writing::written))]
+fn put_address(bytes: &mut Vec<u8>, address: u128) -> Result<(), NoMemory>
+    ensures { OnOk result (bytes.new.items ≡ bytes.old.items ++ written address) }
+{
+    bytes.extend_from_slice(&address.to_be_bytes())?;
+    Ok(())
+}
+
 // Behind the bytes of a record those of the addresses.
-#[tactic(auto, using(crate::proofs::AddressLaws::behind_address))]
 fn put_addresses(bytes: &mut Vec<u8>, addresses: &[u128]) -> Result<(), NoMemory>
-    ensures { OnOk result (bytes.new.items ≡ bytes.old.items ++ flat_map (to_be_bytes w128) addresses.now) }
+    ensures { OnOk result (bytes.new.items ≡ bytes.old.items ++ flat_map written addresses.now) }
 {
     let mut rest = addresses;
     while let [address, behind @ ..] = rest {
-        bytes.extend_from_slice(&address.to_be_bytes())?;
+        put_address(bytes, *address)?;
         rest = behind;
     }
     Ok(())
 }
 
+#[tactic(auto, unfolding(crate::specs::Writing::written))]
 fn put_named(bytes: &mut Vec<u8>, named: &NamedBoxes) -> Result<(), NoMemory>
     requires { length named.now.addresses ≤ 64 }
     ensures { OnOk result (bytes.new.items ≡ bytes.old.items ++ named_record named.now) }

@@ -19,7 +19,7 @@ of_pair_push p (entry.Shown count ∷ entries) e is = absurd is
 
 pub desk_push : (p : Pair) (entries : List Entry) (remarks now : List (List ℕ)) (e : Entry) → IsEntry e → IsDesk p entries remarks → now ≡ remarks ++ entry_record e ∷ [] → IsDesk p (entries ++ e ∷ []) now
 desk_push p entries remarks now e is desk more = record {
-  entries = are_push entries e desk.entries is;
+  are = are_push entries e desk.are is;
   told = more ∙ ap (λ (l : List (List ℕ)). l ++ entry_record e ∷ []) desk.told ∙ sym (records_push entries e);
   pair = of_pair_push p entries e desk.pair;
 }

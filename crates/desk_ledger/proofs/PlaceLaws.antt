@@ -15,3 +15,21 @@ pub passed : (is : OwnedBox → Bool) (n : ℕ) (b : OwnedBox) (boxes : List Own
 passed is n b boxes fits none =
     by_place is (n - (length boxes + 1)) b boxes false none refl
     ∙ ap (λ (k : ℕ). place_of is k boxes) (next n (length boxes) fits)
+
+by_places : (is : OwnedBox → Bool) (place : ℕ) (b : OwnedBox) (boxes : List OwnedBox) → is b ≡ false → places_of is place (b ∷ boxes) ≡ places_of is (place + 1) boxes
+by_places is place b boxes none = ap (λ (t : Bool). if t then (place ∷ places_of is (place + 1) boxes) else places_of is (place + 1) boxes) none
+
+pub left_out : (is : OwnedBox → Bool) (n : ℕ) (b : OwnedBox) (boxes : List OwnedBox) → length boxes + 1 ≤ n → is b ≡ false
+    → places_of is (n - (length boxes + 1)) (b ∷ boxes) ≡ places_of is (n - length boxes) boxes
+left_out is n b boxes fits none =
+    by_places is (n - (length boxes + 1)) b boxes none
+    ∙ ap (λ (k : ℕ). places_of is k boxes) (next n (length boxes) fits)
+
+taken_places : (is : OwnedBox → Bool) (place : ℕ) (b : OwnedBox) (boxes : List OwnedBox) → is b ≡ true → places_of is place (b ∷ boxes) ≡ place ∷ places_of is (place + 1) boxes
+taken_places is place b boxes one = ap (λ (t : Bool). if t then (place ∷ places_of is (place + 1) boxes) else places_of is (place + 1) boxes) one
+
+pub put_in : (is : OwnedBox → Bool) (n : ℕ) (b : OwnedBox) (boxes : List OwnedBox) → length boxes + 1 ≤ n → is b ≡ true
+    → places_of is (n - (length boxes + 1)) (b ∷ boxes) ≡ (n - (length boxes + 1)) ∷ places_of is (n - length boxes) boxes
+put_in is n b boxes fits one =
+    taken_places is (n - (length boxes + 1)) b boxes one
+    ∙ ap (λ (k : ℕ). (n - (length boxes + 1)) ∷ places_of is k boxes) (next n (length boxes) fits)

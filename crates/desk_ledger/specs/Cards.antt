@@ -19,14 +19,14 @@ abbrev pub card_addresses : List Entry → List ℕ → List ℕ
 card_addresses entries name = live_of entries (named entries name)
 
 -- a card of these addresses, of which there are some, for the pair's servers, width and strangers' lanes
-pub record IsCardOf (p : Pair) (addresses : List ℕ) (s : Sheet) : Type 0 where
-  pub some : addresses ≢ []
-  pub addresses : s.addresses ≡ addresses
+pub record IsCardOf (p : Pair) (standing : List ℕ) (s : Sheet) : Type 0 where
+  pub some : standing ≢ []
+  pub addresses : s.addresses ≡ standing
   pub head : s.head ≡ Card (record {
     width = p.head.width;
     from = p.head.from;
     to = p.head.to;
-    addresses = length addresses;
+    addresses = length standing;
   })
   pub leader : s.leader ≡ p.leader
   pub helper : s.helper ≡ p.helper

@@ -30,6 +30,6 @@ IsOfPair p other = ⊥
 
 -- The entries are what the client's remarks tell, and the first is the pair's.
 pub record IsDesk (p : Pair) (entries : List Entry) (remarks : List (List ℕ)) : Type 0 where
-  pub entries : AreEntries entries
+  pub are : AreEntries entries
   pub told : remarks ≡ map entry_record entries
   pub pair : IsOfPair p entries

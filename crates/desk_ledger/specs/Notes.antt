@@ -10,8 +10,8 @@ use Rattle.desk_entries.specs.declared.entry.Entry.{Entry}
 use Rattle.desk_entries.specs.Records.{entry_record}
 use Rattle.desk_ledger.specs.Ledgers.{LedgerState}
 
--- Where it answers Ok the entry is on the disk, and stands behind the others; where it answers a fault there is
--- no entry more. For want of memory it may do nothing at all.
+-- Where it answers Ok the entry is on the disk, and stands behind the others; where it answers a fault there
+-- is no entry more. For want of memory it may do nothing at all.
 pub record Notes {D T : Type 0} (shows : D → DiskSeen) (counts : D → Seen) (e : Entry)
     (old new : LedgerState D) (r : Result T KeepFault) : Type 0 where
   pub added : OnOk r (new.entries ≡ old.entries ++ e ∷ [])

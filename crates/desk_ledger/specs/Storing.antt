@@ -94,16 +94,20 @@ abbrev pub LeavesBy : List OwnedBox → ℕ → EndedRequest → Errand → Opti
 LeavesBy boxes seconds e (errand.Register address) found = found ≡ of_register e.serial address e.outcome
 LeavesBy boxes seconds e (errand.Write address) found = found ≡ None
 LeavesBy boxes seconds e (errand.Read own) found = OfRead (read_by boxes seconds e own false) e.outcome found
-LeavesBy boxes seconds e (errand.Retire own) found = OfRetire (read_by boxes seconds e own true) e.outcome found
+LeavesBy boxes seconds e (errand.Retire own) found =
+    OfRetire (read_by boxes seconds e own true) e.outcome found
 
 -- the entry that an outcome leaves at this time
 abbrev pub Leaves : List OwnedBox → ℕ → EndedRequest → Option Entry → Type 0
 Leaves boxes seconds e found = LeavesBy boxes seconds e e.errand found
 
+abbrev pub MissesBy : Bool → List OwnedBox → ℕ → EndedRequest → Option Entry → Type 0
+MissesBy true boxes seconds e found = found ≡ None
+MissesBy false boxes seconds e found = Leaves boxes seconds e found
+
 -- the same, where no outcome of its serial is noted already
 abbrev pub Misses : List Entry → List OwnedBox → ℕ → EndedRequest → Option Entry → Type 0
-Misses entries boxes seconds e found =
-    if has_outcome entries e.serial then (found ≡ None) else Leaves boxes seconds e found
+Misses entries boxes seconds e found = MissesBy (has_outcome entries e.serial) boxes seconds e found
 
 -- ---- storing
 

@@ -57,7 +57,11 @@ fn own_live<D: Disk>(
     Ok(())
 }
 
-fn note_one<D: Disk>(alloc: Global, client: &mut KeptClient<D>, entry: &Entry) -> Result<(), ForgetFault>
+fn note_one<D: Disk>(
+    alloc: Global,
+    client: &mut KeptClient<D>,
+    entry: &Entry,
+) -> Result<(), ForgetFault>
     requires idle { client.old.core.client.current ≡ None }
     requires is { IsEntry entry.now }
     ensures goes_on { OnOk result (GoesOn D.disk client.old client.new) }
@@ -75,7 +79,11 @@ fn note_one<D: Disk>(alloc: Global, client: &mut KeptClient<D>, entry: &Entry) -
     }
 }
 
-fn note_all<D: Disk>(alloc: Global, client: &mut KeptClient<D>, entries: &[Entry]) -> Result<(), ForgetFault>
+fn note_all<D: Disk>(
+    alloc: Global,
+    client: &mut KeptClient<D>,
+    entries: &[Entry],
+) -> Result<(), ForgetFault>
     requires idle { client.old.core.client.current ≡ None }
     requires are { AreEntries entries.now }
     ensures goes_on { OnOk result (GoesOn D.disk client.old client.new) }
@@ -130,8 +138,8 @@ impl<D: Disk> Ledger<D> {
         }
     }
 
-    /// A new ledger on another disk with no byte, without letters and old requests: lane, seed, next serial, live boxes
-    /// and names are those of this one. No more than `limit` bytes of the disk will be used.
+    /// A new ledger on another disk with no byte, without letters and old requests: lane, seed, next serial,
+    /// live boxes and names are those of this one. No more than `limit` bytes of the disk will be used.
     pub fn forget<E: Disk>(&self, disk: E, limit: u64) -> Result<Ledger<E>, (ForgetFault, E)>
         requires limit { limit ≤ 2 ^ 62 }
         ensures opening { IfOk result (λ l. l.client.opening ≡ next_opening self.now.client) }
@@ -172,7 +180,11 @@ impl<D: Disk> Ledger<D> {
     }
 
     // The new client has the live boxes and the entries.
-    fn hand_over<E: Disk>(&self, client: &mut KeptClient<E>, entries: &[Entry]) -> Result<(), ForgetFault>
+    fn hand_over<E: Disk>(
+        &self,
+        client: &mut KeptClient<E>,
+        entries: &[Entry],
+    ) -> Result<(), ForgetFault>
         requires idle { client.old.core.client.current ≡ None }
         requires are { AreEntries entries.now }
         ensures goes_on { OnOk result (GoesOn E.disk client.old client.new) }

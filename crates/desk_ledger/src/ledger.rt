@@ -1,9 +1,11 @@
 //! An owner's desk on a disk.
-ghost use Rattle.std.specs.Prelude.{◌≡◌, ◌≢◌, ◌≤◌, ◌<◌, ◌^◌, ◌∷◌, [], ℕ, List as Listed, true, false, map, length, Some, None, Ok, Err, IfOk, IfErr, IfSome, IsOk, OnOk, OnErr, MatchOption, nat_le, is_none, is_some};
+ghost use Rattle.std.specs.Prelude.{◌≡◌, ◌≢◌, ◌≤◌, ◌<◌, ◌^◌, ◌∷◌, ◌++◌, [], ℕ, List as Listed, true, false, map, length, Some, None, Ok, Err, IfOk, IfErr, IfSome, IsOk, OnOk, OnErr, MatchOption, nat_le, is_none, is_some};
 ghost use Rattle.std.specs.List.{filter};
+ghost use Rattle.std.specs.Option.{option_to_list};
 ghost use Rattle.node_journal.specs.Disk.{IsUntouched};
 ghost use Rattle.client_core.specs.Requests.{fault_in};
 ghost use Rattle.step_rules.specs.ClientAsks.{asked};
+ghost use Rattle.client_restart.specs.Cores.{ended_in};
 ghost use Rattle.client_restart.specs.Faults.{OnStill};
 ghost use Rattle.client_restart.specs.Keeps.{Keeps, sight};
 ghost use Rattle.client_restart.specs.Kept.{Stands};
@@ -26,9 +28,10 @@ use crate::storing::entry_of;
 use crate::task::Task;
 use client_core::AskFault;
 use client_restart::{Ended, KeepFault, KeptClient, OwnedBox};
-use desk_entries::{Entry, MOST_AT_ONCE, NamedBoxes, Reading, Standing};
-use desk_entries::{addresses, are_new, has_outcome, is_name, is_retired, is_retiring, letters_of};
-use desk_entries::{name_of, named, shown_of, waiting};
+use desk_entries::{
+    Entry, MOST_AT_ONCE, NamedBoxes, Reading, Standing, addresses, are_new, has_outcome, is_name,
+    is_retired, is_retiring, letters_of, name_of, named, shown_of, waiting,
+};
 use desk_texts::{CardHead, Head, Sheet};
 use express_words::{List, NoMemory, Text};
 use node_journal::Disk;
@@ -79,16 +82,21 @@ impl<D: Disk> Ledger<D> {
         }
     }
 
-    /// Wants boxes with a name, at these addresses, which were drawn. `Ok(Err(_))` is the refusal, and then nothing is
-    /// noted. `next_task` has the requests that register them.
-    pub fn add_name(&mut self, name: &str, addresses: &[u128]) -> Result<Result<(), NameFault>, KeepFault>
-        ensures refused { IfOk result (λ taken. IfErr taken (λ fault. name_fault self.old.client.opening.capacity
-            self.old.client.core.boxes self.old.entries name.now addresses.now ≡ Some fault)) }
+    /// Wants boxes with a name, at these addresses, which were drawn. `Ok(Err(_))` is the refusal, and then
+    /// nothing is noted. `next_task` has the requests that register them.
+    pub fn add_name(
+        &mut self,
+        name: &str,
+        addresses: &[u128],
+    ) -> Result<Result<(), NameFault>, KeepFault>
+        ensures refused { IfOk result (λ taken. IfErr taken (λ fault.
+            name_fault self.old.client.opening.capacity self.old.client.core.boxes self.old.entries
+            name.now addresses.now ≡ Some fault)) }
         ensures taken { IfOk result (λ taken. OnOk taken (name_fault self.old.client.opening.capacity
             self.old.client.core.boxes self.old.entries name.now addresses.now ≡ None)) }
         ensures refused_stays { IfOk result (λ taken. OnErr taken (self.new ≡ self.old)) }
-        ensures notes { name_fault self.old.client.opening.capacity self.old.client.core.boxes self.old.entries
-            name.now addresses.now ≡ None → Notes D.disk D.Counted.seen
+        ensures notes { name_fault self.old.client.opening.capacity self.old.client.core.boxes
+            self.old.entries name.now addresses.now ≡ None → Notes D.disk D.Counted.seen
             (Entry.Named (record { name = name.now; addresses = addresses.now })) self.old self.new result }
         ensures stays { OnStill result (self.new ≡ self.old) }
     {
@@ -143,12 +151,13 @@ impl<D: Disk> Ledger<D> {
         Ok(left as u32)
     }
 
-    /// The boxes with a name are to be retired: `next_task` has the requests for it. `Ok(false)`, and nothing noted, where
-    /// the desk has no such name; nothing is noted either where they are to be retired already.
+    /// The boxes with a name are to be retired: `next_task` has the requests for it. `Ok(false)`, and nothing
+    /// noted, where the desk has no such name; nothing is noted either where they are to be retired already.
     pub fn retire_name(&mut self, name: &str) -> Result<bool, KeepFault>
         ensures unknown { is_some (named self.old.entries name.now) ≡ false
             → (result ≡ Ok false) × (self.new ≡ self.old) }
-        ensures known { is_some (named self.old.entries name.now) ≡ true → IfOk result (λ known. known ≡ true) }
+        ensures known { is_some (named self.old.entries name.now) ≡ true
+            → IfOk result (λ known. known ≡ true) }
         ensures retiring { is_some (named self.old.entries name.now) ≡ true
             → OnOk result (is_retiring self.new.entries name.now ≡ true) }
         ensures twice { is_retiring self.old.entries name.now ≡ true → self.new ≡ self.old }
@@ -188,6 +197,7 @@ impl<D: Disk> Ledger<D> {
     }
 
     // The first live box whose name is to be retired.
+    #[tactic(auto, using(crate::proofs::PlaceLaws::passed))]
     fn leaving(&self) -> Option<u32>
         ensures { length self.now.client.core.boxes ≤ 2 ^ 32
             → result ≡ place_of (is_leaving self.now.entries) 0 self.now.client.core.boxes }
@@ -204,6 +214,7 @@ impl<D: Disk> Ledger<D> {
     }
 
     /// The live boxes, in order, each by its place among the desk's own.
+    #[tactic(auto, using(crate::proofs::PlaceLaws::left_out, crate::proofs::PlaceLaws::put_in))]
     pub fn live(&self) -> Result<Vec<u32>, NoMemory>
         ensures { length self.now.client.core.boxes ≤ 2 ^ 32 → IfOk result (λ live.
             live.items ≡ places_of (is_live self.now.entries) 0 self.now.client.core.boxes) }
@@ -222,8 +233,8 @@ impl<D: Disk> Ledger<D> {
         Ok(live)
     }
 
-    /// Asks the servers for something, which is on the disk before its first frame goes. `Ok(Err(_))` is the refusal of
-    /// `KeptClient::ask`, and then nothing is kept.
+    /// Asks the servers for something, which is on the disk before its first frame goes. `Ok(Err(_))` is the
+    /// refusal of `KeptClient::ask`, and then nothing is kept.
     pub fn ask(&mut self, task: Task) -> Result<Result<(), AskFault>, KeepFault>
         ensures refused { IfOk result (λ taken. IfErr taken (λ fault.
             asked self.old.client.core.client (request_of task) ≡ Err (fault_in fault))) }
@@ -243,13 +254,13 @@ impl<D: Disk> Ledger<D> {
         }
     }
 
-    /// Stores the oldest outcome that wasn't stored, at this time, in seconds since 1970 UTC. None where there is none.
-    /// Only once its entry is on the disk is the outcome told to the client; where a crash came between, its serial
-    /// tells that the entry is there.
+    /// Stores the oldest outcome that wasn't stored, at this time, in seconds since 1970 UTC. None where
+    /// there is none. Only once its entry is on the disk is the outcome told to the client; where a crash
+    /// came between, its serial tells that the entry is there.
     pub fn store(&mut self, seconds: u64) -> Result<Option<Stored>, KeepFault>
         ensures none { self.old.client.core.untold ≡ [] → (result ≡ Ok None) × (self.new ≡ self.old) }
-        ensures stores { (e : EndedRequest) (rest : Listed EndedRequest) → self.old.client.core.untold ≡ e ∷ rest
-            → Stores seconds e self.old self.new result }
+        ensures stores { (e : EndedRequest) (rest : Listed EndedRequest)
+            → self.old.client.core.untold ≡ e ∷ rest → Stores seconds e self.old self.new result }
     {
         let Some(ended) = self.client.untold().first() else {
             return Ok(None);
@@ -263,7 +274,13 @@ impl<D: Disk> Ledger<D> {
         Ok(Some(stored))
     }
 
-    fn note_missing(&mut self, entry: Option<Entry>) -> Result<(), KeepFault> {
+    fn note_missing(&mut self, entry: Option<Entry>) -> Result<(), KeepFault>
+        requires is { IfSome entry IsEntry }
+        ensures noted { OnOk result (self.new.entries ≡ self.old.entries ++ option_to_list entry) }
+        ensures not_noted { OnErr result (self.new.entries ≡ self.old.entries) }
+        ensures untold { self.new.client.core.untold ≡ self.old.client.core.untold }
+        ensures pair { self.new.pair ≡ self.old.pair }
+    {
         match entry {
             Some(entry) => self.note(entry),
             None => Ok(()),
@@ -271,7 +288,11 @@ impl<D: Disk> Ledger<D> {
     }
 
     // The entry that an outcome leaves, where it isn't there already.
-    fn missing_entry(&self, ended: &Ended, seconds: u64) -> Result<Option<Entry>, NoMemory> {
+    fn missing_entry(&self, ended: &Ended, seconds: u64) -> Result<Option<Entry>, NoMemory>
+        ensures misses { IfOk result (λ found. Misses self.now.entries self.now.client.core.boxes seconds
+            (ended_in ended.now) found) }
+        ensures is { IfOk result (λ found. IfSome found IsEntry) }
+    {
         if has_outcome(&self.entries, ended.serial) {
             return Ok(None);
         }
@@ -285,8 +306,8 @@ impl<D: Disk> Ledger<D> {
         self.client.is_idle()
     }
 
-    /// The letters that are on the disk, and the boxes in which letters met, in the order in which they were read. A
-    /// letter that came twice, by its id, is there once; a box that held nothing isn't.
+    /// The letters that are on the disk, and the boxes in which letters met, in the order in which they were
+    /// read. A letter that came twice, by its id, is there once; a box that held nothing isn't.
     pub fn letters(&self) -> Result<Vec<&Reading>, NoMemory>
         ensures letters { IfOk result (λ told. map (λ r. r.now) told.items ≡ letters_of self.now.entries) }
         ensures remarks { self.now.client.core.remarks ≡ map entry_record self.now.entries }
@@ -400,8 +421,7 @@ fn is_live(entries: &[Entry], owned: &OwnedBox) -> bool
 fn is_leaving(entries: &[Entry], owned: &OwnedBox) -> bool
     ensures { result ≡ is_leaving entries.now owned.now }
 {
-    is_live(entries, owned)
-        && is_retiring(entries, name_of(entries, owned.serial).as_bytes())
+    is_live(entries, owned) && is_retiring(entries, name_of(entries, owned.serial).as_bytes())
 }
 
 fn named_boxes(alloc: Global, name: &str, addresses: &[u128]) -> Result<NamedBoxes, NoMemory>

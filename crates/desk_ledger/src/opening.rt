@@ -13,7 +13,8 @@ use desk_entries::Entry;
 use desk_texts::PairHead;
 use std::alloc::Global;
 
-/// How the client of a new desk is opened: on the owner's lane, with room for as many boxes as the servers have.
+/// How the client of a new desk is opened: on the owner's lane, with room for as many boxes as the servers
+/// have.
 pub(crate) fn opening_of(head: &PairHead, seed: [u8; 32]) -> ClientOpening
     requires { IsPair head.now }
     ensures value { result ≡ opening_of head.now seed }
@@ -70,7 +71,10 @@ fn pair_of(alloc: Global, entries: &[Entry]) -> Result<Pair, OpenFault>
 }
 
 /// The pair and the entries that remarks tell.
-pub(crate) fn entries_in(alloc: Global, remarks: &[Vec<u8>]) -> Result<(Pair, Vec<Entry>), OpenFault>
+pub(crate) fn entries_in(
+    alloc: Global,
+    remarks: &[Vec<u8>],
+) -> Result<(Pair, Vec<Entry>), OpenFault>
     ensures { IfOk result (λ desk. IsDesk desk.0 desk.1.items (map (λ words. words.items) remarks.now)) }
 {
     let entries = all_in(alloc, remarks)?;

@@ -36,8 +36,8 @@ fn first_entry(alloc: Global, text: &[u8]) -> Result<(Vec<Entry>, Vec<u8>), NoMe
 }
 
 impl<D: Disk> Ledger<D> {
-    /// A desk for the pair of servers of a pair file's text, on a disk with no byte. No more than `limit` bytes of the
-    /// disk will be used. The seed is one that was drawn, and no other desk's.
+    /// A desk for the pair of servers of a pair file's text, on a disk with no byte. No more than `limit`
+    /// bytes of the disk will be used. The seed is one that was drawn, and no other desk's.
     pub fn open(
         alloc: Global,
         text: &[u8],
@@ -64,7 +64,12 @@ impl<D: Disk> Ledger<D> {
         let Ok((entries, record)) = first_entry(alloc, text) else {
             return Err((OpenFault::Keep(KeepFault::NoMemory), disk));
         };
-        let mut client = match KeptClient::create(alloc, &opening_of(&pair.head, seed), disk, limit) {
+        let mut client = match KeptClient::create(
+            alloc,
+            &opening_of(&pair.head, seed),
+            disk,
+            limit,
+        ) {
             Ok(client) => client,
             Err((fault, disk)) => return Err((OpenFault::Keep(fault), disk)),
         };

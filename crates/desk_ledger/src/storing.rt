@@ -119,8 +119,9 @@ fn of_retire(alloc: Global, read: &Read, outcome: &KeptOutcome) -> Result<Option
     }
 }
 
-/// The entry that an outcome leaves at this time, in seconds since 1970 UTC: of a register the box, or that there is no
-/// address or no room for it; of a read what the box held, if anything; of a retire that, and that the box is retired.
+/// The entry that an outcome leaves at this time, in seconds since 1970 UTC: of a register the box, or that
+/// there is no address or no room for it; of a read what the box held, if anything; of a retire that, and
+/// that the box is retired.
 pub(crate) fn entry_of(
     alloc: Global,
     boxes: &[OwnedBox],

@@ -5,8 +5,8 @@ ghost use Rattle.desk_ledger.specs.Tasks.{request_of};
 
 use client_core::Request;
 
-/// What a desk asks the servers. A box of the desk's own goes by its place among them, counted from 0 in the order in
-/// which it got them.
+/// What a desk asks the servers. A box of the desk's own goes by its place among them, counted from 0 in the
+/// order in which it got them.
 #[derive(Clone, Copy, Debug, PartialEq, Eq)]
 pub enum Task {
     /// A box at this address.

@@ -11,8 +11,9 @@ use kept_errands::{Halt, finish};
 use node_journal::Disk;
 
 impl<D: Disk> Ledger<D> {
-    /// Works the current request off at the pair's servers, if there is one; `store` has then what came of it. Where the
-    /// work halts the request stands at the step that it had come to, and may be worked on again.
+    /// Works the current request off at the pair's servers, if there is one; `store` has then what came of
+    /// it. Where the work halts the request stands at the step that it had come to, and may be worked on
+    /// again.
     pub fn work<N: Net>(&mut self, net: &mut N) -> Result<(), Halt>
         ensures idle { self.old.client.core.client.current ≡ None
             → (result ≡ Ok (tt {0})) × (self.new ≡ self.old) × (net.new ≡ net.old) }

@@ -42,8 +42,10 @@ fn net_of(rt: &HostRuntime, serial: u8, length: u8, answer: &[u8]) -> Result<Mem
         let [kind, rest @ ..] = body else {
             return Err(Fail::new("no kind"));
         };
-        let mut bytes = [0, 0, 0, length, 1, *kind, 0, 15, 0, 0, 0, serial, 0, 0, 0, 0, 0, 0, 0, 0]
-            .to_vec(alloc)?;
+        let mut bytes = [
+            0, 0, 0, length, 1, *kind, 0, 15, 0, 0, 0, serial, 0, 0, 0, 0, 0, 0, 0, 0,
+        ]
+        .to_vec(alloc)?;
         bytes.extend_from_slice(rest)?;
         let conn = MemoryConn::new(alloc, &bytes, 99, &[])?;
         conns.push(conn).map_err(AllocError::from)?;
