@@ -1,5 +1,6 @@
 //! The word `open`.
-ghost use Rattle.std.specs.Prelude.{◌≡◌};
+ghost use Rattle.std.specs.Prelude.{◌≡◌, IfOk};
+ghost use Rattle.desk_texts.specs.Spelling.{IsSheet};
 ghost use Rattle.desk_run.specs.Ends.{Unfailed};
 
 use crate::around::Around;
@@ -33,11 +34,9 @@ pub(crate) fn paper_at<'a, P: Papers>(
 }
 
 /// The card or pair file that the text of a file at this path spells.
-pub(crate) fn sheet_in<'a>(
-    alloc: Global,
-    path: &'a str,
-    text: &[u8],
-) -> Result<Sheet, Trouble<'a>> {
+pub(crate) fn sheet_in<'a>(alloc: Global, path: &'a str, text: &[u8]) -> Result<Sheet, Trouble<'a>>
+    ensures { IfOk result (λ sheet. IsSheet sheet) }
+{
     match read_sheet(alloc, text) {
         Ok(sheet) => Ok(sheet),
         Err(TextFault::Wrong(line)) => Err(Trouble::BadLine(path, line)),

@@ -11,6 +11,7 @@ use desk_outbox::{Outbox, Reopened, StartFault};
 use desk_outside::{DeskFile, Folder};
 use desk_texts::Sheet;
 use desk_tries::{End, MOST_FURTHER, Next};
+use express_words::limits::MOST_WIDTH;
 use express_words::outside::{Net, Sink};
 use node_journal::Disk;
 use std::alloc::Global;
@@ -54,7 +55,11 @@ fn is_same_card(one: &Sheet, other: &Sheet) -> bool {
 
 /// Whether the letter that is on its way has this text, and goes out with this card.
 pub(crate) fn is_of<D: Disk>(outbox: &Outbox<D>, card: &Sheet, text: &[u8]) -> bool {
-    match open(outbox.message()) {
+    let message = outbox.message();
+    if message.len() > MOST_WIDTH as usize {
+        return false;
+    }
+    match open(message) {
         Opened::Letter { id: _, text: other } => other == text && is_same_card(outbox.card(), card),
         Opened::Empty => false,
         Opened::Met => false,

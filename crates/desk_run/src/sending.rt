@@ -1,5 +1,6 @@
 //! The word `send`.
-ghost use Rattle.std.specs.Prelude.{◌≡◌};
+ghost use Rattle.std.specs.Prelude.{◌≡◌, IfOk};
+ghost use Rattle.desk_outbox.specs.Outboxes.{IsCardSheet};
 ghost use Rattle.desk_run.specs.Ends.{Unfailed};
 
 use crate::around::Around;
@@ -19,11 +20,14 @@ use express_words::outside::{Net, Sink, Source};
 use std::alloc::Global;
 
 // The card in the file at a path.
+#[tactic(auto, using(crate::proofs::Cards::card_sheet))]
 fn card_at<'a, P: Papers>(
     alloc: Global,
     papers: &mut P,
     path: &'a str,
-) -> Result<Sheet, Trouble<'a>> {
+) -> Result<Sheet, Trouble<'a>>
+    ensures { IfOk result (λ card. IsCardSheet card) }
+{
     let text = paper_at(alloc, papers, path)?;
     let sheet = sheet_in(alloc, path, &text)?;
     match sheet.head {
@@ -72,7 +76,9 @@ fn start<'a, F: Folder>(
     text: &[u8],
     draws: &mut Draws,
     folder: &mut F,
-) -> Result<Outbox<F::File>, Trouble<'a>> {
+) -> Result<Outbox<F::File>, Trouble<'a>>
+    requires card { IsCardSheet card.now }
+{
     let disk = empty_file(folder, DeskFile::NextOutbox)?;
     match Outbox::start(alloc, card, text, draws, disk) {
         Ok(outbox) => {
@@ -92,6 +98,7 @@ fn begin<'a, S: Source, K: Sink, N: Net, F: Folder, P: Papers, C: Clock>(
     draws: &mut Draws,
     around: &mut Around<S, K, N, F, P, C>,
 ) -> Result<Outbox<F::File>, Trouble<'a>>
+    requires card { IsCardSheet card.now }
     ensures sink { Unfailed (K.seen around.old.out).faults (K.seen around.new.out).faults result }
     ensures net { Unfailed (N.seen around.old.net).faults (N.seen around.new.net).faults result }
 {

@@ -5,7 +5,7 @@ use std::test::Fail;
 const OPENED: &str = "the desk is open; make boxes and a card with box NAME\n";
 
 const NOT_REACHED: &str =
-    "not done yet: the leader of the two servers wasn't reached; nothing is lost, run it again\n";
+    "not done yet: the helper of the two servers wasn't reached; nothing is lost, run it again\n";
 
 #[test]
 fn a_desk_is_opened(rt: HostRuntime) -> Result<(), Fail> {

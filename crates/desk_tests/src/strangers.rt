@@ -9,7 +9,7 @@ fn a_letter_waits(rt: HostRuntime) -> Result<(), Fail> {
     assert!(rt; run(alloc, &["send", "h/card"], &mut around)? == 1);
     assert_eq!(rt;
         printed(&around)?,
-        "not done yet: the leader of the two servers wasn't reached; nothing is lost, run it again\n"
+        "not done yet: the helper of the two servers wasn't reached; nothing is lost, run it again\n"
     );
     assert!(rt; run(alloc, &["status"], &mut around)? == 0);
     assert!(rt;
