@@ -59,10 +59,10 @@ class Killer:
 
 
 class Desk:
-    """A desk's folder, with the words in front of its program."""
+    """A desk's folder. Its program has the words of one of the fronts before it, of each in turn."""
 
-    def __init__(self, program, folder, killer, front=()):
-        self.command, self.folder, self.killer = [*front, program, "--desk", folder], folder, killer
+    def __init__(self, program, folder, killer, fronts):
+        self.words, self.fronts, self.folder, self.killer = [program, "--desk", folder], fronts, folder, killer
         self.runs = 0
 
     def run(self, *words, text=b"", may_be_killed=True):
@@ -70,7 +70,8 @@ class Desk:
         self.runs += 1
         moment = self.killer.plan(words[0]) if may_be_killed else None
         begin = time.monotonic()
-        process = subprocess.Popen([*self.command, *words], stdin=subprocess.PIPE, stdout=subprocess.PIPE,
+        front = self.fronts[self.runs % len(self.fronts)]
+        process = subprocess.Popen([*front, *self.words, *words], stdin=subprocess.PIPE, stdout=subprocess.PIPE,
                                    stderr=subprocess.STDOUT)
         try:
             out, _ = process.communicate(text, timeout=processes.PATIENCE if moment is None else moment)
