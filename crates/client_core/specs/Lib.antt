@@ -4,5 +4,6 @@ pub mod Stages
 pub mod States
 pub mod Heard
 pub mod GivingUp
+pub mod LastProof
 pub mod Answers
 pub mod Writes

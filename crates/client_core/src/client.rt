@@ -9,6 +9,7 @@ ghost use Rattle.step_rules.specs.ClientReplies.{on_reply};
 ghost use Rattle.client_core.specs.Requests.{plain_request, fault_in};
 ghost use Rattle.client_core.specs.Answers.{addressed, bytes_of, progress_in, message_or};
 ghost use Rattle.client_core.specs.GivingUp.{given_up};
+ghost use Rattle.client_core.specs.LastProof.{at_last_proof};
 ghost use Rattle.client_core.specs.Writes.{write_sent, AreWords};
 
 use crate::progress::Progress;
@@ -153,6 +154,16 @@ impl Client {
         ensures { result ≡ progress_in (on_reply self.now frame.now).progress }
     {
         self.state.progress_at(frame)
+    }
+
+    /// Whether the present step is a write's last proof, the one to the leader.
+    pub fn is_at_last_proof(&self) -> bool
+        ensures { result ≡ at_last_proof self.now.current }
+    {
+        match self.state.stage {
+            None => false,
+            Some(stage) => stage.is_last_proof(),
+        }
     }
 
     /// The current request.

@@ -1,6 +1,7 @@
 //! The request that is current, and how far it has come.
 ghost use Rattle.std.specs.Prelude.{◌≡◌, ℕ, List};
 ghost use Rattle.step_rules.specs.ClientAsks.{server_of};
+ghost use Rattle.client_core.specs.LastProof.{is_last_proof};
 ghost use Rattle.client_core.specs.Stages.{current_in, request_in};
 
 /// A request without its message.
@@ -31,6 +32,16 @@ impl Stage {
             Stage::Submits(_) => 0,
             Stage::ProvesToHelper(_, _) => 1,
             Stage::ProvesToLeader(_, _) => 0,
+        }
+    }
+
+    /// Whether it is a write's last proof, the one to the leader.
+    pub(crate) fn is_last_proof(&self) -> bool
+        ensures { (message : List ℕ) → is_last_proof (current_in self.now message).step ≡ result }
+    {
+        match self {
+            Stage::ProvesToLeader(_, _) => true,
+            Stage::Deposits(_) | Stage::Submits(_) | Stage::ProvesToHelper(_, _) => false,
         }
     }
 

@@ -5,6 +5,7 @@ ghost use Rattle.step_rules.specs.ClientAsks.{asked, sends};
 ghost use Rattle.step_rules.specs.ClientReplies.{on_reply};
 ghost use Rattle.client_core.specs.Requests.{plain_request, fault_in};
 ghost use Rattle.client_core.specs.Answers.{addressed, bytes_of, progress_in};
+ghost use Rattle.client_core.specs.LastProof.{at_last_proof};
 ghost use Rattle.node_journal.specs.Disk.{IsUntouched, Within};
 ghost use Rattle.node_journal.specs.Records.{content, IsUndamaged};
 ghost use Rattle.client_restart.specs.Cores.{ended_in};
@@ -240,6 +241,20 @@ impl<D: Disk> KeptClient<D> {
             Ok(()) => Ok(progress),
             Err(fault) => Err(fault),
         }
+    }
+
+    /// What `hear` would answer to these bytes, where the disk takes them. Nothing changes.
+    pub fn progress_at(&self, frame: &[u8]) -> Progress
+        ensures { result ≡ progress_in (on_reply self.now.core.client frame.now).progress }
+    {
+        self.core.client.progress_at(frame)
+    }
+
+    /// Whether the present step is a write's last proof, the one to the leader.
+    pub fn is_at_last_proof(&self) -> bool
+        ensures { result ≡ at_last_proof self.now.core.client.current }
+    {
+        self.core.client.is_at_last_proof()
     }
 
     /// The requests that have ended and weren't told yet, the oldest first.

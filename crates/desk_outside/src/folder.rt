@@ -31,7 +31,7 @@ pub enum Hold {
 /// The folder of a desk, with a count of its faults.
 pub trait Folder: Counted {
     /// What an opening gives.
-    type File: Disk;
+    type File: Disk + Drop;
 
     /// Its calls so far, if it tells.
     ghost calls: { Self → Option (List FolderCall) };

@@ -8,7 +8,7 @@ use express_words::outside::{Counted, Failed, Source};
 /// Files that are named on the command line: pair files, cards and letters. With a count of its faults.
 pub trait Papers: Counted {
     /// What a read gives.
-    type Paper: Source;
+    type Paper: Source + Drop;
 
     /// The file at this path, from its first byte on.
     fn read(&mut self, path: &str) -> Result<Self::Paper, Failed>

@@ -9,5 +9,5 @@ mod stop;
 
 pub use asking::one_request;
 pub use finished::{Finished, Told, line};
-pub use peers::Peers;
+pub use peers::{Peers, address_of};
 pub use stop::Stop;

@@ -2,9 +2,13 @@
 #![tactic(auto)]
 
 #[cfg(test)]
+mod desk;
+#[cfg(test)]
 mod door;
 #[cfg(test)]
 mod journal;
+#[cfg(test)]
+mod letters;
 #[cfg(test)]
 mod notes;
 #[cfg(test)]

@@ -1,0 +1,4 @@
+pub mod AddressLaws
+pub mod EntryLaws
+pub mod LetterLaws
+pub mod TextLaws

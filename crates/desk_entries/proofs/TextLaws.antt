@@ -1,0 +1,25 @@
+-- A name is ASCII.
+use Rattle.std.proofs.Common.{◌≡◌, ℕ, zero, suc, ◌<◌, true, List, [], ◌∷◌, arith}
+use Rattle.std.specs.List.{list_all}
+use Rattle.std.specs.Str.{IsAscii, IsUtf8}
+use Rattle.std.proofs.lemmas.Bool.{and_parts}
+use Rattle.std.proofs.lemmas.Bool.Decides.{nat_tests}
+use Rattle.std.proofs.lemmas.Str.{IsUtf8-from_ascii}
+use Rattle.desk_entries.specs.Names.{is_name_byte, is_name}
+
+byte_ascii : (b : ℕ) → is_name_byte b ≡ true → b < 128
+byte_ascii b h = grind (arith, nat_tests)
+
+all_ascii : (text : List ℕ) → list_all is_name_byte text ≡ true → IsAscii text
+all_ascii [] h i = omega arith
+all_ascii (b ∷ text) h zero = byte_ascii b (and_parts (is_name_byte b) (list_all is_name_byte text) h).0
+all_ascii (b ∷ text) h (suc i) = all_ascii text (and_parts (is_name_byte b) (list_all is_name_byte text) h).1 i
+
+name_bytes : (text : List ℕ) → is_name text ≡ true → list_all is_name_byte text ≡ true
+unfolding is_name
+name_bytes text h =
+    let p = and_parts _ _ h in
+    (and_parts _ (list_all is_name_byte text) p.1).1
+
+pub name_utf8 : (text : List ℕ) → is_name text ≡ true → IsUtf8 text
+name_utf8 text h = IsUtf8-from_ascii text (all_ascii text (name_bytes text h))

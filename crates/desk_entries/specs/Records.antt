@@ -1,0 +1,85 @@
+-- The records of entries. Numbers are big-endian.
+use Rattle.std.specs.Prelude.{◌≡◌, ◌≤◌, ℕ, Bool, true, false, List, [], ◌∷◌, ◌++◌, length}
+use Rattle.std.specs.Int.{w32, w64, w128, to_be_bytes}
+use Rattle.std.specs.List.{flat_map}
+use Rattle.desk_entries.specs.declared.entry.BoxAt.{BoxAt}
+use Rattle.desk_entries.specs.declared.entry.Denial.{Denial}
+use Rattle.desk_entries.specs.declared.entry.Denial.TheVariants.{Taken, Full}
+use Rattle.desk_entries.specs.declared.entry.Denied.{Denied}
+use Rattle.desk_entries.specs.declared.entry.Entry.{Entry}
+use Rattle.desk_entries.specs.declared.entry.Entry.TheVariants.{Pair, Named, Registered, Refused, Read, Retiring, Shown}
+use Rattle.desk_entries.specs.declared.entry.Held.{Held}
+use Rattle.desk_entries.specs.declared.entry.Held.TheVariants.{Nothing, Letter, Met}
+use Rattle.desk_entries.specs.declared.entry.NamedBoxes.{NamedBoxes}
+use Rattle.desk_entries.specs.declared.entry.Reading.{Reading}
+use Rattle.desk_entries.specs.Entries.{IsFormed, IsNamed}
+
+-- how many addresses, the addresses in 16 bytes each, and the name
+abbrev pub named_record : NamedBoxes → List ℕ
+named_record n = length n.addresses ∷ flat_map (to_be_bytes w128) n.addresses ++ n.name
+
+abbrev pub box_record : BoxAt → List ℕ
+box_record b = to_be_bytes w32 b.serial ++ to_be_bytes w128 b.address
+
+abbrev pub denial_byte : Denial → ℕ
+denial_byte Taken = 0
+denial_byte Full = 1
+
+abbrev pub denied_record : Denied → List ℕ
+denied_record d = denial_byte d.denial ∷ to_be_bytes w32 d.serial ++ to_be_bytes w128 d.address
+
+abbrev pub held_record : Held → List ℕ
+held_record Nothing = 0 ∷ []
+held_record (Letter id text) = 1 ∷ to_be_bytes w64 id ++ text
+held_record Met = 2 ∷ []
+
+abbrev pub flag : Bool → ℕ
+flag true = 1
+flag false = 0
+
+abbrev pub reading_record : Reading → List ℕ
+reading_record r =
+    flag r.last ∷ to_be_bytes w32 r.serial ++ to_be_bytes w32 r.registered ++ to_be_bytes w64 r.seconds
+    ++ held_record r.held
+
+abbrev pub IsNoNamed : List ℕ → Type 0
+IsNoNamed bytes = (n : NamedBoxes) → IsNamed n → bytes ≡ named_record n → ⊥
+
+-- ---- any entry
+
+abbrev pub tag : Entry → ℕ
+tag (Pair text) = 1
+tag (Named n) = 2
+tag (Registered b) = 3
+tag (Refused d) = 4
+tag (Read r) = 5
+tag (Retiring name) = 6
+tag (Shown count) = 7
+
+abbrev pub content : Entry → List ℕ
+content (Pair text) = text
+content (Named n) = named_record n
+content (Registered b) = box_record b
+content (Refused d) = denied_record d
+content (Read r) = reading_record r
+content (Retiring name) = name
+content (Shown count) = to_be_bytes w32 count
+
+-- a tag for each kind, and behind it what the entry holds
+abbrev pub entry_record : Entry → List ℕ
+entry_record e = tag e ∷ content e
+
+-- ---- which values are entries
+
+-- an entry of the form, with a record of at most 8,213 bytes
+pub record IsEntry (e : Entry) : Type 0 where
+  pub formed : IsFormed e
+  pub few : length (entry_record e) ≤ 8213
+
+abbrev pub AreEntries : List Entry → Type 0
+AreEntries [] = Unit {0}
+AreEntries (e ∷ entries) = IsEntry e × AreEntries entries
+
+-- the record is no entry's
+abbrev pub IsNoEntry : List ℕ → Type 0
+IsNoEntry bytes = (e : Entry) → IsEntry e → bytes ≡ entry_record e → ⊥

@@ -1,0 +1,79 @@
+//! The word `resume`, and what every word does first.
+ghost use Rattle.std.specs.Prelude.{◌≡◌};
+ghost use Rattle.desk_run.specs.Ends.{Unfailed};
+
+use crate::around::Around;
+use crate::carrying::carry_on;
+use crate::ending::End;
+use crate::ledgers::ledger_in;
+use crate::outboxes::{outbox_in, tell_end, work_off};
+use crate::saying::say;
+use crate::trouble::Trouble;
+use desk_draws::Draws;
+use desk_ledger::Ledger;
+use desk_outside::{Clock, Folder, Papers};
+use desk_tries::End as LetterEnd;
+use express_words::outside::{Net, Sink, Source};
+use std::alloc::Global;
+
+// Works a letter off that is on its way, and tells what became of it. None where there is none.
+fn resume_letter<'a, S: Source, K: Sink, N: Net, F: Folder, P: Papers, C: Clock>(
+    alloc: Global,
+    draws: &mut Draws,
+    around: &mut Around<S, K, N, F, P, C>,
+) -> Result<Option<LetterEnd>, Trouble<'a>>
+    ensures sink { Unfailed (K.seen around.old.out).faults (K.seen around.new.out).faults result }
+    ensures net { Unfailed (N.seen around.old.net).faults (N.seen around.new.net).faults result }
+{
+    let Some(outbox) = outbox_in(alloc, &mut around.folder)? else {
+        return Ok(None);
+    };
+    let end = work_off(alloc, outbox, draws, &mut around.folder, &mut around.net)?;
+    tell_end(
+        "the letter that was on its way: ",
+        end,
+        &mut around.folder,
+        &mut around.out,
+    )?;
+    Ok(Some(end))
+}
+
+/// Carries on what is left to be done at the desk, and gives it; None where there is no desk.
+pub(crate) fn resume_desk<'a, S: Source, K: Sink, N: Net, F: Folder, P: Papers, C: Clock>(
+    alloc: Global,
+    around: &mut Around<S, K, N, F, P, C>,
+) -> Result<Option<Ledger<F::File>>, Trouble<'a>>
+    ensures sink { Unfailed (K.seen around.old.out).faults (K.seen around.new.out).faults result }
+    ensures net { Unfailed (N.seen around.old.net).faults (N.seen around.new.net).faults result }
+{
+    let Some(mut ledger) = ledger_in(alloc, &mut around.folder)? else {
+        return Ok(None);
+    };
+    carry_on(&mut ledger, &mut around.net, &mut around.clock)?;
+    Ok(Some(ledger))
+}
+
+// How the word ends, by what became of a letter.
+fn end_of(end: Option<LetterEnd>) -> End {
+    match end {
+        None | Some(LetterEnd::Written) => End::Done,
+        Some(LetterEnd::NotWritten) | Some(LetterEnd::MaybeWritten) => End::NotWritten,
+    }
+}
+
+/// Finishes what is under way: a letter, and then what is left to be done at the desk, even where the letter couldn't be
+/// worked off.
+pub(crate) fn resume<'a, S: Source, K: Sink, N: Net, F: Folder, P: Papers, C: Clock>(
+    alloc: Global,
+    draws: &mut Draws,
+    around: &mut Around<S, K, N, F, P, C>,
+) -> Result<End, Trouble<'a>>
+    ensures sink { Unfailed (K.seen around.old.out).faults (K.seen around.new.out).faults result }
+    ensures net { Unfailed (N.seen around.old.net).faults (N.seen around.new.net).faults result }
+{
+    let letter = resume_letter(alloc, draws, around);
+    let _ = resume_desk(alloc, around)?;
+    let end = letter?;
+    say(&mut around.out, "nothing is under way any more\n")?;
+    Ok(end_of(end))
+}

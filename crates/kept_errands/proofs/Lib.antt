@@ -1,0 +1,4 @@
+pub mod TalkLaws
+pub mod StepLaws
+pub mod OnwardLaws
+pub mod WorkLaws
