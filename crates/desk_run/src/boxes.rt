@@ -24,18 +24,18 @@ fn drawn(alloc: Global, draws: &mut Draws, count: u32) -> Result<Vec<u128>, NoMe
     Ok(addresses)
 }
 
-// Wants so many boxes with a name, where there are none yet.
+// Wants so many boxes with a name, where there are none yet. Says whether there were some before.
 fn want<'a, D: Disk>(
     alloc: Global,
     ledger: &mut Ledger<D>,
     name: &str,
     count: u32,
     draws: &mut Draws,
-) -> Result<(), Trouble<'a>> {
+) -> Result<bool, Trouble<'a>> {
     let addresses = drawn(alloc, draws, count)?;
     match ledger.add_name(name, &addresses)? {
-        Ok(()) => Ok(()),
-        Err(NameFault::Used) => Ok(()),
+        Ok(()) => Ok(false),
+        Err(NameFault::Used) => Ok(true),
         Err(fault) => Err(Trouble::Name(fault)),
     }
 }
@@ -52,8 +52,15 @@ pub(crate) fn open_boxes<'a, S: Source, K: Sink, N: Net, F: Folder, P: Papers, C
     ensures net { Unfailed (N.seen around.old.net).faults (N.seen around.new.net).faults result }
 {
     let (name, count) = wanted;
-    want(alloc, ledger, name, count, draws)?;
+    let used = want(alloc, ledger, name, count, draws)?;
     carry_on(ledger, &mut around.net, &mut around.clock)?;
+    if ledger.card(name)?.is_none() {
+        return Err(if used {
+            Trouble::Name(NameFault::Used)
+        } else {
+            Trouble::NoRoom
+        });
+    }
     show_card(alloc, ledger, name, &mut around.out)?;
     say(
         &mut around.out,

@@ -1,5 +1,5 @@
 //! What is left to be done, carried on.
-ghost use Rattle.std.specs.Prelude.{◌≡◌};
+ghost use Rattle.std.specs.Prelude.{◌≡◌, Err};
 ghost use Rattle.desk_run.specs.Ends.{Unfailed};
 
 use crate::ledgers::is_full;
@@ -51,6 +51,8 @@ pub(crate) fn settle<'a, D: Disk, N: Net, C: Clock>(
     clock: &mut C,
 ) -> Result<(), Trouble<'a>>
     ensures net { Unfailed (N.seen net.old).faults (N.seen net.new).faults result }
+    ensures refused { (r : Refusal) → result ≡ Err (Trouble.Refused r)
+        → (N.seen net.new).faults ≡ (N.seen net.old).faults }
 {
     if let Err(halt) = ledger.work(net) {
         return Err(halted(halt, ledger.server()));
@@ -72,6 +74,8 @@ pub(crate) fn do_task<'a, D: Disk, N: Net, C: Clock>(
     clock: &mut C,
 ) -> Result<(), Trouble<'a>>
     ensures net { Unfailed (N.seen net.old).faults (N.seen net.new).faults result }
+    ensures refused { (r : Refusal) → result ≡ Err (Trouble.Refused r)
+        → (N.seen net.new).faults ≡ (N.seen net.old).faults }
 {
     if is_full(ledger.used()) {
         return Err(Trouble::Full);

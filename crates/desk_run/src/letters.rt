@@ -14,7 +14,7 @@ use express_words::outside::{Net, Sink, Source};
 use node_journal::Disk;
 use std::alloc::Global;
 
-// Reads each live box once.
+// Reads each live box once, also behind one whose read was refused.
 fn fetch<'a, D: Disk, N: Net, C: Clock>(
     ledger: &mut Ledger<D>,
     net: &mut N,
@@ -23,10 +23,18 @@ fn fetch<'a, D: Disk, N: Net, C: Clock>(
     ensures net { Unfailed (N.seen net.old).faults (N.seen net.new).faults result }
 {
     let live = ledger.live()?;
+    let mut refused = None;
     'boxes: for own in live.iter() {
-        do_task(ledger, Task::Read(*own), net, clock)?;
+        match do_task(ledger, Task::Read(*own), net, clock) {
+            Ok(()) => {}
+            Err(Trouble::Refused(refusal)) => refused = Some(refusal),
+            Err(trouble) => return Err(trouble),
+        }
     }
-    Ok(())
+    match refused {
+        Some(refusal) => Err(Trouble::Refused(refusal)),
+        None => Ok(()),
+    }
 }
 
 /// Shows what is new, into a folder where one is named.

@@ -61,8 +61,7 @@ fn end_of(end: Option<LetterEnd>) -> End {
     }
 }
 
-/// Finishes what is under way: a letter, and then what is left to be done at the desk, even where the letter couldn't be
-/// worked off.
+/// Finishes what is under way: a letter, and then what is left to be done at the desk.
 pub(crate) fn resume<'a, S: Source, K: Sink, N: Net, F: Folder, P: Papers, C: Clock>(
     alloc: Global,
     draws: &mut Draws,
@@ -71,9 +70,8 @@ pub(crate) fn resume<'a, S: Source, K: Sink, N: Net, F: Folder, P: Papers, C: Cl
     ensures sink { Unfailed (K.seen around.old.out).faults (K.seen around.new.out).faults result }
     ensures net { Unfailed (N.seen around.old.net).faults (N.seen around.new.net).faults result }
 {
-    let letter = resume_letter(alloc, draws, around);
+    let end = resume_letter(alloc, draws, around)?;
     let _ = resume_desk(alloc, around)?;
-    let end = letter?;
     say(&mut around.out, "nothing is under way any more\n")?;
     Ok(end_of(end))
 }

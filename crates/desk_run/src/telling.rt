@@ -40,6 +40,9 @@ impl fmt::Display for Trouble<'_> {
                 f,
                 "there are no boxes of the name {name}; status shows the names\n"
             ),
+            Trouble::NoRoom => f.write_str(
+                "not done: the servers have no room for these boxes; ask your operator\n",
+            ),
             Trouble::Name(fault) => write!(f, "not done: {fault}\n"),
             _ => self.fmt_of_servers(f),
         }

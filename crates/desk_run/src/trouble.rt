@@ -69,6 +69,8 @@ pub enum Trouble<'a> {
     OtherDesk,
     /// The desk has no live box of this name.
     NoName(&'a str),
+    /// The servers gave no box.
+    NoRoom,
     /// The name isn't taken.
     Name(NameFault),
     /// A file of the desk isn't what was written into it.

@@ -117,7 +117,7 @@ fn task_of<'a>(
 // The letters are to be written into a folder, if that is what these values ask for.
 fn written_letters<'a>(given: &Given<'a>, word: &str, out: &'a str) -> Option<DeskTask<'a>>
     requires word { option_map (λ s. s.now) given.now.word ≡ Some word.now }
-    requires out { option_map (λ s. s.now) given.now.out ≡ Some out.entry.now }
+    requires out { option_map (λ s. s.now) given.now.out ≡ Some out.now }
     ensures { IsTaskOf (said_at given.now) result }
 {
     if word == "letters" && given.first.is_none() && given.second.is_none() {
