@@ -10,6 +10,7 @@ import time
 import plain
 import processes
 
+PATIENCE = 900  # seconds for a run: a proxy that finds an address hurried lets each of its connections wait
 DONE, LATER, WORDS, FILE, IN_USE, MET = range(6)  # the statuses
 DESK = os.path.join(processes.TOP, "crates/express_desk/out/express_desk")
 BEYOND = 1.2  # a kill comes at most so many times as late as a run takes mostly
@@ -59,10 +60,10 @@ class Killer:
 
 
 class Desk:
-    """A desk's folder, with the words in front of its program."""
+    """A desk's folder. Its program has the words of one of the fronts before it, of each in turn."""
 
-    def __init__(self, program, folder, killer, front=()):
-        self.command, self.folder, self.killer = [*front, program, "--desk", folder], folder, killer
+    def __init__(self, program, folder, killer, fronts):
+        self.words, self.fronts, self.folder, self.killer = [program, "--desk", folder], fronts, folder, killer
         self.runs = 0
 
     def run(self, *words, text=b"", may_be_killed=True):
@@ -70,10 +71,11 @@ class Desk:
         self.runs += 1
         moment = self.killer.plan(words[0]) if may_be_killed else None
         begin = time.monotonic()
-        process = subprocess.Popen([*self.command, *words], stdin=subprocess.PIPE, stdout=subprocess.PIPE,
+        front = self.fronts[self.runs % len(self.fronts)]
+        process = subprocess.Popen([*front, *self.words, *words], stdin=subprocess.PIPE, stdout=subprocess.PIPE,
                                    stderr=subprocess.STDOUT)
         try:
-            out, _ = process.communicate(text, timeout=processes.PATIENCE if moment is None else moment)
+            out, _ = process.communicate(text, timeout=PATIENCE if moment is None else moment)
         except subprocess.TimeoutExpired:
             process.kill()
             out, _ = process.communicate()
@@ -83,7 +85,7 @@ class Desk:
     def ended(self, run, moment, seconds):
         """Counts a kill as one; where none was meant, the run took too long."""
         if run.status < 0 and moment is None:
-            raise plain.Differs(f"it takes more than {processes.PATIENCE} seconds: {run}")
+            raise plain.Differs(f"it takes more than {PATIENCE} seconds: {run}")
         if run.status < 0:
             self.killer.note_kill(run.words[0])
             run.status = None
