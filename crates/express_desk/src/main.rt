@@ -9,12 +9,10 @@ mod missing;
 use desk_files::{DeskFolder, DeskPaths, PaperFiles, SystemClock, SystemFolder, SystemPapers};
 use desk_run::{Around, run_desk};
 use desk_words::folder_of;
-use express_cli::seed_of;
-use express_outside::{Adapter, Direct, TcpNet, TcpPorts};
+use express_outside::{Adapter, Direct, TcpNet, TcpPorts, random_seed};
 use missing::{Missing, why_no_words};
-use std::fs::File;
 use std::process::ExitCode;
-use std::rt::{Env, Files};
+use std::rt::Env;
 use std::{env, io};
 
 /// The desk's folder in the user's own, where the words name none.
@@ -24,14 +22,6 @@ const FOLDER: &str = ".express-desk";
 fn words_of<R: Env + AllocGlobal>(rt: &R) -> Result<Vec<String>, Missing> {
     let all = env::args(rt).map_err(|error| why_no_words(&error))?;
     all.skip(1).collect(rt.alloc()).map_err(|_| Missing::Memory)
-}
-
-// 32 random bytes.
-fn random_seed<R: Files>(rt: &R) -> Result<[u8; 32], Missing>
-    ensures { IfErr result (λ missing. missing ≡ Missing.Seed) }
-{
-    let random = File::open(rt, "/dev/urandom").map_err(|_| Missing::Seed)?;
-    seed_of(&mut Adapter::new(Direct(random))).map_err(|_| Missing::Seed)
 }
 
 // The paths of the desk in the user's own folder.
@@ -70,7 +60,7 @@ fn work(rt: &HostRuntime, words: &Vec<String>, seed: &[u8; 32], paths: &DeskPath
 fn start(rt: &HostRuntime) -> Result<u8, Missing> {
     let words = words_of(rt)?;
     let paths = paths_of(rt, &words)?;
-    let seed = random_seed(rt)?;
+    let seed = random_seed(rt).map_err(|_| Missing::Seed)?;
     Ok(work(rt, &words, &seed, &paths))
 }
 
