@@ -3,6 +3,7 @@ pub mod CoreLaws
 pub mod FaultLaws
 pub mod HistoryLaws
 pub mod KeptLaws
+pub mod MakingLaws
 pub mod NoteLaws
 pub mod OpeningLaws
 pub mod ReplayLaws

@@ -1,5 +1,5 @@
 //! A client that writes each request and each reply to a journal before it acts on it.
-ghost use Rattle.std.specs.Prelude.{◌≡◌, ◌≢◌, ◌↔◌, ◌≤◌, ◌<◌, ◌+◌, ◌^◌, ℕ, List, [], ◌∷◌, ◌++◌, true, false, length, take, drop, map, nat_le, is_none, Some, None, Ok, Err, IfOk, IfErr, OnOk, OnErr, IsOk, option_map};
+ghost use Rattle.std.specs.Prelude.{◌≡◌, ◌≢◌, ◌↔◌, ◌≤◌, ◌<◌, ◌+◌, ◌^◌, ℕ, List, [], ◌∷◌, ◌++◌, true, false, length, take, drop, map, nat_le, is_none, Some, None, Ok, Err, IfOk, IfErr, OnOk, OnErr, IsOk, MatchResult, option_map};
 ghost use Rattle.frame_rules.specs.Room.{HasRoom};
 ghost use Rattle.step_rules.specs.ClientAsks.{asked, sends};
 ghost use Rattle.step_rules.specs.ClientReplies.{on_reply};
@@ -52,7 +52,7 @@ impl<D: Disk> Model for KeptClient<D> {
 }
 
 impl<D: Disk> KeptClient<D> {
-    ghost use Rattle.client_restart.specs.Kept.{HoldsNotes, IsDamagedAt, Stands};
+    ghost use Rattle.client_restart.specs.Kept.{HoldsNotes, IsDamagedAt, MakesOnly, Stands};
     ghost use Rattle.client_restart.specs.Keeps.{Keeps, sight};
 
     /// A client before its first request, on a disk with no byte. No more than `limit` bytes of the disk will be
@@ -86,6 +86,12 @@ impl<D: Disk> KeptClient<D> {
         ensures no_memory_stays { IfErr result (λ x. OnNoMemory x.0 (x.1 ≡ disk)) }
         ensures counts_ok { IfOk result (λ k. (D.Counted.seen k.disk).faults ≡ (D.Counted.seen disk).faults) }
         ensures counts { IfErr result (λ x. CountsFault (D.Counted.seen disk).faults (D.Counted.seen x.1).faults x.0) }
+
+        // Where a crash before the call leaves no byte, a crash at any moment of it leaves no record, or exactly
+        // the opening's.
+        ensures any_moment { MatchResult result
+            (λ k. MakesOnly limit opening.now (D.disk disk) (D.disk k.disk))
+            (λ x. MakesOnly limit opening.now (D.disk disk) (D.disk x.1)) }
     {
         let Ok(core) = Core::open(alloc, opening) else {
             return Err((KeepFault::NoMemory, disk));

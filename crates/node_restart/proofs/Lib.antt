@@ -3,6 +3,7 @@ pub mod FrameLaws
 pub mod HandLaws
 pub mod KeepLaws
 pub mod KeptLaws
+pub mod MakingLaws
 pub mod OpeningLaws
 pub mod ReplayLaws
 pub mod StepLaws

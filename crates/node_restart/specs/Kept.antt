@@ -1,7 +1,7 @@
 -- A server with its journal, and what stands on its disk.
-use Rattle.std.specs.Prelude.{◌≡◌, ◌⊎◌, ℕ, List, [], ◌∷◌, ◌++◌, drop, true, false, Err}
-use Rattle.node_journal.specs.Disk.{DiskSeen}
-use Rattle.node_journal.specs.Records.{content, records_from, IsUndamaged}
+use Rattle.std.specs.Prelude.{◌≡◌, ◌⊎◌, ℕ, ◌≤◌, List, [], ◌∷◌, ◌++◌, length, drop, true, false, Err}
+use Rattle.node_journal.specs.Disk.{DiskSeen, LeavesOnly}
+use Rattle.node_journal.specs.Records.{content, records_from, IsUndamaged, LeavesNoByte}
 use Rattle.node_journal.specs.Next.{found}
 use Rattle.node_journal.specs.Journal.{JournalState, IsInPlace}
 use Rattle.node_journal.specs.declared.fault.JournalFault.TheVariants.{Damaged}
@@ -35,6 +35,16 @@ abbrev pub LeavesFrames : ℕ → Opening → List Handed → Handed → List �
 LeavesFrames limit o frames added c =
     ((content c ≡ records_of o frames) ⊎ (content c ≡ records_of o (frames ++ added ∷ [])))
     × IsUndamaged limit 0 c
+
+-- A crash leaves no record or exactly the opening's, and nothing that a journal under the same limit would find
+-- damaged, unless it is one byte at most.
+abbrev pub LeavesOpening : ℕ → Opening → List ℕ → Type 0
+LeavesOpening limit o c =
+    ((content c ≡ []) ⊎ (content c ≡ records_of o [])) × ((length c ≤ 1) ⊎ IsUndamaged limit 0 c)
+
+-- Where a crash before leaves no byte, one at any moment since then leaves just this.
+unfoldable pub MakesOnly : ℕ → Opening → (old new : DiskSeen) → Type 0
+MakesOnly limit o old new = LeavesNoByte old.may_leave → LeavesOnly old new (LeavesOpening limit o)
 
 -- until a call on the disk fails, the journal is in place and what stands on its disk gives the server
 pub record IsKept (o : Opening) (core : Core) (journal : JournalState) (disk : DiskSeen) : Type 0 where

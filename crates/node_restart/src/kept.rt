@@ -1,5 +1,5 @@
 //! A server that writes each frame to a journal before it acts on it.
-ghost use Rattle.std.specs.Prelude.{◌≡◌, ◌≢◌, ◌↔◌, ◌≤◌, ◌<◌, ◌+◌, ◌^◌, ℕ, List, [], ◌∷◌, ◌++◌, true, false, length, take, drop, Some, None, Ok, Err, IfOk, IfErr, OnOk, OnErr, IsOk, IfSome, IsNone, option_map};
+ghost use Rattle.std.specs.Prelude.{◌≡◌, ◌≢◌, ◌↔◌, ◌≤◌, ◌<◌, ◌+◌, ◌^◌, ℕ, List, [], ◌∷◌, ◌++◌, true, false, length, take, drop, Some, None, Ok, Err, IfOk, IfErr, OnOk, OnErr, IsOk, IfSome, IsNone, MatchResult, option_map};
 ghost use Rattle.express_words.specs.Limits.{KeepsLimits};
 ghost use Rattle.frame_rules.specs.Spelling.{spelling};
 ghost use Rattle.leader_core.specs.Told.{sent_length};
@@ -43,7 +43,7 @@ impl<D: Disk> Model for Kept<D> {
 }
 
 impl<D: Disk> Kept<D> {
-    ghost use Rattle.node_restart.specs.Kept.{HoldsFrames, Stands, LeavesFrames, IsDamagedAt};
+    ghost use Rattle.node_restart.specs.Kept.{HoldsFrames, Stands, LeavesFrames, MakesOnly, IsDamagedAt};
 
     /// A server before its first frame, on a disk with no byte. No more than `limit` bytes of the disk will
     /// be used.
@@ -77,6 +77,12 @@ impl<D: Disk> Kept<D> {
         ensures no_memory_stays { IfErr result (λ x. OnNoMemory x.0 (x.1 ≡ disk)) }
         ensures counts_ok { IfOk result (λ k. (D.Counted.seen k.disk).faults ≡ (D.Counted.seen disk).faults) }
         ensures counts { IfErr result (λ x. CountsFault (D.Counted.seen disk).faults (D.Counted.seen x.1).faults x.0) }
+
+        // Where a crash before the call leaves no byte, a crash at any moment of it leaves no record, or exactly
+        // the opening's.
+        ensures any_moment { MatchResult result
+            (λ k. MakesOnly limit opening.now (D.disk disk) (D.disk k.disk))
+            (λ x. MakesOnly limit opening.now (D.disk disk) (D.disk x.1)) }
     {
         let Ok(core) = Core::open(alloc, opening) else {
             return Err((KeepFault::NoMemory, disk));

@@ -4,6 +4,7 @@ use Rattle.node_restart.specs.Steps.{settings_of, role_of}
 use Rattle.node_journal.specs.declared.fault.JournalFault.{JournalFault}
 use Rattle.node_restart.proofs.FaultLaws.{on_full, on_not_empty}
 use Rattle.node_restart.proofs.StepLaws.{opened_settings, opened_role}
+use Rattle.node_restart.proofs.MakingLaws.{none_left, opening_left}
 use Rattle.node_restart.proofs.kept.Kept.create.Goals as goal
 
 pub invariant_of-result : goal.invariant_of-result
@@ -32,3 +33,15 @@ returns-in-Err-clause-full g c =
     on_full c.in-Err.fault (λ n. (n ≡ 0) × (c.args.limit < 51) × Empty) (λ n e.
     let full = c.in-Err.ensures.full n (ap (λ (f : JournalFault). Err f) e) in
     (full.0, omega (arith, full.1), full.2))
+
+pub returns-in_default-clause-any_moment : goal.returns-in_default-clause-any_moment
+returns-in_default-clause-any_moment g c =
+    none_left c.args.limit c.args.opening.now (g.D.Disk.disk c.args.disk) (λ f left. g.met.D.Disk.only_now c.args.disk f left)
+
+pub returns-in-Ok-create-clause-any_moment : goal.returns-in-Ok-create-clause-any_moment
+returns-in-Ok-create-clause-any_moment g c =
+    opening_left c.args.limit c.args.opening.now c.record.result (g.D.Disk.disk c.args.disk) (g.D.Disk.disk c.create.new.disk) c.record.ensures c.in-Ok-create.ensures.any_moment
+
+pub returns-in-Err-clause-any_moment : goal.returns-in-Err-clause-any_moment
+returns-in-Err-clause-any_moment g c =
+    opening_left c.args.limit c.args.opening.now c.record.result (g.D.Disk.disk c.args.disk) (g.D.Disk.disk c.create.new.disk) c.record.ensures c.in-Err.ensures.any_moment
