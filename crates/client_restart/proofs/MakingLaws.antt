@@ -1,5 +1,5 @@
 -- What a crash leaves while a journal is made.
-use Rattle.std.proofs.Common.{◌≡◌, ◌≤◌, ℕ, List, [], length, inl, ap, subst, arith}
+use Rattle.std.proofs.Common.{◌≡◌, ℕ, List, [], length, inl, ap, subst, arith}
 use Rattle.node_journal.specs.Disk.{DiskSeen, LeavesOnly, Within}
 use Rattle.node_journal.specs.Records.{content, LeavesNoByte, LeavesNoneOrFirst}
 use Rattle.client_restart.specs.declared.opening.ClientOpening.{ClientOpening}

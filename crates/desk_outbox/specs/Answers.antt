@@ -50,4 +50,4 @@ halts c (Err why) = stop_at why
 -- the serial that an answer names
 abbrev pub named_by : Answer → Option ℕ
 named_by (answer.Refused (refusal.Stale serial)) = Some serial
-named_by other = None
+named_by a = None

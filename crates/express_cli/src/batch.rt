@@ -1,6 +1,5 @@
 //! Judges pairs of closings, and says which are rejected.
 ghost use Rattle.std.specs.Prelude.{◌≡◌, ◌≢◌, ◌≤◌, ◌++◌, length, IfOk, OnOk, string_bytes};
-ghost use Rattle.express_texts.specs.Batch.{most_pairs};
 ghost use Rattle.express_texts.specs.Judging.{batch_in};
 ghost use Rattle.express_cli.specs.Batches.{verdict_line, rejected_lines, batch_text, IsBatchText};
 ghost use Rattle.express_cli.specs.Ends.{Prints, WorkMay};
@@ -51,9 +50,8 @@ fn text_of(alloc: Global, rejected: &[bool], judged: u32) -> Result<String, Allo
 }
 
 // The text of the pairs' sort.
-#[tactic(auto, unfolding(express_texts::specs::Batch::most_pairs))]
 fn batch_text(alloc: Global, pairs: &BatchPairs) -> Result<String, NoMemory>
-    requires few { length pairs.now.zero ≤ most_pairs }
+    requires few { length pairs.now.zero ≤ 20000 }
     requires as_many { length pairs.now.one ≡ length pairs.now.zero }
     ensures { IfOk result (λ text. IsBatchText (batch_in pairs.now) (string_bytes text)) }
 {

@@ -4,8 +4,7 @@ use Rattle.std.proofs.lemmas.Bool.{eqb-true, eqb-false, ne_eqb}
 use Rattle.std.proofs.lemmas.List.{get_or_append_left, length_push, length-append, get_or_default}
 use Rattle.std.proofs.lemmas.List.Quantifiers.{all_pairs_push}
 use Rattle.std.proofs.Math.Seq.{get_or-append_seam}
-use Rattle.express_texts.specs.Games.{most_addresses}
-use Rattle.express_texts.specs.Games.{address_behind}
+use Rattle.express_texts.specs.Games.{address_behind, most_addresses}
 use Rattle.express_texts.specs.GameLines.{found_or, addresses_on}
 use Rattle.express_texts.specs.GameSpelling.{SpellsAddresses, IsBadAddress}
 use Rattle.express_texts.proofs.GameLineLaws.{behind_found, behind_only, behind_none, behind_bad}

@@ -3,8 +3,7 @@ use Rattle.std.specs.Prelude.{IfOk}
 use Rattle.express_texts.specs.declared.fault.TextFault.{TextFault}
 use Rattle.express_texts.specs.declared.fault.TextFault.TheVariants.{Wrong, WrongKey, NoMemory}
 use Rattle.express_texts.specs.declared.batch.BatchPairs.{BatchPairs}
-use Rattle.express_texts.specs.Batch.{most_pairs}
-use Rattle.express_texts.specs.Batch.{batch_of}
+use Rattle.express_texts.specs.Batch.{batch_of, most_pairs}
 use Rattle.express_texts.specs.Judging.{Gives, Judges, batch_in}
 use Rattle.express_texts.proofs.BatchLaws.{batch_found, bad_found, as_many}
 use Rattle.express_texts.proofs.batch.read_batch.Goals as goal
@@ -15,7 +14,8 @@ judged text (Err (Wrong n)) h = bad_found text n h
 judged text (Err (WrongKey key)) h = absurd h
 judged text (Err NoMemory) h = tt
 
-few : (text : List ℕ) (r : Result BatchPairs TextFault) → Judges text r → IfOk r (λ pairs. length pairs.zero ≤ most_pairs)
+few : (text : List ℕ) (r : Result BatchPairs TextFault) → Judges text r → IfOk r (λ pairs. length pairs.zero ≤ 20000)
+unfolding most_pairs
 few text (Ok pairs) h = h.few
 few text (Err fault) h = tt
 

@@ -1,4 +1,5 @@
 use Rattle.std.proofs.Common.{refl, ◌∙◌}
+use Rattle.client_core.specs.declared.progress.Progress.{Progress}
 use Rattle.kept_errands.proofs.StepLaws.{net_from, disk_from}
 use Rattle.kept_errands.proofs.WorkLaws.{standing, stands_more, ends_so, later_so, ignored_so, halts_so}
 use Rattle.kept_errands.proofs.finishing.finish.Goals as goal
@@ -104,7 +105,7 @@ pub returns-in-Ok-Ignored-clause-disk_fault : goal.returns-in-Ok-Ignored-clause-
 returns-in-Ok-Ignored-clause-disk_fault g c = c.in-Ok-Ignored.ensures.disk_fault ∙ c.steps.invariant.disk
 
 pub returns-in-Err-clause-net_fault : goal.returns-in-Err-clause-net_fault
-returns-in-Err-clause-net_fault g c = net_from _ _ _ _ _ _ c.steps.invariant.net c.in-Err.ensures.net_fault
+returns-in-Err-clause-net_fault g c = net_from Progress (Unit {0}) _ _ _ _ c.steps.invariant.net c.in-Err.ensures.net_fault
 
 pub returns-in-Err-clause-disk_fault : goal.returns-in-Err-clause-disk_fault
-returns-in-Err-clause-disk_fault g c = disk_from _ _ _ _ _ _ c.steps.invariant.disk c.in-Err.ensures.disk_fault
+returns-in-Err-clause-disk_fault g c = disk_from Progress (Unit {0}) _ _ _ _ c.steps.invariant.disk c.in-Err.ensures.disk_fault

@@ -1,4 +1,5 @@
 use Rattle.std.proofs.Common.{Ok, Err}
+use Rattle.client_core.specs.declared.progress.Progress.{Progress}
 use Rattle.kept_errands.proofs.StepLaws.{heard_step, lost_step, stands_by, counts_by, net_by}
 use Rattle.kept_errands.proofs.stepping.one_step.Goals as goal
 
@@ -37,4 +38,4 @@ returns-in-Err-hear-clause-disk_fault g c =
     c.in-Err-hear.ensures.no_step c.in-Err-hear.ensures.keeps
 
 pub returns-in-Err-clause-net_fault : goal.returns-in-Err-clause-net_fault
-returns-in-Err-clause-net_fault g c = net_by _ c.in-Err.why _ _ _ c.from.ensures c.in-Err.ensures.fault
+returns-in-Err-clause-net_fault g c = net_by Progress c.in-Err.why _ _ _ c.from.ensures c.in-Err.ensures.fault
