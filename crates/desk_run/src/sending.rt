@@ -20,7 +20,7 @@ use express_words::outside::{Net, Sink, Source};
 use std::alloc::Global;
 
 // The card in the file at a path.
-#[tactic(auto, using(crate::proofs::Cards::card_sheet))]
+#[tactic(auto, using(crate::proofs::CardSheets::card_sheet))]
 fn card_at<'a, P: Papers>(
     alloc: Global,
     papers: &mut P,
