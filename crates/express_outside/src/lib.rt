@@ -7,7 +7,7 @@ mod calls;
 mod file_disk;
 mod journal_file;
 mod patience;
-mod random_seed;
+mod seeding;
 mod tcp_net;
 mod tcp_ports;
 
@@ -16,6 +16,6 @@ pub use calls::{Direct, Reads, Trouble, Writes, trouble_of};
 pub use file_disk::{FileCalls, FileDisk};
 pub use journal_file::{JournalFile, Place};
 pub use patience::{Limit, Socket, Timed};
-pub use random_seed::{NoSeed, random_seed};
+pub use seeding::{NoSeed, random_seed};
 pub use tcp_net::{Connected, Ports, TcpNet};
 pub use tcp_ports::{TcpPorts, TcpSocket};
