@@ -2,13 +2,9 @@
 #![tactic(auto)]
 
 #[cfg(test)]
-mod desk;
-#[cfg(test)]
 mod door;
 #[cfg(test)]
 mod journal;
-#[cfg(test)]
-mod letters;
 #[cfg(test)]
 mod notes;
 #[cfg(test)]
