@@ -32,8 +32,8 @@ fn is_one_pair(
     let pairs = read_batch(alloc, text)?;
     Ok(
         pairs.seed.as_slice() == seed
-            && is_only(pairs.zero.as_slice(), &pair.0)
-            && is_only(pairs.one.as_slice(), &pair.1),
+            && is_only(&pairs.zero, &pair.0)
+            && is_only(&pairs.one, &pair.1),
     )
 }
 
@@ -50,7 +50,7 @@ fn one_pair(rt: HostRuntime) -> Result<(), Fail> {
 fn read_behind_header(alloc: Global, bytes: &[u8]) -> Result<(u32, usize), Fail> {
     let text = joined(alloc, &[HEADER, bytes])?;
     match read_batch(alloc, &text) {
-        Ok(pairs) => Ok((0, pairs.zero.as_slice().len())),
+        Ok(pairs) => Ok((0, pairs.zero.len())),
         Err(TextFault::Wrong(line)) => Ok((line, 0)),
         Err(fault) => Err(fault)?,
     }
