@@ -11,8 +11,8 @@ use client_restart::KeptClient;
 use express_words::outside::Net;
 use frame_rules::FRAME_MAX;
 use node_client::{Peers, address_of};
-use node_journal::Disk;
 use node_exchange::{Broken, exchange};
+use node_journal::Disk;
 
 /// Sends the frame of the present step to its server, and takes one frame of the answer into the front of `reply`.
 /// Gives that frame's length. The client doesn't hear it.

@@ -11,7 +11,6 @@ ghost use Rattle.node_serve.specs.Logs.{TakesThrough, StopsUpTo};
 ghost use Rattle.node_serve.specs.Stopping.{Unkept, DrainStops};
 
 use crate::broke::Broke;
-
 use crate::handing::{is_ignored, told};
 use crate::logged::Logged;
 use crate::node::Served;
