@@ -1,0 +1,121 @@
+-- A client that takes over boxes and remarks.
+use Rattle.std.proofs.Common.{◌≡◌, ◌⊎◌, inl, inr, ℕ, List, [], ◌∷◌, ◌++◌, length, map, Option, Some, None, Ok, Bool, true, false, refl, sym, ◌∙◌, ap, subst, append_assoc}
+use Rattle.std.specs.Prelude.{if◌then◌else◌, nat_le}
+use Rattle.std.specs.List.{filter}
+use Rattle.express_words.specs.Seen.{Seen}
+use Rattle.node_journal.specs.Disk.{DiskSeen}
+use Rattle.step_rules.specs.Client.{Current, opened_client}
+use Rattle.step_rules.specs.ClientAsks.{owned_by, owning}
+use Rattle.client_restart.specs.declared.opening.ClientOpening.{ClientOpening}
+use Rattle.client_restart.specs.declared.owned_box.OwnedBox.{OwnedBox}
+use Rattle.client_restart.specs.Keeps.{Keeps, sight}
+use Rattle.client_restart.specs.Kept.{HoldsNotes, KeptState, Stands}
+use Rattle.client_restart.specs.Notes.{Noted, Owned, Remark}
+use Rattle.client_restart.specs.Steps.{CoreState, fold, owned, owned_with}
+use Rattle.desk_entries.specs.declared.entry.Entry.{Entry}
+use Rattle.desk_entries.specs.Forgetting.{kept}
+use Rattle.desk_entries.specs.Records.{entry_record}
+use Rattle.desk_ledger.specs.declared.pair.Pair.{Pair}
+use Rattle.desk_ledger.specs.Forgetting.{GoesOn}
+use Rattle.desk_ledger.specs.Ledgers.{IsDesk}
+use Rattle.desk_ledger.proofs.EntryLaws.{are_kept, pair_kept}
+
+-- ---- a box more
+
+abbrev with_box : CoreState → OwnedBox → CoreState
+with_box k b = record k {
+  client = record k.client { owned = k.client.owned ++ owned_by k.client b.number b.serial ∷ [] };
+  boxes = k.boxes ++ b ∷ [];
+}
+
+own_by : (k : CoreState) (b : OwnedBox) → k.client.current ≡ None → nat_le k.client.capacity (length k.client.owned) ≡ false
+    → owned k b.number b.serial ≡ with_box k b
+unfolding owning
+own_by k b idle room =
+    ap (λ (c : Option Current). owned_with k b c (owning k.client b.number b.serial)) idle
+    ∙ ap (λ (t : Bool). owned_with k b None (if t then None else Some (with_box k b).client)) room
+
+-- ---- a call that noted something
+
+pub goes_by : {D : Type 0} (shows : D → DiskSeen) (counts : D → Seen) (n : Noted) (old new : KeptState D) (k : CoreState)
+    → Keeps {T = Unit {0}} n (sight shows counts old) (sight shows counts new) (Ok (tt {0})) → new.core ≡ k
+    → k.client.current ≡ None → k.client.serial ≡ old.core.client.serial → k.untold ≡ old.core.untold → GoesOn shows old new
+goes_by shows counts n old new k keeps is idle serial untold = record {
+  opening = keeps.opening;
+  idle = ap (λ (c : CoreState). c.client.current) is ∙ idle;
+  serial = ap (λ (c : CoreState). c.client.serial) is ∙ serial;
+  untold = ap (λ (c : CoreState). c.untold) is ∙ untold;
+  stands = inr (λ still. subst (λ (o : ClientOpening). Stands o new.core (shows new.disk).reads) (sym keeps.opening) (keeps.stands still));
+}
+
+pub own_goes : {D : Type 0} (shows : D → DiskSeen) (counts : D → Seen) (b : OwnedBox) (old new : KeptState D)
+    → Keeps {T = Unit {0}} (Owned b.number b.serial) (sight shows counts old) (sight shows counts new) (Ok (tt {0}))
+    → old.core.client.current ≡ None → nat_le old.core.client.capacity (length old.core.client.owned) ≡ false
+    → GoesOn shows old new × (new.core.boxes ≡ old.core.boxes ++ b ∷ []) × (new.core.remarks ≡ old.core.remarks)
+own_goes shows counts b old new keeps idle room =
+    let is : new.core ≡ with_box old.core b = keeps.step ∙ own_by old.core b idle room in (
+      goes_by shows counts (Owned b.number b.serial) old new (with_box old.core b) keeps is idle refl refl,
+      ap (λ (c : CoreState). c.boxes) is,
+      ap (λ (c : CoreState). c.remarks) is,
+    )
+
+abbrev with_words : CoreState → List ℕ → CoreState
+with_words k words = record k { remarks = k.remarks ++ words ∷ [] }
+
+pub note_goes : {D : Type 0} (shows : D → DiskSeen) (counts : D → Seen) (words : List ℕ) (old new : KeptState D)
+    → Keeps {T = Unit {0}} (Remark words) (sight shows counts old) (sight shows counts new) (Ok (tt {0}))
+    → old.core.client.current ≡ None
+    → GoesOn shows old new × (new.core.boxes ≡ old.core.boxes) × (new.core.remarks ≡ old.core.remarks ++ words ∷ [])
+note_goes shows counts words old new keeps idle = (
+  goes_by shows counts (Remark words) old new (with_words old.core words) keeps keeps.step idle refl refl,
+  ap (λ (c : CoreState). c.boxes) keeps.step,
+  ap (λ (c : CoreState). c.remarks) keeps.step,
+)
+
+-- ---- live boxes
+
+by_live : (t : Bool) (b : OwnedBox) (base more : List OwnedBox)
+    → (base ++ (if t then b ∷ [] else [])) ++ more ≡ base ++ (if t then b ∷ more else more)
+by_live true b base more = append_assoc base (b ∷ []) more
+by_live false b base more = append_assoc base [] more
+
+pub more_live : (f : OwnedBox → Bool) (b : OwnedBox) (base more : List OwnedBox)
+    → (base ++ filter f (b ∷ [])) ++ filter f more ≡ base ++ filter f (b ∷ more)
+more_live f b base more = by_live (f b) b base (filter f more)
+
+-- ---- a desk that follows
+
+pub new_desk : (p : Pair) (entries olds : List Entry) (remarks : List (List ℕ)) (o : ClientOpening) (made now : CoreState)
+    → IsDesk p olds remarks → entries ≡ kept olds → made ≡ fold o [] → now.remarks ≡ made.remarks ++ map entry_record entries
+    → IsDesk p entries now.remarks
+new_desk p entries olds remarks o made now desk is first told =
+    subst (λ (l : List Entry). now.remarks ≡ made.remarks ++ map entry_record l → IsDesk p l now.remarks) (sym is) (λ said. record {
+      are = are_kept olds desk.are;
+      told = said ∙ ap (λ (k : CoreState). k.remarks ++ map entry_record (kept olds)) first;
+      pair = pair_kept p olds desk.pair;
+    }) told
+
+pub new_stands : {D : Type 0} (shows : D → DiskSeen) (o : ClientOpening) (made now : KeptState D) → made.opening ≡ o → made.core ≡ fold o []
+    → HoldsNotes o [] (shows made.disk).reads → GoesOn shows made now → now.journal.closed ≡ false
+    → Stands now.opening now.core (shows now.disk).reads
+new_stands shows o made now opened first held goes still = either goes.stands
+  where
+    stood : Stands made.opening made.core (shows made.disk).reads
+    stood = subst (λ (p : ClientOpening). Stands p made.core (shows made.disk).reads) (sym opened)
+        (record { notes = []; whole = tt; folded = first; held = held })
+
+    either : (now ≡ made) ⊎ (now.journal.closed ≡ false → Stands now.opening now.core (shows now.disk).reads)
+        → Stands now.opening now.core (shows now.disk).reads
+    either (inl same) = subst (λ (k : KeptState _). Stands k.opening k.core (shows k.disk).reads) (sym same) stood
+    either (inr stands) = stands still
+
+pub first_client : (o : ClientOpening) → ((fold o []).client.serial ≡ o.first_serial) × ((fold o []).client.current ≡ None)
+unfolding opened_client
+first_client o = (refl, refl)
+
+pub new_serial : {D : Type 0} (shows : D → DiskSeen) (o : ClientOpening) (made now : KeptState D) → made.core ≡ fold o [] → GoesOn shows made now
+    → (now.core.client.serial ≡ o.first_serial) × (now.core.untold ≡ [])
+new_serial shows o made now first goes = (
+  goes.serial ∙ ap (λ (k : CoreState). k.client.serial) first ∙ (first_client o).0,
+  goes.untold ∙ ap (λ (k : CoreState). k.untold) first,
+)

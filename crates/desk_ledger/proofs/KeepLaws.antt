@@ -1,0 +1,53 @@
+-- What a call that notes something leaves of a desk.
+use Rattle.std.proofs.Common.{◌≡◌, inr, ℕ, List, [], ◌∷◌, ◌++◌, Result, Ok, Err, false, refl, sym, ◌∙◌, ap, subst}
+use Rattle.express_words.specs.Seen.{Seen}
+use Rattle.node_journal.specs.Disk.{DiskSeen}
+use Rattle.client_restart.specs.declared.fault.KeepFault.{KeepFault}
+use Rattle.client_restart.specs.declared.opening.ClientOpening.{ClientOpening}
+use Rattle.client_restart.specs.Keeps.{Keeps, sight}
+use Rattle.client_restart.specs.Kept.{KeptState, Stands}
+use Rattle.client_restart.specs.Notes.{Noted, Remark}
+use Rattle.client_restart.specs.Steps.{CoreState}
+use Rattle.desk_entries.specs.declared.entry.Entry.{Entry}
+use Rattle.desk_entries.specs.Records.{IsEntry, entry_record}
+use Rattle.desk_ledger.specs.declared.pair.Pair.{Pair}
+use Rattle.desk_ledger.specs.Ledgers.{IsDesk, LedgerState}
+use Rattle.desk_ledger.specs.Notes.{Notes}
+use Rattle.desk_ledger.proofs.DeskLaws.{desk_push}
+
+-- ---- what stands on the disk
+
+pub stands_on : {D T : Type 0} (shows : D → DiskSeen) (counts : D → Seen) (n : Noted) (old new : KeptState D) (r : Result T KeepFault)
+    → Keeps {T = T} n (sight shows counts old) (sight shows counts new) r
+    → new.journal.closed ≡ false → Stands new.opening new.core (shows new.disk).reads
+stands_on shows counts n old new r keeps still =
+    subst (λ (o : ClientOpening). Stands o new.core (shows new.disk).reads) (sym keeps.opening) (keeps.stands still)
+
+-- ---- a note
+
+pub desk_noted : {D : Type 0} (shows : D → DiskSeen) (counts : D → Seen) (p : Pair) (entries : List Entry) (e : Entry) (words : List ℕ) (old new : KeptState D)
+    → words ≡ entry_record e → IsEntry e → IsDesk p entries old.core.remarks
+    → Keeps {T = Unit {0}} (Remark words) (sight shows counts old) (sight shows counts new) (Ok (tt {0}))
+    → IsDesk p (entries ++ e ∷ []) new.core.remarks
+desk_noted shows counts p entries e words old new said is desk keeps =
+    desk_push p entries old.core.remarks new.core.remarks e is desk
+    (ap (λ (c : CoreState). c.remarks) keeps.step ∙ ap (λ (l : List ℕ). old.core.remarks ++ l ∷ []) said)
+
+pub keeps_record : {D T : Type 0} (shows : D → DiskSeen) (counts : D → Seen) (e : Entry) (words : List ℕ) (old new : KeptState D) (r : Result T KeepFault)
+    → words ≡ entry_record e → Keeps {T = T} (Remark words) (sight shows counts old) (sight shows counts new) r
+    → Keeps {T = T} (Remark (entry_record e)) (sight shows counts old) (sight shows counts new) r
+keeps_record shows counts e words old new r said keeps =
+    subst (λ (l : List ℕ). Keeps {T = _} (Remark l) (sight shows counts old) (sight shows counts new) r) said keeps
+
+pub not_noted : {D : Type 0} (shows : D → DiskSeen) (counts : D → Seen) (e : Entry) (words : List ℕ) (p : Pair) (entries now : List Entry)
+    (was k : KeptState D) (old s : LedgerState D) (f : KeepFault)
+    → record { pair = p; entries = entries; client = was } ≡ old → s ≡ record { pair = p; entries = now; client = k } → now ≡ entries → words ≡ entry_record e
+    → Keeps {T = Unit {0}} (Remark words) (sight shows counts was) (sight shows counts k) (Err f)
+    → Notes {T = Unit {0}} shows counts e old s (Err f)
+not_noted shows counts e words p entries now was k old s f old_is s_is same said keeps =
+    let before : LedgerState _ = record { pair = p; entries = entries; client = was } in
+    let behind : LedgerState _ = record { pair = p; entries = now; client = k } in
+    let so : Notes {T = Unit {0}} shows counts e before behind (Err f) =
+    record { added = tt; none_added = same; pair = refl; keeps = inr (keeps_record shows counts e words was k (Err f) said keeps) } in
+    subst (λ (x : LedgerState _). Notes {T = Unit {0}} shows counts e x s (Err f)) old_is
+    (subst (λ (x : LedgerState _). Notes {T = Unit {0}} shows counts e before x (Err f)) (sym s_is) so)

@@ -1,0 +1,16 @@
+-- A request of a desk, worked off at the pair's servers.
+use Rattle.std.specs.Prelude.{◌≡◌, List, Option, Result}
+use Rattle.express_words.specs.Calls.{Call}
+use Rattle.client_restart.specs.Steps.{CoreState}
+use Rattle.node_client.specs.declared.peers.Peers.{Peers}
+use Rattle.kept_errands.specs.declared.halt.Halt.{Halt}
+use Rattle.kept_errands.specs.Works.{WorkedOff}
+use Rattle.desk_ledger.specs.declared.pair.Pair.{Pair}
+
+-- the request's steps at the places of this pair's servers
+pub record WorksAt (p : Pair) (start new : CoreState) (result : Result Unit Halt)
+    (before now : Option (List Call)) : Type 0 where
+  pub peers : Peers
+  pub leader : peers.leader.now ≡ p.leader
+  pub helper : peers.helper.now ≡ p.helper
+  pub works : WorkedOff peers start new result before now

@@ -1,0 +1,20 @@
+//! An owner's desk on a disk: a client that remembers, whose remarks are the desk's entries.
+#![tactic(auto)]
+
+mod fault;
+mod forgetting;
+mod ledger;
+mod opening;
+mod pair;
+mod reaching;
+mod starting;
+mod stored;
+mod storing;
+mod task;
+mod working;
+
+pub use fault::{ForgetFault, NameFault, OpenFault};
+pub use ledger::Ledger;
+pub use pair::Pair;
+pub use stored::Stored;
+pub use task::Task;

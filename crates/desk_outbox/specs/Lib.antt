@@ -1,0 +1,6 @@
+pub mod Answers
+pub mod Lanes
+pub mod Outboxes
+pub mod Places
+pub mod Texts
+pub mod Works
