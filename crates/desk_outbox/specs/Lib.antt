@@ -1,6 +1,0 @@
-pub mod Answers
-pub mod Lanes
-pub mod Outboxes
-pub mod Places
-pub mod Texts
-pub mod Works
