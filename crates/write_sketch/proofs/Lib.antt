@@ -1,1 +1,4 @@
+mod Batches
+mod Filling
+mod Parts
 mod Prefixes

@@ -7,7 +7,7 @@ use Rattle.audit_rules.specs.declared.sums.Sums.{Sums}
 use Rattle.audit_rules.specs.Sketch.{total, dot, dot3}
 use Rattle.audit_rules.specs.Audit.{product, sums_of}
 
-total_more : (w : List ℕ) (i : ℕ) → i < length w → bit_xor (total 0 bit_xor (take i w)) (get_or w i 0) ≡ total 0 bit_xor (take (suc i) w)
+pub total_more : (w : List ℕ) (i : ℕ) → i < length w → bit_xor (total 0 bit_xor (take i w)) (get_or w i 0) ≡ total 0 bit_xor (take (suc i) w)
 total_more [] i h = absurd (omega arith)
 total_more (x ∷ w) zero h = sym (xor_zero_r x)
 total_more (x ∷ w) (suc i) h = xor_assoc x (total 0 bit_xor (take i w)) (get_or w i 0) ∙ ap (bit_xor x) (total_more w i (omega arith))

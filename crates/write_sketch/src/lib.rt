@@ -1,31 +1,27 @@
 //! The sums of a server's leaves under a challenge key.
 #![tactic(auto)]
 
+mod batch;
 mod eight;
+mod few;
 
-ghost use Rattle.std.specs.Prelude.{◌≡◌, length, bit_xor};
-ghost use Rattle.audit_rules.specs.Audit.{product};
+ghost use Rattle.std.specs.Prelude.{◌≡◌, length};
 ghost use Rattle.audit_rules.specs.Challenges.{sums_under};
+ghost use Rattle.write_sketch.specs.Parts.{sums_with};
 
 pub use audit_rules::Sums;
-use eight::refresh;
-use field_tables::{Tables, mul_fast};
+use batch::{BATCH, batch_sums};
+use few::few_sums;
 
-// The sums with one box more, whose leaf is `w`, by three products.
-fn with_box(tables: &Tables, sums: Sums, w: u128, r: u128, s: u128) -> Sums
-    ensures added { result ≡ record {
-      x = bit_xor sums.x (product w r);
-      y = bit_xor sums.y (product w s);
-      m = bit_xor sums.m w;
-      z = bit_xor sums.z (product (product w r) s);
-    } }
+// The sums of two parts of the boxes together.
+fn added(a: Sums, b: Sums) -> Sums
+    ensures { result ≡ sums_with a b }
 {
-    let by_r = mul_fast(tables, w, r);
     Sums {
-        x: sums.x ^ by_r,
-        y: sums.y ^ mul_fast(tables, w, s),
-        m: sums.m ^ w,
-        z: sums.z ^ mul_fast(tables, by_r, s),
+        x: a.x ^ b.x,
+        y: a.y ^ b.y,
+        m: a.m ^ b.m,
+        z: a.z ^ b.z,
     }
 }
 
@@ -35,18 +31,21 @@ pub fn sums(states: &[u128], addresses: &[u128], ckey: &[u8; 32]) -> Sums
     requires { length states.now ≡ length addresses.now }
     ensures sums { result ≡ sums_under ckey.now addresses.now states.now }
 {
-    let tables = Tables::new();
     let mut sums = Sums {
         x: 0,
         y: 0,
         m: 0,
         z: 0,
     };
-    let mut eight = [(0, 0); 8];
-    for i in 0..states.len() {
-        refresh(ckey, addresses, i, &mut eight);
-        let (r, s) = eight[i % 8];
-        sums = with_box(&tables, sums, states[i], r, s);
+    let batches = states.len() / BATCH;
+    for batch in 0..batches {
+        let from = BATCH * batch;
+        let end = from + BATCH;
+        sums = added(
+            sums,
+            batch_sums(&states[from..end], &addresses[from..end], ckey),
+        );
     }
-    sums
+    let rest = BATCH * batches;
+    added(sums, few_sums(&states[rest..], &addresses[rest..], ckey))
 }

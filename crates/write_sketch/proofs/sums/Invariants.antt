@@ -1,11 +1,10 @@
-use Rattle.std.proofs.Common.{◌≡◌, ◌-◌, ◌%◌, ◌<◌, take}
-use Rattle.audit_rules.specs.Audit.{sums_of}
-use Rattle.audit_rules.specs.Challenges.{challenge_rs, challenge_ss}
-use Rattle.write_sketch.specs.Eight.{HasChallenges}
+use Rattle.std.proofs.Common.{◌≡◌, ◌*◌, drop}
+use Rattle.audit_rules.specs.Challenges.{sums_under}
+use Rattle.write_sketch.specs.Parts.{sums_with}
 use Rattle.write_sketch.proofs.sums.Given as goal
 
-abbrev pub invariant-loop-i : goal.invariant-loop-i
-invariant-loop-i l = record {
-  held : 0 < l.i % 8 → HasChallenges l.ckey l.addresses (l.i - l.i % 8) l.eight;
-  sums : l.sums ≡ sums_of (take l.i l.states) (take l.i (challenge_rs l.ckey l.addresses)) (take l.i (challenge_ss l.ckey l.addresses));
-}
+-- with the sums of the boxes that are left these are the sums of all
+abbrev pub invariant-loop-batch : goal.invariant-loop-batch
+invariant-loop-batch l =
+    sums_under l.ckey l.addresses l.states
+    ≡ sums_with l.sums (sums_under l.ckey (drop (256 * l.batch) l.addresses) (drop (256 * l.batch) l.states))

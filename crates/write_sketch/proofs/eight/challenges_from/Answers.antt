@@ -1,4 +1,4 @@
-use Rattle.std.proofs.Common.{◌≡◌, ℕ, ◌<◌, ◌++◌, List, get_or, take, drop, length, refl, ap, ◌∙◌, arith, length-append, replicate}
+use Rattle.std.proofs.Common.{◌≡◌, ℕ, ◌<◌, ◌++◌, List, get_or, take, drop, length, ap, ◌∙◌, arith, length-append, replicate}
 use Rattle.std.proofs.lemmas.List.{get_or-map, get_or_append_left, get_or-take, length-take-le}
 use Rattle.chacha_expand.specs.Challenges.{challenge_at}
 use Rattle.write_sketch.proofs.eight.challenges_from.Goals as goal

@@ -1,0 +1,5 @@
+mod Words
+mod Joined
+mod Parity
+mod Fields
+mod Filled
