@@ -64,7 +64,8 @@ abbrev pub worked_opening : ℕ → ℕ → ℕ → Openings
 worked_opening constant c sigma = opening_of worked_sums (worked_share constant c) sigma
 
 abbrev pub worked_closing : ℕ → ℕ → ℕ → Closing
-worked_closing constant c sigma = closing_of 0 (worked_share constant c) sigma (worked_opening constant c sigma)
+worked_closing constant c sigma =
+    closing_of 0 (worked_share constant c) sigma (worked_opening constant c sigma)
 
 -- the right proof, whose h is the product of f and g, passes at 4
 pub record RightProofPasses : Type 0 where

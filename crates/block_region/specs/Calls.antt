@@ -1,7 +1,9 @@
 -- Lists of calls of a region, and what they leave.
-use Rattle.std.specs.Prelude.{◌≡◌, ℕ, ◌+◌, ◌==◌, ◌&&◌, Bool, false, if◌then◌else◌, List, [], ◌∷◌, Option, Some, None}
+use Rattle.std.specs.Prelude.{◌≡◌, ℕ, ◌+◌, ◌==◌, ◌&&◌, Bool, false, if◌then◌else◌, List, [], ◌∷◌, Option}
+use Rattle.std.specs.Prelude.{Some, None}
 use Rattle.std.specs.Prelude.{length, is_some, replicate, count_by, map}
-use Rattle.block_region.specs.Region.{Place, Shelf, Shelves, class_of, bytes_at, with_content, first_free, free_blocks}
+use Rattle.block_region.specs.Region.{Place, Shelf, Shelves, class_of, bytes_at, with_content, first_free}
+use Rattle.block_region.specs.Region.{free_blocks}
 
 -- a block is taken from a class, is given back, or gets other bytes
 pub data Call : Type 0 where
@@ -61,7 +63,8 @@ blocks_out region class = count_by is_some (class_of region class).blocks
 -- each of them out or free
 pub record KeepsItsClasses (region : Shelves) (calls : List Call) : Type 0 where
   pub home : (after region calls).home ≡ region.home
-  pub sizes : map (λ (s : Shelf). s.size) (after region calls).classes ≡ map (λ (s : Shelf). s.size) region.classes
+  pub sizes : map (λ (s : Shelf). s.size) (after region calls).classes
+      ≡ map (λ (s : Shelf). s.size) region.classes
   pub counts : map (λ (s : Shelf). length s.blocks) (after region calls).classes
       ≡ map (λ (s : Shelf). length s.blocks) region.classes
   pub each : (class : ℕ) →

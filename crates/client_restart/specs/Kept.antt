@@ -38,8 +38,8 @@ LeavesNotes limit o notes added c =
     ((content c ≡ records_of o notes) ⊎ (content c ≡ records_of o (notes ++ added ∷ [])))
     × IsUndamaged limit 0 c
 
--- A crash leaves no record or exactly the opening's, and nothing that a journal under the same limit would find
--- damaged, unless it is one byte at most.
+-- A crash leaves no record or exactly the opening's, and nothing that a journal under the same limit would
+-- find damaged, unless it is one byte at most.
 abbrev pub LeavesOpening : ℕ → ClientOpening → List ℕ → Type 0
 LeavesOpening limit o c =
     ((content c ≡ []) ⊎ (content c ≡ records_of o [])) × ((length c ≤ 1) ⊎ IsUndamaged limit 0 c)

@@ -36,8 +36,8 @@ EndedIsUntold =
     → (after o (happened ++ x ∷ [])).untold
     ≡ (after o happened).untold ++ ended (after o happened).client.serial now outcome ∷ []
 
--- An outcome stands, with its message, until it was told: the one at place i goes by the i + 1st note that the
--- oldest was told, and not before.
+-- An outcome stands, with its message, until it was told: the one at place i goes by the i + 1st note that
+-- the oldest was told, and not before.
 abbrev pub OutcomesStand : Type 0
 OutcomesStand = (o : ClientOpening) (happened more : List Happening) (i : ℕ) (e : EndedRequest)
     → slice_get (after o happened).untold i ≡ Some e → told_in (notes_of more) ≤ i

@@ -1,5 +1,6 @@
 -- The run of a carrier over a net, and the text that it prints.
-use Rattle.std.specs.Prelude.{◌≡◌, ℕ, Bool, true, false, List, [], ◌∷◌, ◌++◌, codes, length, filter, map, flat_map}
+use Rattle.std.specs.Prelude.{◌≡◌, ℕ, Bool, true, false, List, [], ◌∷◌, ◌++◌, codes, length, filter, map}
+use Rattle.std.specs.Prelude.{flat_map}
 use Rattle.std.specs.Prelude.{All, Option, Result, Ok, Err}
 use Rattle.std.specs.Fmt.{decimal}
 use Rattle.hex.specs.Hex.{encode_lower}

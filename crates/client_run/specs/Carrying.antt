@@ -59,7 +59,8 @@ abbrev pub CarriesOff : Client → List Request → Client → List Finished →
 CarriesOff start requests new finished made (Ok done) =
     Works start requests (record { client = new; finished = finished; made = made })
 CarriesOff start requests new finished made (Err (Broken broken)) =
-    IsLast start requests (record { client = new; finished = finished ++ broken ∷ []; made = made }) finished broken
+    IsLast start requests (record { client = new; finished = finished ++ broken ∷ []; made = made })
+    finished broken
     × (carries broken.told ≡ false)
 CarriesOff start requests new finished made (Err (Stopped why)) =
     StopsAt start requests (record { client = new; finished = finished; made = made }) why

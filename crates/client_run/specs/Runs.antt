@@ -52,8 +52,8 @@ plan_at peers start requests = record {
 }
 
 -- What is told of a plan's requests, and the text that is next: all that came to their ends are told, and
--- none is under way; all but the last of them, whose line is next; or the work ended, all are told, and what is
--- said of its end is next.
+-- none is under way; all but the last of them, whose line is next; or the work ended, all are told, and what
+-- is said of its end is next.
 pub data IsNext (plan : Plan) (Ended : Stand → List Finished → List ℕ → RunEnd → Type 0) (s : Stand) :
     List Finished → List ℕ → Type 0 where
   between : (asked behind : List Request) → plan.requests ≡ asked ++ behind → Works plan.start asked s →

@@ -4,7 +4,8 @@ use Rattle.std.specs.List.{All}
 use Rattle.desk_entries.specs.declared.entry.BoxAt.{BoxAt}
 use Rattle.desk_entries.specs.declared.entry.Denied.{Denied}
 use Rattle.desk_entries.specs.declared.entry.Entry.{Entry}
-use Rattle.desk_entries.specs.declared.entry.Entry.TheVariants.{Pair, Named, Registered, Refused, Read, Retiring, Shown}
+use Rattle.desk_entries.specs.declared.entry.Entry.TheVariants.{Pair, Named, Registered, Refused, Read}
+use Rattle.desk_entries.specs.declared.entry.Entry.TheVariants.{Retiring, Shown}
 use Rattle.desk_entries.specs.declared.entry.Held.{Held}
 use Rattle.desk_entries.specs.declared.entry.Held.TheVariants.{Nothing, Letter, Met}
 use Rattle.desk_entries.specs.declared.entry.NamedBoxes.{NamedBoxes}

@@ -3,7 +3,8 @@ use Rattle.std.specs.Prelude.{if◌then◌else◌, List, Option, Some, None}
 use Rattle.std.specs.List.{flat_map}
 use Rattle.std.specs.Option.{option_to_list}
 use Rattle.desk_entries.specs.declared.entry.Entry.{Entry}
-use Rattle.desk_entries.specs.declared.entry.Entry.TheVariants.{Pair, Named, Registered, Refused, Read, Retiring, Shown}
+use Rattle.desk_entries.specs.declared.entry.Entry.TheVariants.{Pair, Named, Registered, Refused, Read}
+use Rattle.desk_entries.specs.declared.entry.Entry.TheVariants.{Retiring, Shown}
 use Rattle.desk_entries.specs.declared.entry.Held.TheVariants.{Nothing}
 
 -- of a box that was retired, that it is; and all but letters and how many were shown

@@ -2,7 +2,8 @@
 use Rattle.std.specs.Prelude.{◌≡◌, ℕ, ◌==◌, ◌||◌, not, if◌then◌else◌, Bool, true, false, List, [], ◌∷◌, ◌++◌}
 use Rattle.std.specs.List.{fold, list_any}
 use Rattle.desk_entries.specs.declared.entry.Entry.{Entry}
-use Rattle.desk_entries.specs.declared.entry.Entry.TheVariants.{Pair, Named, Registered, Refused, Read, Retiring, Shown}
+use Rattle.desk_entries.specs.declared.entry.Entry.TheVariants.{Pair, Named, Registered, Refused, Read}
+use Rattle.desk_entries.specs.declared.entry.Entry.TheVariants.{Retiring, Shown}
 use Rattle.desk_entries.specs.declared.entry.Held.{Held}
 use Rattle.desk_entries.specs.declared.entry.Held.TheVariants.{Nothing, Letter, Met}
 use Rattle.desk_entries.specs.declared.entry.Reading.{Reading}

@@ -10,8 +10,8 @@ pub data FolderCall : Type 0 where
   Placed : DeskFile → DeskFile → Bool → FolderCall
   Removed : DeskFile → Bool → FolderCall
 
--- From old to new one call was made. A folder that tells its calls now told them before; of one that doesn't tell
--- them now nothing is said.
+-- From old to new one call was made. A folder that tells its calls now told them before; of one that doesn't
+-- tell them now nothing is said.
 abbrev pub Adds : Option (List FolderCall) → Option (List FolderCall) → FolderCall → Type 0
 Adds old None call = Unit {0}
 Adds None (Some new) call = ⊥

@@ -3,8 +3,8 @@
 --
 -- A server adds a write's bytes only at its settle. The leader issues the settle behind the audit, and the
 -- audit only when it takes a proof of that lane and serial at a row that is challenged. So a write whose last
--- proof never went out isn't added. A lane and serial have one write; its row at the leader is done with one of
--- these answers, and keeps it:
+-- proof never went out isn't added. A lane and serial have one write; its row at the leader is done with one
+-- of these answers, and keeps it:
 --   Accepted    both servers have added the write's bytes
 --   Rejected    the closings of both servers don't accept: neither has added them
 --   NotProved   the helper had no proof at the audit: no settle is issued

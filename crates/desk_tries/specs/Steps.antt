@@ -10,8 +10,8 @@ use Rattle.desk_tries.specs.declared.sending.Next.TheVariants.{GoOn, SameAgain, 
 use Rattle.desk_tries.specs.Fate.{fate_by}
 
 -- The addresses of the card, the present one of them, how many further tries are left, and whether the
--- present try's last proof has gone out. All addresses before the present one were left because it isn't known
--- whether the letter was written there.
+-- present try's last proof has gone out. All addresses before the present one were left because it isn't
+-- known whether the letter was written there.
 pub record State : Type 0 where
   pub addresses : ℕ
   pub address : ℕ

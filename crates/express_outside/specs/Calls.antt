@@ -1,5 +1,5 @@
--- What the system was asked and what it answered, call by call. An object that tells none of its calls has None in
--- place of their list, and then these say nothing.
+-- What the system was asked and what it answered, call by call. An object that tells none of its calls has
+-- None in place of their list, and then these say nothing.
 use Rattle.std.specs.Prelude.{◌≡◌, ℕ, List, [], ◌∷◌, ◌++◌, Option, Result, Ok, Err, option_map}
 use Rattle.express_outside.specs.declared.calls.Trouble.{Trouble}
 
@@ -15,8 +15,8 @@ IsRefusal (Wrote (Err why)) = Unit {0}
 IsRefusal (Flushed (Ok done)) = ⊥
 IsRefusal (Flushed (Err why)) = Unit {0}
 
--- a call on a file, with its answer: a read at an offset, a whole write at one, a wait for the disk, and whether the
--- name that the file was opened by is still its own
+-- a call on a file, with its answer: a read at an offset, a whole write at one, a wait for the disk, and
+-- whether the name that the file was opened by is still its own
 pub data FileCall : Type 0 where
   ReadAt : ℕ → Result ℕ Trouble → FileCall
   WroteAt : ℕ → Result (Unit {0}) Trouble → FileCall

@@ -7,8 +7,8 @@ use Rattle.express_outside.specs.Calls.{added}
 use Rattle.express_outside.specs.declared.calls.Trouble.{Trouble}
 use Rattle.express_outside.specs.declared.patience.Limit.{Limit}
 
--- A call on a socket: a look at the clock, which told this time; a read and a write that may wait so long, with
--- their answers.
+-- A call on a socket: a look at the clock, which told this time; a read and a write that may wait so long,
+-- with their answers.
 pub data SocketCall : Type 0 where
   Told : ℕ → SocketCall
   ReadWithin : ℕ → Result ℕ Trouble → SocketCall

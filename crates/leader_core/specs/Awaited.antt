@@ -1,5 +1,6 @@
 -- The commands that wait for replies are those that busy rows wait for.
-use Rattle.std.specs.Prelude.{◌≡◌, ℕ, ◌==◌, ◌+◌, List, [], ◌∷◌, length, filter, slice_get, slice_index_or, Some, Ok}
+use Rattle.std.specs.Prelude.{◌≡◌, ℕ, ◌==◌, ◌+◌, List, [], ◌∷◌, length, filter, slice_get, slice_index_or}
+use Rattle.std.specs.Prelude.{Some, Ok}
 use Rattle.express_words.specs.declared.settings.Settings.{Settings}
 use Rattle.frame_rules.specs.Frames as frame
 use Rattle.frame_rules.specs.Frames.{PlainFrame, PlainBody}
@@ -40,8 +41,8 @@ awaited_at lane serial stage = []
 abbrev pub awaited : ℕ → Row → List PlainFrame
 awaited lane r = awaited_at lane r.serial r.stage
 
--- of each lane the command that its row waits for is outstanding, and nothing else; their numbers are the last
--- before the next one, in order
+-- of each lane the command that its row waits for is outstanding, and nothing else; their numbers are the
+-- last before the next one, in order
 pub record AreThoseAwaited (lanes : ℕ) (rows : List Row) (outstanding : List PlainFrame) (next : ℕ)
     : Type 0 where
   pub count : length rows ≡ lanes

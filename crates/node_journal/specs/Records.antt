@@ -13,7 +13,8 @@ IsSized bytes = (1 ≤ length bytes) × (length bytes ≤ record_max)
 
 -- The gate is open, the length is in its range, and the disk has a byte after the record.
 abbrev pub is_whole : ℕ → ℕ → List ℕ → Bool
-is_whole gate len rest = (gate == 1) && nat_le 1 len && nat_le len record_max && nat_le (len + 1) (length rest)
+is_whole gate len rest =
+    (gate == 1) && nat_le 1 len && nat_le len record_max && nat_le (len + 1) (length rest)
 
 -- at most so many of the records that begin here, each at the byte after the one before it
 abbrev pub first_records : ℕ → List ℕ → List (List ℕ)

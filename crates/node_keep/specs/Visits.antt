@@ -41,7 +41,8 @@ pub record IsCutOff {D : Type 0} (v : Visit) (old new : KeptState D) (frames : L
 pub record IsStepped {D : Type 0} (shows : D → DiskSeen) (peer : List ℕ) (v : Visit) (old new : KeptState D)
     (frames : List Handed) (count : ℕ) : Type 0 where
   pub reply : List ℕ
-  pub responds : Responds peer old.core (host.handed v) new.core frames (meanwhile v.calls count) v.answer reply
+  pub responds : Responds peer old.core (host.handed v) new.core frames (meanwhile v.calls count)
+      v.answer reply
   pub writes : WritesTold v.answer (Some []) (Some v.taken) 0 v.faults reply
   pub keeps : Keeps shows old new frames
   pub alone : IsHelp old.core → v.calls ≡ []

@@ -36,8 +36,8 @@ LeavesFrames limit o frames added c =
     ((content c ≡ records_of o frames) ⊎ (content c ≡ records_of o (frames ++ added ∷ [])))
     × IsUndamaged limit 0 c
 
--- A crash leaves no record or exactly the opening's, and nothing that a journal under the same limit would find
--- damaged, unless it is one byte at most.
+-- A crash leaves no record or exactly the opening's, and nothing that a journal under the same limit would
+-- find damaged, unless it is one byte at most.
 abbrev pub LeavesOpening : ℕ → Opening → List ℕ → Type 0
 LeavesOpening limit o c =
     ((content c ≡ []) ⊎ (content c ≡ records_of o [])) × ((length c ≤ 1) ⊎ IsUndamaged limit 0 c)

@@ -59,8 +59,8 @@ frames_led (Some f) a bytes b made count (served.LinkFault faults) reply leads =
 frames_led (Some f) a bytes b made count served.LinkBad reply leads =
     frames_broken a bytes b made served.LinkBad leads.0
 
--- What a server did with these bytes: its step, the calls on the net meanwhile, and the reply that the client is
--- to get; and the frames that it was handed, in their order.
+-- What a server did with these bytes: its step, the calls on the net meanwhile, and the reply that the client
+-- is to get; and the frames that it was handed, in their order.
 abbrev pub Responds : List ℕ → Core → List ℕ → Core → List Handed → Stretch → Served → List ℕ → Type 0
 Responds peer (Help h) bytes new frames net why reply =
     IsSent why × (new ≡ Help (helper_step h bytes).helper) × (reply ≡ (helper_step h bytes).answer)
@@ -71,8 +71,8 @@ Responds peer (Lead a) bytes new frames net why reply =
     × ((leads : Leads (taken_in (whole bytes)) a bytes b made net.count why reply)
     × (frames ≡ frames_led (taken_in (whole bytes)) a bytes b made net.count why reply leads)))
 
--- A server with a log answered what a connection brought: its reply was written to the connection, and the log took
--- each frame that it was handed on the way before its step.
+-- A server with a log answered what a connection brought: its reply was written to the connection, and the
+-- log took each frame that it was handed on the way before its step.
 pub record Answers {S F : Type 0} (log : Log S F) (peer bytes : List ℕ) (server : Moved S) (net : Stretch)
     (conn : Moved Seen) (why : Served) : Type 0 where
   pub reply : List ℕ
@@ -82,8 +82,8 @@ pub record Answers {S F : Type 0} (log : Log S F) (peer bytes : List ℕ) (serve
   pub takes : log.takes server.old server.new frames
 
 -- Or the log refused one of these frames, and the server took no step from then on.
-pub record StopsShort {S F : Type 0} (log : Log S F) (peer bytes : List ℕ) (server : Moved S) (net : Stretch) (fault : F)
-    : Type 0 where
+pub record StopsShort {S F : Type 0} (log : Log S F) (peer bytes : List ℕ) (server : Moved S)
+    (net : Stretch) (fault : F) : Type 0 where
   pub frames : List Handed
   pub refused : Handed
   pub far : Stops peer (log.core server.old) bytes (log.core server.new) frames refused net.before net.now

@@ -45,7 +45,8 @@ abbrev pub token_of : Book → ℕ → Mailbox → Line → ℕ
 token_of b server box x = token (key_at b server box.lane box.serial) x.lane x.serial
 
 -- both took the token of the box of that number, which keeps the lane and serial that registered it
-pub record TookTokens (b : Book) (all : List Taken) (x : Line) (number : ℕ) (named : ℕ → PlainBody) : Type 0 where
+pub record TookTokens (b : Book) (all : List Taken) (x : Line) (number : ℕ) (named : ℕ → PlainBody)
+    : Type 0 where
   pub box : Mailbox
   pub is : slice_get (all_boxes b) number ≡ Some box
   pub both : TookBoth all x (named (token_of b 0 box x)) (frame.Deposit (deposit.Read (token_of b 1 box x)))

@@ -23,8 +23,8 @@ pub record HistoryIsRuns (b : Book) (f : FrameWorld) (w : World) : Type 0 where
   pub carried : lines_of b.entries ≡ take w.carried b.commands
 
 -- the two runs that a history is read off are the run over bytes, which is printed, and the token run
-pub record AreItsRuns (settings : Settings) (seed : List ℕ) (foreign : ℕ → Bool) (events : List Event) (s : Both)
-    : Type 0 where
+pub record AreItsRuns (settings : Settings) (seed : List ℕ) (foreign : ℕ → Bool) (events : List Event)
+    (s : Both) : Type 0 where
   pub frames : s.frames ≡ frame_run settings seed events
   pub tokens : s.world ≡ token_run (oracle_of s.acts) settings foreign events
 

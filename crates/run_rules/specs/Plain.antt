@@ -8,7 +8,8 @@ use Rattle.frame_rules.specs.Frames.{PlainBody}
 use Rattle.express_words.specs.declared.refusal.Refusal.{Refusal}
 use Rattle.express_words.specs.declared.refusal.Refusal.TheVariants as refusal
 use Rattle.mailbox_rules.specs.Requests.{Request, Register, Write, Read, Retire, Line, Entry, RetireBox}
-use Rattle.mailbox_rules.specs.Requests.{lines_of, opening_of, opens_with, operation_of, Command, Refuse, Retires}
+use Rattle.mailbox_rules.specs.Requests.{lines_of, opening_of, opens_with, operation_of, Command, Refuse}
+use Rattle.mailbox_rules.specs.Requests.{Retires}
 use Rattle.mailbox_rules.specs.Tables.{Table, Result, Registered, Taken, Full, Began, WasAudited, Settled}
 use Rattle.mailbox_rules.specs.Tables.{Gave, NoBox, Refused, Writes, table_after, result_of, result_sum}
 use Rattle.mailbox_rules.specs.Tables.{plain_writes}
@@ -134,8 +135,8 @@ IsDue b i x (Retire own) (refusal.NoBox n) = Did (take i b.entries) (RetireBox n
 IsDue b i x request refused = ⊥
 
 -- The outcome of the request that a client sent under a serial: each of its lines stands in the journal, the
--- last did what the request asks, and what is told is the plain table's result at the place of the last one. So the message of a read is what the
--- plain table gives at that place.
+-- last did what the request asks, and what is told is the plain table's result at the place of the last one.
+-- So the message of a read is what the plain table gives at that place.
 pub record IsAnswered (b : Book) (c serial : ℕ) (outcome : Outcome) : Type 0 where
   pub request : Request
   pub asked : request_of b c serial ≡ Some request

@@ -79,8 +79,8 @@ HelperGoesOn = (h : Helper) (bytes : List ℕ) (c : ℕ) →
 
 -- ---- the leader's rows at replies
 
--- a write goes on with its root and public part, and then with its proof share at its point; or the request is
--- done with
+-- a write goes on with its root and public part, and then with its proof share at its point; or the request
+-- is done with
 abbrev pub LeaderGoesTo : leader.Stage → leader.Stage → Type 0
 LeaderGoesTo before (leader.Done want kept) = Unit {0}
 LeaderGoesTo (leader.Waiting n (leader.Writing root part drawn)) (leader.Challenged write kept) =

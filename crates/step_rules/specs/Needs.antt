@@ -34,7 +34,8 @@ HoldsFor h c (frame.LinkRegister address) stage = (key : List ℕ) × (stage ≡
 HoldsFor h c (frame.LinkBegin drawn part) stage = (root : ℕ) × (stage ≡ Deposited (deposit.Write root))
 HoldsFor h c (frame.LinkAudit point opened) stage =
     (write : Write) × (share : ProofShare) × (stage ≡ Proved write share)
-HoldsFor h c (frame.LinkSettle closing) stage = (write : Write) × (own : Closing) × (stage ≡ Audited write own)
+HoldsFor h c (frame.LinkSettle closing) stage =
+    (write : Write) × (own : Closing) × (stage ≡ Audited write own)
 HoldsFor h c (frame.LinkRead number) stage = HasBox h c number stage
 HoldsFor h c (frame.LinkRetire number) stage = HasBox h c number stage
 HoldsFor h c body stage = ⊥

@@ -36,7 +36,8 @@ other_leaf viewer choice aim address =
 
 -- the difference of both leaves at the target, which is their sum
 abbrev pub difference_of : ℕ → PlainChoice → PlainAim → ℕ
-difference_of viewer choice aim = bit_xor (own_leaf viewer choice aim aim.target) (other_end viewer choice aim)
+difference_of viewer choice aim =
+    bit_xor (own_leaf viewer choice aim aim.target) (other_end viewer choice aim)
 
 -- ---- the audit
 
