@@ -2,20 +2,15 @@
 use Rattle.std.proofs.Common.{◌≡◌, ◌≢◌, ℕ, List, ap, sym, subst}
 use Rattle.clap.specs.Words.{Text}
 use Rattle.express_cli.specs.Around.{Around, Outside}
-use Rattle.express_cli.specs.Ends.{PrintsBy, status_of}
-use Rattle.express_cli.specs.Ran.{MayCome, Ran}
-use Rattle.express_cli.specs.Runs.{MayLeave, SinkFailed}
+use Rattle.express_cli.specs.Ends.{status_of}
+use Rattle.express_cli.specs.Ran.{Ran}
+use Rattle.express_cli.specs.Runs.{ComesTo, MayLeave, ToldInTime}
 use Rattle.express_cli.specs.declared.ends.End.{End}
 use Rattle.express_cli.specs.declared.ends.End.TheVariants.{ReadFault, WriteFault}
 use Rattle.express_cli.proofs.OneReading.{Reads}
 use Rattle.express_cli.proofs.Causes as causes
 use Rattle.express_cli.proofs.Exact as exact
 use Rattle.express_cli.proofs.Talked as talked
-
--- a run that came to this end, with its text written
-abbrev pub Came : List Text → Outside → Outside → Around → End → Type 0
-Came words old new net end =
-    PrintsBy (MayCome words old new net) old.written new.written old.output_faults new.output_faults end
 
 -- its input failed only where it says so, and so did its sink
 abbrev pub SourceTold : Outside → Outside → End → Type 0
@@ -24,13 +19,8 @@ SourceTold old new end = end ≢ ReadFault → end ≢ WriteFault → new.input_
 abbrev pub SinkTold : Outside → Outside → End → Type 0
 SinkTold old new end = end ≢ WriteFault → new.output_faults ≡ old.output_faults
 
--- where its sink failed, what it had told by then
-abbrev pub FailureTold : List Text → Outside → Outside → Around → End → Type 0
-FailureTold words old new net end =
-    end ≡ WriteFault → SinkFailed words old.content new.content net old.written new.written
-
-came : Reads → (words : List Text) (old new : Outside) (net : Around) (end : End) → Came words old new net end
-    → SourceTold old new end → SinkTold old new end → FailureTold words old new net end → MayLeave words net → Ran words old new net (status_of end)
+came : Reads → (words : List Text) (old new : Outside) (net : Around) (end : End) → ComesTo words old new net end
+    → SourceTold old new end → SinkTold old new end → ToldInTime words old new net end → MayLeave words net → Ran words old new net (status_of end)
 came law words old new net end h source sink failure early = record {
   headline = exact.headline law _ _ _ _ _ _ _ _ _ _ _ h;
   batch = exact.batch law _ _ _ _ _ _ _ _ _ _ _ h;
@@ -60,7 +50,7 @@ came law words old new net end h source sink failure early = record {
 }
 
 pub ran : Reads → (words : List Text) (old new : Outside) (net : Around) (end : End) (status : ℕ)
-    → Came words old new net end → SourceTold old new end → SinkTold old new end → FailureTold words old new net end → MayLeave words net
+    → ComesTo words old new net end → SourceTold old new end → SinkTold old new end → ToldInTime words old new net end → MayLeave words net
     → status ≡ status_of end → Ran words old new net status
 ran law words old new net end status h source sink failure early is =
     subst (Ran words old new net) (sym is) (came law words old new net end h source sink failure early)

@@ -1,5 +1,5 @@
 -- What may come of a command over a net, by what its parts may come to.
-use Rattle.std.proofs.Common.{◌≡◌, ◌≢◌, ◌⊎◌, inl, inr, ℕ, List, ◌++◌, Option, Err, false, string_bytes, refl, sym, ap, subst}
+use Rattle.std.proofs.Common.{◌≡◌, ◌≢◌, ◌⊎◌, inl, inr, ℕ, List, ◌++◌, Option, Err, false, refl, sym, ap, subst}
 use Rattle.std.specs.Prelude.{All}
 use Rattle.std.proofs.lemmas.List.Elements.{All-weaker}
 use Rattle.clap.specs.Words.{Text}
@@ -115,7 +115,7 @@ serve_may settings bytes net spells ends.TooLong text may = absurd may
 -- ---- a client and a carrier
 
 pub left_nothing : {N C : Type 0} (seen : N → Seen) (shows : C → Seen) (seed : List ℕ) (old new : N)
-    → (new ≡ old) ⊎ EarlyAtEnd (seen new).calls shows → LeftNothing (around seed (seen old) (seen new) (Shown shows))
+    → (new ≡ old) ⊎ EarlyAtEnd (seen new).calls shows → LeftNothing (around seed (seen old) (seen new) shows)
 left_nothing seen shows seed old new (inl same) = inl (ap seen same)
 left_nothing seen shows seed old new (inr early) = inr (λ short. let found = early short in (shows found.0, (found.0, refl), found.1))
 
@@ -164,17 +164,17 @@ said_may command bytes net end text still said =
 pub serve_fault : (bytes : List ℕ) (net : Around) (f : TextFault) → IsStill net → Gives (λ s. s) (Err f) (judged serve_of bytes)
     → (end : End) (text : List ℕ) → FaultMay f end text → TalkMay Serve bytes net end text
 serve_fault bytes net (fault.Wrong n) still gives end text may = absurd gives
-serve_fault bytes net (fault.WrongKey key) still gives end text may = key_may Serve bytes (string_bytes key) net still gives end text may
+serve_fault bytes net (fault.WrongKey key) still gives end text may = key_may Serve bytes key net still gives end text may
 serve_fault bytes net fault.NoMemory still gives end text may = said_may Serve bytes net end text still may
 
 pub client_fault : (bytes : List ℕ) (net : Around) (f : TextFault) → IsStill net → Gives (λ s. s) (Err f) (judged client_of bytes)
     → (end : End) (text : List ℕ) → FaultMay f end text → TalkMay Client bytes net end text
 client_fault bytes net (fault.Wrong n) still gives end text may = absurd gives
-client_fault bytes net (fault.WrongKey key) still gives end text may = key_may Client bytes (string_bytes key) net still gives end text may
+client_fault bytes net (fault.WrongKey key) still gives end text may = key_may Client bytes key net still gives end text may
 client_fault bytes net fault.NoMemory still gives end text may = said_may Client bytes net end text still may
 
 pub carry_fault : (bytes : List ℕ) (net : Around) (f : TextFault) → IsStill net → Gives (λ s. s) (Err f) (judged carry_of bytes)
     → (end : End) (text : List ℕ) → FaultMay f end text → TalkMay Carry bytes net end text
 carry_fault bytes net (fault.Wrong n) still gives end text may = absurd gives
-carry_fault bytes net (fault.WrongKey key) still gives end text may = key_may Carry bytes (string_bytes key) net still gives end text may
+carry_fault bytes net (fault.WrongKey key) still gives end text may = key_may Carry bytes key net still gives end text may
 carry_fault bytes net fault.NoMemory still gives end text may = said_may Carry bytes net end text still may

@@ -3,8 +3,8 @@ use Rattle.std.specs.Prelude.{◌≡◌, ℕ, List, Option}
 use Rattle.express_words.specs.Streams.{Stream}
 pub use Rattle.express_words.specs.Seen.{Seen}
 
--- what is around a run: the seed that it is handed, its net before and now, and what its net's connections may
--- show
+-- what is around a run: the seed that it is handed, its net before and now, and what its net's connections
+-- may show
 pub record Around : Type 1 where
   pub seed : List ℕ
   pub before : Seen
@@ -18,12 +18,13 @@ pub record Outside : Type 0 where
   pub written : Option (List ℕ)
   pub output_faults : ℕ
 
-abbrev pub around : List ℕ → (before now : Seen) → (Seen → Type 0) → Around
-around seed before now shown = record { seed = seed; before = before; now = now; shown = shown }
-
 -- some connection shows this
 abbrev pub Shown : {C : Type 0} → (C → Seen) → Seen → Type 0
 Shown {C} shows seen = (conn : C) × (shows conn ≡ seen)
+
+-- a net whose connections show themselves so
+abbrev pub around : {C : Type 0} → List ℕ → (before now : Seen) → (C → Seen) → Around
+around seed before now shows = record { seed = seed; before = before; now = now; shown = Shown shows }
 
 abbrev pub outside : (input out : Seen) → Outside
 outside input out = record {

@@ -1,5 +1,5 @@
 -- How a run ends.
-use Rattle.std.specs.Prelude.{◌≡◌, ℕ, List, ◌++◌, codes, string_bytes, Option}
+use Rattle.std.specs.Prelude.{◌≡◌, ℕ, List, ◌++◌, codes, Option}
 use Rattle.std.specs.Fmt.{decimal}
 use Rattle.express_words.specs.Causes.{Rose}
 use Rattle.express_words.specs.Seen.{Seen}
@@ -107,7 +107,7 @@ BadKeyMay key TooLong text = ⊥
 -- what is said of a fault of a text
 abbrev pub FaultMay : TextFault → End → List ℕ → Type 0
 FaultMay (fault.Wrong n) end text = BadLineMay n end text
-FaultMay (fault.WrongKey key) end text = BadKeyMay (string_bytes key) end text
+FaultMay (fault.WrongKey key) end text = BadKeyMay key end text
 FaultMay fault.NoMemory end text = Said OutOfMemory out_of_memory_text end text
 
 -- To work on bytes comes to what the command writes of them, to their first bad line, or to want of memory.

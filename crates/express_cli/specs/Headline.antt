@@ -59,8 +59,8 @@ Refused words from to net old new = NamesLine words from to old new ⊎ Talked B
 abbrev pub BrokeOff : List Text → (from to : Option Stream) → Around → (old new : Option (List ℕ)) → Type 0
 BrokeOff words from to net old new = Talked NetFault words from to net old new
 
--- Memory was wanting before any call on a net, and that alone was told; or of a command over a net, behind what
--- was told before.
+-- Memory was wanting before any call on a net, and that alone was told; or of a command over a net, behind
+-- what was told before.
 abbrev pub WantsMemory : List Text → (from to : Option Stream) → Around → (old new : Option (List ℕ)) → Type 0
 WantsMemory words from to net old new =
     (Took old new out_of_memory_text × IsStill net) ⊎ Talked OutOfMemory words from to net old new

@@ -22,6 +22,7 @@ use Rattle.run_hiding.specs.Laws.{LettersAreIdeal, MasksApart, RealIsIdeal, Resu
 use Rattle.run_hiding.specs.Laws.{RunsHaveForm, RunsReturn, SightsStay, WritesAddUp}
 use Rattle.replay_world.specs.Laws.{AreFromClients}
 use Rattle.replay_world.specs.Mills.{MillsCount}
+use Rattle.replay_world.specs.Protocol.{FollowsProtocol}
 use Rattle.replay_world.specs.Replies.{RepliesAreOne}
 use Rattle.replay_world.specs.Sight.{ClientsGetAnswers}
 use Rattle.replay_world.specs.Strangers.{BusyRowsAwait, ClientsAreAlone, FinishesAnswer, FinishesDrain}
@@ -64,7 +65,7 @@ pub record Laws : Type 0 where
   -- place in the journal, so a message that an owner decodes is the one that stands in the table there. The
   -- plain table has the accepted writes of foreign lanes as what both servers add to each box; a line has its
   -- result, or, of a foreign command that did nothing, the helper's refusal.
-  pub follows_protocol : OfEverySchedule Follows
+  pub follows_protocol : OfEverySchedule FollowsProtocol
   pub outcomes_are_plain : OfEverySchedule OutcomesArePlain
   pub lines_are_told : OfEverySchedule JournalIsTold
   -- A client's command is refused for what the plain table has alone: its deposit and proof never are
@@ -73,6 +74,9 @@ pub record Laws : Type 0 where
   pub journal_in_order : OfEverySchedule JournalInOrder
   pub shares_are_folds : OfEverySchedule SharesAreFolds
   pub boxes_are_plain : OfEverySchedule BoxesArePlain
+  -- All this follows from one relation of the history and the two runs, which also says what each row, each
+  -- client and each outcome holds.
+  pub invariant_holds : OfEverySchedule Follows
   -- Each client's requests are told in the order in which it was asked.
   pub requests_are_told : RequestsAreTold
   -- A frame of a client's current request, whenever it comes, is one that the helper says it holds, and the

@@ -24,7 +24,7 @@ use Rattle.express_cli.specs.Ends.{bad_line, bad_settings, usage_text, read_faul
 use Rattle.express_cli.specs.Around.{Around, Outside}
 use Rattle.express_cli.specs.Talking.{SpellsServe, SpellsClient, SpellsCarry, IsBadKey}
 use Rattle.express_cli.specs.Talking.{ServeMay, ClientMay, CarryMay}
-use Rattle.express_cli.specs.Runs.{MayLeave, RunMay, SinkFailed}
+use Rattle.express_cli.specs.Runs.{MayCome, MayLeave, SinkFailed}
 use Rattle.express_cli.specs.Headline.{RanWell, Told, Worked, Refused, BrokeOff, WantsMemory}
 use Rattle.express_cli.specs.declared.words.Command.{Command}
 use Rattle.express_cli.specs.declared.words.Command.TheVariants.{Replay, Batch, Cloak}
@@ -38,11 +38,6 @@ Well old new status = RanWell old.input_faults new.input_faults old.output_fault
 
 abbrev pub Wrote : Outside → Outside → List ℕ → Type 0
 Wrote old new text = Took old.written new.written text
-
--- what may come of the run at this end with this text
-abbrev pub MayCome : List Text → Outside → Outside → Around → End → List ℕ → Type 0
-MayCome words old new net end text =
-    RunMay words old.content new.content old.input_faults new.input_faults net end text
 
 pub record Ran (words : List Text) (old new : Outside) (net : Around) (status : ℕ) : Type 0 where
   -- Where a schedule is to be replayed, input and sink tell their bytes, neither fails and memory is found,

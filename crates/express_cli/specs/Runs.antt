@@ -6,8 +6,9 @@ use Rattle.clap.specs.Words.{Text}
 use Rattle.express_cli.specs.CommandLine.{Asks, AsksMill, AsksNet, AskSome, AskNothing}
 use Rattle.input_reading.specs.Reading.{GaveAll, GaveSome, most_bytes}
 use Rattle.express_cli.specs.Mills.{mill_text}
-use Rattle.express_cli.specs.Ends.{WorkMay, usage_text, read_fault_text, out_of_memory_text, too_long_text}
-use Rattle.express_cli.specs.Around.{Around}
+use Rattle.express_cli.specs.Ends.{PrintsBy, WorkMay, usage_text, read_fault_text, out_of_memory_text}
+use Rattle.express_cli.specs.Ends.{too_long_text}
+use Rattle.express_cli.specs.Around.{Around, Outside}
 use Rattle.express_cli.specs.Talking.{TalkMay, WantsFirst, IsStill, LeavesNothing, BreaksOff}
 use Rattle.express_cli.specs.declared.words.Command.{Command}
 use Rattle.express_cli.specs.declared.words.NetCommand.{NetCommand}
@@ -82,3 +83,19 @@ abbrev pub SinkFailed : List Text → Option Stream → Option Stream → Around
 SinkFailed words from to net old new =
     (command : NetCommand) → AsksNet words command
     → IsStill net ⊎ ((bytes : List ℕ) × GaveAll from to bytes × BreaksOff command bytes net old new)
+
+-- what may come of the run at this end with this text
+abbrev pub MayCome : List Text → Outside → Outside → Around → End → List ℕ → Type 0
+MayCome words old new net end text =
+    RunMay words old.content new.content old.input_faults new.input_faults net end text
+
+-- Of what may come of the run one came and its text was written; or the sink failed after a part of such a
+-- text.
+abbrev pub ComesTo : List Text → Outside → Outside → Around → End → Type 0
+ComesTo words old new net end =
+    PrintsBy (MayCome words old new net) old.written new.written old.output_faults new.output_faults end
+
+-- where it ended because the sink failed, so much was told by then
+abbrev pub ToldInTime : List Text → Outside → Outside → Around → End → Type 0
+ToldInTime words old new net end =
+    end ≡ WriteFault → SinkFailed words old.content new.content net old.written new.written

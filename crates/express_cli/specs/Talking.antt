@@ -63,8 +63,8 @@ listening = codes "listening\n"
 abbrev pub WereThere : (Seen → Type 0) → Seen → List Visit → Type 0
 WereThere shown now visits = All (λ v. (conn : Seen) × shown conn × IsOf now.calls v conn) visits
 
--- By these visits, and no other call but an accept that failed, so many connections were served, or as many as
--- came before that accept.
+-- By these visits, and no other call but an accept that failed, so many connections were served, or as many
+-- as came before that accept.
 pub record ServesDoor (shown : Seen → Type 0) (connections : ℕ) (result : Result Tally Failed) (node : Node)
     (before now : Seen) : Type 0 where
   pub visits : List Visit
@@ -74,7 +74,8 @@ pub record ServesDoor (shown : Seen → Type 0) (connections : ℕ) (result : Re
   pub there : WereThere shown now visits
 
 -- By these visits, and no other call, some of so many connections were served.
-pub record ServesSome (shown : Seen → Type 0) (connections : ℕ) (node : Node) (before now : Seen) : Type 0 where
+pub record ServesSome (shown : Seen → Type 0) (connections : ℕ) (node : Node) (before now : Seen)
+    : Type 0 where
   pub visits : List Visit
   pub end : Node
   pub few : length visits ≤ connections
@@ -132,8 +133,8 @@ AtDoor settings net end text = (node : Node) × IsOpened settings net.seed node
 abbrev pub IsStill : Around → Type 0
 IsStill net = net.now ≡ net.before
 
--- Nothing was done with the net; or if the connection that was closed last is whole and gave less than a frame,
--- it had nothing left.
+-- Nothing was done with the net; or if the connection that was closed last is whole and gave less than a
+-- frame, it had nothing left.
 abbrev pub LeftNothing : Around → Type 0
 LeftNothing net = IsStill net
     ⊎ (EndsShort net.now.calls → (conn : Seen) × net.shown conn × ClosedAtEnd net.now.calls conn)

@@ -8,7 +8,7 @@ ghost use Rattle.express_cli.specs.declared.words.Command.TheVariants.{Batch};
 use crate::End;
 use crate::texts::{OUT_OF_MEMORY, say, say_bad_line};
 use batch_audit::sort_out;
-use express_texts::{BatchPairs, MOST_PAIRS, TextFault, read_batch};
+use express_texts::{BatchPairs, TextFault, read_batch};
 use express_words::NoMemory;
 use express_words::outside::Sink;
 use std::alloc::{AllocError, Global};
@@ -51,8 +51,8 @@ fn text_of(alloc: Global, rejected: &[bool], judged: u32) -> Result<String, Allo
 
 // The text of the pairs' sort.
 fn batch_text(alloc: Global, pairs: &BatchPairs) -> Result<String, NoMemory>
-    requires few { length pairs.now.zero.items ≤ MOST_PAIRS }
-    requires as_many { length pairs.now.one.items ≡ length pairs.now.zero.items }
+    requires few { length pairs.now.zero ≤ 20000 }
+    requires as_many { length pairs.now.one ≡ length pairs.now.zero }
     ensures { IfOk result (λ text. IsBatchText (batch_in pairs.now) (string_bytes text)) }
 {
     let zero = pairs.zero.as_slice();

@@ -1,6 +1,6 @@
 //! Carries a file over several boxes.
 ghost use Rattle.std.specs.Prelude.{◌≡◌, ◌≢◌, ◌≤◌};
-ghost use Rattle.express_cli.specs.Around.{around, Shown};
+ghost use Rattle.express_cli.specs.Around.{around};
 ghost use Rattle.express_cli.specs.Ends.{Prints};
 ghost use Rattle.express_cli.specs.Talking.{BreaksOff, LeftNothing, TalkMay};
 ghost use Rattle.express_cli.specs.declared.words.NetCommand.TheVariants.{Carry};
@@ -23,14 +23,14 @@ pub fn carry<K: Sink, N: Net>(
     net: &mut N,
 ) -> End
     ensures ends { Prints (TalkMay Carry text.now
-        (around seed.now (N.seen net.old) (N.seen net.new) (Shown N.Conn.seen)))
+        (around seed.now (N.seen net.old) (N.seen net.new) N.Conn.seen))
         (K.seen out.old) (K.seen out.new) result }
     ensures breaks { result ≡ End.WriteFault → BreaksOff Carry text.now
-        (around seed.now (N.seen net.old) (N.seen net.new) (Shown N.Conn.seen))
+        (around seed.now (N.seen net.old) (N.seen net.new) N.Conn.seen)
         (K.seen out.old).written (K.seen out.new).written }
     ensures told { result ≢ End.WriteFault → (K.seen out.new).faults ≡ (K.seen out.old).faults }
     ensures waits { result ≡ End.BadKey → net.new ≡ net.old }
-    ensures early { LeftNothing (around seed.now (N.seen net.old) (N.seen net.new) (Shown N.Conn.seen)) }
+    ensures early { LeftNothing (around seed.now (N.seen net.old) (N.seen net.new) N.Conn.seen) }
 {
     let settings = match read_carry(alloc, text) {
         Ok(settings) => settings,

@@ -5,8 +5,8 @@ use batch_audit::{few_values_pass, sorts_are_one};
 use file_table::{answers_join, unwritten_is_missing};
 use replay_world::{
     accepted_writes_pass, clients_get_answers, frames_are_heeded, histories_hold, mills_count,
-    replies_are_one, requests_are_told, rows_are_awaited, schedules_fit, schedules_hold,
-    strangers_were_brought,
+    replies_are_one, requests_are_told, rows_are_awaited, runs_follow_protocol, schedules_fit,
+    schedules_hold, strangers_were_brought,
 };
 use run_hiding::{
     flow_stays, runs_are_ideal, runs_fit_other_aims, sights_stay, strangers_tell_no_more,
@@ -25,6 +25,7 @@ pub fn laws()
     mills_count();
     schedules_fit();
     histories_hold();
+    runs_follow_protocol();
     schedules_hold();
     requests_are_told();
     frames_are_heeded();

@@ -25,7 +25,8 @@ fn opened(
     seed: &[u8; 32],
 ) -> Result<(Node, Gather), NoMemory>
     requires role { settings.now.role ≤ HELPER }
-    requires limits { KeepsLimits settings.now.settings.width settings.now.settings.boxes settings.now.settings.lanes settings.now.settings.window }
+    requires limits { KeepsLimits settings.now.settings.width settings.now.settings.boxes
+        settings.now.settings.lanes settings.now.settings.window }
     ensures opened { IfOk result (λ r. IsOpened settings.now seed.now r.0) }
 {
     let gather = Gather::open(alloc)?;
@@ -99,7 +100,7 @@ fn listen_and_serve<K: Sink, N: Net>(
         (N.seen net.old) (N.seen net.new))
         (K.seen out.old) (K.seen out.new) result }
     ensures breaks { result ≡ End.WriteFault → ServeBreaks settings.now
-        (around [] (N.seen net.old) (N.seen net.new) (Shown N.Conn.seen))
+        (around [] (N.seen net.old) (N.seen net.new) N.Conn.seen)
         (K.seen out.old).written (K.seen out.new).written }
     ensures told { result ≢ End.WriteFault → (K.seen out.new).faults ≡ (K.seen out.old).faults }
     ensures settings { result ≢ End.BadKey }
@@ -119,13 +120,14 @@ fn serve_by<K: Sink, N: Net>(
     net: &mut N,
 ) -> End
     requires role { settings.now.role ≤ HELPER }
-    requires limits { KeepsLimits settings.now.settings.width settings.now.settings.boxes settings.now.settings.lanes settings.now.settings.window }
+    requires limits { KeepsLimits settings.now.settings.width settings.now.settings.boxes
+        settings.now.settings.lanes settings.now.settings.window }
     ensures ends { Prints (ServeMay settings.now
-        (around seed.now (N.seen net.old) (N.seen net.new) (Shown N.Conn.seen)))
+        (around seed.now (N.seen net.old) (N.seen net.new) N.Conn.seen))
         (K.seen out.old) (K.seen out.new) result }
     ensures breaks { result ≡ End.WriteFault
         → (net.new ≡ net.old) ⊎ ServeBreaks settings.now
-        (around seed.now (N.seen net.old) (N.seen net.new) (Shown N.Conn.seen))
+        (around seed.now (N.seen net.old) (N.seen net.new) N.Conn.seen)
         (K.seen out.old).written (K.seen out.new).written }
     ensures told { result ≢ End.WriteFault → (K.seen out.new).faults ≡ (K.seen out.old).faults }
     ensures settings { result ≢ End.BadKey }
@@ -148,10 +150,10 @@ pub fn serve<K: Sink, N: Net>(
     net: &mut N,
 ) -> End
     ensures ends { Prints (TalkMay Serve text.now
-        (around seed.now (N.seen net.old) (N.seen net.new) (Shown N.Conn.seen)))
+        (around seed.now (N.seen net.old) (N.seen net.new) N.Conn.seen))
         (K.seen out.old) (K.seen out.new) result }
     ensures breaks { result ≡ End.WriteFault → BreaksOff Serve text.now
-        (around seed.now (N.seen net.old) (N.seen net.new) (Shown N.Conn.seen))
+        (around seed.now (N.seen net.old) (N.seen net.new) N.Conn.seen)
         (K.seen out.old).written (K.seen out.new).written }
     ensures told { result ≢ End.WriteFault → (K.seen out.new).faults ≡ (K.seen out.old).faults }
     ensures waits { result ≡ End.BadKey → net.new ≡ net.old }

@@ -1,6 +1,6 @@
 //! The work of a command over a net.
 ghost use Rattle.std.specs.Prelude.{◌≡◌, ◌≢◌, ◌≤◌};
-ghost use Rattle.express_cli.specs.Around.{around, Shown};
+ghost use Rattle.express_cli.specs.Around.{around};
 ghost use Rattle.express_cli.specs.Ends.{Prints};
 ghost use Rattle.express_cli.specs.Talking.{BreaksOff, LeavesNothing, TalkMay};
 
@@ -22,15 +22,15 @@ pub fn talk<K: Sink, N: Net>(
     net: &mut N,
 ) -> End
     ensures ends { Prints (TalkMay command text.now
-        (around seed.now (N.seen net.old) (N.seen net.new) (Shown N.Conn.seen)))
+        (around seed.now (N.seen net.old) (N.seen net.new) N.Conn.seen))
         (K.seen out.old) (K.seen out.new) result }
     ensures breaks { result ≡ End.WriteFault → BreaksOff command text.now
-        (around seed.now (N.seen net.old) (N.seen net.new) (Shown N.Conn.seen))
+        (around seed.now (N.seen net.old) (N.seen net.new) N.Conn.seen)
         (K.seen out.old).written (K.seen out.new).written }
     ensures told { result ≢ End.WriteFault → (K.seen out.new).faults ≡ (K.seen out.old).faults }
     ensures waits { result ≡ End.BadKey → net.new ≡ net.old }
     ensures early { LeavesNothing command
-        (around seed.now (N.seen net.old) (N.seen net.new) (Shown N.Conn.seen)) }
+        (around seed.now (N.seen net.old) (N.seen net.new) N.Conn.seen) }
 {
     match command {
         NetCommand::Serve => serve(alloc, text, seed, out, net),

@@ -1,9 +1,8 @@
 //! The top call.
 ghost use Rattle.std.specs.Prelude.{◌≡◌, ◌≢◌, ◌≤◌, ◌∷◌, [], Contains, map, string_bytes};
 ghost use Rattle.express_cli.specs.CommandLine.{AskSome, AskTalk};
-ghost use Rattle.express_cli.specs.Around.{around, outside, Shown};
-ghost use Rattle.express_cli.specs.Ends.{Prints};
-ghost use Rattle.express_cli.specs.Runs.{MayLeave, RunMay, SinkFailed, WaitsForNet};
+ghost use Rattle.express_cli.specs.Around.{around, outside};
+ghost use Rattle.express_cli.specs.Runs.{ComesTo, MayLeave, ToldInTime, WaitsForNet};
 ghost use Rattle.express_cli.specs.Ran.{Ran};
 ghost use Rattle.input_reading.specs.Reading.{LastFailed};
 ghost use Rattle.express_cli.specs.Laws.{Laws};
@@ -31,14 +30,14 @@ fn finish<S: Source, K: Sink, N: Net>(
     out: &mut K,
     net: &mut N,
 ) -> End
-    ensures ends { Prints (RunMay (map string_bytes words.now.items) (S.seen input.old).content
-        (S.seen input.new).content (S.seen input.old).faults (S.seen input.new).faults
-        (around seed.now (N.seen net.old) (N.seen net.new) (Shown N.Conn.seen)))
-        (K.seen out.old) (K.seen out.new) result }
-    ensures breaks { result ≡ End.WriteFault
-        → SinkFailed (map string_bytes words.now.items) (S.seen input.old).content (S.seen input.new).content
-        (around seed.now (N.seen net.old) (N.seen net.new) (Shown N.Conn.seen))
-        (K.seen out.old).written (K.seen out.new).written }
+    ensures ends { ComesTo (map string_bytes words.now.items)
+        (outside (S.seen input.old) (K.seen out.old))
+        (outside (S.seen input.new) (K.seen out.new))
+        (around seed.now (N.seen net.old) (N.seen net.new) N.Conn.seen) result }
+    ensures breaks { ToldInTime (map string_bytes words.now.items)
+        (outside (S.seen input.old) (K.seen out.old))
+        (outside (S.seen input.new) (K.seen out.new))
+        (around seed.now (N.seen net.old) (N.seen net.new) N.Conn.seen) result }
     ensures last_take { result ≡ End.ReadFault → (last : S)
         × LastFailed (S.seen input.old).faults (S.seen last).faults (S.seen input.new).faults
         (S.seen last).content (S.seen input.new).content }
@@ -52,7 +51,7 @@ fn finish<S: Source, K: Sink, N: Net>(
     ensures net_rests { (AskTalk (map string_bytes words.now.items) → ⊥) → net.new ≡ net.old }
     ensures net_waits { WaitsForNet result → net.new ≡ net.old }
     ensures early { MayLeave (map string_bytes words.now.items)
-        (around seed.now (N.seen net.old) (N.seen net.new) (Shown N.Conn.seen)) }
+        (around seed.now (N.seen net.old) (N.seen net.new) N.Conn.seen) }
 {
     match task_of(alloc, words) {
         Err(_) => say(out, OUT_OF_MEMORY, End::OutOfMemory),
@@ -87,7 +86,7 @@ pub fn run<S: Source, K: Sink, N: Net>(
     ensures ran { Ran (map string_bytes words.now.items)
         (outside (S.seen input.old) (K.seen out.old))
         (outside (S.seen input.new) (K.seen out.new))
-        (around seed.now (N.seen net.old) (N.seen net.new) (Shown N.Conn.seen)) result }
+        (around seed.now (N.seen net.old) (N.seen net.new) N.Conn.seen) result }
     ensures laws { Laws }
     // Nothing is taken from the input after a fault of it.
     ensures last_take { result ≡ 4 → (last : S)

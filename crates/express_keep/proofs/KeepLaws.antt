@@ -1,5 +1,5 @@
 -- What may come of a text, by what its settings may come to.
-use Rattle.std.proofs.Common.{◌≡◌, ◌⊎◌, inl, inr, ℕ, List, Err, string_bytes, false, refl, sym, ap, subst}
+use Rattle.std.proofs.Common.{◌≡◌, ◌⊎◌, inl, inr, ℕ, List, Err, false, refl, sym, ap, subst}
 use Rattle.node_journal.specs.Disk.{DiskSeen}
 use Rattle.express_texts.specs.declared.fault.TextFault.{TextFault}
 use Rattle.express_texts.specs.declared.fault.TextFault.TheVariants as fault
@@ -53,7 +53,7 @@ pub bad_text : {D : Type 0} (shows : D → DiskSeen) (bytes : List ℕ) (net : A
     → FaultMay f end text → TextMay shows bytes net disk disk (Plain end) text
 bad_text shows bytes net disk quiet (fault.Wrong n) gives end text may = absurd gives
 bad_text shows bytes net disk quiet (fault.WrongKey key) gives end text may =
-    misspelt shows bytes net disk quiet (string_bytes key) gives end text may
+    misspelt shows bytes net disk quiet key gives end text may
 bad_text {D} shows bytes net disk quiet fault.NoMemory gives end text may =
     let Of : End → Type 0 = λ e. TextMay shows bytes net disk disk (Plain e) text in
     subst Of (sym may.0) (wanting shows bytes net disk quiet text may.1)

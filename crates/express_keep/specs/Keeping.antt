@@ -1,5 +1,5 @@
 -- What one run of `keep` comes to.
-use Rattle.std.specs.Prelude.{◌≡◌, ◌≢◌, ◌⊎◌, ℕ, List, [], ◌∷◌, Contains}
+use Rattle.std.specs.Prelude.{◌≡◌, ◌≢◌, ◌⊎◌, ℕ, List, [], ◌∷◌, Contains, String, map, string_bytes}
 use Rattle.express_words.specs.Causes.{Rose}
 use Rattle.node_journal.specs.Disk.{DiskSeen}
 use Rattle.settings_text.specs.declared.serve.ServeSettings.{ServeSettings}
@@ -10,10 +10,11 @@ use Rattle.node_keep.specs.Opening.{opening_of, key_text}
 use Rattle.node_keep.specs.declared.fault.OpenFault.{OpenFault}
 use Rattle.node_keep.specs.declared.fault.OpenFault.TheVariants as opening
 use Rattle.node_keep.specs.declared.key.SettingsKey.{SettingsKey}
-use Rattle.express_cli.specs.Around.{Around, Outside}
+use Rattle.express_cli.specs.Around.{Around, Outside, Seen}
 use Rattle.input_reading.specs.Reading.{GaveAll}
 use Rattle.express_cli.specs.Ends.{BadKeyMay, bad_settings}
 use Rattle.express_cli.specs.Talking.{SpellsServe, IsBadKey, IsStill, BreaksOff}
+use Rattle.express_cli.specs.Ran.{Ran}
 use Rattle.express_cli.specs.Runs.{UnreadMay}
 use Rattle.express_cli.specs.declared.words.NetCommand.TheVariants.{Serve}
 use Rattle.express_cli.specs.declared.ends.End.{End}
@@ -23,6 +24,7 @@ use Rattle.express_keep.specs.declared.ending.Ending.TheVariants.{Plain}
 use Rattle.express_keep.specs.Endings.{status_of, DiskCounts}
 use Rattle.express_keep.specs.Telling.{FaultMay, Says, SaysOrWants, TellsBy, WantsMemory}
 use Rattle.express_keep.specs.Door.{DoorMay}
+use Rattle.express_keep.specs.Words.{AsksKeep}
 
 -- a journal uses so many bytes of its disk at most
 abbrev pub limit : ℕ
@@ -115,6 +117,13 @@ KeepMay shows old new net disk after end text =
     Read shows old new net disk after end text
     ⊎ Unread old new net disk after end text
 
+-- What came of it was written, or a front of that where the sink failed.
+abbrev pub ComesTo : {D : Type 0} → (D → DiskSeen) → (old new : Outside) → Around → (disk after : D)
+    → Ending → Type 0
+ComesTo shows old new net disk after end =
+    TellsBy (KeepMay shows old new net disk after) old.written new.written
+    old.output_faults new.output_faults end
+
 -- the input failed only where that is told, or where the sink failed and hides it
 abbrev pub InputCounts : Ending → Outside → Outside → Type 0
 InputCounts end old new =
@@ -131,17 +140,26 @@ Announces end old new net =
     → IsStill net ⊎ ((bytes : List ℕ) × GaveAll old.content new.content bytes
     × BreaksOff Serve bytes net old.written new.written)
 
--- What one run of `keep` promises, by its status; disk_before and disk_now are the disk's counts of faults.
-pub record KeepRan {D : Type 0} (shows : D → DiskSeen) (old new : Outside) (net : Around) (disk after : D)
-    (disk_before disk_now status : ℕ) : Type 0 where
+-- What one run of `keep` promises, by its status. A disk shows what is on it, and its count of faults.
+pub record KeepRan {D : Type 0} (shows : D → DiskSeen) (counted : D → Seen) (old new : Outside) (net : Around)
+    (disk after : D) (status : ℕ) : Type 0 where
   pub ending : Ending
   pub status_is : status ≡ status_of ending
-  -- What came of it was written, or a front of that where the sink failed.
-  pub came : TellsBy (KeepMay shows old new net disk after) old.written new.written
-      old.output_faults new.output_faults ending
+  pub came : ComesTo shows old new net disk after ending
   -- No fault is passed over.
-  pub disk_counts : DiskCounts ending disk_before disk_now
+  pub disk_counts : DiskCounts ending (counted disk).faults (counted after).faults
   pub input_counts : InputCounts ending old new
   pub output_counts : OutputCounts ending old new
   -- A server tells that it listens before it accepts a connection.
   pub announces : Announces ending old new net
+
+-- what is promised for the word `keep`
+abbrev pub Keeps : {D Z : Type 0} → List (String Z) → (D → DiskSeen) → (D → Seen) → (old new : Outside)
+    → Around → (disk after : D) → (status : ℕ) → Type 0
+Keeps words shows counted old new net disk after status =
+    AsksKeep (map string_bytes words) → KeepRan shows counted old new net disk after status
+
+-- what is promised for all other words: the run is `run`'s
+abbrev pub OtherRan : {Z : Type 0} → List (String Z) → (old new : Outside) → Around → (status : ℕ) → Type 0
+OtherRan words old new net status =
+    (AsksKeep (map string_bytes words) → ⊥) → Ran (map string_bytes words) old new net status

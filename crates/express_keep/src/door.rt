@@ -1,6 +1,6 @@
 //! A server with a journal at its door.
 ghost use Rattle.std.specs.Prelude.{◌≡◌, ◌≢◌, ◌≤◌, ◌⊎◌, ℕ, false, []};
-ghost use Rattle.express_cli.specs.Around.{around, Shown};
+ghost use Rattle.express_cli.specs.Around.{around};
 ghost use Rattle.express_cli.specs.Talking.{IsOut, ServeBreaks, listening};
 ghost use Rattle.express_keep.specs.Endings.{DiskCounts};
 ghost use Rattle.express_keep.specs.Telling.{Tells};
@@ -50,7 +50,8 @@ fn serve_all<K: Sink, N: Net, D: Disk>(
         (N.seen net.old) (N.seen net.new))
         (K.seen out.old) (K.seen out.new) result }
     ensures told { result ≢ Ending.Plain End.WriteFault → (K.seen out.new).faults ≡ (K.seen out.old).faults }
-    ensures disk { DiskCounts result (D.Counted.seen server.old.kept.disk).faults (D.Counted.seen server.new.kept.disk).faults }
+    ensures disk { DiskCounts result (D.Counted.seen server.old.kept.disk).faults
+        (D.Counted.seen server.new.kept.disk).faults }
 {
     match host_kept(
         &mut server.kept,
@@ -82,7 +83,8 @@ fn tell_and_serve<K: Sink, N: Net, D: Disk>(
     ensures announces { result ≡ Ending.Plain End.WriteFault → (net.new ≡ net.old)
         ⊎ IsOut listening (K.seen out.old).written (K.seen out.new).written }
     ensures told { result ≢ Ending.Plain End.WriteFault → (K.seen out.new).faults ≡ (K.seen out.old).faults }
-    ensures disk { DiskCounts result (D.Counted.seen server.old.kept.disk).faults (D.Counted.seen server.new.kept.disk).faults }
+    ensures disk { DiskCounts result (D.Counted.seen server.old.kept.disk).faults
+        (D.Counted.seen server.new.kept.disk).faults }
 {
     match out.put(LISTENING.as_bytes()) {
         Ok(()) => serve_all(alloc, settings, server, out, net),
@@ -103,10 +105,11 @@ pub(crate) fn listen_and_serve<K: Sink, N: Net, D: Disk>(
         (N.seen net.old) (N.seen net.new))
         (K.seen out.old) (K.seen out.new) result }
     ensures announces { result ≡ Ending.Plain End.WriteFault
-        → ServeBreaks settings.now (around [] (N.seen net.old) (N.seen net.new) (Shown N.Conn.seen))
+        → ServeBreaks settings.now (around [] (N.seen net.old) (N.seen net.new) N.Conn.seen)
         (K.seen out.old).written (K.seen out.new).written }
     ensures told { result ≢ Ending.Plain End.WriteFault → (K.seen out.new).faults ≡ (K.seen out.old).faults }
-    ensures disk { DiskCounts result (D.Counted.seen server.old.kept.disk).faults (D.Counted.seen server.new.kept.disk).faults }
+    ensures disk { DiskCounts result (D.Counted.seen server.old.kept.disk).faults
+        (D.Counted.seen server.new.kept.disk).faults }
 {
     match net.listen(settings.listen.as_str()) {
         Ok(()) => tell_and_serve(alloc, settings, server, out, net),

@@ -1,12 +1,12 @@
 //! Is a server with a journal.
 ghost use Rattle.std.specs.Prelude.{◌≡◌, ◌≢◌, ◌≤◌, ◌⊎◌};
 ghost use Rattle.express_words.specs.Limits.{KeepsLimits};
-ghost use Rattle.express_cli.specs.Around.{around, outside, Shown};
+ghost use Rattle.express_cli.specs.Around.{around, outside};
 ghost use Rattle.input_reading.specs.Reading.{LastFailed};
 ghost use Rattle.express_cli.specs.Talking.{BreaksOff, ServeBreaks};
 ghost use Rattle.express_cli.specs.declared.words.NetCommand.TheVariants.{Serve};
 ghost use Rattle.express_keep.specs.Endings.{DiskCounts};
-ghost use Rattle.express_keep.specs.Keeping.{Announces, InputCounts, KeepMay, OutputCounts, SettingsMay, TextMay};
+ghost use Rattle.express_keep.specs.Keeping.{Announces, ComesTo, InputCounts, OutputCounts, SettingsMay, TextMay};
 ghost use Rattle.express_keep.specs.Telling.{Tells};
 
 use crate::door::{Server, listen_and_serve};
@@ -30,13 +30,14 @@ fn keep_by<K: Sink, N: Net, D: Disk>(
     disk: D,
 ) -> (Ending, D)
     requires role { settings.now.role ≤ HELPER }
-    requires limits { KeepsLimits settings.now.settings.width settings.now.settings.boxes settings.now.settings.lanes settings.now.settings.window }
+    requires limits { KeepsLimits settings.now.settings.width settings.now.settings.boxes
+        settings.now.settings.lanes settings.now.settings.window }
     ensures tells { Tells (SettingsMay D.disk settings.now
-        (around seed.now (N.seen net.old) (N.seen net.new) (Shown N.Conn.seen))
+        (around seed.now (N.seen net.old) (N.seen net.new) N.Conn.seen)
         disk result.1) (K.seen out.old) (K.seen out.new) result.0 }
     ensures announces { result.0 ≡ Ending.Plain End.WriteFault → (net.new ≡ net.old)
         ⊎ ServeBreaks settings.now
-        (around seed.now (N.seen net.old) (N.seen net.new) (Shown N.Conn.seen))
+        (around seed.now (N.seen net.old) (N.seen net.new) N.Conn.seen)
         (K.seen out.old).written (K.seen out.new).written }
     ensures told { result.0 ≢ Ending.Plain End.WriteFault
         → (K.seen out.new).faults ≡ (K.seen out.old).faults }
@@ -66,10 +67,10 @@ fn keep_text<K: Sink, N: Net, D: Disk>(
     disk: D,
 ) -> (Ending, D)
     ensures tells { Tells (TextMay D.disk text.now
-        (around seed.now (N.seen net.old) (N.seen net.new) (Shown N.Conn.seen))
+        (around seed.now (N.seen net.old) (N.seen net.new) N.Conn.seen)
         disk result.1) (K.seen out.old) (K.seen out.new) result.0 }
     ensures announces { result.0 ≡ Ending.Plain End.WriteFault → BreaksOff Serve text.now
-        (around seed.now (N.seen net.old) (N.seen net.new) (Shown N.Conn.seen))
+        (around seed.now (N.seen net.old) (N.seen net.new) N.Conn.seen)
         (K.seen out.old).written (K.seen out.new).written }
     ensures told { result.0 ≢ Ending.Plain End.WriteFault
         → (K.seen out.new).faults ≡ (K.seen out.old).faults }
@@ -91,17 +92,16 @@ pub(crate) fn keep<S: Source, K: Sink, N: Net, D: Disk>(
     net: &mut N,
     disk: D,
 ) -> (Ending, D)
-    ensures tells { Tells (KeepMay D.disk
-        (outside (S.seen input.old) (K.seen out.old))
+    ensures tells { ComesTo D.disk (outside (S.seen input.old) (K.seen out.old))
         (outside (S.seen input.new) (K.seen out.new))
-        (around seed.now (N.seen net.old) (N.seen net.new) (Shown N.Conn.seen))
-        disk result.1) (K.seen out.old) (K.seen out.new) result.0 }
+        (around seed.now (N.seen net.old) (N.seen net.new) N.Conn.seen)
+        disk result.1 result.0 }
     ensures disk { DiskCounts result.0 (D.Counted.seen disk).faults (D.Counted.seen result.1).faults }
     ensures input { result.0 ≢ Ending.Plain End.ReadFault → result.0 ≢ Ending.Plain End.WriteFault
         → (S.seen input.new).faults ≡ (S.seen input.old).faults }
     ensures announces { Announces result.0 (outside (S.seen input.old) (K.seen out.old))
         (outside (S.seen input.new) (K.seen out.new))
-        (around seed.now (N.seen net.old) (N.seen net.new) (Shown N.Conn.seen)) }
+        (around seed.now (N.seen net.old) (N.seen net.new) N.Conn.seen) }
     ensures last_take { result.0 ≡ Ending.Plain End.ReadFault → (last : S)
         × LastFailed (S.seen input.old).faults (S.seen last).faults (S.seen input.new).faults
         (S.seen last).content (S.seen input.new).content }

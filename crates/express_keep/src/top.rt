@@ -1,12 +1,11 @@
 //! The top call with a journal.
 ghost use Rattle.std.specs.Prelude.{◌≡◌, ◌≢◌, ◌≤◌, [], ◌∷◌, Contains, map, string_bytes};
 ghost use Rattle.express_words.specs.Causes.{Rose};
-ghost use Rattle.express_cli.specs.Around.{around, outside, Shown};
+ghost use Rattle.express_cli.specs.Around.{around, outside};
 ghost use Rattle.express_cli.specs.CommandLine.{AskSome, AskTalk};
 ghost use Rattle.express_cli.specs.Laws.{Laws};
-ghost use Rattle.express_cli.specs.Ran.{Ran};
 ghost use Rattle.input_reading.specs.Reading.{LastFailed};
-ghost use Rattle.express_keep.specs.Keeping.{KeepRan};
+ghost use Rattle.express_keep.specs.Keeping.{Keeps, OtherRan};
 ghost use Rattle.express_keep.specs.Words.{AsksKeep};
 
 use crate::asking::asks_keep;
@@ -33,10 +32,9 @@ pub fn run_kept<S: Source, K: Sink, N: Net, D: Disk>(
     disk: D,
 ) -> (u8, D)
     // For all other words it is `run`, and no call is made on the disk.
-    ensures ran { (AsksKeep (map string_bytes words.now.items) → ⊥) → Ran (map string_bytes words.now.items)
-        (outside (S.seen input.old) (K.seen out.old))
+    ensures ran { OtherRan words.now.items (outside (S.seen input.old) (K.seen out.old))
         (outside (S.seen input.new) (K.seen out.new))
-        (around seed.now (N.seen net.old) (N.seen net.new) (Shown N.Conn.seen)) result.0 }
+        (around seed.now (N.seen net.old) (N.seen net.new) N.Conn.seen) result.0 }
     ensures disk_rests { (AsksKeep (map string_bytes words.now.items) → ⊥) → result.1 ≡ disk }
     ensures input_rests { (AsksKeep (map string_bytes words.now.items) → ⊥)
         → (AskSome (map string_bytes words.now.items) → ⊥) → input.new ≡ input.old }
@@ -45,11 +43,10 @@ pub fn run_kept<S: Source, K: Sink, N: Net, D: Disk>(
     ensures net_waits { (AsksKeep (map string_bytes words.now.items) → ⊥)
         → Contains (2 ∷ 3 ∷ 4 ∷ 8 ∷ []) result.0 → net.new ≡ net.old }
     ensures laws { Laws }
-    ensures kept { AsksKeep (map string_bytes words.now.items) → KeepRan D.disk
+    ensures kept { Keeps words.now.items D.disk D.Counted.seen
         (outside (S.seen input.old) (K.seen out.old))
         (outside (S.seen input.new) (K.seen out.new))
-        (around seed.now (N.seen net.old) (N.seen net.new) (Shown N.Conn.seen))
-        disk result.1 (D.Counted.seen disk).faults (D.Counted.seen result.1).faults result.0 }
+        (around seed.now (N.seen net.old) (N.seen net.new) N.Conn.seen) disk result.1 result.0 }
     // Nothing is taken from the input after a fault of it.
     ensures last_take { result.0 ≡ 4 → (last : S)
         × LastFailed (S.seen input.old).faults (S.seen last).faults (S.seen input.new).faults

@@ -4,8 +4,7 @@ use Rattle.std.proofs.lemmas.Bool.{eqb-true, eqb-false, ne_eqb}
 use Rattle.std.proofs.lemmas.List.{get_or_append_left, length_push, length-append, get_or_default}
 use Rattle.std.proofs.lemmas.List.Quantifiers.{all_pairs_push}
 use Rattle.std.proofs.Math.Seq.{get_or-append_seam}
-use Rattle.express_texts.specs.declared.cloak.TheConstants.{MOST_ADDRESSES}
-use Rattle.express_texts.specs.Games.{address_behind}
+use Rattle.express_texts.specs.Games.{address_behind, most_addresses}
 use Rattle.express_texts.specs.GameLines.{found_or, addresses_on}
 use Rattle.express_texts.specs.GameSpelling.{SpellsAddresses, IsBadAddress}
 use Rattle.express_texts.proofs.GameLineLaws.{behind_found, behind_only, behind_none, behind_bad}
@@ -33,10 +32,10 @@ pub record ReadOn (before : List ℕ) (lines : List (List ℕ)) (all : List ℕ)
   pub is : all ≡ before ++ more
   pub spelled : SpellsAddresses more lines
   pub some : 1 ≤ length all
-  pub few : length all ≤ MOST_ADDRESSES
+  pub few : length all ≤ most_addresses
   pub distinct : Distinct all
 
-pub on_found : (before : List ℕ) (lines : List (List ℕ)) (all : List ℕ) → Distinct before → length before ≤ MOST_ADDRESSES → addresses_on before lines ≡ Ok all → ReadOn before lines all
+pub on_found : (before : List ℕ) (lines : List (List ℕ)) (all : List ℕ) → Distinct before → length before ≤ most_addresses → addresses_on before lines ≡ Ok all → ReadOn before lines all
 unfolding addresses_on
 on_found before [] all apart few h = at_test (nat_eq (length before) 0) refl h
   where
@@ -50,7 +49,7 @@ on_found before (line ∷ lines) all apart few h =
     at_read (address_behind before line) refl (λ a other short k. on_found (before ++ a ∷ []) lines all other short k) h
   where
     at_read : (r : Option ℕ) → address_behind before line ≡ r
-        → ((a : ℕ) → Distinct (before ++ a ∷ []) → length (before ++ a ∷ []) ≤ MOST_ADDRESSES → addresses_on (before ++ a ∷ []) lines ≡ Ok all → ReadOn (before ++ a ∷ []) lines all)
+        → ((a : ℕ) → Distinct (before ++ a ∷ []) → length (before ++ a ∷ []) ≤ most_addresses → addresses_on (before ++ a ∷ []) lines ≡ Ok all → ReadOn (before ++ a ∷ []) lines all)
         → found_or (length before + 6) r (λ a. addresses_on (before ++ a ∷ []) lines) ≡ Ok all → ReadOn before (line ∷ lines) all
     at_read None e others k = cc
     at_read (Some a) e others k =
@@ -66,7 +65,7 @@ on_found before (line ∷ lines) all apart few h =
           distinct = r.distinct;
         }
 
-pub on_only : (before more : List ℕ) (lines : List (List ℕ)) → SpellsAddresses more lines → Distinct (before ++ more) → 1 ≤ length (before ++ more) → length (before ++ more) ≤ MOST_ADDRESSES
+pub on_only : (before more : List ℕ) (lines : List (List ℕ)) → SpellsAddresses more lines → Distinct (before ++ more) → 1 ≤ length (before ++ more) → length (before ++ more) ≤ most_addresses
     → addresses_on before lines ≡ Ok (before ++ more)
 unfolding addresses_on
 on_only before [] [] spelled apart some few =
@@ -79,7 +78,7 @@ on_only before (a ∷ more) (line ∷ lines) spelled apart some few =
     let long : length (before ++ a ∷ more) ≡ length before + suc (length more) = length-append before (a ∷ more) in
     let read = behind_only before line a (record { room = omega (arith, long, few); spelled = spelled.0; new = new_in before a more apart }) in
     let is = pushed before a more in
-    let further = on_only (before ++ a ∷ []) more lines spelled.1 (subst (λ (xs : List ℕ). Distinct xs) is apart) (subst (λ (xs : List ℕ). 1 ≤ length xs) is some) (subst (λ (xs : List ℕ). length xs ≤ MOST_ADDRESSES) is few) in
+    let further = on_only (before ++ a ∷ []) more lines spelled.1 (subst (λ (xs : List ℕ). Distinct xs) is apart) (subst (λ (xs : List ℕ). 1 ≤ length xs) is some) (subst (λ (xs : List ℕ). length xs ≤ most_addresses) is few) in
     rw read (further ∙ ap Ok (sym is))
 
 -- ---- what is named
@@ -89,7 +88,7 @@ pub record BadOn (before : List ℕ) (n : ℕ) (lines : List (List ℕ)) : Type 
   pub good : List (List ℕ)
   pub more : List ℕ
   pub spelled : SpellsAddresses more good
-  pub few : length (before ++ more) ≤ MOST_ADDRESSES
+  pub few : length (before ++ more) ≤ most_addresses
   pub distinct : Distinct (before ++ more)
   pub stop : ((lines ≡ good) × (before ++ more ≡ []))
       ⊎ ((line : List ℕ) × (behind : List (List ℕ)) × (lines ≡ good ++ line ∷ behind) × IsBadAddress (before ++ more) line)
@@ -99,7 +98,7 @@ none_from : (xs : List ℕ) → length xs ≡ 0 → xs ≡ []
 none_from [] h = refl
 none_from (x ∷ xs) h = absurd (omega (arith, h))
 
-pub on_bad : (before : List ℕ) (lines : List (List ℕ)) (n : ℕ) → Distinct before → length before ≤ MOST_ADDRESSES → addresses_on before lines ≡ Err n → BadOn before n lines
+pub on_bad : (before : List ℕ) (lines : List (List ℕ)) (n : ℕ) → Distinct before → length before ≤ most_addresses → addresses_on before lines ≡ Err n → BadOn before n lines
 unfolding addresses_on
 on_bad before [] n apart few h = at_test (nat_eq (length before) 0) refl h
   where
@@ -112,7 +111,7 @@ on_bad before [] n apart few h = at_test (nat_eq (length before) 0) refl h
           good = [];
           more = [];
           spelled = tt;
-          few = subst (λ (xs : List ℕ). length xs ≤ MOST_ADDRESSES) (sym same) few;
+          few = subst (λ (xs : List ℕ). length xs ≤ most_addresses) (sym same) few;
           distinct = subst (λ (xs : List ℕ). Distinct xs) (sym same) apart;
           stop = inl (refl, same ∙ none);
           place = is ∙ ap (λ xs. length xs + 6) (sym (same ∙ none));
@@ -130,7 +129,7 @@ on_bad before (line ∷ lines) n apart few h =
         inr (line', behind, ap (λ ls. line ∷ ls) split, subst (λ (xs : List ℕ). IsBadAddress xs line') (sym (pushed before a r.more)) bad)
 
     at_read : (r : Option ℕ) → address_behind before line ≡ r
-        → ((a : ℕ) → Distinct (before ++ a ∷ []) → length (before ++ a ∷ []) ≤ MOST_ADDRESSES → addresses_on (before ++ a ∷ []) lines ≡ Err n → BadOn (before ++ a ∷ []) n lines)
+        → ((a : ℕ) → Distinct (before ++ a ∷ []) → length (before ++ a ∷ []) ≤ most_addresses → addresses_on (before ++ a ∷ []) lines ≡ Err n → BadOn (before ++ a ∷ []) n lines)
         → found_or (length before + 6) r (λ a. addresses_on (before ++ a ∷ []) lines) ≡ Err n → BadOn before n (line ∷ lines)
     at_read None e others k =
         let is : n ≡ length before + 6 = cc in
@@ -139,7 +138,7 @@ on_bad before (line ∷ lines) n apart few h =
           good = [];
           more = [];
           spelled = tt;
-          few = subst (λ (xs : List ℕ). length xs ≤ MOST_ADDRESSES) (sym same) few;
+          few = subst (λ (xs : List ℕ). length xs ≤ most_addresses) (sym same) few;
           distinct = subst (λ (xs : List ℕ). Distinct xs) (sym same) apart;
           stop = inr (line, lines, refl, subst (λ (xs : List ℕ). IsBadAddress xs line) (sym same) (behind_none before line few e));
           place = is ∙ ap (λ xs. length xs + 6) (sym same);
@@ -153,13 +152,13 @@ on_bad before (line ∷ lines) n apart few h =
           good = line ∷ r.good;
           more = a ∷ r.more;
           spelled = (b.spelled, r.spelled);
-          few = subst (λ (xs : List ℕ). length xs ≤ MOST_ADDRESSES) is r.few;
+          few = subst (λ (xs : List ℕ). length xs ≤ most_addresses) is r.few;
           distinct = subst (λ (xs : List ℕ). Distinct xs) is r.distinct;
           stop = one_more a r r.stop;
           place = r.place ∙ ap (λ xs. length xs + 6) is;
         }
 
-pub on_bad_only : (before more : List ℕ) (good lines : List (List ℕ)) → SpellsAddresses more good → Distinct (before ++ more) → length (before ++ more) ≤ MOST_ADDRESSES
+pub on_bad_only : (before more : List ℕ) (good lines : List (List ℕ)) → SpellsAddresses more good → Distinct (before ++ more) → length (before ++ more) ≤ most_addresses
     → ((lines ≡ good) × (before ++ more ≡ [])) ⊎ ((line : List ℕ) × (behind : List (List ℕ)) × (lines ≡ good ++ line ∷ behind) × IsBadAddress (before ++ more) line)
     → addresses_on before lines ≡ Err (length (before ++ more) + 6)
 unfolding addresses_on
@@ -174,7 +173,7 @@ on_bad_only before [] (first ∷ good) lines spelled apart few stop = absurd spe
 on_bad_only before (a ∷ more) [] lines spelled apart few stop = absurd spelled
 on_bad_only before (a ∷ more) (first ∷ good) lines spelled apart few stop =
     at_stop (λ rest stop.
-    on_bad_only (before ++ a ∷ []) more good rest spelled.1 (subst (λ (xs : List ℕ). Distinct xs) is apart) (subst (λ (xs : List ℕ). length xs ≤ MOST_ADDRESSES) is few) stop
+    on_bad_only (before ++ a ∷ []) more good rest spelled.1 (subst (λ (xs : List ℕ). Distinct xs) is apart) (subst (λ (xs : List ℕ). length xs ≤ most_addresses) is few) stop
     ∙ ap (λ xs. Err (length xs + 6)) (sym is)) stop
   where
     is : before ++ a ∷ more ≡ (before ++ a ∷ []) ++ more

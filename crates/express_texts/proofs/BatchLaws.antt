@@ -2,10 +2,9 @@
 use Rattle.std.proofs.Common.{◌≡◌, ℕ, suc, ◌+◌, ◌-◌, ◌≤◌, ◌⊎◌, inl, inr, nat_eq, Bool, true, false, cond, List, [], ◌∷◌, ◌++◌, length, Option, Some, None, Result, Ok, Err, arith, refl, sym, ap, subst, zero-add}
 use Rattle.std.proofs.lemmas.Bool.{eqb-true, eqb-false, ne_eqb}
 use Rattle.express_words.specs.declared.audit.Closing.{Closing}
-use Rattle.express_texts.specs.declared.batch.TheConstants.{MOST_PAIRS}
 use Rattle.text_fields.specs.Lines.{lines_of, AreLines}
 use Rattle.text_fields.proofs.LineLaws.{lines_found, lines_only}
-use Rattle.express_texts.specs.Batch.{Pairs, Batch, pair_of, pair_then, pairs_of, header_of, header_then, under, batch_of_lines, batch_of}
+use Rattle.express_texts.specs.Batch.{Pairs, Batch, most_pairs, pair_of, pair_then, pairs_of, header_of, header_then, under, batch_of_lines, batch_of}
 use Rattle.express_texts.specs.Spelling.{SpellsPairs, SpellsHeader, SpellsBatch, IsNoPair, IsFirstBadOf, IsFirstBadLine}
 use Rattle.express_texts.proofs.PairLaws.{pair_found, pair_only, header_found, header_only}
 
@@ -156,7 +155,7 @@ batch_found text batch h = at_lines (lines_of text) (lines_found text) h
     at_header first lines are None e k = cc
     at_header first lines are (Some seed) e k =
         let u = under_found seed _ batch k in
-        let r = pairs_found MOST_PAIRS 2 lines batch.pairs u.0 in
+        let r = pairs_found most_pairs 2 lines batch.pairs u.0 in
         record { first = first; lines = lines; are = are; header = subst (λ (x : List ℕ). SpellsHeader x first) u.1 (header_found first seed e); pairs = r.0; few = r.1 }
 
     at_lines : (lines : List (List ℕ)) → AreLines lines text → batch_of_lines lines ≡ Ok batch → SpellsBatch batch text
@@ -166,7 +165,7 @@ batch_found text batch h = at_lines (lines_of text) (lines_found text) h
 pub batch_only : (text : List ℕ) (batch : Batch) → SpellsBatch batch text → batch_of text ≡ Ok batch
 unfolding batch_of_lines
 batch_only text batch s =
-    rw (lines_only (s.first ∷ s.lines) text s.are, header_only s.first batch.seed s.header, pairs_only MOST_PAIRS 2 batch.pairs.zero batch.pairs.one s.lines s.few s.pairs) refl
+    rw (lines_only (s.first ∷ s.lines) text s.are, header_only s.first batch.seed s.header, pairs_only most_pairs 2 batch.pairs.zero batch.pairs.one s.lines s.few s.pairs) refl
 
 pub bad_found : (text : List ℕ) (n : ℕ) → batch_of text ≡ Err n → IsFirstBadLine n text
 unfolding batch_of_lines
@@ -175,7 +174,7 @@ bad_found text n h = at_lines (lines_of text) (lines_found text) h
     at_header : (first : List ℕ) (lines : List (List ℕ)) → (r : Option (List ℕ)) → header_of first ≡ r → header_then r lines ≡ Err n → IsFirstBadOf n (first ∷ lines)
     at_header first lines None e k = inl (cc, no_header first e)
     at_header first lines (Some seed) e k =
-        let r = pairs_bad MOST_PAIRS 2 n lines (under_bad seed _ n k) in
+        let r = pairs_bad most_pairs 2 n lines (under_bad seed _ n k) in
         inr (seed, header_found first seed e, record { before = r.before; line = r.line; behind = r.behind; split = r.split; pairs = r.pairs; spelled = r.spelled; few = r.few; bad = r.cause; place = r.place })
 
     at_lines : (lines : List (List ℕ)) → AreLines lines text → batch_of_lines lines ≡ Err n → IsFirstBadLine n text
@@ -191,7 +190,7 @@ bad_is_first text n (first ∷ lines, are, inr (seed, head, r)) =
       lines_only (first ∷ lines) text are,
       header_only first seed head,
       r.split,
-      bad_only MOST_PAIRS 2 r.before r.line r.behind r.pairs.zero r.pairs.one r.spelled r.few r.bad,
+      bad_only most_pairs 2 r.before r.line r.behind r.pairs.zero r.pairs.one r.spelled r.few r.bad,
     ) (ap Err (sym r.place))
 
 pub as_many : (zero one : List Closing) (lines : List (List ℕ)) → SpellsPairs zero one lines → length one ≡ length zero

@@ -5,14 +5,13 @@ use Rattle.std.proofs.lemmas.Bool.{eqb-true}
 use Rattle.std.proofs.lemmas.List.Folds.{Any-from_list_any, list_any_at}
 use Rattle.express_texts.specs.declared.cloak.AimText.{AimText}
 use Rattle.express_texts.specs.declared.cloak.GameHeader.{GameHeader}
-use Rattle.express_texts.specs.declared.cloak.TheConstants.{MOST_ADDRESSES}
 use Rattle.text_fields.specs.Fields.{after, end, word_at, seed_of, message_of, wanted}
 use Rattle.text_fields.specs.Numbers.{number_at}
 use Rattle.text_fields.specs.Spelling.{SpellsWord}
 use Rattle.text_fields.proofs.FieldLaws.{bind_some, after_found, after_only, seed_found, seed_only, word_at_found, word_at_only, wanted_found, message_found, message_only}
 use Rattle.text_fields.proofs.NumberLaws.{number_found, number_only}
 use Rattle.express_texts.specs.Fields.{value_line, key_line}
-use Rattle.express_texts.specs.Games.{game_header_of, target_at, aim_of, is_among, address_behind}
+use Rattle.express_texts.specs.Games.{game_header_of, target_at, aim_of, is_among, address_behind, most_addresses}
 use Rattle.express_texts.specs.GameSpelling.{SpellsGameHeader, SpellsValueLine, SpellsKeyLine, SpellsAim, IsBadAddress}
 use Rattle.express_texts.proofs.PairLaws.{end_is}
 
@@ -162,7 +161,7 @@ among_false a xs none h = let some = among_only a xs h in cc
 
 -- what is known of an address that is read behind others
 pub record Behind (before : List ℕ) (line : List ℕ) (a : ℕ) : Type 0 where
-  pub room : length before < MOST_ADDRESSES
+  pub room : length before < most_addresses
   pub spelled : SpellsValueLine (codes "address ") a line
   pub new : Contains before a → ⊥
 
@@ -179,7 +178,7 @@ lt_false m n h k = grind arith
 pub behind_found : (before line : List ℕ) (a : ℕ) → address_behind before line ≡ Some a → Behind before line a
 unfolding address_behind
 behind_found before line a h =
-    let room = bind_some (wanted (nat_lt (length before) MOST_ADDRESSES)) _ a h in
+    let room = bind_some (wanted (nat_lt (length before) most_addresses)) _ a h in
     let read = bind_some (value_line (codes "address ") line) _ a room.2 in
     let new = bind_some (wanted (not (is_among read.0 before))) _ a read.2 in
     let is : read.0 ≡ a = some_is _ _ new.2 in
@@ -192,28 +191,28 @@ behind_found before line a h =
 pub behind_only : (before line : List ℕ) (a : ℕ) → Behind before line a → address_behind before line ≡ Some a
 unfolding address_behind
 behind_only before line a h =
-    let room : nat_lt (length before) MOST_ADDRESSES ≡ true = lt_is (length before) MOST_ADDRESSES h.room in
+    let room : nat_lt (length before) most_addresses ≡ true = lt_is (length before) most_addresses h.room in
     rw (room, value_only (codes "address ") line a h.spelled, not_among a before h.new) refl
   where
     lt_is : (m n : ℕ) → m < n → nat_lt m n ≡ true
     lt_is m n k = grind (arith, k)
 
 -- none is read exactly where the line is a bad one
-pub behind_none : (before line : List ℕ) → length before ≤ MOST_ADDRESSES → address_behind before line ≡ None → IsBadAddress before line
-behind_none before line few h = at_room (nat_lt (length before) MOST_ADDRESSES) refl
+pub behind_none : (before line : List ℕ) → length before ≤ most_addresses → address_behind before line ≡ None → IsBadAddress before line
+behind_none before line few h = at_room (nat_lt (length before) most_addresses) refl
   where
-    spelled_before : length before < MOST_ADDRESSES → (a : ℕ) → SpellsValueLine (codes "address ") a line → Contains before a
+    spelled_before : length before < most_addresses → (a : ℕ) → SpellsValueLine (codes "address ") a line → Contains before a
     spelled_before room a spelled = at_test (is_among a before) refl
       where
         at_test : (t : Bool) → is_among a before ≡ t → Contains before a
         at_test true e = among_found a before e
         at_test false e = let some = behind_only before line a (record { room = room; spelled = spelled; new = among_false a before e }) in cc
 
-    at_room : (t : Bool) → nat_lt (length before) MOST_ADDRESSES ≡ t → IsBadAddress before line
+    at_room : (t : Bool) → nat_lt (length before) most_addresses ≡ t → IsBadAddress before line
     at_room true e = inr (spelled_before (lt_true _ _ e))
-    at_room false e = let none = lt_false (length before) MOST_ADDRESSES e in inl (full none)
+    at_room false e = let none = lt_false (length before) most_addresses e in inl (full none)
       where
-        full : (length before < MOST_ADDRESSES → ⊥) → length before ≡ MOST_ADDRESSES
+        full : (length before < most_addresses → ⊥) → length before ≡ most_addresses
         full none = omega (arith, few, none)
 
 pub behind_bad : (before line : List ℕ) → IsBadAddress before line → address_behind before line ≡ None

@@ -3,9 +3,12 @@
 use Rattle.std.specs.Prelude.{ℕ, ◌+◌, ◌-◌, ◌==◌, if◌then◌else◌, List, [], ◌∷◌, codes, Option, Some, None}
 use Rattle.std.specs.Prelude.{Result, Ok, Err}
 use Rattle.express_words.specs.declared.audit.Closing.{Closing}
-use Rattle.express_texts.specs.declared.batch.TheConstants.{MOST_PAIRS}
 use Rattle.text_fields.specs.Fields.{◌>>=◌, after, end, seed_of, word_at}
 use Rattle.text_fields.specs.Lines.{lines_of}
+
+-- a batch has at most so many pairs
+unfoldable pub most_pairs : ℕ
+most_pairs = 20000
 
 -- the closings of both servers, write by write
 pub record Pairs : Type 0 where
@@ -56,7 +59,7 @@ under seed (Err bad) = Err bad
 
 abbrev pub header_then : Option (List ℕ) → List (List ℕ) → Result Batch ℕ
 header_then None lines = Err 1
-header_then (Some seed) lines = under seed (pairs_of MOST_PAIRS 2 lines)
+header_then (Some seed) lines = under seed (pairs_of most_pairs 2 lines)
 
 -- A missing header is bad at its place.
 unfoldable pub batch_of_lines : List (List ℕ) → Result Batch ℕ

@@ -6,7 +6,7 @@ use Rattle.hex.specs.Hex.{decode_sized}
 use Rattle.express_texts.specs.declared.cloak.AimText.{AimText}
 use Rattle.express_texts.specs.declared.cloak.CloakGame.{CloakGame}
 use Rattle.express_texts.specs.declared.cloak.GameHeader.{GameHeader}
-use Rattle.express_texts.specs.declared.cloak.TheConstants.{MOST_ADDRESSES}
+use Rattle.express_texts.specs.Games.{most_addresses}
 use Rattle.text_fields.specs.Lines.{AreLines}
 use Rattle.text_fields.specs.Spelling.{SpellsWord}
 
@@ -65,7 +65,7 @@ pub record SpellsForm (game : CloakGame) (lines : List (List ℕ)) : Type 0 wher
   pub to_spelled : SpellsAim (codes "to ") game.width game.new_aim to
   pub addresses : SpellsAddresses game.addresses others
   pub some : 1 ≤ length game.addresses
-  pub few : length game.addresses ≤ MOST_ADDRESSES
+  pub few : length game.addresses ≤ most_addresses
   pub distinct : AllPairs (λ p q. p ≢ q) game.addresses
 
 -- the text spells the game
@@ -89,7 +89,7 @@ FaultFrom {A} place Spells Later n (line ∷ lines) =
 -- No address, one of those before, or one too many.
 abbrev pub IsBadAddress : List ℕ → List ℕ → Type 0
 IsBadAddress before line =
-    (length before ≡ MOST_ADDRESSES)
+    (length before ≡ most_addresses)
     ⊎ ((a : ℕ) → SpellsValueLine (codes "address ") a line → Contains before a)
 
 -- Line n is the first bad one of the addresses' lines; there is at least one.
@@ -97,7 +97,7 @@ pub record FaultOfAddresses (n : ℕ) (lines : List (List ℕ)) : Type 0 where
   pub before : List (List ℕ)
   pub addresses : List ℕ
   pub spelled : SpellsAddresses addresses before
-  pub few : length addresses ≤ MOST_ADDRESSES
+  pub few : length addresses ≤ most_addresses
   pub distinct : AllPairs (λ p q. p ≢ q) addresses
   pub stop : ((lines ≡ before) × (addresses ≡ []))
       ⊎ ((line : List ℕ) × (behind : List (List ℕ)) × (lines ≡ before ++ line ∷ behind)

@@ -3,7 +3,6 @@ use Rattle.std.specs.Prelude.{ℕ, ◌%◌, ◌==◌, nat_lt, not, Bool, List, l
 use Rattle.std.specs.List.{list_any}
 use Rattle.express_texts.specs.declared.cloak.AimText.{AimText}
 use Rattle.express_texts.specs.declared.cloak.GameHeader.{GameHeader}
-use Rattle.express_texts.specs.declared.cloak.TheConstants.{MOST_ADDRESSES}
 use Rattle.text_fields.specs.Fields.{◌>>=◌, after, word_at, seed_of, message_of, wanted}
 use Rattle.text_fields.specs.Numbers.{number_at}
 use Rattle.express_texts.specs.Fields.{value_line}
@@ -38,10 +37,14 @@ aim_of word width line = do
 abbrev pub is_among : ℕ → List ℕ → Bool
 is_among address addresses = list_any (λ a. a == address) addresses
 
+-- a game has at most so many addresses
+unfoldable pub most_addresses : ℕ
+most_addresses = 4096
+
 -- address ADDRESS, behind the lines with these addresses
 unfoldable pub address_behind : List ℕ → List ℕ → Option ℕ
 address_behind before line = do
-  _ ← wanted (nat_lt (length before) MOST_ADDRESSES)
+  _ ← wanted (nat_lt (length before) most_addresses)
   address ← value_line (codes "address ") line
   _ ← wanted (not (is_among address before))
   Some address

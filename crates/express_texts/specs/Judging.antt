@@ -16,7 +16,7 @@ Gives view (Err NoMemory) read = Unit {0}
 
 abbrev pub batch_in : BatchPairs → Batch
 batch_in pairs =
-    record { seed = pairs.seed; pairs = record { zero = pairs.zero.items; one = pairs.one.items } }
+    record { seed = pairs.seed; pairs = record { zero = pairs.zero; one = pairs.one } }
 
 -- Ok has the batch that the text spells, a wrong line is the first bad one, and want of memory says nothing.
 abbrev pub Judges : List ℕ → Result BatchPairs TextFault → Type 0

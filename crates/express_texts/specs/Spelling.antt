@@ -2,8 +2,7 @@
 use Rattle.std.specs.Prelude.{◌≡◌, ◌⊎◌, ℕ, ◌+◌, ◌≤◌, length, List, [], ◌∷◌, ◌++◌, codes, Ok}
 use Rattle.hex.specs.Hex.{decode_sized}
 use Rattle.express_words.specs.declared.audit.Closing.{Closing}
-use Rattle.express_texts.specs.declared.batch.TheConstants.{MOST_PAIRS}
-use Rattle.express_texts.specs.Batch.{Pairs, Batch}
+use Rattle.express_texts.specs.Batch.{Pairs, Batch, most_pairs}
 use Rattle.text_fields.specs.Lines.{AreLines}
 use Rattle.text_fields.specs.Spelling.{SpellsWord}
 
@@ -44,7 +43,7 @@ pub record SpellsBatch (batch : Batch) (text : List ℕ) : Type 0 where
   pub are : AreLines (first ∷ lines) text
   pub header : SpellsHeader batch.seed first
   pub pairs : SpellsPairs batch.pairs.zero batch.pairs.one lines
-  pub few : length batch.pairs.zero ≤ MOST_PAIRS
+  pub few : length batch.pairs.zero ≤ most_pairs
 
 -- no pair stands on the line
 abbrev pub IsNoPair : List ℕ → Type 0
@@ -59,8 +58,8 @@ pub record IsFirstBadPair (n : ℕ) (lines : List (List ℕ)) : Type 0 where
   pub split : lines ≡ before ++ line ∷ behind
   pub pairs : Pairs
   pub spelled : SpellsPairs pairs.zero pairs.one before
-  pub few : length before ≤ MOST_PAIRS
-  pub bad : (length before ≡ MOST_PAIRS) ⊎ IsNoPair line
+  pub few : length before ≤ most_pairs
+  pub bad : (length before ≡ most_pairs) ⊎ IsNoPair line
   -- the header is line 1
   pub place : n ≡ length before + 2
 

@@ -1,12 +1,12 @@
 //! The text of a batch: the closings of many writes at both servers, and the seed by which they are judged.
-ghost use Rattle.std.specs.Prelude.{◌≡◌, ℕ, ◌≤◌, List, length, IfOk, Some, Ok, Err, option_map};
+ghost use Rattle.std.specs.Prelude.{◌≡◌, ℕ, ◌≤◌, List as Listed, length, IfOk, Some, Ok, Err, option_map};
 ghost use Rattle.express_texts.specs.Batch.{Batch, closing_at, pair_of, header_of, header_then, batch_of};
 ghost use Rattle.text_fields.specs.Lines.{lines_of};
 ghost use Rattle.express_texts.specs.Judging.{Gives, Judges, batch_in};
 ghost use Rattle.express_texts.specs.Spelling.{SpellsBatch, IsFirstBadLine};
 
 use crate::fault::TextFault;
-use express_words::Closing;
+use express_words::{Closing, List};
 use std::alloc::Global;
 use text_fields::{after, first_line, seed_of, word_at};
 
@@ -19,9 +19,9 @@ pub struct BatchPairs {
     /// What their judging is drawn from.
     pub seed: [u8; 32],
     /// Server 0's closings.
-    pub zero: Vec<Closing>,
+    pub zero: List<Closing>,
     /// Server 1's closings, as many.
-    pub one: Vec<Closing>,
+    pub one: List<Closing>,
 }
 
 // A closing at the front, and what follows it.
@@ -80,7 +80,11 @@ fn read_pairs(alloc: Global, seed: [u8; 32], text: &[u8]) -> Result<BatchPairs, 
         one.push(pair.1)?;
         rest = behind;
     }
-    Ok(BatchPairs { seed, zero, one })
+    Ok(BatchPairs {
+        seed,
+        zero: List::from_vec(zero),
+        one: List::from_vec(one),
+    })
 }
 
 #[tactic(auto, unfolding(crate::specs::Batch::batch_of_lines, text_fields::specs::Lines::lines_of))]
@@ -102,8 +106,8 @@ fn read_text(alloc: Global, text: &[u8]) -> Result<BatchPairs, TextFault>
 pub fn read_batch(alloc: Global, text: &[u8]) -> Result<BatchPairs, TextFault>
     ensures judges { Judges text.now result }
     ensures batch { Gives batch_in result (batch_of text.now) }
-    ensures few { IfOk result (λ pairs. length pairs.zero.items ≤ MOST_PAIRS) }
-    ensures as_many { IfOk result (λ pairs. length pairs.one.items ≡ length pairs.zero.items) }
+    ensures few { IfOk result (λ pairs. length pairs.zero ≤ 20000) }
+    ensures as_many { IfOk result (λ pairs. length pairs.one ≡ length pairs.zero) }
 {
     read_text(alloc, text)
 }
@@ -111,8 +115,8 @@ pub fn read_batch(alloc: Global, text: &[u8]) -> Result<BatchPairs, TextFault>
 /// A text is read as a batch exactly where it spells it, and refused at a line exactly where that is its
 /// first bad one.
 pub fn batch_is_read_exactly()
-    ensures found { (text : List ℕ) (batch : Batch) → batch_of text ≡ Ok batch → SpellsBatch batch text }
-    ensures only { (text : List ℕ) (batch : Batch) → SpellsBatch batch text → batch_of text ≡ Ok batch }
-    ensures bad { (text : List ℕ) (n : ℕ) → batch_of text ≡ Err n → IsFirstBadLine n text }
-    ensures only_bad { (text : List ℕ) (n : ℕ) → IsFirstBadLine n text → batch_of text ≡ Err n }
+    ensures found { (text : Listed ℕ) (batch : Batch) → batch_of text ≡ Ok batch → SpellsBatch batch text }
+    ensures only { (text : Listed ℕ) (batch : Batch) → SpellsBatch batch text → batch_of text ≡ Ok batch }
+    ensures bad { (text : Listed ℕ) (n : ℕ) → batch_of text ≡ Err n → IsFirstBadLine n text }
+    ensures only_bad { (text : Listed ℕ) (n : ℕ) → IsFirstBadLine n text → batch_of text ≡ Err n }
 {}

@@ -112,7 +112,7 @@ fn aim_of(alloc: Global, word: &[u8], width: u32, line: &[u8]) -> Result<Option<
 }
 
 // The address of a line behind those with these addresses.
-#[tactic(auto, unfolding(crate::specs::Games::address_behind))]
+#[tactic(auto, unfolding(crate::specs::Games::address_behind, crate::specs::Games::most_addresses))]
 fn address_behind(before: &[u128], line: &[u8]) -> Option<u128>
     ensures address { result ≡ address_behind before.now line.now }
     ensures room { IfSome result (λ a. length before.now < MOST_ADDRESSES) }

@@ -3,17 +3,17 @@ ghost use Rattle.std.specs.Prelude.{◌≡◌, Some};
 ghost use Rattle.express_texts.specs.FaultText.{fault_text};
 ghost use Rattle.express_texts.specs.declared.fault.TextFault.TheVariants.{NoMemory};
 
-use express_words::NoMemory as WantOfMemory;
+use express_words::{NoMemory as WantOfMemory, Text};
 use std::alloc::AllocFailed;
 use std::fmt;
 
 /// Why a text isn't read.
-#[derive(Debug, Drop)]
+#[derive(Drop)]
 pub enum TextFault {
     /// The first line that isn't of the grammar, counted from 1.
     Wrong(u32),
     /// The first key of a text of settings that is missing or breaks a rule.
-    WrongKey(String),
+    WrongKey(Text),
     /// No memory was found for what is read, or for a key's name.
     NoMemory,
 }
@@ -25,9 +25,19 @@ impl fmt::Display for TextFault {
     fn fmt<W: fmt::Write>(&self, f: &mut fmt::Formatter<W>) -> fmt::Result {
         match self {
             TextFault::Wrong(line) => write!(f, "bad line {line}"),
-            TextFault::WrongKey(key) => write!(f, "bad settings {key}"),
+            TextFault::WrongKey(key) => {
+                let key = key.as_str();
+                write!(f, "bad settings {key}")
+            }
             TextFault::NoMemory => write!(f, "out of memory"),
         }
+    }
+}
+
+/// The same words.
+impl fmt::Debug for TextFault {
+    fn fmt<W: fmt::Write>(&self, f: &mut fmt::Formatter<W>) -> fmt::Result {
+        fmt::Display::fmt(self, f)
     }
 }
 

@@ -10,6 +10,7 @@ pub mod Strangers
 pub mod LeaderStays
 pub mod RunKeeps
 pub mod ClientAnswers
+pub mod Protocol
 pub mod OneReply
 pub mod QuietRounds
 pub mod QuietRequests

@@ -6,6 +6,7 @@ pub mod Output
 pub mod Played
 pub mod Laws
 pub mod Strangers
+pub mod Protocol
 pub mod Sight
 pub mod Texts
 pub mod Replies

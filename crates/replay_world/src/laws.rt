@@ -7,6 +7,7 @@ ghost use Rattle.run_rules.specs.Plain.{BoxesArePlain, ClientsAreReady, JournalI
 ghost use Rattle.run_rules.specs.Soundness.{BadWritesAreCaught, SettledAsTheyPass};
 ghost use Rattle.replay_world.specs.Strangers.{BusyRowsAwait, ClientsAreAlone, FinishesAnswer, FinishesDrain, HistoryIsOfRun, OfEverySchedule, RequestsAreTold, SchedulesFit, StrangersAreForeign, StrangersWereBrought};
 ghost use Rattle.replay_world.specs.Mills.{MillsCount};
+ghost use Rattle.replay_world.specs.Protocol.{FollowsProtocol};
 ghost use Rattle.replay_world.specs.Replies.{RepliesAreOne};
 ghost use Rattle.replay_world.specs.Sight.{ClientsGetAnswers};
 
@@ -49,6 +50,16 @@ pub fn schedules_hold()
     ensures shares { OfEverySchedule SharesAreFolds }
     ensures boxes { OfEverySchedule BoxesArePlain }
 {}
+
+/// Whatever frames of a schedule are lost, repeated or reordered, and whatever bytes come from outside: its run over
+/// bytes is the protocol's machine with content, in five facts. Commands and kept replies are numbered as in the token
+/// run, the boxes are the folds of both servers' shares, each frame of the pool is that of its token, the busy rows are
+/// those that wait for an outstanding command, and without content all rows are those of the token run.
+pub fn runs_follow_protocol()
+    ensures { OfEverySchedule FollowsProtocol }
+{
+    rows_await();
+}
 
 /// Each reply of the helper to a foreign command fitted at the leader. A frame of a client's current request, whenever it
 /// comes, is one that the helper says it holds, and the leader doesn't answer that it is stale or out of phase, nor, but

@@ -21,8 +21,8 @@ pub use client_core::Outcome;
 pub use express_words::outside;
 pub use laws::{
     accepted_writes_pass, clients_get_answers, frames_are_heeded, histories_hold, mills_count,
-    replies_are_one, requests_are_told, rows_are_awaited, schedules_fit, schedules_hold,
-    strangers_were_brought,
+    replies_are_one, requests_are_told, rows_are_awaited, runs_follow_protocol, schedules_fit,
+    schedules_hold, strangers_were_brought,
 };
 pub use lines::{Command, Entry, JournalLine, OutcomeLine, Told};
 pub use world::{PutFault, World};

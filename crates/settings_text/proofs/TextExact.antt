@@ -1,5 +1,5 @@
 -- The text of settings is read exactly.
-use Rattle.std.proofs.Common.{◌≡◌, ℕ, Bool, true, false, cond, List, codes, string_bytes, Option, Some, None, Result, Ok, Err, refl}
+use Rattle.std.proofs.Common.{◌≡◌, ℕ, Bool, true, false, cond, List, codes, Option, Some, None, Result, Ok, Err, refl}
 use Rattle.std.proofs.lemmas.Str.{IsUtf8-from_is_utf8, is_utf8-from_IsUtf8}
 use Rattle.std.specs.Str.{is_utf8}
 use Rattle.toml.specs.Data.{Members}
@@ -52,5 +52,5 @@ pub judges : {A : Type 0} (read : Members → Result A (List ℕ)) (Spells : A �
     → IsExact (judged read text) (λ a. Spells a text) (λ key. IsBadKey key text) → (r : Result A TextFault) → Gives (λ a. a) r (judged read text) → Judges Spells IsBadKey text r
 judges read Spells IsBadKey text exact (Ok a) gives = exact.found a gives
 judges read Spells IsBadKey text exact (Err (Wrong n)) gives = absurd gives
-judges read Spells IsBadKey text exact (Err (WrongKey key)) gives = exact.bad (string_bytes key) gives
+judges read Spells IsBadKey text exact (Err (WrongKey key)) gives = exact.bad key gives
 judges read Spells IsBadKey text exact (Err NoMemory) gives = tt

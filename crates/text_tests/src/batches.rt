@@ -32,33 +32,19 @@ fn is_one_pair(
     let pairs = read_batch(alloc, text)?;
     Ok(
         pairs.seed.as_slice() == seed
-            && is_only(&pairs.zero, &pair.0)
-            && is_only(&pairs.one, &pair.1),
+            && is_only(pairs.zero.as_slice(), &pair.0)
+            && is_only(pairs.one.as_slice(), &pair.1),
     )
-}
-
-#[test]
-fn one_pair(rt: HostRuntime) -> Result<(), Fail> {
-    let text = joined(rt.alloc(), &[HEADER, PAIR])?;
-    let mut seed = [0; 32];
-    seed[31] = 255;
-    assert!(rt; is_one_pair(rt.alloc(), &text, &seed, (ZERO, ONE))?);
-    Ok(())
 }
 
 // The first bad line of the header and these bytes behind it, or else 0, and how many pairs were read.
 fn read_behind_header(alloc: Global, bytes: &[u8]) -> Result<(u32, usize), Fail> {
     let text = joined(alloc, &[HEADER, bytes])?;
     match read_batch(alloc, &text) {
-        Ok(pairs) => Ok((0, pairs.zero.len())),
+        Ok(pairs) => Ok((0, pairs.zero.as_slice().len())),
         Err(TextFault::Wrong(line)) => Ok((line, 0)),
         Err(fault) => Err(fault)?,
     }
-}
-
-fn read_behind_pair(alloc: Global, end: &[u8]) -> Result<(u32, usize), Fail> {
-    let bytes = joined(alloc, &[PAIR, end])?;
-    read_behind_header(alloc, &bytes)
 }
 
 // What is printed of a text's fault.
@@ -70,19 +56,23 @@ fn printed_fault(alloc: Global, text: &[u8]) -> Result<String, Fail> {
 }
 
 #[test]
-fn bad_lines(rt: HostRuntime) -> Result<(), Fail> {
-    for (bytes, wanted) in [(b"".as_slice(), (0, 0)), (b"\n", (2, 0))] {
-        assert_eq!(rt; read_behind_header(rt.alloc(), bytes)?, wanted);
-    }
-    for (end, wanted) in [
-        (b"\n".as_slice(), (0, 1)),
-        (b" \n", (2, 0)),
-        (b"\r\n", (2, 0)),
-        (b"0\n", (2, 0)),
-        (b"\n\n", (3, 0)),
-        (b"\npair", (3, 0)),
+fn one_pair_and_bad_lines(rt: HostRuntime) -> Result<(), Fail> {
+    let text = joined(rt.alloc(), &[HEADER, PAIR])?;
+    let mut seed = [0; 32];
+    seed[31] = 255;
+    assert!(rt; is_one_pair(rt.alloc(), &text, &seed, (ZERO, ONE))?);
+    for (pair, end, wanted) in [
+        (b"".as_slice(), b"".as_slice(), (0, 0)),
+        (b"", b"\n", (2, 0)),
+        (PAIR, b"\n", (0, 1)),
+        (PAIR, b" \n", (2, 0)),
+        (PAIR, b"\r\n", (2, 0)),
+        (PAIR, b"0\n", (2, 0)),
+        (PAIR, b"\n\n", (3, 0)),
+        (PAIR, b"\npair", (3, 0)),
     ] {
-        assert_eq!(rt; read_behind_pair(rt.alloc(), end)?, wanted);
+        let bytes = joined(rt.alloc(), &[pair, end])?;
+        assert_eq!(rt; read_behind_header(rt.alloc(), &bytes)?, wanted);
     }
     let printed = printed_fault(rt.alloc(), b"")?;
     assert!(rt; printed.as_str() == "bad line 1");

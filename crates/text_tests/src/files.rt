@@ -17,27 +17,6 @@ fn part(file: &[u8], index: u32) -> Option<[u8; 32]> {
     Some(out)
 }
 
-fn is_part(file: &[u8], wanted: &[u8; 32]) -> bool {
-    match part(file, 0) {
-        Some(part) => part == *wanted,
-        None => false,
-    }
-}
-
-#[test]
-fn one_part(rt: HostRuntime) {
-    let wanted = [
-        0u8, 0, 0, 0, 0, 0, 0, 7, 0, 0, 0, 1, 0, 3, 0, 0, 0, 1, 2, 0, 0, 0, 0, 0, 0, 0, 0, 0, 0, 0,
-        0, 0,
-    ];
-    assert!(rt; is_part(&[0, 1, 2], &wanted));
-    let empty = [
-        0u8, 0, 0, 0, 0, 0, 0, 7, 0, 0, 0, 1, 0, 0, 0, 0, 0, 0, 0, 0, 0, 0, 0, 0, 0, 0, 0, 0, 0, 0,
-        0, 0,
-    ];
-    assert!(rt; is_part(&[], &empty));
-}
-
 // The first of two boxes that is missing.
 fn missing(alloc: Global, first: &[u8; 32], second: &[u8; 32]) -> Result<Option<u32>, Fail> {
     let mut joiner = Joiner::open(alloc, 2, 32)?;
@@ -63,8 +42,19 @@ fn are_joined(
     Ok(is_whole && joiner.box_bytes(1) == second.as_slice())
 }
 
+// The only part of a file, of an empty one, and two parts.
 #[test]
-fn two_parts(rt: HostRuntime) -> Result<(), Fail> {
+fn parts_of_files(rt: HostRuntime) -> Result<(), Fail> {
+    let wanted = [
+        0u8, 0, 0, 0, 0, 0, 0, 7, 0, 0, 0, 1, 0, 3, 0, 0, 0, 1, 2, 0, 0, 0, 0, 0, 0, 0, 0, 0, 0, 0,
+        0, 0,
+    ];
+    assert!(rt; part(&[0, 1, 2], 0) == Some(wanted));
+    let empty = [
+        0u8, 0, 0, 0, 0, 0, 0, 7, 0, 0, 0, 1, 0, 0, 0, 0, 0, 0, 0, 0, 0, 0, 0, 0, 0, 0, 0, 0, 0, 0,
+        0, 0,
+    ];
+    assert!(rt; part(&[], 0) == Some(empty));
     let file = [5u8; 17];
     let first = part(&file, 0).ok_or("no part")?;
     let second = part(&file, 1).ok_or("no part")?;
@@ -72,11 +62,6 @@ fn two_parts(rt: HostRuntime) -> Result<(), Fail> {
     assert!(rt; are_joined(rt.alloc(), &first, &second, &file)?);
     assert!(rt; missing(rt.alloc(), &first, &[0; 32])? == Some(1));
     assert!(rt; missing(rt.alloc(), &second, &first)? == Some(0));
-    Ok(())
-}
-
-#[test]
-fn a_missing_box_is_printed(rt: HostRuntime) -> Result<(), Fail> {
     let printed = format!(in rt.alloc(); "{}", Missing(3))?;
     assert_eq!(rt; printed.as_str(), "box 3 has no part of the file");
     Ok(())
@@ -87,27 +72,6 @@ fn part_count(length: u32, width: u32) -> u32 {
     match parts(length, width) {
         Some(count) => count,
         None => 0,
-    }
-}
-
-#[test]
-fn how_many_parts(rt: HostRuntime) {
-    for (length, width, wanted) in [
-        (0, 32, 1),
-        (1, 32, 1),
-        (15, 32, 1),
-        (16, 32, 1),
-        (17, 32, 2),
-        (65_536, 32, 4096),
-        (65_537, 32, 0),
-        (16_711_680, 4096, 4096),
-        (16_711_681, 4096, 0),
-        (u32::MAX, 4096, 0),
-        (3, 16, 0),
-        (3, 40, 0),
-        (3, 4112, 0),
-    ] {
-        assert!(rt; part_count(length, width) == wanted, "{length} at {width}");
     }
 }
 
@@ -130,6 +94,23 @@ fn is_carried(alloc: Global, size: u32, part: &mut [u8]) -> Result<bool, Fail>
 
 #[test]
 fn files_are_carried(rt: HostRuntime) -> Result<(), Fail> {
+    for (length, width, wanted) in [
+        (0, 32, 1),
+        (1, 32, 1),
+        (15, 32, 1),
+        (16, 32, 1),
+        (17, 32, 2),
+        (65_536, 32, 4096),
+        (65_537, 32, 0),
+        (16_711_680, 4096, 4096),
+        (16_711_681, 4096, 0),
+        (u32::MAX, 4096, 0),
+        (3, 16, 0),
+        (3, 40, 0),
+        (3, 4112, 0),
+    ] {
+        assert!(rt; part_count(length, width) == wanted, "{length} at {width}");
+    }
     for length in [0, 1, 15, 16, 17, 65_536] {
         assert!(rt;
             is_carried(rt.alloc(), length, &mut [0; 32])?,

@@ -103,15 +103,8 @@ fn held_and_missing(gather: &Gather) -> (usize, usize) {
     (gather.held().len(), gather.want())
 }
 
-fn has_any_frame(gather: &Gather) -> bool {
-    gather.frame().is_some()
-}
-
-fn has_frame(gather: &Gather, bytes: &[u8]) -> bool {
-    match gather.frame() {
-        Some(frame) => frame == bytes,
-        None => false,
-    }
+fn frame_in(gather: &Gather) -> Option<&[u8]> {
+    gather.frame()
 }
 
 fn is_taken_in_pieces(gather: &mut Gather, bytes: &[u8], size: usize) -> bool {
@@ -129,7 +122,7 @@ fn is_gathered(gather: &mut Gather, bytes: &[u8], size: usize) -> bool {
     is_taken_in_pieces(gather, bytes, size)
         && held_and_missing(gather) == (bytes.len(), 0)
         && fed(gather, &[1, 2, 3]) == Ok(0)
-        && has_frame(gather, bytes)
+        && frame_in(gather) == Some(bytes)
 }
 
 fn opened(alloc: Global) -> Result<Gather, Fail> {
@@ -139,8 +132,9 @@ fn opened(alloc: Global) -> Result<Gather, Fail> {
     Ok(gather)
 }
 
+// Each kind and tag, and the worked frames.
 #[test]
-fn each_kind_and_tag(rt: HostRuntime) -> Result<(), Fail> {
+fn frames_are_written_back(rt: HostRuntime) -> Result<(), Fail> {
     let mut out = vec![in rt.alloc(); 0u8; FRAME_MAX]?;
     for row in rows() {
         let mut bytes = bytes_of(rt.alloc(), row)?;
@@ -150,12 +144,6 @@ fn each_kind_and_tag(rt: HostRuntime) -> Result<(), Fail> {
             assert_eq!(rt; raised(&mut bytes, place), expected(row, place));
         }
     }
-    Ok(())
-}
-
-#[test]
-fn worked_frames(rt: HostRuntime) -> Result<(), Fail> {
-    let mut out = vec![in rt.alloc(); 0u8; FRAME_MAX]?;
     for bytes in [HELD.as_slice(), LINK_RETIRE.as_slice()] {
         assert!(rt; is_written_back(&mut out, bytes));
         assert!(rt; is_short_where_cut(bytes));
@@ -189,13 +177,8 @@ fn gathered_in_any_pieces(rt: HostRuntime) -> Result<(), Fail> {
             assert!(rt; is_gathered(&mut gather, &bytes, size));
         }
     }
-    Ok(())
-}
-
-// The kind is wrong, so that its byte is the last that is taken, and the fault stays.
-#[test]
-fn a_wrong_kind_is_gathered(rt: HostRuntime) -> Result<(), Fail> {
-    let mut gather = opened(rt.alloc())?;
+    // The kind is wrong, so that its byte is the last that is taken, and the fault stays.
+    gather.clear();
     let wrong = Err(FrameFault::Malformed(5));
     for (piece, answer, after) in [
         (&HELD[..5], Ok(5), (5, 16)),
@@ -205,6 +188,6 @@ fn a_wrong_kind_is_gathered(rt: HostRuntime) -> Result<(), Fail> {
         assert_eq!(rt; fed(&mut gather, piece), answer);
         assert_eq!(rt; held_and_missing(&gather), after);
     }
-    assert!(rt; !has_any_frame(&gather));
+    assert!(rt; frame_in(&gather).is_none());
     Ok(())
 }

@@ -37,21 +37,6 @@ fn is_aim(aim: &AimText, address: u128, last: u8) -> bool {
     aim.address == address && aim.message.as_slice().get(15) == Some(&last)
 }
 
-fn has_aims(game: &CloakGame) -> bool {
-    is_aim(&game.old_aim, 0, 1) && is_aim(&game.new_aim, u128::MAX, 2)
-}
-
-#[test]
-fn a_game(rt: HostRuntime) -> Result<(), Fail> {
-    let text = text_with(rt.alloc(), &LINES, 0, b"")?;
-    let game = game_in(rt.alloc(), &text)?;
-    assert!(rt; game.viewer == 1 && game.width == 16);
-    assert!(rt; game.seed[31] == 255 && game.ckey[0] == 1 && game.sigma == 10);
-    assert!(rt; has_aims(&game));
-    assert!(rt; game.addresses.as_slice() == [0, u128::MAX].as_slice());
-    Ok(())
-}
-
 // The line that is named of a text, or else 0.
 fn named(alloc: Global, text: &[u8]) -> Result<u32, Fail> {
     match game_in(alloc, text) {
@@ -62,7 +47,13 @@ fn named(alloc: Global, text: &[u8]) -> Result<u32, Fail> {
 }
 
 #[test]
-fn lines_that_are_named(rt: HostRuntime) -> Result<(), Fail> {
+fn a_game_and_lines_that_are_named(rt: HostRuntime) -> Result<(), Fail> {
+    let text = text_with(rt.alloc(), &LINES, 0, b"")?;
+    let game = game_in(rt.alloc(), &text)?;
+    assert!(rt; game.viewer == 1 && game.width == 16);
+    assert!(rt; game.seed[31] == 255 && game.ckey[0] == 1 && game.sigma == 10);
+    assert!(rt; is_aim(&game.old_aim, 0, 1) && is_aim(&game.new_aim, u128::MAX, 2));
+    assert!(rt; game.addresses.as_slice() == [0, u128::MAX].as_slice());
     for (lines, place, other, wanted) in [
         (7, 0, LINES[0], 0),
         (0, 0, LINES[0], 1),

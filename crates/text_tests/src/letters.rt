@@ -30,7 +30,7 @@ const PAIR: &[u8] = b"express pair 1 64 4096 15 16 255 98163\n\
     helper 10.0.0.2:65535 71202\n";
 
 #[test]
-fn letters(rt: HostRuntime) {
+fn letters(rt: HostRuntime) -> Result<(), Fail> {
     let mut bytes = [7u8; 64];
     assert!(rt; seal(TEXT, ID, &mut bytes) == Ok(()));
     assert!(rt; bytes == LETTER);
@@ -41,10 +41,6 @@ fn letters(rt: HostRuntime) {
     assert!(rt; seal(&[1; 39], ID, &mut bytes) == Err(SealFault::TooLong(38)));
     assert!(rt; seal(&[], ID, &mut bytes) == Err(SealFault::NoText));
     assert!(rt; room(16) == 0);
-}
-
-#[test]
-fn letters_in_words(rt: HostRuntime) -> Result<(), Fail> {
     let alloc = rt.alloc();
     let shown = screen_text(alloc, b"bell\x07, \xc2\x9b, \xc3\xa9\n")?.ok_or("no text")?;
     assert!(rt; shown.as_str() == "bell\\x07, \\x9b, é\n");

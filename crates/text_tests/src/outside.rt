@@ -28,12 +28,12 @@ fn sink(alloc: Global) -> Result<MemorySink, Fail> {
     Ok(MemorySink::new(alloc, 3, &[2])?)
 }
 
-fn conn(alloc: Global, room: usize, failing: &[u64]) -> Result<MemoryConn, Fail> {
-    Ok(MemoryConn::new(alloc, b"abc", room, failing)?)
+fn conn(alloc: Global, given: &[u8], room: usize, failing: &[u64]) -> Result<MemoryConn, NoMemory> {
+    MemoryConn::new(alloc, given, room, failing)
 }
 
 #[test]
-fn source_in_memory(rt: HostRuntime) -> Result<(), Fail> {
+fn source_and_sink_in_memory(rt: HostRuntime) -> Result<(), Fail> {
     let mut source = source(rt.alloc())?;
     let mut buf = [0u8; 2];
     for (answer, bytes, count) in [
@@ -46,11 +46,6 @@ fn source_in_memory(rt: HostRuntime) -> Result<(), Fail> {
         assert!(rt; buf == bytes);
         assert!(rt; faults(&source) == count);
     }
-    Ok(())
-}
-
-#[test]
-fn sink_in_memory(rt: HostRuntime) -> Result<(), Fail> {
     let mut sink = sink(rt.alloc())?;
     for (bytes, answer, count) in [
         (b"ab".as_slice(), Ok(()), 0),
@@ -72,7 +67,7 @@ fn has_passed(conn: &MemoryConn, given: &[u8], written: &[u8]) -> bool {
 
 #[test]
 fn connection_in_memory(rt: HostRuntime) -> Result<(), Fail> {
-    let mut conn = conn(rt.alloc(), 2, &[1, 3])?;
+    let mut conn = conn(rt.alloc(), b"abc", 2, &[1, 3])?;
     let mut buf = [0u8; 2];
     let puts = [put(&mut conn, b"x"), put(&mut conn, b"x")];
     assert!(rt; puts == [Err(Failed), Ok(())]);
@@ -110,21 +105,25 @@ fn close(net: &mut MemoryNet, conn: Result<MemoryConn, Failed>) -> bool {
 fn two_conns(alloc: Global) -> Result<Vec<MemoryConn>, NoMemory> {
     let mut conns = Vec::new(alloc);
     for byte in [b"a", b"b"] {
-        let conn = MemoryConn::new(alloc, byte, 1, &[])?;
-        conns.push(conn)?;
+        conns.push(conn(alloc, byte, 1, &[])?)?;
     }
     Ok(conns)
 }
 
-fn net_of(alloc: Global, conns: Vec<MemoryConn>, failing: &[u64]) -> Result<MemoryNet, Fail> {
-    Ok(MemoryNet::new(alloc, conns, 6, 8, failing)?)
+fn net_of(
+    alloc: Global,
+    conns: Vec<MemoryConn>,
+    room: (usize, usize),
+    failing: &[u64],
+) -> Result<MemoryNet, Fail> {
+    Ok(MemoryNet::new(alloc, conns, room.0, room.1, failing)?)
 }
 
 // Listens, accepts, dials and closes, with at most one failing call, and says which calls failed, how many faults
 // the net has, and how many connections were closed.
 fn calls(alloc: Global, failing: &[u64]) -> Result<([bool; 4], u64, usize), Fail> {
     let conns = two_conns(alloc)?;
-    let mut net = net_of(alloc, conns, failing)?;
+    let mut net = net_of(alloc, conns, (6, 8), failing)?;
     let listened = listen(&mut net, "here").is_err();
     let accepted = accept(&mut net);
     let dialled = dial(&mut net, "them");
@@ -155,17 +154,11 @@ fn net_in_memory(rt: HostRuntime) -> Result<(), Fail> {
     Ok(())
 }
 
-fn broken_conn(alloc: Global) -> Result<Vec<MemoryConn>, NoMemory> {
-    let conn = MemoryConn::new(alloc, b"abc", 1, &[3, 4])?;
-    let mut conns = Vec::new(alloc);
-    conns.push(conn)?;
-    Ok(conns)
-}
-
 // A net with room for 4 calls.
 fn small_net(alloc: Global) -> Result<MemoryNet, Fail> {
-    let conns = broken_conn(alloc)?;
-    Ok(MemoryNet::new(alloc, conns, 4, 4, &[2])?)
+    let mut conns = Vec::new(alloc);
+    conns.push(conn(alloc, b"abc", 1, &[3, 4])?)?;
+    net_of(alloc, conns, (4, 4), &[2])
 }
 
 // Two calls, and two that fail.

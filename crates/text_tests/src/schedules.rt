@@ -86,15 +86,6 @@ fn rows_are_printed_again(rt: HostRuntime) -> Result<(), Fail> {
     Ok(())
 }
 
-#[test]
-fn either_case_is_read(rt: HostRuntime) -> Result<(), Fail> {
-    let text = joined(rt.alloc(), &[HEADER, b"tick\ninject B 0aBF"])?;
-    let wanted = joined(rt.alloc(), &[HEADER, b"tick\ninject B 0abf\n"])?;
-    let printed = reprinted(rt.alloc(), &text)?;
-    assert!(rt; printed.as_slice() == wanted.as_slice());
-    Ok(())
-}
-
 // The first bad line of a text, or 0.
 fn bad_line(alloc: Global, text: &[u8]) -> Result<u32, Fail> {
     match read(alloc, text) {
@@ -112,7 +103,11 @@ fn printed_fault(alloc: Global, text: &[u8]) -> Result<String, Fail> {
 }
 
 #[test]
-fn bad_lines(rt: HostRuntime) -> Result<(), Fail> {
+fn either_case_and_bad_lines(rt: HostRuntime) -> Result<(), Fail> {
+    let text = joined(rt.alloc(), &[HEADER, b"tick\ninject B 0aBF"])?;
+    let wanted = joined(rt.alloc(), &[HEADER, b"tick\ninject B 0abf\n"])?;
+    let printed = reprinted(rt.alloc(), &text)?;
+    assert!(rt; printed.as_slice() == wanted.as_slice());
     let foreign = &NO_DEPOSIT[HEADER.len()..HEADER.len() + FOREIGN_LEN];
     for (first, second, wanted) in [
         (b"".as_slice(), b"".as_slice(), 0),

@@ -76,8 +76,15 @@ fn text_of(alloc: Global, keys: &[Key], wrong_from: usize) -> Result<String, All
     Ok(text)
 }
 
-// Whether this is printed as a fault at the key.
-fn is_bad(alloc: Global, fault: &TextFault, key: &str) -> Result<bool, AllocError> {
+// Whether a text isn't read, and its fault is printed as one at the key.
+fn is_bad<T: Drop>(
+    alloc: Global,
+    read: Result<T, TextFault>,
+    key: &str,
+) -> Result<bool, AllocError> {
+    let Err(fault) = read else {
+        return Ok(false);
+    };
     let printed = format!(in alloc; "{fault}")?;
     Ok(printed.strip_prefix("bad settings ") == Some(key))
 }
@@ -91,8 +98,9 @@ fn is_at(place: &Text, wanted: &str) -> bool {
     place.as_str() == wanted
 }
 
+// A leader's, the first wrong key, and texts that aren't TOML.
 #[test]
-fn a_leader(rt: HostRuntime) -> Result<(), Fail> {
+fn a_servers_settings(rt: HostRuntime) -> Result<(), Fail> {
     let text = text_of(rt.alloc(), &SERVE, SERVE.len())?;
     let leader = server_in(rt.alloc(), text.as_bytes())?;
     assert!(rt; leader.role == LEADER);
@@ -106,22 +114,18 @@ fn a_leader(rt: HostRuntime) -> Result<(), Fail> {
     };
     assert!(rt; leader.settings == settings);
     assert!(rt; leader.connections == 1_000_000);
-    Ok(())
-}
-
-// Whether the text's fault as a server's settings is at the key.
-fn is_bad_server(alloc: Global, text: &[u8], key: &str) -> Result<bool, Fail> {
-    match server_in(alloc, text) {
-        Ok(_) => Ok(false),
-        Err(fault) => Ok(is_bad(alloc, &fault, key)?),
-    }
-}
-
-#[test]
-fn first_wrong_key_of_a_server(rt: HostRuntime) -> Result<(), Fail> {
     for (i, (name, _, _)) in SERVE.iter().enumerate() {
         let text = text_of(rt.alloc(), &SERVE, i)?;
-        assert!(rt; is_bad_server(rt.alloc(), text.as_bytes(), name)?, "{name}");
+        let read = server_in(rt.alloc(), text.as_bytes());
+        assert!(rt; is_bad(rt.alloc(), read, name)?, "{name}");
+    }
+    for (text, wanted) in [
+        (b"role = ".as_slice(), "toml"),
+        (b"# \xff\n", "toml"),
+        (b"", "role"),
+    ] {
+        let read = server_in(rt.alloc(), text);
+        assert!(rt; is_bad(rt.alloc(), read, wanted)?, "{wanted}");
     }
     Ok(())
 }
@@ -158,8 +162,9 @@ fn is_seed(found: &Option<[u8; 32]>, wanted: &[u8; 32]) -> bool {
     }
 }
 
+// A client's, and the first wrong key.
 #[test]
-fn a_client(rt: HostRuntime) -> Result<(), Fail> {
+fn a_clients_settings(rt: HostRuntime) -> Result<(), Fail> {
     let text = text_of(rt.alloc(), &CLIENT, CLIENT.len())?;
     let client = client_in(rt.alloc(), text.as_bytes())?;
     assert!(rt; client.lane == 255 && client.serial == u32::MAX);
@@ -172,21 +177,10 @@ fn a_client(rt: HostRuntime) -> Result<(), Fail> {
     assert!(rt; is_owned(client.owned.as_slice(), 4095, 1));
     let message = [0, 1, 2, 3, 4, 5, 6, 7, 8, 9, 10, 11, 12, 13, 14, 15];
     assert!(rt; are_asked(client.requests.as_slice(), &message));
-    Ok(())
-}
-
-fn is_bad_client(alloc: Global, text: &[u8], key: &str) -> Result<bool, Fail> {
-    match client_in(alloc, text) {
-        Ok(_) => Ok(false),
-        Err(fault) => Ok(is_bad(alloc, &fault, key)?),
-    }
-}
-
-#[test]
-fn first_wrong_key_of_a_client(rt: HostRuntime) -> Result<(), Fail> {
     for (i, (name, _, _)) in CLIENT.iter().enumerate() {
         let text = text_of(rt.alloc(), &CLIENT, i)?;
-        assert!(rt; is_bad_client(rt.alloc(), text.as_bytes(), name)?, "{name}");
+        let read = client_in(rt.alloc(), text.as_bytes());
+        assert!(rt; is_bad(rt.alloc(), read, name)?, "{name}");
     }
     Ok(())
 }
@@ -218,25 +212,13 @@ fn is_sent(job: &CarryJob) -> bool {
     }
 }
 
+// A carrier's, and the first wrong key. A fetch without owned boxes is a wrong `owned`, which the last row shows.
 #[test]
-fn a_carrier(rt: HostRuntime) -> Result<(), Fail> {
+fn a_carriers_settings(rt: HostRuntime) -> Result<(), Fail> {
     let text = carrier(rt.alloc(), CARRY.len())?;
     let settings = carrier_in(rt.alloc(), text.as_bytes())?;
     assert!(rt; settings.width == 32 && settings.seed.is_none());
     assert!(rt; is_sent(&settings.job));
-    Ok(())
-}
-
-fn is_bad_carrier(alloc: Global, text: &[u8], key: &str) -> Result<bool, Fail> {
-    match carrier_in(alloc, text) {
-        Ok(_) => Ok(false),
-        Err(fault) => Ok(is_bad(alloc, &fault, key)?),
-    }
-}
-
-// A fetch without owned boxes is a wrong `owned`, which the last row shows.
-#[test]
-fn first_wrong_key_of_a_carrier(rt: HostRuntime) -> Result<(), Fail> {
     for (i, wanted) in [
         (0, "width"),
         (1, "boxes"),
@@ -247,22 +229,8 @@ fn first_wrong_key_of_a_carrier(rt: HostRuntime) -> Result<(), Fail> {
         (3, "owned"),
     ] {
         let text = carrier(rt.alloc(), i)?;
-        assert!(rt;
-            is_bad_carrier(rt.alloc(), text.as_bytes(), wanted)?,
-            "{wanted}"
-        );
-    }
-    Ok(())
-}
-
-#[test]
-fn no_toml(rt: HostRuntime) -> Result<(), Fail> {
-    for (text, wanted) in [
-        (b"role = ".as_slice(), "toml"),
-        (b"# \xff\n", "toml"),
-        (b"", "role"),
-    ] {
-        assert!(rt; is_bad_server(rt.alloc(), text, wanted)?, "{wanted}");
+        let read = carrier_in(rt.alloc(), text.as_bytes());
+        assert!(rt; is_bad(rt.alloc(), read, wanted)?, "{wanted}");
     }
     Ok(())
 }

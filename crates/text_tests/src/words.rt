@@ -62,15 +62,10 @@ fn is_printed(alloc: Global, refusal: Refusal, wanted: &str) -> Result<bool, All
 }
 
 #[test]
-fn printed_refusals(rt: HostRuntime) -> Result<(), Fail> {
+fn printed_texts(rt: HostRuntime) -> Result<(), Fail> {
     for (refusal, wanted) in REFUSALS {
         assert!(rt; is_printed(rt.alloc(), refusal, wanted)?, "{wanted}");
     }
-    Ok(())
-}
-
-#[test]
-fn printed_failures(rt: HostRuntime) -> Result<(), Fail> {
     let memory = NoMemory.to_string(rt.alloc())?;
     assert!(rt; memory.as_str() == "out of memory");
     let failed = Failed.to_string(rt.alloc())?;

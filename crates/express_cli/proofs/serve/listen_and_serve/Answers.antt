@@ -30,7 +30,7 @@ pub returns-in-Ok-clause-breaks : goal.returns-in-Ok-clause-breaks
 returns-in-Ok-clause-breaks g c = λ failed.
     let before : Seen = g.N.Counted.seen c.args.net.now in
     let now : Seen = g.N.Counted.seen c.tell_and_serve.new.net in
-    let net : Around = around [] before now (Shown g.N.Conn.Counted.seen) in
+    let net : Around = around [] before now g.N.Conn.Counted.seen in
     let Listens : List ℕ → Type 0 = λ at. Adds before.calls (g.N.Counted.seen c.listen.new.self).calls (Listened at false) in
     only_listened c.args.settings.now net (g.N.Counted.seen c.listen.new.self).calls _ _ (subst Listens c.as_str.ensures c.in-Ok.ensures.call)
     (elim (c.tell_and_serve.ensures.breaks failed) [ inl same ↦ inl (ap (λ net. (g.N.Counted.seen net).calls) same) | inr out ↦ inr out ])

@@ -1,6 +1,6 @@
 use Rattle.std.proofs.Common.{refl, inl, inr, ap, subst, List, [], ℕ, true, false}
 use Rattle.express_words.specs.Calls.{Adds, Listened}
-use Rattle.express_cli.specs.Around.{Around, Shown, around}
+use Rattle.express_cli.specs.Around.{Around, around}
 use Rattle.express_cli.specs.declared.ends.End.TheVariants.{NetFault}
 use Rattle.express_keep.specs.Door.{ListeningMay}
 use Rattle.express_keep.specs.declared.ending.Ending.TheVariants.{Plain}
@@ -29,7 +29,7 @@ returns-in-Ok-clause-announces g c failed =
     let Listens : List ℕ → Type 0 = λ at. Adds (g.N.Counted.seen c.args.net.now).calls (g.N.Counted.seen c.listen.new.self).calls (Listened at false) in
     let before = g.N.Counted.seen c.args.net.now in
     let now = g.N.Counted.seen c.tell_and_serve.new.net in
-    let net : Around = around [] before now (Shown g.N.Conn.Counted.seen) in
+    let net : Around = around [] before now g.N.Conn.Counted.seen in
     only_listened c.args.settings.now net (g.N.Counted.seen c.listen.new.self).calls _ _ (subst Listens c.as_str.ensures c.in-Ok.ensures.call)
     (elim (c.tell_and_serve.ensures.announces failed) [ inl same ↦ inl (ap (λ n. (g.N.Counted.seen n).calls) same) | inr out ↦ inr out ])
 

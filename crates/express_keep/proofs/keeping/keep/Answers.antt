@@ -4,7 +4,7 @@ use Rattle.express_cli.specs.Runs.{UnreadMay}
 use Rattle.express_keep.specs.declared.ending.Ending.TheVariants.{Plain}
 use Rattle.express_keep.proofs.CountLaws.{plain_counts}
 use Rattle.express_keep.proofs.TellLaws.{more, plain, unmoved}
-use Rattle.express_cli.specs.Around.{Around, Shown, around}
+use Rattle.express_cli.specs.Around.{Around, around}
 use Rattle.express_cli.specs.Talking.{BreaksOff}
 use Rattle.express_cli.specs.declared.words.NetCommand.TheVariants.{Serve}
 use Rattle.express_keep.proofs.keeping.keep.Goals as goal
@@ -38,7 +38,7 @@ returns-in-Ok-clause-announces g c failed =
     let Gave : List ℕ → Type 0 = λ b. GaveAll (g.S.Counted.seen c.args.input.now).content (g.S.Counted.seen c.input_of.new.input).content b in
     let before = g.N.Counted.seen c.args.net.now in
     let now = g.N.Counted.seen c.keep_text.new.net in
-    let net : Around = around c.args.seed.now before now (Shown g.N.Conn.Counted.seen) in
+    let net : Around = around c.args.seed.now before now g.N.Conn.Counted.seen in
     let Broke : Option (List ℕ) → Type 0 = λ old. BreaksOff Serve c.as_slice.result.now net old (g.K.Counted.seen c.keep_text.new.out).written in
     inr (c.as_slice.result.now, subst Gave (sym c.as_slice.ensures.value) c.in-Ok.ensures.read, subst Broke (ap (λ out. (g.K.Counted.seen out).written) c.in-Ok.ensures.rests) (c.keep_text.ensures.announces failed))
 

@@ -1,5 +1,5 @@
 use Rattle.std.proofs.Common.{refl, ap, inl, inr}
-use Rattle.express_cli.specs.Around.{Around, Shown, around}
+use Rattle.express_cli.specs.Around.{Around, around}
 use Rattle.express_cli.specs.Ends.{FaultMay}
 use Rattle.express_keep.specs.declared.ending.Ending.TheVariants.{Plain}
 use Rattle.express_keep.proofs.CountLaws.{plain_counts}
@@ -15,7 +15,7 @@ returns-in-Ok-clause-tells g c =
 pub returns-in-Err-clause-tells : goal.returns-in-Err-clause-tells
 returns-in-Err-clause-tells g c =
     let at = g.N.Counted.seen c.args.net.now in
-    let net : Around = around c.args.seed.now at at (Shown g.N.Conn.Counted.seen) in
+    let net : Around = around c.args.seed.now at at g.N.Conn.Counted.seen in
     plain (FaultMay c.in-Err.fault) _ _ _ _ _ c.say_fault.result
     (bad_text g.D.Disk.disk c.args.text.now net c.args.disk refl c.in-Err.fault c.in-Err.ensures.judges) c.say_fault.ensures.says
 
@@ -29,7 +29,7 @@ pub returns-in-Ok-clause-announces : goal.returns-in-Ok-clause-announces
 returns-in-Ok-clause-announces g c failed =
     let before = g.N.Counted.seen c.args.net.now in
     let now = g.N.Counted.seen c.keep_by.new.net in
-    let net : Around = around c.args.seed.now before now (Shown g.N.Conn.Counted.seen) in
+    let net : Around = around c.args.seed.now before now g.N.Conn.Counted.seen in
     serve_breaks c.in-Ok.settings c.args.text.now net _ _ c.in-Ok.ensures.judges
     (elim (c.keep_by.ensures.announces failed) [ inl same ↦ inl (ap (λ n. g.N.Counted.seen n) same) | inr breaks ↦ inr breaks ])
 

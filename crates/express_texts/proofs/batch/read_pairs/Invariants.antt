@@ -1,14 +1,13 @@
 use Rattle.std.proofs.Common.{◌≡◌, ◌≤◌, length}
 use Rattle.text_fields.specs.Lines.{lines_of}
-use Rattle.express_texts.specs.Batch.{pairs_of}
-use Rattle.express_texts.specs.declared.batch.TheConstants.{MOST_PAIRS}
+use Rattle.express_texts.specs.Batch.{most_pairs, pairs_of}
 use Rattle.express_texts.proofs.LoopLemmas.{left_of}
 use Rattle.express_texts.proofs.batch.read_pairs.Given as goal
 
 abbrev pub invariant-loop-rest : goal.invariant-loop-rest
 invariant-loop-rest l = record {
-  same : left_of MOST_PAIRS l.zero.items l.one.items (lines_of l.rest) ≡ pairs_of MOST_PAIRS 2 (lines_of l.text);
-  few : length l.zero.items ≤ MOST_PAIRS;
+  same : left_of most_pairs l.zero.items l.one.items (lines_of l.rest) ≡ pairs_of most_pairs 2 (lines_of l.text);
+  few : length l.zero.items ≤ 20000;
 }
 
 abbrev pub decreases-loop-rest : goal.decreases-loop-rest
