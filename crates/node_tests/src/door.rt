@@ -68,32 +68,24 @@ fn text_of(rt: &HostRuntime, tally: Result<Tally, Failed>) -> Result<String, Fai
     }
 }
 
-fn hex_of(rt: &HostRuntime, conn: &MemoryConn) -> Result<String, Fail> {
-    Ok(hex::encode(rt.alloc(), conn.written())?)
-}
-
 // How many connections were closed, and in hex what was written to the first of them.
 fn told(rt: &HostRuntime, net: &MemoryNet) -> Result<(usize, String), Fail> {
     let closed = net.closed();
     let [first, ..] = closed else {
         return Err(Fail::new("no connection was closed"));
     };
-    Ok((closed.len(), hex_of(rt, first)?))
+    Ok((closed.len(), hex::encode(rt.alloc(), first.written())?))
 }
 
+// Three connections are served; and where the second accept fails, one.
 #[test]
-fn three_connections(rt: HostRuntime) -> Result<(), Fail> {
+fn connections(rt: HostRuntime) -> Result<(), Fail> {
     let mut net = net_of(&rt, &[DEPOSIT, "00000031", "00000000"], &[])?;
     let text = text_of(&rt, hosted(&rt, &mut net)?)?;
     let wanted = "served 3 answered 2 ended 1 connfaults 0 linkfaults 0 linkbad 0";
     assert!(rt; text.as_str() == wanted);
     let (closed, first) = told(&rt, &net)?;
     assert!(rt; closed == 3 && first.as_str() == HELD);
-    Ok(())
-}
-
-#[test]
-fn failed_accept(rt: HostRuntime) -> Result<(), Fail> {
     let mut net = net_of(&rt, &[DEPOSIT, DEPOSIT, DEPOSIT], &[2])?;
     assert!(rt; hosted(&rt, &mut net)?.is_err());
     assert!(rt; net.closed().len() == 1);

@@ -55,29 +55,17 @@ fn holds(disk: &MemoryDisk, bytes: &[u8]) -> bool {
     disk.bytes() == bytes
 }
 
-// Makes a journal, adds a record to it, and one for which there is no room. Whether the disk has the bytes `one`
-// after the first, and `two` after each of the others.
-fn fill(disk: &mut MemoryDisk, one: &[u8], two: &[u8]) -> Result<[bool; 3], JournalFault> {
+// Makes a journal, adds a record to it, and one for which there is no room, and makes another, which is refused.
+// Whether the disk has the bytes `one` after the first, and `two` after each of the others.
+fn fill(disk: &mut MemoryDisk, one: &[u8], two: &[u8]) -> Result<[bool; 4], JournalFault> {
     let mut journal = Journal::create(disk, LIMIT, &[0xaa])?;
     let made = holds(disk, one);
     journal.append(disk, &[0xbb, 0xcc])?;
     let added = holds(disk, two);
     let full = journal.append(disk, &[0xdd]) == Err(JournalFault::Full(13));
-    Ok([made, added, full && holds(disk, two)])
-}
-
-fn create_again(disk: &mut MemoryDisk) -> Option<JournalFault> {
-    Journal::create(disk, LIMIT, &[0xaa]).err()
-}
-
-#[test]
-fn bytes_on_the_disk(rt: HostRuntime) -> Result<(), Fail> {
-    let none: [u64; 0] = [];
-    let mut disk = disk(&rt, &[], &[], &none)?;
-    let [made, added, full] = fill(&mut disk, &ONE, &TWO)?;
-    assert!(rt; made && added && full);
-    assert!(rt; create_again(&mut disk) == Some(JournalFault::NotEmpty));
-    Ok(())
+    let full = full && holds(disk, two);
+    let again = Journal::create(disk, LIMIT, &[0xaa]).err();
+    Ok([made, added, full, again == Some(JournalFault::NotEmpty)])
 }
 
 // Whether these bytes are read as these records and this end.
@@ -92,7 +80,10 @@ fn walks(
 }
 
 #[test]
-fn records_and_damage(rt: HostRuntime) -> Result<(), Fail> {
+fn bytes_on_the_disk(rt: HostRuntime) -> Result<(), Fail> {
+    let none: [u64; 0] = [];
+    let mut disk = disk(&rt, &[], &[], &none)?;
+    assert!(rt; fill(&mut disk, &ONE, &TWO)? == [true; 4]);
     let mut shut = TWO;
     shut[6] = 7;
     let mut past = TWO;
@@ -142,14 +133,6 @@ fn fails_at(rt: &HostRuntime, number: u64) -> Result<bool, Fail> {
     Ok(end == Err(JournalFault::Disk(1)) && disk.faults() == 1)
 }
 
-#[test]
-fn each_call_fails_once(rt: HostRuntime) -> Result<(), Fail> {
-    for number in 1..10 {
-        assert!(rt; fails_at(&rt, number)?);
-    }
-    Ok(())
-}
-
 // Whether an append that ends at this call, and a crash, leave the record before it, or that and the new one.
 fn crash(rt: &HostRuntime, number: u64, arriving: &[u8]) -> Result<bool, Fail> {
     let mut disk = disk(rt, &ONE, arriving, &[number])?;
@@ -160,10 +143,13 @@ fn crash(rt: &HostRuntime, number: u64, arriving: &[u8]) -> Result<bool, Fail> {
     Ok(end == None && (added || (!done && before)))
 }
 
-// Calls 6 to 9 are the write behind the gate, its sync, the write of the gate and its sync. Of a write that
-// isn't synced `arrived` bytes arrive, and then noise or nothing.
+// Each call fails once. Calls 6 to 9 are the write behind the gate, its sync, the write of the gate and its sync: a
+// crash there leaves the record or not. Of a write that isn't synced `arrived` bytes arrive, and then noise or nothing.
 #[test]
-fn a_crash_leaves_the_record_or_not(rt: HostRuntime) -> Result<(), Fail> {
+fn calls_fail_and_the_disk_crashes(rt: HostRuntime) -> Result<(), Fail> {
+    for number in 1..10 {
+        assert!(rt; fails_at(&rt, number)?);
+    }
     for number in 6..11 {
         for arrived in 0..8 {
             for noise in [0, 1, 7, 0xff] {

@@ -14,7 +14,7 @@ fn is_record(note: &Note<'_>, bytes: &[u8]) -> bool
 }
 
 #[test]
-fn client_notes_are_as_the_table_has_them(rt: HostRuntime) -> Result<(), Fail> {
+fn client_records_are_as_the_table_has_them(rt: HostRuntime) -> Result<(), Fail> {
     let address = [4, 0, 0, 0, 0, 0, 0, 0, 0, 0, 0, 0, 0, 0, 0, 1, 2];
     assert!(rt; is_record(&Note::Asked(Request::Register { address: 258 }), &address));
     let write = [5, 0, 0, 0, 0, 0, 0, 0, 0, 0, 0, 0, 0, 0, 0, 1, 2, 104, 105];
@@ -33,11 +33,6 @@ fn client_notes_are_as_the_table_has_them(rt: HostRuntime) -> Result<(), Fail> {
     };
     assert!(rt; is_record(&Note::Owned(owned), &[11, 0, 0, 1, 2, 0, 0, 0, 3]));
     assert!(rt; is_record(&Note::Remark(b"hi"), &[12, 104, 105]));
-    Ok(())
-}
-
-#[test]
-fn client_openings_are_as_the_table_has_them(rt: HostRuntime) -> Result<(), Fail> {
     let opening = ClientOpening {
         lane: 258,
         width: 1024,

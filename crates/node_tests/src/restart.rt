@@ -1,6 +1,5 @@
 //! A server in memory that is full, and one that is opened again.
 ghost use Rattle.std.specs.Prelude.{◌<◌};
-ghost use Rattle.express_words.specs.Limits.{KeepsLimits};
 
 use express_words::Settings;
 use node_journal::{JournalFault, MemoryDisk};
@@ -25,23 +24,15 @@ const FIRST: &[u8; 37] =
 const SECOND: &[u8; 37] =
     b"\0\0\0\x21\x01\x01\0\0\0\0\0\x02\0\0\0\0\0\0\0\0\x02\0\0\0\0\0\0\0\0\0\0\0\0\0\0\0\0";
 
-fn created(rt: &HostRuntime, opening: &Opening, limit: u64) -> Result<Kept<MemoryDisk>, Fail>
-    requires settings { KeepsLimits opening.now.settings.width opening.now.settings.boxes
-        opening.now.settings.lanes opening.now.settings.window }
-    requires limit { limit < 4096 }
-{
-    let none: [u64; 0] = [];
-    let disk = MemoryDisk::new(rt.alloc(), &[], &[], 20, 200, &none)?;
-    match Kept::create(rt.alloc(), opening, disk, limit) {
-        Ok(kept) => Ok(kept),
-        Err((fault, _)) => Err(Fail::new(fault)),
-    }
-}
-
 fn made(rt: &HostRuntime, limit: u64) -> Result<Kept<MemoryDisk>, Fail>
     requires { limit < 4096 }
 {
-    created(rt, &OPENING, limit)
+    let none: [u64; 0] = [];
+    let disk = MemoryDisk::new(rt.alloc(), &[], &[], 20, 200, &none)?;
+    match Kept::create(rt.alloc(), &OPENING, disk, limit) {
+        Ok(kept) => Ok(kept),
+        Err((fault, _)) => Err(Fail::new(fault)),
+    }
 }
 
 fn reopened(rt: &HostRuntime, kept: Kept<MemoryDisk>, limit: u64) -> Result<Kept<MemoryDisk>, Fail>
@@ -78,16 +69,11 @@ fn is_as_opened(kept: &Kept<MemoryDisk>) -> bool {
     *kept.opening() == OPENING
 }
 
+// One is full from the first frame. One that was opened again still refuses a serial below the last.
 #[test]
-fn full_from_the_first_frame(rt: HostRuntime) -> Result<(), Fail> {
+fn full_and_opened_again(rt: HostRuntime) -> Result<(), Fail> {
     let mut kept = made(&rt, 52)?;
     assert!(rt; is_full(&mut kept, FIRST, 50));
-    Ok(())
-}
-
-// The helper that was opened again still refuses a serial below the last.
-#[test]
-fn opened_again(rt: HostRuntime) -> Result<(), Fail> {
     let mut kept = made(&rt, 200)?;
     assert!(rt; replies(&mut kept, SECOND, 21));
     let mut kept = reopened(&rt, kept, 200)?;

@@ -174,16 +174,11 @@ fn sends_frames(alloc: Global) -> Result<bool, Fail> {
 }
 
 #[test]
-fn runs_to_the_last(rt: HostRuntime) -> Result<(), Fail> {
+fn client_runs(rt: HostRuntime) -> Result<(), Fail> {
     assert!(rt; sends_frames(rt.alloc())?);
     let text = "outcome 0 registered 0\noutcome 1 accepted\n\
         outcome 2 message ffffffffffffffffffffffffffffffff\noutcome 3 no box 1\nend\n";
     assert!(rt; runs(rt.alloc(), &ANSWERS, &[], RunEnd::Done, text)?);
-    Ok(())
-}
-
-#[test]
-fn stops(rt: HostRuntime) -> Result<(), Fail> {
     let again = "stopped again 1\n";
     assert!(rt; runs(rt.alloc(), &[ANSWERS[0], AGAIN], &[], RunEnd::Done, again)?);
     let early = [ANSWERS[0], &ANSWERS[0][..18]];
