@@ -5,3 +5,4 @@ pub mod KeepLaws
 pub mod NameLaws
 pub mod StartLaws
 pub mod StoreLaws
+pub mod TaskLaws

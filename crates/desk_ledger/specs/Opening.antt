@@ -8,7 +8,8 @@ use Rattle.desk_texts.specs.declared.sheet.PairHead.{PairHead}
 use Rattle.desk_texts.specs.declared.sheet.Sheet.{Sheet}
 use Rattle.desk_texts.specs.Spelling.{IsFirstBadLine, SpellsSheet}
 use Rattle.desk_ledger.specs.declared.fault.OpenFault.{OpenFault}
-use Rattle.desk_ledger.specs.declared.fault.OpenFault.TheVariants.{BadLine, NoPairFile, TooLong, Keep, NoPair, NoEntry}
+use Rattle.desk_ledger.specs.declared.fault.OpenFault.TheVariants.{BadLine, NoPairFile, TooLong, Keep, NoPair}
+use Rattle.desk_ledger.specs.declared.fault.OpenFault.TheVariants.{NoEntry}
 
 -- on the owner's lane, with room for as many boxes as the servers have, from serial 1 on
 abbrev pub opening_of : PairHead → List ℕ → ClientOpening

@@ -1,6 +1,7 @@
 -- What a desk asks, and what is left to be done.
-use Rattle.std.specs.Prelude.{ℕ, ◌+◌, ◌-◌, ◌==◌, ◌||◌, ◌&&◌, nat_le, not, if◌then◌else◌, Bool, true, false, List, [], ◌∷◌}
-use Rattle.std.specs.Prelude.{length, Option, Some, None, is_some, slice_get}
+use Rattle.std.specs.Prelude.{ℕ, ◌+◌, ◌-◌, ◌==◌, ◌||◌, ◌&&◌, nat_le, not, if◌then◌else◌, Bool, true, false}
+use Rattle.std.specs.Prelude.{List, [], ◌∷◌}
+use Rattle.std.specs.Prelude.{◌++◌, length, Option, Some, None, is_some, slice_get}
 use Rattle.std.specs.List.{filter}
 use Rattle.mailbox_rules.specs.Requests.{Request}
 use Rattle.mailbox_rules.specs.Requests as plain
@@ -48,6 +49,16 @@ is_leaving entries b = is_live entries b && is_retiring entries (name_of entries
 abbrev pub place_of : (OwnedBox → Bool) → ℕ → List OwnedBox → Option ℕ
 place_of is place [] = None
 place_of is place (b ∷ boxes) = if is b then Some place else place_of is (place + 1) boxes
+
+-- the place, if it is one
+abbrev pub place_if : Bool → ℕ → List ℕ
+place_if true place = place ∷ []
+place_if false place = []
+
+-- the places of all such boxes, from a place on
+abbrev pub places_of : (OwnedBox → Bool) → ℕ → List OwnedBox → List ℕ
+places_of is place [] = []
+places_of is place (b ∷ boxes) = place_if (is b) place ++ places_of is (place + 1) boxes
 
 -- ---- what is left to be done
 

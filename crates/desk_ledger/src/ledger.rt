@@ -20,7 +20,7 @@ ghost use Rattle.desk_entries.specs.Standings.{stands};
 ghost use Rattle.desk_ledger.specs.Cards.{IsCardOf, card_addresses};
 ghost use Rattle.desk_ledger.specs.Notes.{Notes};
 ghost use Rattle.desk_ledger.specs.Storing.{Misses, Stores, stored_of};
-ghost use Rattle.desk_ledger.specs.Tasks.{is_leaving, is_live, name_fault, next_task, place_of, request_of, room};
+ghost use Rattle.desk_ledger.specs.Tasks.{is_leaving, is_live, name_fault, next_task, place_if, place_of, places_of, request_of, room};
 
 use crate::fault::NameFault;
 use crate::pair::Pair;
@@ -225,16 +225,16 @@ impl<D: Disk> Ledger<D> {
     }
 
     /// The live boxes, in order, each by its place among the desk's own.
-    pub fn live(&self) -> Result<Vec<u32>, NoMemory> {
-        let boxes = self.client.boxes();
+    pub fn live(&self) -> Result<Vec<u32>, NoMemory>
+        ensures { length self.now.client.core.boxes ≤ 2 ^ 32 → IfOk result (λ live.
+            live.items ≡ places_of (is_live self.now.entries) 0 self.now.client.core.boxes) }
+    {
         let mut live = Vec::new(self.alloc);
-        let mut rest = boxes;
+        let mut rest = self.client.boxes();
+        let mut own: usize = 0;
         while let [owned, behind @ ..] = rest {
-            if is_live(&self.entries, owned)
-                && let Ok(own) = u32::try_from(boxes.len() - rest.len())
-            {
-                live.push(own)?;
-            }
+            add_place(&mut live, is_live(&self.entries, owned), own)?;
+            own += 1;
             rest = behind;
         }
         Ok(live)
@@ -461,6 +461,16 @@ impl<D: Disk> Ledger<D> {
         } = self;
         client.into_disk()
     }
+}
+
+// The place of a live box stands behind the others.
+fn add_place(live: &mut Vec<u32>, is_live: bool, own: usize) -> Result<(), NoMemory>
+    ensures { own < 2 ^ 32 → OnOk result (live.new.items ≡ live.old.items ++ place_if is_live own) }
+{
+    if is_live && let Ok(own) = u32::try_from(own) {
+        live.push(own)?;
+    }
+    Ok(())
 }
 
 pub(crate) fn is_live(entries: &[Entry], owned: &OwnedBox) -> bool

@@ -1,0 +1,28 @@
+-- The places of live boxes.
+use Rattle.std.proofs.Common.{◌≡◌, ℕ, suc, ◌+◌, ◌-◌, ◌≤◌, Bool, List, [], ◌∷◌, ◌++◌, length, take, drop, refl, sym, ap, ◌∙◌, arith}
+use Rattle.std.proofs.Math.Seq.{take-length}
+use Rattle.std.proofs.lemmas.List.{append_assoc}
+use Rattle.std.specs.Prelude.{get_or}
+use Rattle.client_restart.specs.declared.owned_box.OwnedBox.{OwnedBox}
+use Rattle.desk_ledger.specs.Tasks.{place_if, places_of}
+
+minus_one : (n : ℕ) → suc n - 1 ≡ n
+minus_one n = omega arith
+
+tail_is : (b : OwnedBox) (behind : List OwnedBox) → take (length (b ∷ behind) - 1) (drop 1 (b ∷ behind)) ≡ behind
+tail_is b behind = ap (λ (n : ℕ). take n behind) (minus_one (length behind)) ∙ take-length behind
+
+pub one_more_place : (is : OwnedBox → Bool) (own : ℕ) (live more all : List ℕ) (rest : List OwnedBox) (hit : Bool) → 1 ≤ length rest
+    → hit ≡ is (get_or rest 0 (record { number = 0; serial = 0 })) → live ++ places_of is own rest ≡ all → more ≡ live ++ place_if hit own
+    → more ++ places_of is (own + 1) (take (length rest - 1) (drop 1 rest)) ≡ all
+one_more_place is own live more all [] hit some e same next = absurd (omega (arith, some))
+one_more_place is own live more all (b ∷ behind) hit some e same next =
+    let found : more ≡ live ++ place_if (is b) own = next ∙ ap (λ (x : Bool). live ++ place_if x own) e in
+    ap (λ (l : List OwnedBox). more ++ places_of is (own + 1) l) (tail_is b behind)
+    ∙ ap (λ (l : List ℕ). l ++ places_of is (own + 1) behind) found
+    ∙ append_assoc live (place_if (is b) own) (places_of is (own + 1) behind) ∙ same
+
+pub counted_on : (own all : ℕ) (rest : List OwnedBox) → 1 ≤ length rest → own + length rest ≡ all → own + 1 + length (take (length rest - 1) (drop 1 rest)) ≡ all
+counted_on own all [] some e = absurd (omega (arith, some))
+counted_on own all (b ∷ behind) some e =
+    let n : length (take (length (b ∷ behind) - 1) (drop 1 (b ∷ behind))) ≡ length behind = ap (λ (l : List OwnedBox). length l) (tail_is b behind) in omega (arith, e, n)
