@@ -1,0 +1,7 @@
+pub mod CardLaws
+pub mod PlaceLaws
+pub mod TryLaws
+pub mod BeginLaws
+pub mod AnswerLaws
+pub mod WorkLaws
+pub mod ReopenLaws

@@ -1,0 +1,9 @@
+pub mod Answers
+pub mod Begun
+pub mod Drawing
+pub mod Outboxes
+pub mod Places
+pub mod Reopening
+pub mod Texts
+pub mod Trying
+pub mod Works
