@@ -1,0 +1,102 @@
+-- The command line of a desk, as clap reads it: a required WORD, two optional values, --desk and --out.
+use Rattle.std.specs.Prelude.{◌≡◌, ◌≤◌, ◌⊎◌, ℕ, List, [], ◌∷◌, codes, Option, Some, None, true, option_map}
+use Rattle.std.specs.Fmt.{decimal}
+use Rattle.clap.specs.Words.{App, Rule, Text, new_app, new_rule, with_rule, matches_of, first_of, fault_of}
+use Rattle.clap.specs.declared.builder.action.ArgAction.TheVariants.{Set}
+use Rattle.desk_words.specs.declared.task.DeskTask.{DeskTask}
+use Rattle.desk_words.specs.declared.task.DeskTask.TheVariants as task
+
+abbrev pub plain_app : App
+plain_app = record {
+  top = record (new_app (codes "express-desk")).top {
+    no_binary_name = true;
+    disable_help_flag = true;
+    disable_version_flag = true;
+  };
+  subs = [];
+}
+
+-- an option with a value
+abbrev pub option_rule : (id name : Text) → Rule
+option_rule id name = record (new_rule id) { long = Some name; action = Some Set }
+
+abbrev pub word_rule : Rule
+word_rule = record (new_rule (codes "WORD")) { required = true }
+
+abbrev pub options_app : App
+options_app = with_rule (with_rule plain_app (option_rule (codes "DESK") (codes "desk")))
+    (option_rule (codes "OUT") (codes "out"))
+
+abbrev pub desk_app : App
+desk_app = with_rule (with_rule (with_rule options_app word_rule) (new_rule (codes "FIRST")))
+    (new_rule (codes "SECOND"))
+
+abbrev pub value_of : Text → List Text → Option Text
+value_of id words = first_of id (matches_of desk_app words)
+
+-- What stands at each place of the command line, but for --desk.
+pub record Said : Type 0 where
+  pub word : Option Text
+  pub first : Option Text
+  pub second : Option Text
+  pub out : Option Text
+
+abbrev pub said_in : List Text → Said
+said_in words = record {
+  word = value_of (codes "WORD") words;
+  first = value_of (codes "FIRST") words;
+  second = value_of (codes "SECOND") words;
+  out = value_of (codes "OUT") words;
+}
+
+-- a word with these values behind it, and no --out
+abbrev pub said : Text → Option Text → Option Text → Said
+said word first second = record { word = Some word; first = first; second = second; out = None }
+
+-- a number of addresses that a card may have
+abbrev pub IsCount : ℕ → Type 0
+IsCount n = (1 ≤ n) × (n ≤ 64)
+
+-- `letters` with this folder behind --out, or without it
+abbrev pub letters_into : Option Text → Said
+letters_into out = record { word = Some (codes "letters"); first = None; second = None; out = out }
+
+-- These values name a task. A card that names no number of addresses has 16.
+abbrev pub Names : Said → DeskTask → Type 0
+Names s (task.Open pair) = s ≡ said (codes "open") (Some pair.now) None
+Names s (task.Box name count) = (s ≡ said (codes "box") (Some name.now) None) × (count ≡ 16)
+    ⊎ (s ≡ said (codes "box") (Some name.now) (Some (decimal count))) × IsCount count
+Names s (task.Card name) = s ≡ said (codes "card") (Some name.now) None
+Names s (task.Letters out) = s ≡ letters_into (option_map (λ o. o.now) out)
+Names s (task.Send card file) = s ≡ said (codes "send") (Some card.now) (option_map (λ f. f.now) file)
+Names s task.Resume = s ≡ said (codes "resume") None None
+Names s (task.Retire name) = s ≡ said (codes "retire") (Some name.now) None
+Names s task.Forget = s ≡ said (codes "forget") None None
+Names s task.Status = s ≡ said (codes "status") None None
+Names s task.Help = s ≡ said (codes "help") None None
+
+-- Clap reads the words, and they name this task.
+pub record Asks (words : List Text) (t : DeskTask) : Type 0 where
+  pub read : fault_of desk_app words ≡ []
+  pub named : Names (said_in words) t
+
+abbrev pub IsHelpWord : Text → Type 0
+IsHelpWord word = (word ≡ codes "--help") ⊎ (word ≡ codes "-h")
+
+-- one word alone, which wants the help
+abbrev pub WantHelp : List Text → Type 0
+WantHelp words = (words ≡ codes "--help" ∷ []) ⊎ (words ≡ codes "-h" ∷ [])
+
+-- the task that the words ask for, if any
+abbrev pub IsAsked : List Text → Option DeskTask → Type 0
+IsAsked words (Some t) = (WantHelp words × (t ≡ task.Help)) ⊎ Asks words t
+IsAsked words None = (WantHelp words → ⊥) × ((t : DeskTask) → Asks words t → ⊥)
+
+-- the words are those of a desk
+abbrev pub AskSome : List Text → Type 0
+AskSome words = (t : DeskTask) × IsAsked words (Some t)
+
+-- The folder that words of a desk name: what stands at --desk. The help has none.
+abbrev pub FolderIs : List Text → Option Text → Type 0
+FolderIs words folder = (WantHelp words → folder ≡ None)
+    × ((WantHelp words → ⊥) → folder ≡ value_of (codes "DESK") words)

@@ -1,0 +1,11 @@
+//! The command line of a desk.
+#![tactic(auto)]
+
+mod asking;
+mod given;
+mod help;
+mod task;
+
+pub use asking::{Asked, asked_of, folder_of};
+pub use help::HELP;
+pub use task::{DeskTask, MOST_COUNT, USUAL_COUNT};
