@@ -1,0 +1,29 @@
+-- What words ask for.
+use Rattle.std.proofs.Common.{◌≡◌, ◌⊎◌, ℕ, Bool, true, false, List, Some, None, inl, inr, refl}
+use Rattle.clap.specs.Words.{Text}
+use Rattle.desk_words.specs.CommandLine.{AskSome, IsAsked}
+use Rattle.desk_words.specs.declared.task.DeskTask.{DeskTask}
+use Rattle.desk_run.specs.Quiet.{AskServers, is_quiet}
+use Rattle.desk_run.specs.Statuses.{EndsAsAsked, IsInUse, MayEnd}
+use Rattle.desk_run.proofs.StatusLaws.{may_undone}
+
+pub asked_none : (words : List Text) → IsAsked words None → AskSome words → ⊥
+asked_none words none (t, inl help) = none.0 help.0
+asked_none words none (t, inr asks) = none.1 t asks
+
+pub asked_some : (words : List Text) (t : DeskTask) → IsAsked words (Some t) → (AskSome words → ⊥) → ⊥
+asked_some words t is none = none (t, is)
+
+if_false : (b : Bool) → (b ≡ false → ⊥) → b ≡ true
+if_false true other = refl
+if_false false other = absurd (other refl)
+
+pub quiet : (words : List Text) (t : DeskTask) → IsAsked words (Some t) → (AskServers words → ⊥) → is_quiet t ≡ true
+quiet words t is none = if_false (is_quiet t) (λ loud. none (t, is, loud))
+
+pub ends : (words : List Text) (t : DeskTask) (n : ℕ) → IsAsked words (Some t)
+    → MayEnd t n ⊎ IsInUse t n → EndsAsAsked words n
+ends words t n is among = record { task = t; asked = is; among = among }
+
+pub ends_undone : (words : List Text) (n : ℕ) → AskSome words → n ≡ 1 → EndsAsAsked words n
+ends_undone words n (t, is) undone = record { task = t; asked = is; among = inl (may_undone t n undone) }

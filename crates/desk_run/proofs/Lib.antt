@@ -1,0 +1,6 @@
+pub mod Asked
+pub mod CardSheets
+pub mod PrintLaws
+pub mod SendLaws
+pub mod ShowLaws
+pub mod StatusLaws

@@ -1,0 +1,9 @@
+pub mod Carried
+pub mod Ends
+pub mod LetterEnds
+pub mod Printing
+pub mod Quiet
+pub mod Rests
+pub mod Sends
+pub mod Shown
+pub mod Statuses

@@ -1,0 +1,89 @@
+//! The word `box`.
+ghost use Rattle.std.specs.Prelude.{◌≡◌, ◌≢◌, IfErr, IfOk, length, Ok};
+ghost use Rattle.desk_run.specs.Ends.{IsOfName, Unfailed};
+ghost use Rattle.desk_run.specs.Sends.{SendsOn};
+
+use crate::around::Around;
+use crate::cards::show_card;
+use crate::carrying::carry_on;
+use crate::ending::End;
+use crate::resuming::desk_resumed;
+use crate::saying::say;
+use crate::trouble::Trouble;
+use desk_draws::Draws;
+use desk_ledger::{Ledger, NameFault};
+use desk_outside::{Clock, Folder, Papers};
+use express_words::NoMemory;
+use express_words::outside::{Net, Sink, Source};
+use node_journal::Disk;
+use std::alloc::Global;
+
+// So many addresses, drawn by lot.
+fn drawn(alloc: Global, draws: &mut Draws, count: u32) -> Result<Vec<u128>, NoMemory>
+    ensures { IfOk result (λ addresses. length addresses.items ≡ count) }
+{
+    let mut addresses = Vec::new(alloc);
+    for _ in 0..count {
+        addresses.push(draws.address())?;
+    }
+    Ok(addresses)
+}
+
+// Wants so many boxes with a name, where there are none yet. Says whether there were some before.
+fn want<'a, D: Disk>(
+    alloc: Global,
+    ledger: &mut Ledger<D>,
+    name: &str,
+    count: u32,
+    draws: &mut Draws,
+) -> Result<bool, Trouble<'a>>
+    ensures { IfErr result IsOfName }
+{
+    let addresses = drawn(alloc, draws, count)?;
+    match ledger.add_name(name, &addresses)? {
+        Ok(()) => Ok(false),
+        Err(NameFault::Used) => Ok(true),
+        Err(fault) => Err(Trouble::Name(fault)),
+    }
+}
+
+// What is told where a name has no card.
+fn no_card<'a>(used: bool) -> Trouble<'a>
+    ensures { IsOfName result }
+{
+    if used {
+        Trouble::Name(NameFault::Used)
+    } else {
+        Trouble::NoRoom
+    }
+}
+
+/// The word `box`: registers boxes under a name, so many as are wanted, and prints their card. Boxes of that name that
+/// are there stay.
+pub(crate) fn open_boxes<'a, S: Source, K: Sink, N: Net, F: Folder, P: Papers, C: Clock>(
+    alloc: Global,
+    name: &'a str,
+    count: u32,
+    draws: &mut Draws,
+    around: &mut Around<S, K, N, F, P, C>,
+) -> Result<End, Trouble<'a>>
+    ensures trouble { IfErr result IsOfName }
+    ensures not_met { result ≢ Ok End.Met }
+    ensures sink { Unfailed (K.seen around.old.out).faults (K.seen around.new.out).faults result }
+    ensures net { Unfailed (N.seen around.old.net).faults (N.seen around.new.net).faults result }
+    ensures sends { SendsOn F.File.disk F.File.Counted.seen
+        (N.seen around.old.net).calls (N.seen around.new.net).calls }
+{
+    let mut ledger = desk_resumed(alloc, around)?;
+    let used = want(alloc, &mut ledger, name, count, draws)?;
+    carry_on(&mut ledger, &mut around.net, &mut around.clock)?;
+    if ledger.card(name)?.is_none() {
+        return Err(no_card(used));
+    }
+    show_card(alloc, &ledger, name, &mut around.out)?;
+    say(
+        &mut around.out,
+        "\nThis is the card of these boxes: hand out its lines as they stand.\n",
+    )?;
+    Ok(End::Done)
+}

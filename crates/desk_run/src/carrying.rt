@@ -1,0 +1,117 @@
+//! What is left to be done, carried on.
+ghost use Rattle.std.specs.Prelude.{◌≡◌, Err, IfErr, OnOk};
+ghost use Rattle.desk_run.specs.Carried.{HasNothingLeft};
+ghost use Rattle.desk_run.specs.Ends.{IsUndone, Unfailed};
+ghost use Rattle.desk_run.specs.Sends.{SendsOn};
+
+use crate::ledgers::is_full;
+use crate::trouble::{Trouble, halted};
+use client_restart::Errand;
+use desk_ledger::{Ledger, Stored, Task};
+use desk_outside::Clock;
+use express_words::Refusal;
+use express_words::outside::Net;
+use node_journal::Disk;
+
+// More tasks than a desk can have left.
+const MOST_TASKS: u32 = 16_384;
+
+// Of a box that gets no place, and of one that is gone, the ledger tells.
+fn is_noted(stored: &Stored) -> bool {
+    match (stored.errand, stored.refusal) {
+        (_, None) => true,
+        (Errand::Register(_), Some(Refusal::Taken(_))) => true,
+        (Errand::Register(_), Some(Refusal::Full(_))) => true,
+        (Errand::Retire(_), Some(Refusal::NoBox(_))) => true,
+        (_, Some(_)) => false,
+    }
+}
+
+// Stores what the ended requests came to; the last refusal that leaves no entry is given.
+fn store_all<'a, D: Disk>(
+    ledger: &mut Ledger<D>,
+    seconds: u64,
+) -> Result<Option<Refusal>, Trouble<'a>>
+    ensures undone { IfErr result IsUndone }
+{
+    let mut refused = None;
+    for _ in 0..MOST_TASKS {
+        match ledger.store(seconds)? {
+            None => return Ok(refused),
+            Some(stored) => {
+                if !is_noted(&stored) {
+                    refused = stored.refusal;
+                }
+            }
+        }
+    }
+    Ok(refused)
+}
+
+/// Works off the request that is under way, and stores what it came to.
+#[tactic(auto, using(crate::proofs::SendLaws::on_request))]
+pub(crate) fn settle<'a, D: Disk, N: Net, C: Clock>(
+    ledger: &mut Ledger<D>,
+    net: &mut N,
+    clock: &mut C,
+) -> Result<(), Trouble<'a>>
+    ensures undone { IfErr result IsUndone }
+    ensures net { Unfailed (N.seen net.old).faults (N.seen net.new).faults result }
+    ensures sends { SendsOn D.disk D.Counted.seen (N.seen net.old).calls (N.seen net.new).calls }
+    ensures refused { (r : Refusal) → result ≡ Err (Trouble.Refused r)
+        → (N.seen net.new).faults ≡ (N.seen net.old).faults }
+{
+    if let Err(halt) = ledger.work(net) {
+        return Err(halted(halt, ledger.server()));
+    }
+    let Ok(seconds) = clock.now() else {
+        return Err(Trouble::Clock);
+    };
+    match store_all(ledger, seconds)? {
+        None => Ok(()),
+        Some(refusal) => Err(Trouble::Refused(refusal)),
+    }
+}
+
+/// Asks the servers for one thing, works it off, and stores what it came to.
+pub(crate) fn do_task<'a, D: Disk, N: Net, C: Clock>(
+    ledger: &mut Ledger<D>,
+    task: Task,
+    net: &mut N,
+    clock: &mut C,
+) -> Result<(), Trouble<'a>>
+    ensures undone { IfErr result IsUndone }
+    ensures net { Unfailed (N.seen net.old).faults (N.seen net.new).faults result }
+    ensures sends { SendsOn D.disk D.Counted.seen (N.seen net.old).calls (N.seen net.new).calls }
+    ensures refused { (r : Refusal) → result ≡ Err (Trouble.Refused r)
+        → (N.seen net.new).faults ≡ (N.seen net.old).faults }
+{
+    if is_full(ledger.used()) {
+        return Err(Trouble::Full);
+    }
+    match ledger.ask(task)? {
+        Ok(()) => settle(ledger, net, clock),
+        Err(_) => Err(Trouble::Spent),
+    }
+}
+
+/// Works off what is under way, and then all that is left to be done.
+pub(crate) fn carry_on<'a, D: Disk, N: Net, C: Clock>(
+    ledger: &mut Ledger<D>,
+    net: &mut N,
+    clock: &mut C,
+) -> Result<(), Trouble<'a>>
+    ensures nothing_left { OnOk result (HasNothingLeft ledger.new) }
+    ensures undone { IfErr result IsUndone }
+    ensures net { Unfailed (N.seen net.old).faults (N.seen net.new).faults result }
+    ensures sends { SendsOn D.disk D.Counted.seen (N.seen net.old).calls (N.seen net.new).calls }
+{
+    settle(ledger, net, clock)?;
+    'tasks: for _ in 0..MOST_TASKS {
+        match ledger.next_task()? {
+            None => return Ok(()),
+            Some(task) => do_task(ledger, task, net, clock)?,
+        }
+    }
+    Err(Trouble::Later)
+}

@@ -1,0 +1,48 @@
+//! How a word ends.
+ghost use Rattle.std.specs.Prelude.{◌≡◌, if◌then◌else◌};
+ghost use Rattle.desk_run.specs.Ends.{status_by, status_of};
+
+use crate::trouble::Trouble;
+
+/// How a word ends that came to no trouble.
+#[derive(Clone, Copy, Debug, PartialEq, Eq)]
+pub enum End {
+    Done,
+    /// It was told that the letter isn't written, or may have been.
+    NotWritten,
+    /// It is done, and letters met.
+    Met,
+}
+
+/// The end of a word that is done, by whether letters met.
+pub(crate) fn end_by(met: bool) -> End
+    ensures { result ≡ if met then End.Met else End.Done }
+{
+    if met { End::Met } else { End::Done }
+}
+
+fn status_by(trouble: &Trouble<'_>) -> u8
+    ensures { result ≡ status_by trouble.now }
+{
+    match *trouble {
+        Trouble::Name(_) => 2,
+        Trouble::BadLine(_, _) => 3,
+        Trouble::NoPairFile(_) => 3,
+        Trouble::NoCard(_) => 3,
+        Trouble::NoLetter(_) => 3,
+        Trouble::InUse => 4,
+        _ => 1,
+    }
+}
+
+/// The status that the program ends with.
+pub(crate) fn status_of(outcome: &Result<End, Trouble<'_>>) -> u8
+    ensures { result ≡ status_of outcome.now }
+{
+    match outcome {
+        Ok(End::Done) => 0,
+        Ok(End::NotWritten) => 1,
+        Ok(End::Met) => 5,
+        Err(trouble) => status_by(trouble),
+    }
+}

@@ -1,0 +1,84 @@
+//! The word `forget`.
+ghost use Rattle.std.specs.Prelude.{◌≡◌, IfErr, Ok, is_err};
+ghost use Rattle.std.specs.List.{filter};
+ghost use Rattle.desk_ledger.specs.Tasks.{is_live};
+ghost use Rattle.desk_outside.specs.Calls.{Adds, Placed};
+ghost use Rattle.desk_run.specs.Ends.{IsUndone, Unfailed};
+ghost use Rattle.desk_run.specs.Sends.{SendsOn};
+ghost use Rattle.desk_run.specs.Printing.{Prints, TellsMet};
+
+use crate::around::Around;
+use crate::ending::{End, end_by};
+use crate::ledgers::{LIMIT, empty_file};
+use crate::resuming::desk_resumed;
+use crate::saying::say;
+use crate::showing::show_new;
+use crate::trouble::Trouble;
+use desk_ledger::{ForgetFault, Ledger};
+use desk_outside::{Clock, DeskFile, Folder, Papers};
+use express_words::outside::{Net, Sink, Source};
+use std::alloc::Global;
+
+fn trouble_of<'a>(fault: ForgetFault) -> Trouble<'a>
+    ensures { IsUndone result }
+{
+    match fault {
+        ForgetFault::Busy => Trouble::Later,
+        ForgetFault::Spent => Trouble::Spent,
+        ForgetFault::NoRoom => Trouble::Full,
+        ForgetFault::Keep(fault) => Trouble::from(fault),
+    }
+}
+
+// Puts a ledger in the place of another one, whose next number it has.
+fn replace<'a, F: Folder>(
+    old: &Ledger<F::File>,
+    next: &Ledger<F::File>,
+    folder: &mut F,
+) -> Result<(), Trouble<'a>>
+    requires serial { next.now.client.core.client.serial ≡ old.now.client.core.client.serial }
+    requires boxes { next.now.client.core.boxes
+        ≡ filter (is_live old.now.entries) old.now.client.core.boxes }
+    ensures undone { IfErr result IsUndone }
+    ensures placed { Adds (F.calls folder.old) (F.calls folder.new)
+        (Placed DeskFile.NextLedger DeskFile.Ledger (is_err result)) }
+{
+    match folder.put_in_place(DeskFile::NextLedger, DeskFile::Ledger) {
+        Ok(()) => Ok(()),
+        Err(_) => Err(Trouble::Folder),
+    }
+}
+
+// Puts a ledger without letters in the place of this one.
+fn renew<'a, F: Folder>(ledger: &Ledger<F::File>, folder: &mut F) -> Result<(), Trouble<'a>>
+    ensures { IfErr result IsUndone }
+{
+    let disk = empty_file(folder, DeskFile::NextLedger)?;
+    match ledger.forget(disk, LIMIT) {
+        Ok(next) => replace(ledger, &next, folder),
+        Err((fault, _)) => Err(trouble_of(fault)),
+    }
+}
+
+/// The word `forget`: forgets letters and old requests, once each letter was shown.
+pub(crate) fn forget<'a, S: Source, K: Sink, N: Net, F: Folder, P: Papers, C: Clock>(
+    alloc: Global,
+    around: &mut Around<S, K, N, F, P, C>,
+) -> Result<End, Trouble<'a>>
+    ensures undone { IfErr result IsUndone }
+    ensures met { result ≡ Ok End.Met
+        → Prints TellsMet (K.seen around.old.out).written (K.seen around.new.out).written }
+    ensures sink { Unfailed (K.seen around.old.out).faults (K.seen around.new.out).faults result }
+    ensures net { Unfailed (N.seen around.old.net).faults (N.seen around.new.net).faults result }
+    ensures sends { SendsOn F.File.disk F.File.Counted.seen
+        (N.seen around.old.net).calls (N.seen around.new.net).calls }
+{
+    let mut ledger = desk_resumed(alloc, around)?;
+    let shown = show_new(alloc, &mut ledger, &mut around.out)?;
+    renew(&ledger, &mut around.folder)?;
+    say(
+        &mut around.out,
+        "the letters are forgotten; boxes and cards stay as they are\n",
+    )?;
+    Ok(end_by(shown.met))
+}

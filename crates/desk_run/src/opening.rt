@@ -1,0 +1,110 @@
+//! The word `open`.
+ghost use Rattle.std.specs.Prelude.{◌≡◌, ◌≢◌, IfErr, IfOk, Ok};
+ghost use Rattle.desk_texts.specs.Spelling.{IsSheet};
+ghost use Rattle.desk_run.specs.Ends.{IsOfPaper, IsUndone, Unfailed};
+
+use crate::around::Around;
+use crate::ending::End;
+use crate::ledgers::{LIMIT, empty_file, ledger_in, trouble_of};
+use crate::reading::{Unread, read_all};
+use crate::saying::say;
+use crate::trouble::Trouble;
+use desk_draws::Draws;
+use desk_ledger::{Ledger, OpenFault};
+use desk_outside::{Clock, DeskFile, Folder, Papers};
+use desk_texts::{Head, Sheet, read_sheet};
+use express_texts::TextFault;
+use express_words::outside::{Net, Sink, Source};
+use node_journal::Disk;
+use std::alloc::Global;
+
+/// The bytes of the file at a path.
+pub(crate) fn paper_at<'a, P: Papers>(
+    alloc: Global,
+    papers: &mut P,
+    path: &'a str,
+) -> Result<Vec<u8>, Trouble<'a>>
+    ensures { IfErr result IsUndone }
+{
+    let Ok(mut paper) = papers.read(path) else {
+        return Err(Trouble::Unread(path));
+    };
+    match read_all(alloc, &mut paper) {
+        Ok(bytes) => Ok(bytes),
+        Err(Unread::Failed) => Err(Trouble::Unread(path)),
+        Err(Unread::NoMemory) => Err(Trouble::NoMemory),
+    }
+}
+
+/// The card or pair file that the text of a file at this path spells.
+pub(crate) fn sheet_in<'a>(alloc: Global, path: &'a str, text: &[u8]) -> Result<Sheet, Trouble<'a>>
+    ensures sheet { IfOk result (λ sheet. IsSheet sheet) }
+    ensures trouble { IfErr result IsOfPaper }
+{
+    match read_sheet(alloc, text) {
+        Ok(sheet) => Ok(sheet),
+        Err(TextFault::Wrong(line)) => Err(Trouble::BadLine(path, line)),
+        Err(TextFault::WrongKey(_)) => Err(Trouble::BadLine(path, 1)),
+        Err(TextFault::NoMemory) => Err(Trouble::NoMemory),
+    }
+}
+
+// Whether a desk is one for the pair of a pair file.
+fn is_of<D: Disk>(ledger: &Ledger<D>, sheet: &Sheet) -> bool {
+    let pair = ledger.pair();
+    sheet.head == Head::Pair(pair.head)
+        && sheet.leader.as_str() == pair.leader.as_str()
+        && sheet.helper.as_str() == pair.helper.as_str()
+}
+
+// Makes a new ledger, and puts it in place.
+fn make<'a, F: Folder>(
+    alloc: Global,
+    path: &'a str,
+    text: &[u8],
+    draws: &mut Draws,
+    folder: &mut F,
+) -> Result<(), Trouble<'a>>
+    ensures { IfErr result IsOfPaper }
+{
+    let disk = empty_file(folder, DeskFile::NextLedger)?;
+    match Ledger::open(alloc, text, draws.seed(), disk, LIMIT) {
+        Ok(_) => {}
+        Err((OpenFault::NoPairFile, _)) => return Err(Trouble::NoPairFile(path)),
+        Err((fault, _)) => return Err(trouble_of(fault)),
+    }
+    match folder.put_in_place(DeskFile::NextLedger, DeskFile::Ledger) {
+        Ok(()) => Ok(()),
+        Err(_) => Err(Trouble::Folder),
+    }
+}
+
+/// The word `open`: makes a desk for the pair of servers of a pair file, where there is none. One for the same pair that is there stays.
+pub(crate) fn open<'a, S: Source, K: Sink, N: Net, F: Folder, P: Papers, C: Clock>(
+    alloc: Global,
+    path: &'a str,
+    draws: &mut Draws,
+    around: &mut Around<S, K, N, F, P, C>,
+) -> Result<End, Trouble<'a>>
+    ensures trouble { IfErr result IsOfPaper }
+    ensures not_met { result ≢ Ok End.Met }
+    ensures sink { Unfailed (K.seen around.old.out).faults (K.seen around.new.out).faults result }
+    ensures net { around.new.net ≡ around.old.net }
+{
+    let text = paper_at(alloc, &mut around.papers, path)?;
+    let sheet = sheet_in(alloc, path, &text)?;
+    match sheet.head {
+        Head::Pair(_) => {}
+        Head::Card(_) => return Err(Trouble::NoPairFile(path)),
+    }
+    match ledger_in(alloc, &mut around.folder)? {
+        Some(ledger) if is_of(&ledger, &sheet) => {}
+        Some(_) => return Err(Trouble::OtherDesk),
+        None => make(alloc, path, &text, draws, &mut around.folder)?,
+    }
+    say(
+        &mut around.out,
+        "the desk is open; make boxes and a card with box NAME\n",
+    )?;
+    Ok(End::Done)
+}

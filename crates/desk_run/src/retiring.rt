@@ -1,0 +1,53 @@
+//! The word `retire`.
+ghost use Rattle.std.specs.Prelude.{◌≡◌, ◌++◌, IfErr, IfOk, Ok, codes, string_bytes};
+ghost use Rattle.desk_run.specs.Ends.{IsUndone, Unfailed};
+ghost use Rattle.desk_run.specs.Sends.{SendsOn};
+ghost use Rattle.desk_run.specs.Printing.{Prints, TellsMet};
+
+use crate::around::Around;
+use crate::carrying::carry_on;
+use crate::ending::{End, end_by};
+use crate::resuming::desk_resumed;
+use crate::saying::say;
+use crate::showing::show_new;
+use crate::trouble::Trouble;
+use desk_outside::{Clock, Folder, Papers};
+use express_words::NoMemory;
+use express_words::outside::{Net, Sink, Source};
+use std::alloc::Global;
+
+fn retired_text(alloc: Global, name: &str) -> Result<String, NoMemory>
+    ensures { IfOk result (λ text. string_bytes text
+        ≡ codes "the boxes of " ++ name.now ++ codes " are retired: its cards are of no use any more\n") }
+{
+    let text = format!(in alloc;
+        "the boxes of {name} are retired: its cards are of no use any more\n"
+    )?;
+    Ok(text)
+}
+
+/// The word `retire`: reads the boxes of a name for the last time, retires them, and shows the letters that came.
+pub(crate) fn retire<'a, S: Source, K: Sink, N: Net, F: Folder, P: Papers, C: Clock>(
+    alloc: Global,
+    name: &'a str,
+    around: &mut Around<S, K, N, F, P, C>,
+) -> Result<End, Trouble<'a>>
+    ensures undone { IfErr result IsUndone }
+    ensures met { result ≡ Ok End.Met
+        → Prints TellsMet (K.seen around.old.out).written (K.seen around.new.out).written }
+    ensures sink { Unfailed (K.seen around.old.out).faults (K.seen around.new.out).faults result }
+    ensures net { Unfailed (N.seen around.old.net).faults (N.seen around.new.net).faults result }
+    ensures sends { SendsOn F.File.disk F.File.Counted.seen
+        (N.seen around.old.net).calls (N.seen around.new.net).calls }
+{
+    let mut ledger = desk_resumed(alloc, around)?;
+    if !ledger.retire_name(name)? {
+        return Err(Trouble::NoName(name));
+    }
+    let done = carry_on(&mut ledger, &mut around.net, &mut around.clock);
+    let shown = show_new(alloc, &mut ledger, &mut around.out)?;
+    done?;
+    let text = retired_text(alloc, name)?;
+    say(&mut around.out, text.as_str())?;
+    Ok(end_by(shown.met))
+}

@@ -1,0 +1,229 @@
+//! The top call.
+ghost use Rattle.std.specs.Prelude.{◌≡◌, ◌≢◌, ◌⊎◌, ◌∷◌, [], Contains, IfErr, IfOk, Ok, false, map, string_bytes, true};
+ghost use Rattle.desk_outside.specs.Calls.{Adds, Held};
+ghost use Rattle.desk_words.specs.CommandLine.{AskSome};
+ghost use Rattle.desk_run.specs.Ends.{IsUndone, Unfailed, status_by, status_of};
+ghost use Rattle.desk_run.specs.Sends.{Sends, SendsOn};
+ghost use Rattle.desk_run.specs.Printing.{Prints, TellsMet};
+ghost use Rattle.desk_run.specs.Quiet.{AskServers, is_quiet};
+ghost use Rattle.desk_run.specs.Rests.{IsAtHome};
+ghost use Rattle.desk_run.specs.Statuses.{EndsAsAsked, IsInUse, MayEnd};
+
+use crate::around::Around;
+use crate::boxes::open_boxes;
+use crate::cards::card;
+use crate::ending::{End, status_of};
+use crate::forgetting::forget;
+use crate::letters::letters;
+use crate::opening::open;
+use crate::resuming::resume;
+use crate::retiring::retire;
+use crate::saying::{say, tell};
+use crate::sending::send;
+use crate::standing::status;
+use crate::trouble::Trouble;
+use desk_draws::Draws;
+use desk_outside::{Clock, Folder, Hold, Papers};
+use desk_words::{DeskTask, HELP, asked_of};
+use express_words::outside::{Net, Sink, Source};
+use std::alloc::Global;
+
+/// What is told of wrong words.
+const USAGE: &str = "these are no words of express-desk; express-desk --help shows them\n";
+
+// Takes the folder for this process alone.
+fn hold<'a, F: Folder>(folder: &mut F) -> Result<(), Trouble<'a>>
+    ensures call { IfErr result (λ t. status_by t ≡ 4
+        → Adds (F.calls folder.old) (F.calls folder.new) (Held false)) }
+    ensures trouble { IfErr result (λ t. (status_by t ≡ 1) ⊎ (status_by t ≡ 4)) }
+{
+    match folder.hold() {
+        Ok(Hold::Held) => Ok(()),
+        Ok(Hold::InUse) => Err(Trouble::InUse),
+        Err(_) => Err(Trouble::Folder),
+    }
+}
+
+// The word `help`.
+fn help<'a, K: Sink>(out: &mut K) -> Result<End, Trouble<'a>>
+    ensures undone { IfErr result IsUndone }
+    ensures not_met { result ≢ Ok End.Met }
+    ensures sink { Unfailed (K.seen out.old).faults (K.seen out.new).faults result }
+{
+    say(out, HELP)?;
+    Ok(End::Done)
+}
+
+// What the task comes to, where the folder is this process's alone.
+#[tactic(auto, using(crate::proofs::StatusLaws::open_ends, crate::proofs::StatusLaws::box_ends, crate::proofs::StatusLaws::send_ends, crate::proofs::StatusLaws::quiet_ends, crate::proofs::StatusLaws::letters_ends, crate::proofs::StatusLaws::retire_ends, crate::proofs::StatusLaws::forget_ends))]
+fn in_folder<'a, S: Source, K: Sink, N: Net, F: Folder, P: Papers, C: Clock>(
+    alloc: Global,
+    task: DeskTask<'a>,
+    draws: &mut Draws,
+    around: &mut Around<S, K, N, F, P, C>,
+) -> Result<End, Trouble<'a>>
+    ensures ends { MayEnd task.entry (status_of result) }
+    ensures met { result ≡ Ok End.Met
+        → Prints TellsMet (K.seen around.old.out).written (K.seen around.new.out).written }
+    ensures sink { Unfailed (K.seen around.old.out).faults (K.seen around.new.out).faults result }
+    ensures net { Unfailed (N.seen around.old.net).faults (N.seen around.new.net).faults result }
+    ensures sends { SendsOn F.File.disk F.File.Counted.seen
+        (N.seen around.old.net).calls (N.seen around.new.net).calls }
+    ensures quiet { is_quiet task.entry ≡ true → around.new.net ≡ around.old.net }
+{
+    match task {
+        DeskTask::Open { pair } => open(alloc, pair, draws, around),
+        DeskTask::Box { name, count } => open_boxes(alloc, name, count, draws, around),
+        DeskTask::Card { name } => card(alloc, name, &mut around.folder, &mut around.out),
+        DeskTask::Letters { out } => letters(alloc, out, around),
+        DeskTask::Send { card, file } => send(alloc, card, file, draws, around),
+        DeskTask::Resume => resume(alloc, draws, around),
+        DeskTask::Retire { name } => retire(alloc, name, around),
+        DeskTask::Forget => forget(alloc, around),
+        DeskTask::Status => status(alloc, &mut around.folder, &mut around.out),
+        DeskTask::Help => help(&mut around.out),
+    }
+}
+
+// What a task comes to that needs the folder.
+#[tactic(auto, using(crate::proofs::StatusLaws::not_four, crate::proofs::StatusLaws::may_undone))]
+fn with_folder<'a, S: Source, K: Sink, N: Net, F: Folder, P: Papers, C: Clock>(
+    alloc: Global,
+    task: DeskTask<'a>,
+    seed: &[u8; 32],
+    around: &mut Around<S, K, N, F, P, C>,
+) -> Result<End, Trouble<'a>>
+    ensures ends { MayEnd task.entry (status_of result) ⊎ (status_of result ≡ 4) }
+    ensures in_use { status_of result ≡ 4 → IsAtHome around.old around.new }
+    ensures held { status_of result ≡ 4
+        → Adds (F.calls around.old.folder) (F.calls around.new.folder) (Held false) }
+    ensures met { result ≡ Ok End.Met
+        → Prints TellsMet (K.seen around.old.out).written (K.seen around.new.out).written }
+    ensures sink { Unfailed (K.seen around.old.out).faults (K.seen around.new.out).faults result }
+    ensures net { Unfailed (N.seen around.old.net).faults (N.seen around.new.net).faults result }
+    ensures sends { SendsOn F.File.disk F.File.Counted.seen
+        (N.seen around.old.net).calls (N.seen around.new.net).calls }
+    ensures quiet { is_quiet task.entry ≡ true → around.new.net ≡ around.old.net }
+{
+    hold(&mut around.folder)?;
+    let mut draws = Draws::from_seed(seed);
+    in_folder(alloc, task, &mut draws, around)
+}
+
+// What the task comes to.
+#[tactic(auto, using(crate::proofs::StatusLaws::not_four, crate::proofs::StatusLaws::quiet_ends))]
+fn do_task<'a, S: Source, K: Sink, N: Net, F: Folder, P: Papers, C: Clock>(
+    alloc: Global,
+    task: DeskTask<'a>,
+    seed: &[u8; 32],
+    around: &mut Around<S, K, N, F, P, C>,
+) -> Result<End, Trouble<'a>>
+    ensures ends { MayEnd task.entry (status_of result) ⊎ IsInUse task.entry (status_of result) }
+    ensures in_use { status_of result ≡ 4 → IsAtHome around.old around.new }
+    ensures held { status_of result ≡ 4
+        → Adds (F.calls around.old.folder) (F.calls around.new.folder) (Held false) }
+    ensures met { result ≡ Ok End.Met
+        → Prints TellsMet (K.seen around.old.out).written (K.seen around.new.out).written }
+    ensures sink { Unfailed (K.seen around.old.out).faults (K.seen around.new.out).faults result }
+    ensures net { Unfailed (N.seen around.old.net).faults (N.seen around.new.net).faults result }
+    ensures sends { SendsOn F.File.disk F.File.Counted.seen
+        (N.seen around.old.net).calls (N.seen around.new.net).calls }
+    ensures quiet { is_quiet task.entry ≡ true → around.new.net ≡ around.old.net }
+{
+    match task {
+        DeskTask::Help => help(&mut around.out),
+        _ => with_folder(alloc, task, seed, around),
+    }
+}
+
+// What the outcome is told as. Where that can't be printed the word isn't done.
+fn finish<K: Sink>(alloc: Global, outcome: Result<End, Trouble<'_>>, out: &mut K) -> u8
+    ensures status { result ≢ 1 → result ≡ status_of outcome.entry }
+    ensures rests { IfOk outcome.entry (λ end. out.new ≡ out.old) }
+    ensures sink { result ≢ 1 → (K.seen out.new).faults ≡ (K.seen out.old).faults }
+{
+    if let Err(trouble) = &outcome
+        && !tell(alloc, trouble, out)
+    {
+        return 1;
+    }
+    status_of(&outcome)
+}
+
+// Does the task, and tells what it comes to where that isn't told yet.
+#[tactic(auto, using(crate::proofs::StatusLaws::ends_so, crate::proofs::StatusLaws::only_met))]
+fn run_task<'a, S: Source, K: Sink, N: Net, F: Folder, P: Papers, C: Clock>(
+    alloc: Global,
+    task: DeskTask<'a>,
+    seed: &[u8; 32],
+    around: &mut Around<S, K, N, F, P, C>,
+) -> u8
+    ensures ends { MayEnd task.entry result ⊎ IsInUse task.entry result }
+    ensures in_use { result ≡ 4 → IsAtHome around.old around.new }
+    ensures held { result ≡ 4
+        → Adds (F.calls around.old.folder) (F.calls around.new.folder) (Held false) }
+    ensures met { result ≡ 5
+        → Prints TellsMet (K.seen around.old.out).written (K.seen around.new.out).written }
+    ensures sink { result ≢ 1 → (K.seen around.new.out).faults ≡ (K.seen around.old.out).faults }
+    ensures net { result ≢ 1 → (N.seen around.new.net).faults ≡ (N.seen around.old.net).faults }
+    ensures sends { SendsOn F.File.disk F.File.Counted.seen
+        (N.seen around.old.net).calls (N.seen around.new.net).calls }
+    ensures quiet { is_quiet task.entry ≡ true → around.new.net ≡ around.old.net }
+{
+    let outcome = do_task(alloc, task, seed, around);
+    finish(alloc, outcome, &mut around.out)
+}
+
+// What wrong words are told.
+fn refuse<K: Sink>(out: &mut K) -> u8
+    ensures either { Contains (2 ∷ 1 ∷ []) result }
+    ensures sink { result ≢ 1 → (K.seen out.new).faults ≡ (K.seen out.old).faults }
+{
+    match out.put(USAGE.as_bytes()) {
+        Ok(()) => 2,
+        Err(_) => 1,
+    }
+}
+
+/// Does what the words ask for, and gives the status of the program: 0 where it is done, 1 where it isn't, 2
+/// where the words aren't those of a desk or a name isn't taken, 3 where a card, a pair file or a letter isn't
+/// right, 4 where another process has the desk, and 5 where it is done and letters met. What is printed says
+/// what a person can do.
+///
+/// All that is drawn by lot is drawn out of `seed`, of which no other run may know.
+#[tactic(auto, using(crate::proofs::Asked::asked_none, crate::proofs::Asked::asked_some, crate::proofs::Asked::quiet, crate::proofs::Asked::ends, crate::proofs::Asked::ends_undone))]
+pub fn run_desk<S: Source, K: Sink, N: Net, F: Folder, P: Papers, C: Clock>(
+    alloc: Global,
+    words: &Vec<String>,
+    seed: &[u8; 32],
+    around: &mut Around<S, K, N, F, P, C>,
+) -> u8
+    // Each word has its statuses.
+    ensures ends { AskSome (map string_bytes words.now.items)
+        → EndsAsAsked (map string_bytes words.now.items) result }
+    ensures wrong { (AskSome (map string_bytes words.now.items) → ⊥) → Contains (2 ∷ 1 ∷ []) result }
+    // With wrong words nothing is touched but the output.
+    ensures rests { (AskSome (map string_bytes words.now.items) → ⊥) → IsAtHome around.old around.new }
+    ensures folder_rests { (AskSome (map string_bytes words.now.items) → ⊥)
+        → around.new.folder ≡ around.old.folder }
+    // Nor is it where another process has the desk; its folder is asked for, and that doesn't fail.
+    ensures in_use { result ≡ 4 → IsAtHome around.old around.new }
+    ensures held { result ≡ 4
+        → Adds (F.calls around.old.folder) (F.calls around.new.folder) (Held false) }
+    // A word that needs no server makes no call on the net.
+    ensures quiet { (AskServers (map string_bytes words.now.items) → ⊥) → around.new.net ≡ around.old.net }
+    // Where letters met that is printed, with the name of the box.
+    ensures met { result ≡ 5
+        → Prints TellsMet (K.seen around.old.out).written (K.seen around.new.out).written }
+    // A fault of the net or of the output is told as a word that isn't done.
+    ensures sink { result ≢ 1 → (K.seen around.new.out).faults ≡ (K.seen around.old.out).faults }
+    ensures net { result ≢ 1 → (N.seen around.new.net).faults ≡ (N.seen around.old.net).faults }
+    ensures sends { Sends F.File.disk F.File.Counted.seen
+        (N.seen around.old.net).calls (N.seen around.new.net).calls }
+{
+    match asked_of(alloc, words) {
+        Ok(Some(asked)) => run_task(alloc, asked.task, seed, around),
+        Ok(None) => refuse(&mut around.out),
+        Err(_) => finish(alloc, Err(Trouble::NoMemory), &mut around.out),
+    }
+}

@@ -1,0 +1,134 @@
+//! Why a word isn't done.
+ghost use Rattle.std.specs.Prelude.{◌≡◌};
+ghost use Rattle.desk_run.specs.Ends.{IsCause};
+
+use client_restart::KeepFault;
+use desk_ledger::NameFault;
+use desk_letters::SealFault;
+use express_words::{NoMemory, Refusal};
+use kept_errands::Halt;
+use node_client::Stop;
+use node_journal::JournalFault;
+use std::fmt;
+
+/// One of the two servers, as cards and pair files call it.
+#[derive(Clone, Copy, Debug, PartialEq, Eq)]
+pub enum Server {
+    Leader,
+    Helper,
+}
+
+impl Server {
+    // The server of this number.
+    fn of(server: Option<u8>) -> Server {
+        match server {
+            Some(1) => Server::Helper,
+            Some(_) => Server::Leader,
+            None => Server::Leader,
+        }
+    }
+}
+
+impl fmt::Display for Server {
+    fn fmt<W: fmt::Write>(&self, f: &mut fmt::Formatter<W>) -> fmt::Result {
+        match self {
+            Server::Leader => f.write_str("leader"),
+            Server::Helper => f.write_str("helper"),
+        }
+    }
+}
+
+/// Why a word isn't done. A text is the path, the folder or the name that the words have.
+#[derive(Clone, Copy, Debug, PartialEq, Eq)]
+pub enum Trouble<'a> {
+    /// The output failed, so nothing can be told.
+    Out,
+    NoMemory,
+    /// The standard input failed.
+    Input,
+    /// The desk's folder, or a file in it, failed.
+    Folder,
+    Clock,
+    /// The file can't be read.
+    Unread(&'a str),
+    /// A letter's file can't be written into the folder.
+    Unwritten(&'a str),
+    /// Another process has the desk's folder.
+    InUse,
+    /// The file's first bad line, counted from 1.
+    BadLine(&'a str, u32),
+    /// The file is no pair file.
+    NoPairFile(&'a str),
+    /// The file is no card.
+    NoCard(&'a str),
+    /// The text makes no letter.
+    NoLetter(SealFault),
+    /// No desk was opened in the folder.
+    NoDesk,
+    /// A desk for another pair of servers is there.
+    OtherDesk,
+    /// The desk has no live box of this name.
+    NoName(&'a str),
+    /// The servers gave no box.
+    NoRoom,
+    /// The name isn't taken.
+    Name(NameFault),
+    /// A file of the desk isn't what was written into it.
+    Damaged,
+    /// The ledger is full.
+    Full,
+    /// The lane's last number was used.
+    Spent,
+    /// The server wasn't reached, or the connection broke off.
+    Unreached(Server),
+    /// The server gave no whole answer.
+    NoAnswer(Server),
+    /// A server asks to come again later.
+    Later,
+    /// A server refused the request.
+    Refused(Refusal),
+    /// The numbers of the card's lanes are used up.
+    NoLane,
+}
+
+impl From<NoMemory> for Trouble<'_> {
+    ghost use Rattle.desk_run.specs.Ends.{IsCause};
+
+    ghost from_gives = { λ _ trouble. IsCause trouble };
+
+    fn from(_: NoMemory) -> Self {
+        Trouble::NoMemory
+    }
+}
+
+impl From<KeepFault> for Trouble<'_> {
+    ghost use Rattle.desk_run.specs.Ends.{IsCause};
+
+    ghost from_gives = { λ _ trouble. IsCause trouble };
+
+    fn from(fault: KeepFault) -> Self {
+        match fault {
+            KeepFault::NoMemory => Trouble::NoMemory,
+            KeepFault::Journal(JournalFault::Full(_)) => Trouble::Full,
+            KeepFault::Journal(JournalFault::Disk(_)) => Trouble::Folder,
+            KeepFault::Journal(JournalFault::Closed) => Trouble::Folder,
+            KeepFault::Journal(JournalFault::NotEmpty) => Trouble::Damaged,
+            KeepFault::Journal(JournalFault::Damaged(_)) => Trouble::Damaged,
+            KeepFault::Foreign(_) => Trouble::Damaged,
+        }
+    }
+}
+
+/// What is told of a halt at a step that goes to this server.
+pub(crate) fn halted<'a>(halt: Halt, server: Option<u8>) -> Trouble<'a>
+    ensures { IsCause result }
+{
+    match halt {
+        Halt::Keep(fault) => Trouble::from(fault),
+        Halt::Stop(Stop::Answer) => Trouble::NoAnswer(Server::of(server)),
+        Halt::Stop(Stop::Later(_)) => Trouble::Later,
+        Halt::Stop(Stop::Spent) => Trouble::Spent,
+        Halt::Stop(Stop::Full) => Trouble::Full,
+        Halt::Stop(Stop::Fault(_)) => Trouble::Unreached(Server::of(server)),
+    }
+}
