@@ -8,14 +8,18 @@ WIDE=x86-64-v3 # the target of newer processors; the other is the toolchain's de
 # What goes under a prefix beside the programs: mode, place, source.
 PIECES='644 share/man/man1/express.1 man/express.1
 644 share/man/man1/express-drill.1 man/express-drill.1
+644 share/man/man1/express-desk.1 man/express-desk.1
 644 share/man/man5/express.toml.5 man/express.toml.5
 644 share/bash-completion/completions/express completions/express.bash
 644 share/bash-completion/completions/express-drill completions/express.bash
+644 share/bash-completion/completions/express-desk completions/express.bash
 644 lib/systemd/system/express-helper.service units/express-helper.service
 644 lib/systemd/system/express-leader.service units/express-leader.service
 755 lib/express/set-aside units/set-aside
+755 lib/express/pair bin/pair
 644 share/doc/express/OPERATIONS.md docs/OPERATIONS.md
 644 share/doc/express/PRIVACY.md docs/PRIVACY.md
+644 share/doc/express/DESK.md docs/DESK.md
 644 share/doc/express/FRAMES.md docs/FRAMES.md
 644 share/doc/express/examples/README.md examples/README.md
 644 share/doc/express/examples/owner.toml examples/owner.toml

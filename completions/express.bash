@@ -1,4 +1,4 @@
-# Completion of express and express-drill for bash.
+# Completion of express, express-drill and express-desk for bash.
 
 _express_commands='serve keep client carry replay batch cloak mill'
 
@@ -13,6 +13,22 @@ _express() {
     fi
 }
 
+_express_desk_commands='send open box card letters retire forget status resume help'
+
+# Words; behind those that have a file, and behind `--desk` and `--out`, files.
+_express_desk() {
+    local word=${COMP_WORDS[COMP_CWORD]} before=${COMP_WORDS[COMP_CWORD - 1]}
+    COMPREPLY=()
+    if [[ $before == [\<\>]* || $before == --desk || $before == --out || $before == open ]] ||
+        [[ " ${COMP_WORDS[*]:1:COMP_CWORD-1} " == *' send '* ]]; then
+        mapfile -t COMPREPLY < <(compgen -f -- "$word")
+    elif [[ $word == -* ]]; then
+        mapfile -t COMPREPLY < <(compgen -W '--desk --out' -- "$word")
+    elif ((COMP_CWORD == 1)) || [[ ${COMP_WORDS[COMP_CWORD - 2]} == --desk ]]; then
+        mapfile -t COMPREPLY < <(compgen -W "$_express_desk_commands" -- "$word")
+    fi
+}
+
 # The program, and then a port, for which nothing is offered.
 _express_drill() {
     COMPREPLY=()
@@ -22,4 +38,5 @@ _express_drill() {
 }
 
 complete -o filenames -F _express express
+complete -o filenames -F _express_desk express-desk
 complete -o filenames -F _express_drill express-drill
