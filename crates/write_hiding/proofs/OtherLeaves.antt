@@ -1,5 +1,5 @@
 -- The keys of a client's write, and the other server's leaves under them: those of its walk.
-use Rattle.std.proofs.Common.{◌≡◌, ◌≢◌, ℕ, ◌^◌, ◌<◌, ◌≤◌, ◌-◌, zero, suc, inl, inr, List, length, refl, sym, ap, ◌∙◌, arith}
+use Rattle.std.proofs.Common.{◌≡◌, ◌≢◌, ℕ, ◌^◌, ◌<◌, ◌≤◌, zero, suc, inl, inr, List, length, refl, sym, ap, ◌∙◌, arith}
 use Rattle.std.proofs.lemmas.Bool.Decides.{eqb_tells}
 use Rattle.dpf_rules.specs.Walk.{state_at, leaf_of}
 use Rattle.dpf_rules.specs.Keys.{Expansions, honest, path_at, honest_keys}

@@ -1,5 +1,6 @@
 -- The choice by which another write gives the viewer the same view.
-use Rattle.std.specs.Prelude.{ℕ, ◌+◌, ◌-◌, ◌%◌, ◌==◌, List, [], ◌∷◌, ◌++◌, map, length, slice_index, bit_xor}
+use Rattle.std.specs.Prelude.{◌≡◌, ℕ, ◌+◌, ◌-◌, ◌%◌, ◌==◌, List, [], ◌∷◌, ◌++◌, map, length}
+use Rattle.std.specs.Prelude.{slice_index, bit_xor}
 use Rattle.std.specs.Prelude.{if◌then◌else◌}
 use Rattle.std.specs.List.{range_with_len}
 use Rattle.express_words.specs.Bytes.{xor_bytes}
@@ -8,8 +9,12 @@ use Rattle.dpf_rules.specs.Walk.{word_of, right_of, last_of, side_at, state_at}
 use Rattle.dpf_rules.specs.Keys.{Expansions, pair_at, on_side, raw_pair}
 use Rattle.audit_rules.specs.Audit.{product, value, through_three, honest_f, honest_g}
 use Rattle.poly_roots.specs.Polynomials.{plus_of, times_of}
+use Rattle.audit_rules.specs.declared.sums.Sums.{Sums}
+use Rattle.write_hiding.specs.declared.choice.View.{View}
+use Rattle.write_hiding.specs.declared.audit.Audited.{Audited}
 use Rattle.write_hiding.specs.Choices.{PlainChoice, PlainAim, PlainGame}
-use Rattle.write_hiding.specs.Views.{public_part, difference_of, other_sums, drawn, share_of, other_opening}
+use Rattle.write_hiding.specs.Views.{public_part, difference_of, other_sums}
+use Rattle.write_hiding.specs.Views.{drawn, share_of, other_opening, view}
 
 -- ---- the expansions
 
@@ -49,18 +54,30 @@ walked viewer choice from to =
       other = moved_list part viewer choice.own_root choice.other from.target to.target to.message;
     }
 
+-- the other server's f and g, before what masks them
+abbrev pub other_f : ℕ → List ℕ → Sums → List ℕ
+other_f viewer words sums = through_three (slice_index words (1 - viewer)) sums.x sums.m
+
+abbrev pub other_g : ℕ → List ℕ → Sums → List ℕ
+other_g viewer words sums = through_three (slice_index words (2 + (1 - viewer))) sums.y sums.z
+
 -- the other server's a and b, by which it opens what it opened
 abbrev pub moved_a : ℕ → PlainChoice → PlainAim → PlainAim → PlainGame → ℕ
 moved_a viewer choice from to game =
     let sums = other_sums viewer (walked viewer choice from to) to game in
-    let f = through_three (slice_index choice.words (1 - viewer)) sums.x sums.m in
-    bit_xor (other_opening viewer choice from game).d (value f game.sigma)
+    bit_xor (other_opening viewer choice from game).d (value (other_f viewer choice.words sums) game.sigma)
 
 abbrev pub moved_b : ℕ → PlainChoice → PlainAim → PlainAim → PlainGame → ℕ
 moved_b viewer choice from to game =
     let sums = other_sums viewer (walked viewer choice from to) to game in
-    let g = through_three (slice_index choice.words (2 + (1 - viewer))) sums.y sums.z in
-    bit_xor (other_opening viewer choice from game).e (product game.sigma (value g game.sigma))
+    let g = value (other_g viewer choice.words sums) game.sigma in
+    bit_xor (other_opening viewer choice from game).e (product game.sigma g)
+
+-- server 0's h, where server 1 has this one
+abbrev pub made_h : PlainChoice → ℕ → ℕ → ℕ → List ℕ → List ℕ
+made_h choice m r s h =
+    plus_of bit_xor h
+    (times_of 0 bit_xor product (honest_f m r (drawn choice)) (honest_g m r s (drawn choice)))
 
 -- server 0's h, where the viewer is server 1: the viewer's, and f·g
 abbrev pub moved_h : PlainChoice → PlainAim → PlainAim → PlainGame → List ℕ
@@ -68,23 +85,45 @@ moved_h choice from to game =
     let m = difference_of 1 (walked 1 choice from to) to in
     let r = challenge_r game.ckey to.target in
     let s = challenge_s game.ckey to.target in
-    plus_of bit_xor (share_of 1 1 choice from game).h
-    (times_of 0 bit_xor product (honest_f m r (drawn choice)) (honest_g m r s (drawn choice)))
+    made_h choice m r s (share_of 1 1 choice from game).h
+
+-- server 0's c, where server 1 has this one: that, and a·b
+abbrev pub made_c : List ℕ → ℕ → ℕ → ℕ → ℕ
+made_c words a b c =
+    bit_xor c (product (bit_xor a (slice_index words 10)) (bit_xor b (slice_index words 12)))
+
+-- the words with server 1's a and b replaced
+abbrev pub with_one : List ℕ → ℕ → ℕ → List ℕ
+with_one words a b =
+    let word = slice_index words in
+    let masks = word 0 ∷ (word 1 ∷ (word 2 ∷ (word 3 ∷ []))) in
+    let h = word 4 ∷ (word 5 ∷ (word 6 ∷ (word 7 ∷ (word 8 ∷ [])))) in
+    masks ++ (h ++ (word 9 ∷ (a ∷ (word 11 ∷ (b ∷ (word 13 ∷ []))))))
+
+-- the words with server 0's h, a, b and c replaced
+abbrev pub with_zero : List ℕ → List ℕ → ℕ → ℕ → ℕ → List ℕ
+with_zero words h a b c =
+    let word = slice_index words in
+    let masks = word 0 ∷ (word 1 ∷ (word 2 ∷ (word 3 ∷ []))) in
+    masks ++ (h ++ (a ∷ (word 10 ∷ (b ∷ (word 12 ∷ (c ∷ []))))))
 
 -- where the viewer is server 1, server 0's c is the viewer's, and a·b
 unfoldable pub moved_words : ℕ → PlainChoice → PlainAim → PlainAim → PlainGame → List ℕ
 moved_words viewer choice from to game =
-    let word = slice_index choice.words in
     let a = moved_a viewer choice from to game in
     let b = moved_b viewer choice from to game in
-    let masks = word 0 ∷ (word 1 ∷ (word 2 ∷ (word 3 ∷ []))) in
-    let h0 = word 4 ∷ (word 5 ∷ (word 6 ∷ (word 7 ∷ (word 8 ∷ [])))) in
-    let ab = product (bit_xor a (word 10)) (bit_xor b (word 12)) in
-    let c0 = bit_xor (share_of 1 1 choice from game).c ab in
-    if viewer == 0 then masks ++ (h0 ++ (word 9 ∷ (a ∷ (word 11 ∷ (b ∷ (word 13 ∷ []))))))
-    else masks ++ (moved_h choice from to game ++ (a ∷ (word 10 ∷ (b ∷ (word 12 ∷ (c0 ∷ []))))))
+    let c = made_c choice.words a b (share_of 1 1 choice from game).c in
+    if viewer == 0 then with_one choice.words a b
+    else with_zero choice.words (moved_h choice from to game) a b c
 
 -- the moved choice: the roots stay
 unfoldable pub moved : ℕ → PlainChoice → PlainAim → PlainAim → PlainGame → PlainChoice
 moved viewer choice from to game =
     record (walked viewer choice from to) { words = moved_words viewer choice from to game }
+
+-- what a choice at an aim gave the viewer to see, and what both servers audit where it is moved to another
+pub record IsAudited (viewer : ℕ) (choice : PlainChoice) (from to : PlainAim) (game : PlainGame)
+    (seen : View) (audited : Audited) : Type 0 where
+  pub viewed : seen ≡ view viewer choice from game
+  pub other : audited.other ≡ other_sums viewer (walked viewer choice from to) to game
+  pub difference : audited.difference ≡ difference_of viewer (walked viewer choice from to) to

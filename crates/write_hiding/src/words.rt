@@ -1,10 +1,9 @@
 //! The words of the proof that open and close the same with moved expansions.
-ghost use Rattle.std.specs.Prelude.{◌≡◌, ◌+◌, ◌-◌, ◌≤◌, [], ◌∷◌, ◌++◌, length, slice_index, bit_xor};
-ghost use Rattle.poly_roots.specs.Polynomials.{plus_of, times_of};
-ghost use Rattle.audit_rules.specs.Audit.{product, value, through_three, honest_f, honest_g};
+ghost use Rattle.std.specs.Prelude.{◌≡◌, ◌≤◌, length, bit_xor};
+ghost use Rattle.audit_rules.specs.Audit.{product, value};
 ghost use Rattle.write_hiding.specs.Choices.{PlainAim, plain_choice, plain_aim, plain_game};
-ghost use Rattle.write_hiding.specs.Views.{difference_of, other_sums, drawn, view};
-ghost use Rattle.write_hiding.specs.Moved.{walked, moved_words};
+ghost use Rattle.write_hiding.specs.Moved.{other_f, other_g, made_h, made_c, with_one, with_zero};
+ghost use Rattle.write_hiding.specs.Moved.{IsAudited, moved_words};
 
 use crate::audit::Audited;
 use crate::choice::{Aim, Game, IdealChoice, View};
@@ -17,10 +16,10 @@ use write_sketch::Sums;
 // The other server's a and b, by which it opens what it opened.
 fn moved_factors(choice: &IdealChoice, opened: &Openings, sums: &Sums, sigma: u128) -> (u128, u128)
     requires viewer { choice.now.viewer ≤ 1 }
-    ensures a { let f = through_three (slice_index choice.now.words (1 - choice.now.viewer)) sums.now.x sums.now.m in
-        result.0 ≡ bit_xor opened.now.d (value f sigma) }
-    ensures b { let g = through_three (slice_index choice.now.words (2 + (1 - choice.now.viewer))) sums.now.y sums.now.z in
-        result.1 ≡ bit_xor opened.now.e (product sigma (value g sigma)) }
+    ensures a { result.0
+        ≡ bit_xor opened.now.d (value (other_f choice.now.viewer choice.now.words sums.now) sigma) }
+    ensures b { let g = value (other_g choice.now.viewer choice.now.words sums.now) sigma in
+        result.1 ≡ bit_xor opened.now.e (product sigma g) }
 {
     let other = usize::from(1 - choice.viewer);
     let unmasked = ProofShare {
@@ -37,10 +36,7 @@ fn moved_factors(choice: &IdealChoice, opened: &Openings, sums: &Sums, sigma: u1
 
 // The words with server 1's a and b replaced.
 fn with_one(words: &[u128; 14], a: u128, b: u128) -> [u128; 14]
-    ensures { let word = slice_index words.now in
-        let masks = word 0 ∷ (word 1 ∷ (word 2 ∷ (word 3 ∷ []))) in
-        let h = word 4 ∷ (word 5 ∷ (word 6 ∷ (word 7 ∷ (word 8 ∷ [])))) in
-        result ≡ masks ++ (h ++ (word 9 ∷ (a ∷ (word 11 ∷ (b ∷ (word 13 ∷ [])))))) }
+    ensures { result ≡ with_one words.now a b }
 {
     let [u0, u1, v0, v1, h0, h1, h2, h3, h4, a0, _, b0, _, c0] = *words;
     [u0, u1, v0, v1, h0, h1, h2, h3, h4, a0, a, b0, b, c0]
@@ -48,9 +44,7 @@ fn with_one(words: &[u128; 14], a: u128, b: u128) -> [u128; 14]
 
 // The words with server 0's h, a, b and c replaced.
 fn with_zero(words: &[u128; 14], h: &[u128; 5], a: u128, b: u128, c: u128) -> [u128; 14]
-    ensures { let word = slice_index words.now in
-        let masks = word 0 ∷ (word 1 ∷ (word 2 ∷ (word 3 ∷ []))) in
-        result ≡ masks ++ (h.now ++ (a ∷ (word 10 ∷ (b ∷ (word 12 ∷ (c ∷ [])))))) }
+    ensures { result ≡ with_zero words.now h.now a b c }
 {
     let [u0, u1, v0, v1, _, _, _, _, _, _, a1, _, b1, _] = *words;
     let [h0, h1, h2, h3, h4] = *h;
@@ -67,13 +61,9 @@ fn zero_words(
     s: u128,
 ) -> [u128; 14]
     requires size { length own.now.h ≡ 5 }
-    ensures { let words = drawn (plain_choice choice.now) in
-        let word = slice_index choice.now.words in
-        let masks = word 0 ∷ (word 1 ∷ (word 2 ∷ (word 3 ∷ []))) in
-        let fg = times_of 0 bit_xor product (honest_f difference r words) (honest_g difference r s words) in
-        let ab = product (bit_xor own.now.a (word 10)) (bit_xor own.now.b (word 12)) in
-        result ≡ masks ++ (plus_of bit_xor own.now.h fg
-        ++ (own.now.a ∷ (word 10 ∷ (own.now.b ∷ (word 12 ∷ (bit_xor own.now.c ab ∷ [])))))) }
+    ensures { let h = made_h (plain_choice choice.now) difference r s own.now.h in
+        let c = made_c choice.now.words own.now.a own.now.b own.now.c in
+        result ≡ with_zero choice.now.words h own.now.a own.now.b c }
 {
     let words = with_zero(&choice.words, &own.h, own.a, own.b, own.c);
     let (_, one) = prove(
@@ -98,12 +88,8 @@ pub fn moved_words(
     ensures { (from : PlainAim) →
         let viewer = choice.now.viewer in
         let c = plain_choice choice.now in
-        let g = plain_game game.now in
-        let gone = walked viewer c from (plain_aim to.now) in
-        seen.now ≡ view viewer c from g →
-        audited.now.other ≡ other_sums viewer gone (plain_aim to.now) g →
-        audited.now.difference ≡ difference_of viewer gone (plain_aim to.now) →
-        result ≡ moved_words viewer c from (plain_aim to.now) g }
+        IsAudited viewer c from (plain_aim to.now) (plain_game game.now) seen.now audited.now →
+        result ≡ moved_words viewer c from (plain_aim to.now) (plain_game game.now) }
 {
     let (a, b) = moved_factors(choice, &seen.opened, &audited.other, game.sigma);
     if choice.viewer == 0 {

@@ -56,9 +56,11 @@ returns-clause-moved c =
     let walk = c.in_ok-walked.ensures in
     let seen = c.in_ok-audited.ensures in
     moved_is viewer _ choice from to game gone walk.viewer walk.walked c.moved_words-words.result
-    (c.moved_words-words.ensures from c.in_ok-seen.ensures.view
-    (sums_of_walked viewer _ choice from to game gone walk.viewer walk.walked _ seen.other)
-    (difference_of_walked viewer _ choice from to game gone walk.viewer walk.walked _ seen.difference))
+    (c.moved_words-words.ensures from (record {
+      viewed = c.in_ok-seen.ensures.view;
+      other = sums_of_walked viewer _ choice from to game gone walk.viewer walk.walked _ seen.other;
+      difference = difference_of_walked viewer _ choice from to game gone walk.viewer walk.walked _ seen.difference;
+    }))
 
 pub returns-clause-choice : goal.returns-clause-choice
 returns-clause-choice c =
@@ -76,9 +78,11 @@ returns-clause-choice c =
     subst (λ (p : PlainChoice). IsChoice (length from.message) p)
     (sym
     (moved_is viewer _ choice from to game gone walk.viewer walk.walked c.moved_words-words.result
-    (c.moved_words-words.ensures from c.in_ok-seen.ensures.view
-    (sums_of_walked viewer _ choice from to game gone walk.viewer walk.walked _ seen.other)
-    (difference_of_walked viewer _ choice from to game gone walk.viewer walk.walked _ seen.difference))))
+    (c.moved_words-words.ensures from (record {
+      viewed = c.in_ok-seen.ensures.view;
+      other = sums_of_walked viewer _ choice from to game gone walk.viewer walk.walked _ seen.other;
+      difference = difference_of_walked viewer _ choice from to game gone walk.viewer walk.walked _ seen.difference;
+    }))))
     (choices_stay (length from.message) viewer choice from to game small c.read_game.ensures.form good c.read_aim.ensures.form aimed)
 
 pub returns-clause-same_view : goal.returns-clause-same_view
@@ -96,9 +100,11 @@ returns-clause-same_view c =
     let aimed : IsAim (length from.message) game to = subst (λ n. IsAim n game to) c.requires.message c.read_aim-2.ensures.form in
     ap (λ (p : PlainChoice). view viewer p to game)
     (moved_is viewer _ choice from to game gone walk.viewer walk.walked c.moved_words-words.result
-    (c.moved_words-words.ensures from c.in_ok-seen.ensures.view
-    (sums_of_walked viewer _ choice from to game gone walk.viewer walk.walked _ seen.other)
-    (difference_of_walked viewer _ choice from to game gone walk.viewer walk.walked _ seen.difference)))
+    (c.moved_words-words.ensures from (record {
+      viewed = c.in_ok-seen.ensures.view;
+      other = sums_of_walked viewer _ choice from to game gone walk.viewer walk.walked _ seen.other;
+      difference = difference_of_walked viewer _ choice from to game gone walk.viewer walk.walked _ seen.difference;
+    })))
     ∙ views_stay (length from.message) viewer choice from to game small c.read_game.ensures.form good c.read_aim.ensures.form aimed
 
 pub returns-clause-moves_back : goal.returns-clause-moves_back
@@ -116,7 +122,9 @@ returns-clause-moves_back c =
     let aimed : IsAim (length from.message) game to = subst (λ n. IsAim n game to) c.requires.message c.read_aim-2.ensures.form in
     ap (λ (p : PlainChoice). moved viewer p to from game)
     (moved_is viewer _ choice from to game gone walk.viewer walk.walked c.moved_words-words.result
-    (c.moved_words-words.ensures from c.in_ok-seen.ensures.view
-    (sums_of_walked viewer _ choice from to game gone walk.viewer walk.walked _ seen.other)
-    (difference_of_walked viewer _ choice from to game gone walk.viewer walk.walked _ seen.difference)))
+    (c.moved_words-words.ensures from (record {
+      viewed = c.in_ok-seen.ensures.view;
+      other = sums_of_walked viewer _ choice from to game gone walk.viewer walk.walked _ seen.other;
+      difference = difference_of_walked viewer _ choice from to game gone walk.viewer walk.walked _ seen.difference;
+    })))
     ∙ moves_return (length from.message) viewer choice from to game small c.read_game.ensures.form good c.read_aim.ensures.form aimed
