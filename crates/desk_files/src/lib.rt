@@ -14,6 +14,3 @@ pub use paper_files::{PaperCalls, PaperFiles};
 pub use system_clock::SystemClock;
 pub use system_folder::SystemFolder;
 pub use system_papers::SystemPapers;
-
-#[cfg(test)]
-mod tests;

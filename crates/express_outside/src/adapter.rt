@@ -128,6 +128,3 @@ impl<T: Writes> Sink for Adapter<T> {
 }
 
 impl<T: Reads + Writes> Conn for Adapter<T> {}
-
-#[cfg(test)]
-mod tests;

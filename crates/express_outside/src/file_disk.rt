@@ -216,6 +216,3 @@ impl<F: FileCalls> Disk for FileDisk<F> {
 
     ghost only_now = { λ d c left. left };
 }
-
-#[cfg(test)]
-mod tests;

@@ -92,17 +92,27 @@ pub struct Timed<S> {
 }
 
 impl<S> Timed<S> {
+    /// A connection that was accepted at this moment, with so many seconds from then on for all that is read, and as
+    /// many from the first write on for all that is written.
+    pub fn accepted_for(socket: S, at: Instant, secs: u64) -> Self
+        ensures socket { result.socket ≡ socket }
+        ensures reading { (result.reading.began ≡ Some at) × (as_nanos result.reading.allowed ≡ seconds secs) }
+        ensures writing { (result.writing.began ≡ None) × (as_nanos result.writing.allowed ≡ seconds secs) }
+    {
+        Timed {
+            socket,
+            reading: Limit::from(at, secs),
+            writing: Limit::of(secs),
+        }
+    }
+
     /// A connection that was accepted at this moment.
     pub fn accepted(socket: S, at: Instant) -> Self
         ensures socket { result.socket ≡ socket }
         ensures reading { (result.reading.began ≡ Some at) × (as_nanos result.reading.allowed ≡ seconds 10) }
         ensures writing { (result.writing.began ≡ None) × (as_nanos result.writing.allowed ≡ seconds 10) }
     {
-        Timed {
-            socket,
-            reading: Limit::from(at, PATIENCE_WITH_CLIENTS),
-            writing: Limit::of(PATIENCE_WITH_CLIENTS),
-        }
+        Timed::accepted_for(socket, at, PATIENCE_WITH_CLIENTS)
     }
 
     /// A connection with so many seconds from this moment on for all that is read and written.
@@ -172,6 +182,3 @@ impl<S: Socket> Writes for Timed<S> {
         Ok(())
     }
 }
-
-#[cfg(test)]
-mod tests;

@@ -14,6 +14,3 @@ pub fn random_seed<R: Files>(rt: &R) -> Result<[u8; 32], NoSeed> {
     let random = File::open(rt, "/dev/urandom").map_err(|_| NoSeed)?;
     seed_of(&mut Adapter::new(Direct(random))).map_err(|_| NoSeed)
 }
-
-#[cfg(test)]
-mod tests;

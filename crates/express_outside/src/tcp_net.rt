@@ -69,6 +69,13 @@ impl<P: Ports> TcpNet<P> {
         }
     }
 
+    /// How often a listen or an accept has failed.
+    pub fn door_faults(&self) -> u64
+        ensures { result ≡ self.now.doors }
+    {
+        self.doors
+    }
+
     // A dial failed, or a connection that is closed had faults.
     fn count_fault(&mut self)
         ensures faults { self.new.faults ≡ next self.old.faults }
@@ -173,6 +180,3 @@ impl<P: Ports> Net for TcpNet<P> {
         }
     }
 }
-
-#[cfg(test)]
-mod tests;

@@ -20,7 +20,7 @@ const PAUSE: u64 = 100;
 #[derive(Drop)]
 pub struct TcpPorts<R: Net + Clock + Copy> {
     rt: R,
-    pub(crate) door: Option<R::Listener>,
+    door: Option<R::Listener>,
 }
 
 /// A stream, and the clock by which its calls end in time.

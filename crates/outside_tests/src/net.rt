@@ -1,9 +1,9 @@
 //! A net over loopback.
-use super::*;
-use crate::tcp_ports::{TcpPorts, TcpSocket};
-use express_words::outside::{Conn, Sink, Source};
-use std::net::{Shutdown, TcpStream};
+use express_outside::{Adapter, TcpNet, TcpPorts, TcpSocket, Timed};
+use express_words::outside::{Conn, Counted, Net, Sink, Source};
+use std::net::{Shutdown, TcpListener, TcpStream};
 use std::test::Fail;
+use std::time::Instant;
 
 type Loopback = TcpNet<TcpPorts<HostRuntime>>;
 
@@ -32,7 +32,7 @@ fn is_mute<C: Conn>(conn: &mut C) -> bool {
 }
 
 fn has_counted(net: &Loopback, faults: u64, doors: u64) -> bool {
-    net.faults() == faults && net.doors == doors
+    net.faults() == faults && net.door_faults() == doors
 }
 
 fn accepts(net: &mut Loopback) -> bool {
@@ -43,15 +43,19 @@ fn dials(net: &mut Loopback, peer: &str) -> bool {
     net.dial(peer).is_ok()
 }
 
+/// An address of this machine at which nothing listens: the system chose its port just now.
+pub fn free_address(rt: &HostRuntime) -> Result<String, Fail> {
+    let door = TcpListener::bind(rt, "127.0.0.1:0")?;
+    Ok(format!(in rt.alloc(); "{}", door.local_addr()?)?)
+}
+
 // Where the net listens from now on.
 fn listening(rt: &HostRuntime, net: &mut Loopback) -> Result<String, Fail> {
-    if net.listen("127.0.0.1:0").is_err() {
+    let at = free_address(rt)?;
+    if net.listen(at.as_str()).is_err() {
         Err("it can't listen")?;
     }
-    let Some(listener) = &net.ports.door else {
-        return Err(Fail::from("nothing listens"));
-    };
-    Ok(format!(in rt.alloc(); "{}", listener.local_addr()?)?)
+    Ok(at)
 }
 
 // Whether bytes go both ways between the net and itself.
@@ -78,7 +82,7 @@ fn fails(rt: &HostRuntime, net: &mut Loopback, at: &str) -> Result<bool, Fail> {
 }
 
 #[test]
-fn bytes_go_both_ways_and_each_fault_is_counted(rt: HostRuntime) -> Result<(), Fail> {
+fn bytes_go_both_ways_and_each_fault_of_a_net_is_counted(rt: HostRuntime) -> Result<(), Fail> {
     let mut net = TcpNet::new(TcpPorts::new(rt));
     assert!(rt; !accepts(&mut net), "nothing listens yet");
     assert!(rt; net.listen("no address").is_err(), "a text without a port");

@@ -1,6 +1,6 @@
 //! The adapters over a reader and a writer that fail or are interrupted.
-use super::*;
-use crate::calls::Direct;
+use express_outside::{Adapter, Direct};
+use express_words::outside::{Counted, Failed, Sink, Source};
 use std::io::{self, ErrorKind, Read, Write};
 
 /// A reader that has two bytes, then fails once, then has ended. Each of its reads is interrupted so many times first.
@@ -59,7 +59,7 @@ fn fails(source: &mut Adapter<Direct<Failing>>, buf: &mut [u8; 8], faults: u64) 
 }
 
 #[test]
-fn a_source_counts_errors_but_no_interruptions(rt: HostRuntime) {
+fn a_source_counts_a_read_error_but_no_interruption_and_no_end(rt: HostRuntime) {
     for interrupts in [0, 1, 999] {
         let mut source = Adapter::new(Direct(Failing::new(interrupts)));
         let mut buf = [0u8; 8];
@@ -71,7 +71,7 @@ fn a_source_counts_errors_but_no_interruptions(rt: HostRuntime) {
 }
 
 #[test]
-fn a_source_that_is_always_interrupted_fails(rt: HostRuntime) {
+fn a_source_that_is_always_interrupted_is_a_fault(rt: HostRuntime) {
     let mut source = Adapter::new(Direct(Failing::new(1000)));
     assert!(rt; fails(&mut source, &mut [0; 8], 1));
 }
@@ -120,9 +120,13 @@ fn puts(sink: &mut Adapter<Direct<Narrow>>, bytes: &[u8], taken: bool, faults: u
 
 #[test]
 fn a_sink_writes_on_and_counts_what_is_not_taken(rt: HostRuntime) {
-    let mut flushed = sink(true);
-    assert!(rt; puts(&mut flushed, b"short", true, 0));
-    assert!(rt; puts(&mut flushed, b"longer", false, 1));
-    let mut unflushed = sink(false);
-    assert!(rt; puts(&mut unflushed, b"short", false, 1));
+    let mut narrow = sink(true);
+    assert!(rt; puts(&mut narrow, b"short", true, 0));
+    assert!(rt; puts(&mut narrow, b"longer", false, 1));
+}
+
+#[test]
+fn output_that_cannot_be_flushed_is_a_fault(rt: HostRuntime) {
+    let mut stuck = sink(false);
+    assert!(rt; puts(&mut stuck, b"short", false, 1));
 }

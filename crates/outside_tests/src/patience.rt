@@ -1,34 +1,29 @@
 //! Peers that drip, are silent, or take nothing, over loopback and with one second in place of ten.
-use super::*;
-use crate::adapter::Adapter;
-use crate::tcp_net::Ports;
-use crate::tcp_ports::{TcpPorts, TcpSocket};
+use crate::net::free_address;
+use express_outside::{Adapter, Ports, TcpPorts, TcpSocket, Timed};
 use express_words::outside::{Counted, Sink, Source};
 use std::io::Write;
 use std::net::TcpStream;
 use std::test::Fail;
 use std::thread;
+use std::time::{Duration, Instant};
 
 type Near = Adapter<Timed<TcpSocket<HostRuntime>>>;
 
 // A connection with a second for its reads and one for its writes, and its peer.
 fn pair(rt: &HostRuntime, ports: &mut TcpPorts<HostRuntime>) -> Result<(Near, TcpStream), Fail> {
-    if ports.listen("127.0.0.1:0").is_err() {
+    let at = free_address(rt)?;
+    if ports.listen(at.as_str()).is_err() {
         Err("it can't listen")?;
     }
-    let Some(door) = &ports.door else {
-        return Err(Fail::from("nothing listens"));
-    };
-    let peer = TcpStream::connect(rt, door.local_addr()?)?;
+    let peer = TcpStream::connect(rt, at.as_str())?;
     let Ok(made) = ports.accept() else {
         return Err(Fail::from("it can't accept"));
     };
-    let near = Timed {
-        socket: made.socket,
-        reading: Limit::from(made.at, 1),
-        writing: Limit::of(1),
-    };
-    Ok((Adapter::new(near), peer))
+    Ok((
+        Adapter::new(Timed::accepted_for(made.socket, made.at, 1)),
+        peer,
+    ))
 }
 
 // Whether a byte that the peer sends is read, and then a part of the second is over.

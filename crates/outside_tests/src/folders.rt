@@ -1,14 +1,14 @@
-//! A desk's folder, papers and the clock of the system.
-use crate::{DeskFolder, DeskPaths, PaperFiles, SystemClock, SystemFolder, SystemPapers};
-use desk_outside::{Clock, DeskFile, Folder, Hold, Papers};
-use express_words::outside::{Counted, Source};
-use node_journal::Disk;
+//! A desk's folder of the system.
+use crate::disks::keeps;
+use desk_files::{DeskFolder, DeskPaths, SystemFolder};
+use desk_outside::{DeskFile, Folder, Hold};
+use express_words::outside::Counted;
 use std::fs;
 use std::fs::Permissions;
 use std::os::unix::fs::{MetadataExt, PermissionsExt, symlink};
 use std::test::Fail;
 
-const FOLDER: &str = "desk_files_tests.folder";
+const FOLDER: &str = "folders_tests.folder";
 
 fn folder_of<'a>(rt: &'a HostRuntime, paths: &'a DeskPaths) -> DeskFolder<SystemFolder<'a>> {
     DeskFolder::new(SystemFolder::new(rt, paths))
@@ -19,23 +19,20 @@ fn is_there<F: Folder>(folder: &mut F, file: DeskFile) -> bool {
     folder.is_there(file) == Ok(true)
 }
 
-fn keeps<D: Disk>(disk: &mut D, bytes: &[u8]) -> bool {
-    disk.write(0, bytes).is_ok() && disk.sync().is_ok()
-}
-
-fn mode_of(rt: &HostRuntime, path: &str) -> Result<u32, Fail> {
+/// The bits of a file's mode that say who may do what.
+pub fn mode_of(rt: &HostRuntime, path: &str) -> Result<u32, Fail> {
     Ok(fs::symlink_metadata(rt, path)?.mode() & 0o777)
 }
 
 // A disk is put in place, and goes on there.
 fn moves_into_place(folder: &mut DeskFolder<SystemFolder<'_>>) -> Result<bool, Fail> {
     let mut disk = folder.open(DeskFile::NextLedger).map_err(|_| "not opened")?;
-    let is_made = keeps(&mut disk, b"bytes") && !is_there(folder, DeskFile::Ledger);
+    let is_made = keeps(&mut disk, 0, b"bytes") && !is_there(folder, DeskFile::Ledger);
     folder
         .put_in_place(DeskFile::NextLedger, DeskFile::Ledger)
         .map_err(|_| "not put in place")?;
     let is_moved = is_there(folder, DeskFile::Ledger) && !is_there(folder, DeskFile::NextLedger);
-    Ok(is_made && is_moved && keeps(&mut disk, b"moved"))
+    Ok(is_made && is_moved && keeps(&mut disk, 0, b"moved"))
 }
 
 fn removes<F: Folder>(folder: &mut F, file: DeskFile) -> bool {
@@ -56,9 +53,9 @@ fn a_folder_is_private_and_one_process_has_it(rt: HostRuntime) -> Result<(), Fai
     Ok(())
 }
 
-const OPEN: &str = "desk_files_tests.open";
+const OPEN: &str = "folders_tests.open";
 
-const LINK: &str = "desk_files_tests.link";
+const LINK: &str = "folders_tests.link";
 
 fn is_refused(rt: &HostRuntime, path: &str) -> Result<bool, Fail> {
     let paths = DeskPaths::of(rt.alloc(), path)?;
@@ -79,37 +76,4 @@ fn a_folder_that_is_open_to_others_or_a_link_is_refused(rt: HostRuntime) -> Resu
     fs::remove_file(&rt, LINK)?;
     fs::remove_dir_all(&rt, OPEN)?;
     Ok(())
-}
-
-const LETTERS: &str = "desk_files_tests.letters";
-
-// Whether the file at this path has these bytes, which are fewer than 16.
-fn has(papers: &mut PaperFiles<SystemPapers<'_>>, path: &str, bytes: &[u8]) -> bool {
-    let mut found = [0; 16];
-    match papers.read(path) {
-        Ok(mut paper) => match paper.take(&mut found) {
-            Ok(count) => count <= 16 && &found[..count] == bytes,
-            Err(_) => false,
-        },
-        Err(_) => false,
-    }
-}
-
-#[test]
-fn a_paper_is_written_whole_and_replaced(rt: HostRuntime) -> Result<(), Fail> {
-    let mut papers = PaperFiles::new(SystemPapers::new(&rt));
-    assert!(rt; papers.write(LETTERS, "one.txt", b"a longer one").is_ok());
-    assert!(rt; papers.write(LETTERS, "one.txt", b"short").is_ok());
-    assert!(rt; has(&mut papers, "desk_files_tests.letters/one.txt", b"short"));
-    assert!(rt; mode_of(&rt, "desk_files_tests.letters/one.txt")? == 0o600);
-    assert!(rt; papers.read("desk_files_tests.letters/two.txt").is_err() && papers.faults() == 1);
-    assert!(rt; papers.write(LETTERS, "none/one.txt", b"nowhere").is_err() && papers.faults() == 2);
-    fs::remove_dir_all(&rt, LETTERS)?;
-    Ok(())
-}
-
-#[test]
-fn a_clock_tells_the_time_of_this_century(rt: HostRuntime) {
-    let mut clock = SystemClock::new(&rt);
-    assert!(rt; matches!(clock.now(), Ok(1_700_000_000..=4_000_000_000)));
 }

@@ -1,5 +1,5 @@
 //! Seeds of the system.
-use super::random_seed;
+use express_outside::random_seed;
 use std::test::Fail;
 
 // Two seeds of the system, if there are two.

@@ -1,0 +1,232 @@
+//! Disks over a file in memory, and over a folder in a file's place.
+ghost use Rattle.std.specs.Prelude.{None};
+
+use express_outside::{FileCalls, FileDisk, Trouble, trouble_of};
+use express_words::outside::{Counted, Failed};
+use node_journal::Disk;
+use std::cell::Cell;
+use std::fs::File;
+use std::os::unix::fs::FileExt;
+
+/// So many bytes a file in memory may have.
+const ROOM: usize = 32;
+
+/// How many bytes were written to a file, how many of them since its last sync, and the offset from which on its reads
+/// fail.
+#[derive(Drop)]
+struct Notes {
+    written: Cell<usize>,
+    unsynced: Cell<usize>,
+    fails_from: Cell<u64>,
+}
+
+impl Notes {
+    fn new() -> Notes {
+        Notes {
+            written: Cell::new(0),
+            unsynced: Cell::new(0),
+            fails_from: Cell::new(u64::MAX),
+        }
+    }
+
+    fn add(&self, count: usize) {
+        self.written.set(self.written.get().saturating_add(count));
+        self.unsynced.set(self.unsynced.get().saturating_add(count));
+    }
+
+    fn are(&self, written: usize, unsynced: usize) -> bool {
+        self.written.get() == written && self.unsynced.get() == unsynced
+    }
+}
+
+/// A file in memory that gives at most three bytes at a read. Each second read is interrupted.
+#[derive(Drop)]
+struct Narrow<'a> {
+    content: [u8; ROOM],
+    len: usize,
+    is_next_interrupted: bool,
+    notes: &'a Notes,
+}
+
+impl<'a> Narrow<'a> {
+    fn new(bytes: &[u8], notes: &'a Notes) -> Narrow<'a> {
+        let mut content = [0; ROOM];
+        let len = bytes.len().min(ROOM);
+        content[..len].copy_from_slice(&bytes[..len]);
+        Narrow {
+            content,
+            len,
+            is_next_interrupted: false,
+            notes,
+        }
+    }
+
+    // Whether this call is interrupted.
+    fn is_interrupted(&mut self) -> bool {
+        self.is_next_interrupted = !self.is_next_interrupted;
+        self.is_next_interrupted
+    }
+
+    fn put_byte(&mut self, at: usize, byte: u8) {
+        if at < ROOM {
+            self.content[at] = byte;
+            self.len = self.len.max(at + 1);
+        }
+    }
+}
+
+impl<'a> FileCalls for Narrow<'a> {
+    ghost calls = { λ _. None };
+
+    fn open(&mut self) -> Result<(), Trouble> {
+        Ok(())
+    }
+
+    fn read_at(&mut self, at: u64, out: &mut [u8]) -> Result<usize, Trouble> {
+        if self.is_interrupted() {
+            return Err(Trouble::Interrupted);
+        }
+        if at >= self.notes.fails_from.get() {
+            return Err(Trouble::Broken);
+        }
+        let end = self.len.min(ROOM) as u64;
+        let from = at.min(end) as usize;
+        let rest = &self.content[from..end as usize];
+        let count = rest.len().min(3).min(out.len());
+        out[..count].copy_from_slice(&rest[..count]);
+        Ok(count)
+    }
+
+    fn write_at(&mut self, at: u64, bytes: &[u8]) -> Result<(), Trouble> {
+        let from = at.min(ROOM as u64) as usize;
+        if bytes.len() > ROOM - from {
+            return Err(Trouble::Broken);
+        }
+        for (i, byte) in bytes.iter().enumerate() {
+            self.put_byte(from.saturating_add(i), *byte);
+        }
+        self.notes.add(bytes.len());
+        Ok(())
+    }
+
+    fn sync(&mut self) -> Result<(), Trouble> {
+        self.notes.unsynced.set(0);
+        Ok(())
+    }
+
+    fn check_name(&mut self) -> Result<(), Trouble> {
+        Ok(())
+    }
+}
+
+/// Whether what stands from here to the end of the disk is this, which is shorter than what is asked for.
+pub fn ends_with<F: FileCalls>(disk: &mut FileDisk<F>, at: u64, wanted: &[u8]) -> bool {
+    let mut out = [0u8; 16];
+    match disk.read(at, &mut out) {
+        Ok(count) => count <= 16 && &out[..count] == wanted,
+        Err(Failed) => false,
+    }
+}
+
+fn writes<F: FileCalls>(disk: &mut FileDisk<F>, at: u64, bytes: &[u8]) -> bool {
+    disk.write(at, bytes).is_ok()
+}
+
+/// Whether these bytes are written at this offset, and on the disk then.
+pub fn keeps<F: FileCalls>(disk: &mut FileDisk<F>, at: u64, bytes: &[u8]) -> bool {
+    writes(disk, at, bytes) && disk.sync().is_ok()
+}
+
+// Whether a read from the disk's start on fails, and so many calls have failed by then.
+fn fails<F: FileCalls>(disk: &mut FileDisk<F>, faults: u64) -> bool {
+    disk.read(0, &mut [0; 8]).is_err() && disk.faults() == faults
+}
+
+#[test]
+fn what_is_there_is_written_back_before_the_first_answer(rt: HostRuntime) {
+    let notes = Notes::new();
+    let mut disk = FileDisk::new(Narrow::new(b"written before", &notes));
+    assert!(rt; ends_with(&mut disk, 8, b"before"));
+    assert!(rt; notes.are(14, 0) && disk.faults() == 0);
+    assert!(rt;
+        ends_with(&mut disk, 0, b"written before"),
+        "and stays as it was"
+    );
+    assert!(rt; ends_with(&mut disk, 14, b""));
+    assert!(rt; notes.are(14, 0), "only once");
+}
+
+#[test]
+fn pieces_and_interruptions_change_nothing(rt: HostRuntime) {
+    let notes = Notes::new();
+    let mut disk = FileDisk::new(Narrow::new(b"", &notes));
+    assert!(rt; keeps(&mut disk, 0, b"some bytes"));
+    assert!(rt; writes(&mut disk, 5, b"others") && notes.are(16, 6));
+    assert!(rt; ends_with(&mut disk, 0, b"some others") && disk.faults() == 0);
+    assert!(rt; !writes(&mut disk, 30, b"no room") && disk.faults() == 1);
+}
+
+#[test]
+fn a_read_error_is_not_taken_for_the_end(rt: HostRuntime) {
+    let notes = Notes::new();
+    let mut disk = FileDisk::new(Narrow::new(b"bytes", &notes));
+    assert!(rt; ends_with(&mut disk, 0, b"bytes"));
+    notes.fails_from.set(3);
+    assert!(rt; fails(&mut disk, 1));
+}
+
+#[test]
+fn a_file_that_cannot_be_read_whole_is_not_opened(rt: HostRuntime) {
+    let notes = Notes::new();
+    notes.fails_from.set(3);
+    let mut disk = FileDisk::new(Narrow::new(b"bytes", &notes));
+    assert!(rt; fails(&mut disk, 1));
+    assert!(rt; !keeps(&mut disk, 0, b"others") && disk.faults() == 2);
+    notes.fails_from.set(u64::MAX);
+    assert!(rt; ends_with(&mut disk, 0, b"bytes"));
+}
+
+/// The folder that the program runs in, as a file whose writes go nowhere.
+#[derive(Drop)]
+struct FolderAsFile<'a> {
+    rt: &'a HostRuntime,
+    folder: Option<File>,
+}
+
+impl<'a> FileCalls for FolderAsFile<'a> {
+    ghost calls = { λ _. None };
+
+    fn open(&mut self) -> Result<(), Trouble> {
+        self.folder = Some(File::open(self.rt, ".").map_err(|error| trouble_of(error))?);
+        Ok(())
+    }
+
+    fn read_at(&mut self, at: u64, out: &mut [u8]) -> Result<usize, Trouble> {
+        match &self.folder {
+            Some(folder) => folder.read_at(out, at).map_err(|error| trouble_of(error)),
+            None => Err(Trouble::Broken),
+        }
+    }
+
+    fn write_at(&mut self, _at: u64, _bytes: &[u8]) -> Result<(), Trouble> {
+        Ok(())
+    }
+
+    fn sync(&mut self) -> Result<(), Trouble> {
+        Ok(())
+    }
+
+    fn check_name(&mut self) -> Result<(), Trouble> {
+        Ok(())
+    }
+}
+
+#[test]
+fn a_folder_in_a_files_place_is_a_fault_and_no_empty_disk(rt: HostRuntime) {
+    let mut disk = FileDisk::new(FolderAsFile {
+        rt: &rt,
+        folder: None,
+    });
+    assert!(rt; fails(&mut disk, 1));
+    assert!(rt; disk.sync().is_err() && disk.faults() == 2);
+}
