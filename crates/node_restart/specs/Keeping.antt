@@ -10,7 +10,7 @@ use Rattle.node_restart.specs.declared.fault.KeepFault.{KeepFault}
 use Rattle.node_restart.specs.declared.fault.KeepFault.TheVariants.{Journal, NoMemory, Foreign}
 use Rattle.node_restart.specs.Frames.{Handed, IsOneFrame, records_of}
 use Rattle.node_restart.specs.Steps.{fold_from}
-use Rattle.node_restart.specs.Kept.{KeptState, HoldsFrames, LeavesFrames}
+use Rattle.node_restart.specs.Kept.{KeptState, HoldsFrames, LeavesAround}
 
 -- those that are kept: the bytes that are exactly one frame; no others change anything
 abbrev pub kept_of : List Handed → List Handed
@@ -65,16 +65,13 @@ IsCause (Foreign n) bytes old new = ⊥
 
 -- From old to new a server was handed this frame, which wasn't kept for this fault, and took no step. A
 -- crash at any moment on the way leaves the frames from before, with it or without.
-pub record Refuses {D : Type 0} (shows : D
-    → DiskSeen) (old new : KeptState D) (h : Handed) (fault : KeepFault)
-    : Type 0 where
+pub record Refuses {D : Type 0} (shows : D → DiskSeen) (old new : KeptState D) (h : Handed)
+    (fault : KeepFault) : Type 0 where
   pub whole : IsOneFrame h.frame
   pub cause : IsCause fault (length h.frame + 1) old new
   pub opening : new.opening ≡ old.opening
   pub no_step : new.core ≡ old.core
-  pub any_moment : old.journal.closed ≡ false → (before : List Handed)
-      → HoldsFrames old.opening before (shows old.disk).reads → LeavesOnly (shows old.disk) (shows new.disk)
-      (LeavesFrames old.journal.limit old.opening before h)
+  pub any_moment : LeavesAround shows old new h
 
 -- what a crash may leave of a frame that wasn't kept: the frame itself, where a call on the disk failed
 abbrev pub begun : KeepFault → Handed → List Handed

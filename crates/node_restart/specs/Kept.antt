@@ -42,6 +42,13 @@ abbrev pub LeavesOpening : ℕ → Opening → List ℕ → Type 0
 LeavesOpening limit o c =
     ((content c ≡ []) ⊎ (content c ≡ records_of o [])) × ((length c ≤ 1) ⊎ IsUndamaged limit 0 c)
 
+-- While the journal is open, a crash at any moment from old to new leaves the frames from before, with this
+-- one or without.
+abbrev pub LeavesAround : {D : Type 0} → (D → DiskSeen) → (old new : KeptState D) → Handed → Type 0
+LeavesAround disk old new h = old.journal.closed ≡ false → (frames : List Handed)
+    → HoldsFrames old.opening frames (disk old.disk).reads → LeavesOnly (disk old.disk) (disk new.disk)
+    (LeavesFrames old.journal.limit old.opening frames h)
+
 -- Where a crash before leaves no byte, one at any moment since then leaves just this.
 unfoldable pub MakesOnly : ℕ → Opening → (old new : DiskSeen) → Type 0
 MakesOnly limit o old new = LeavesNoByte old.may_leave → LeavesOnly old new (LeavesOpening limit o)

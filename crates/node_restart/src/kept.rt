@@ -3,7 +3,7 @@ ghost use Rattle.std.specs.Prelude.{◌≡◌, ◌≢◌, ◌↔◌, ◌≤◌, 
 ghost use Rattle.express_words.specs.Limits.{KeepsLimits};
 ghost use Rattle.frame_rules.specs.Spelling.{spelling};
 ghost use Rattle.leader_core.specs.Told.{sent_length};
-ghost use Rattle.node_journal.specs.Disk.{IsUntouched, Within, LeavesOnly};
+ghost use Rattle.node_journal.specs.Disk.{IsUntouched, Within};
 ghost use Rattle.node_journal.specs.Records.{content, IsUndamaged};
 ghost use Rattle.node_journal.specs.Journal.{Passes, longer, broken};
 ghost use Rattle.frame_rules.specs.Room.{HasRoom};
@@ -43,7 +43,7 @@ impl<D: Disk> Model for Kept<D> {
 }
 
 impl<D: Disk> Kept<D> {
-    ghost use Rattle.node_restart.specs.Kept.{HoldsFrames, Stands, LeavesFrames, MakesOnly, IsDamagedAt};
+    ghost use Rattle.node_restart.specs.Kept.{HoldsFrames, Stands, LeavesAround, MakesOnly, IsDamagedAt};
 
     /// A server before its first frame, on a disk with no byte. No more than `limit` bytes of the disk will
     /// be used.
@@ -172,12 +172,13 @@ impl<D: Disk> Kept<D> {
             → Stands self.new.opening self.new.core (D.disk self.new.disk).reads }
         ensures durable { self.new.journal.closed ≡ false
             → Within (D.disk self.new.disk).may_leave (D.disk self.new.disk).reads }
+        // Until a call on the disk fails a journal under the same limit finds nothing damaged.
+        ensures undamaged { self.new.journal.closed ≡ false → (c : List ℕ) → (D.disk self.new.disk).reads c
+            → IsUndamaged self.new.journal.limit 0 c }
 
         // A crash at any moment of the call leaves the frames from before it, with its own or without.
-        ensures any_moment { IsOneFrame frame.now → self.old.journal.closed ≡ false → (frames : List Handed)
-            → HoldsFrames self.old.opening frames (D.disk self.old.disk).reads
-            → LeavesOnly (D.disk self.old.disk) (D.disk self.new.disk)
-            (LeavesFrames self.old.journal.limit self.old.opening frames (handed Sender.Client frame.now)) }
+        ensures any_moment { IsOneFrame frame.now
+            → LeavesAround D.disk self.old self.new (handed Sender.Client frame.now) }
 
         // The faults of a frame, in the order in which they are judged. Closed and Full change nothing.
         ensures closed { IsOneFrame frame.now → self.old.journal.closed ≡ true
@@ -220,12 +221,13 @@ impl<D: Disk> Kept<D> {
             → Stands self.new.opening self.new.core (D.disk self.new.disk).reads }
         ensures durable { self.new.journal.closed ≡ false
             → Within (D.disk self.new.disk).may_leave (D.disk self.new.disk).reads }
+        // Until a call on the disk fails a journal under the same limit finds nothing damaged.
+        ensures undamaged { self.new.journal.closed ≡ false → (c : List ℕ) → (D.disk self.new.disk).reads c
+            → IsUndamaged self.new.journal.limit 0 c }
 
         // A crash at any moment of the call leaves the frames from before it, with its own or without.
-        ensures any_moment { IsOneFrame frame.now → self.old.journal.closed ≡ false → (frames : List Handed)
-            → HoldsFrames self.old.opening frames (D.disk self.old.disk).reads
-            → LeavesOnly (D.disk self.old.disk) (D.disk self.new.disk)
-            (LeavesFrames self.old.journal.limit self.old.opening frames (handed Sender.Peer frame.now)) }
+        ensures any_moment { IsOneFrame frame.now
+            → LeavesAround D.disk self.old self.new (handed Sender.Peer frame.now) }
 
         // The faults of a frame, in the order in which they are judged. Closed and Full change nothing.
         ensures closed { IsOneFrame frame.now → self.old.journal.closed ≡ true
@@ -268,12 +270,13 @@ impl<D: Disk> Kept<D> {
             → Stands self.new.opening self.new.core (D.disk self.new.disk).reads }
         ensures durable { self.new.journal.closed ≡ false
             → Within (D.disk self.new.disk).may_leave (D.disk self.new.disk).reads }
+        // Until a call on the disk fails a journal under the same limit finds nothing damaged.
+        ensures undamaged { self.new.journal.closed ≡ false → (c : List ℕ) → (D.disk self.new.disk).reads c
+            → IsUndamaged self.new.journal.limit 0 c }
 
         // A crash at any moment of the call leaves the frames from before it, with its own or without.
-        ensures any_moment { IsOneFrame frame.now → self.old.journal.closed ≡ false → (frames : List Handed)
-            → HoldsFrames self.old.opening frames (D.disk self.old.disk).reads
-            → LeavesOnly (D.disk self.old.disk) (D.disk self.new.disk)
-            (LeavesFrames self.old.journal.limit self.old.opening frames (handed sender frame.now)) }
+        ensures any_moment { IsOneFrame frame.now
+            → LeavesAround D.disk self.old self.new (handed sender frame.now) }
 
         // The faults of a frame, in the order in which they are judged. Closed and Full change nothing.
         ensures closed { IsOneFrame frame.now → self.old.journal.closed ≡ true

@@ -4,7 +4,7 @@ use Rattle.node_journal.specs.Journal.{JournalState}
 use Rattle.node_restart.specs.declared.server.Core.{Core}
 use Rattle.node_restart.specs.Frames.{handed}
 use Rattle.node_restart.specs.Kept.{KeptState, HoldsFrames, LeavesFrames}
-use Rattle.node_restart.proofs.KeptLaws.{stands_after, leaves_frames, leaves_only}
+use Rattle.node_restart.proofs.KeptLaws.{stands_after, leaves_frames, leaves_only, undamaged_now}
 use Rattle.node_restart.proofs.StepLaws.{no_frame_stays}
 use Rattle.node_restart.proofs.kept.Kept.take.Goals as goal
 
@@ -58,3 +58,11 @@ returns-in-Ok-clause-any_moment g c one still frames held =
     (leaves_frames c.self.inside.journal.limit c.self.inside.opening frames h (D.disk c.self.inside.disk).reads stood)
     (c.keep.ensures.any_moment one open_still))
     still held
+
+pub returns-in-Ok-clause-undamaged : goal.returns-in-Ok-clause-undamaged
+returns-in-Ok-clause-undamaged g c still =
+    undamaged_now c.keep.new.journal.limit c.keep.new.journal (g.D.Disk.disk c.keep.new.disk) (c.keep.ensures.in_place still) c.keep.ensures.ready refl
+
+pub returns-in-Err-clause-undamaged : goal.returns-in-Err-clause-undamaged
+returns-in-Err-clause-undamaged g c still =
+    undamaged_now c.keep.new.journal.limit c.keep.new.journal (g.D.Disk.disk c.keep.new.disk) (c.keep.ensures.in_place still) c.keep.ensures.ready refl
