@@ -3,6 +3,7 @@ ghost use Rattle.std.specs.Prelude.{Some, None};
 
 use crate::logged::Logged;
 use crate::never::Never;
+use crate::node::Node;
 use helper_core::Helper;
 use leader_core::Leader;
 use node_restart::{Did, Role, Sender, help_client, help_peer, lead_client, lead_peer};
@@ -74,6 +75,46 @@ impl Logged for Helper {
     ghost none = { λ s. tt };
 
     ghost both = { λ a b c xs ys one two. tt };
+
+    ghost halts = { λ a b c xs ys h why one two. two };
+}
+
+impl Logged for Node {
+    ghost use Rattle.std.proofs.Common.{refl, ◌∙◌};
+    ghost use Rattle.node_serve.specs.NoLog.{node_log};
+
+    type Fault = Never;
+
+    ghost log = { node_log };
+
+    ghost failures = { λ s. 0 };
+
+    ghost rises = { λ why before now. ⊥ };
+
+    fn role(&self) -> Role {
+        match self {
+            Node::Lead(_, _) => Role::Leader,
+            Node::Help(_) => Role::Helper,
+        }
+    }
+
+    fn hand(&mut self, sender: Sender, frame: &[u8], out: &mut [u8]) -> Result<Did, Never> {
+        match self {
+            Node::Lead(leader, _) => leader.hand(sender, frame, out),
+            Node::Help(helper) => helper.hand(sender, frame, out),
+        }
+    }
+
+    fn oldest(&self, out: &mut [u8]) -> Option<usize> {
+        match self {
+            Node::Lead(leader, _) => leader.oldest(out),
+            Node::Help(helper) => helper.oldest(out),
+        }
+    }
+
+    ghost none = { λ s. refl };
+
+    ghost both = { λ a b c xs ys one two. two ∙ one };
 
     ghost halts = { λ a b c xs ys h why one two. two };
 }
