@@ -1,15 +1,23 @@
 -- The calls of a visit.
 use Rattle.std.proofs.Common.{◌≡◌, ◌≢◌, ℕ, ◌==◌, false, List, [], ◌∷◌, ◌++◌, Option, Some, None, refl, sym, ap, ◌∙◌, subst, append_assoc}
 use Rattle.std.proofs.lemmas.List.{append-nil}
+use Rattle.express_words.specs.Seen.{Seen}
 use Rattle.express_words.specs.Streams.{Stream, Gave}
 use Rattle.express_words.specs.Calls.{Call, Accepted, Closed, Adds, AddsClose, GivesTelling}
 use Rattle.node_exchange.specs.Exchanging.{Makes, Exchange}
-use Rattle.node_exchange.specs.Exchanging.{ExchangesOn}
-use Rattle.node_serve.specs.Serving.{IsHelper, Serves}
-use Rattle.node_serve.specs.declared.node.Node.{Node}
-use Rattle.node_serve.specs.declared.node.Node.TheVariants as node
+use Rattle.node_exchange.specs.Exchanging.{ClosedAtEnd, EarlyAtEnd, EndsShort, ExchangesOn}
+use Rattle.frame_rules.specs.Frames.{PlainFrame}
+use Rattle.frame_rules.specs.Whole.{whole}
+use Rattle.step_rules.specs.Leader.{Leader}
+use Rattle.node_restart.specs.Frames.{Handed}
+use Rattle.node_restart.specs.declared.server.Core.{Core}
+use Rattle.node_restart.specs.declared.server.Core.TheVariants.{Lead, Help}
+use Rattle.node_serve.specs.Handling.{IsHelp}
+use Rattle.node_serve.specs.Leading.{taken_in}
+use Rattle.node_serve.specs.Responding.{Responds, Stretch, meanwhile}
+use Rattle.node_serve.specs.Stopping.{LeadStops, Stops}
 use Rattle.node_serve.specs.declared.node.Served.{Served}
-use Rattle.node_host.specs.Visits.{Visit, visit_calls, IsOfTold}
+use Rattle.node_host.specs.Visits.{Visit, visit_calls, Broken, Shown, IsOfTold, IsOfBrokenTold, LinkAtEnd, up_to_close}
 
 pub makes_none : (a : Option (List Call)) → Makes a a []
 makes_none None = tt
@@ -43,14 +51,32 @@ told peer (e ∷ es) a b before (next, (calls, makes, is), others) =
       ),
     )
 
-pub serves_told : (old : Node) (bytes : List ℕ) (new : Node) (a b : Option (List Call)) (count : ℕ) (why : Served) (reply : List ℕ)
-    → Serves old bytes new a b count why reply → (IsHelper old → b ≡ a)
-    → (calls : List Call) × Makes a b calls × Serves old bytes new (Some []) (Some calls) count why reply × (IsHelper old → calls ≡ [])
-serves_told (node.Help h) bytes new a b count why reply serves rests =
-    ([], subst (λ (x : Option (List Call)). Makes a x []) (sym (rests tt)) (makes_none a), serves, λ is. refl)
-serves_told (node.Lead l peer) bytes new a b count why reply (now, is, (made, on, leads)) rests =
-    let calls = told peer made a b [] on in
+pub responds_told : (peer : List ℕ) (core : Core) (bytes : List ℕ) (new : Core) (frames : List Handed) (net : Stretch) (why : Served) (reply : List ℕ)
+    → Responds peer core bytes new frames net why reply → (IsHelp core → net.now ≡ net.before)
+    → (calls : List Call) × Makes net.before net.now calls × Responds peer core bytes new frames (meanwhile calls net.count) why reply × (IsHelp core → calls ≡ [])
+responds_told peer (Help h) bytes new frames net why reply responds rests =
+    ([], subst (λ (x : Option (List Call)). Makes net.before x []) (sym (rests tt)) (makes_none net.before), responds, λ is. refl)
+responds_told peer (Lead l) bytes new frames net why reply (now, is, (made, on, leads)) rests =
+    let calls = told peer made net.before net.now [] on in
     (calls.0, calls.1, (now, is, (made, calls.2, leads)), λ none. absurd none)
+
+lead_told : (found : Option PlainFrame) (peer : List ℕ) (l : Leader) (bytes : List ℕ) (new : Core) (frames : List Handed) (refused : Handed) (a b : Option (List Call))
+    → LeadStops found peer l bytes new frames refused a b
+    → (calls : List Call) × Makes a b calls × LeadStops found peer l bytes new frames refused (Some []) (Some calls)
+lead_told None peer l bytes new frames refused a b (same, at) =
+    ([], subst (λ (x : Option (List Call)). Makes a x []) (sym same) (makes_none a), (refl, at))
+lead_told (Some f) peer l bytes new frames refused a b (now, is, (made, on, down)) =
+    let calls = told peer made a b [] on in
+    (calls.0, calls.1, (now, is, (made, calls.2, down)))
+
+pub stops_told : (peer : List ℕ) (core : Core) (bytes : List ℕ) (new : Core) (frames : List Handed) (refused : Handed) (a b : Option (List Call))
+    → Stops peer core bytes new frames refused a b → (IsHelp core → b ≡ a)
+    → (calls : List Call) × Makes a b calls × Stops peer core bytes new frames refused (Some []) (Some calls) × (IsHelp core → calls ≡ [])
+stops_told peer (Help h) bytes new frames refused a b stops rests =
+    ([], subst (λ (x : Option (List Call)). Makes a x []) (sym (rests tt)) (makes_none a), stops, λ is. refl)
+stops_told peer (Lead l) bytes new frames refused a b stops rests =
+    let calls = lead_told (taken_in (whole bytes)) peer l bytes new frames refused a b stops in
+    (calls.0, calls.1, calls.2, λ none. absurd none)
 
 -- ---- an accept, these calls, and a close
 
@@ -86,3 +112,33 @@ visit_made (Some a) (Some b) (Some c) (Some d) (Some s) (Some t) (Some w) (Some 
           ∙ append_assoc (a ++ Accepted false ∷ []) v.calls (last ∷ []) ∙ append_assoc a (Accepted false ∷ []) (v.calls ++ last ∷ []),
       (ap Some content_is, taken_is, refl),
     )
+
+-- ---- the connection to the helper
+
+behind_accept : (a b c calls : List Call) → b ≡ a ++ Accepted false ∷ [] → c ≡ b ++ calls → a ++ Accepted false ∷ calls ≡ c
+behind_accept a b c calls accept makes =
+    sym (makes ∙ ap (λ (y : List Call). y ++ calls) accept ∙ append_assoc a (Accepted false ∷ []) calls)
+
+at_end : {C : Type 0} (shows : C → Seen) (c link : Option (List Call)) → link ≡ c → EarlyAtEnd c shows → LinkAtEnd (Shown shows) link
+at_end shows c link is early short =
+    let found = early (subst EndsShort is short) in
+    (shows found.0, (found.0, refl), subst (λ (calls : Option (List Call)). ClosedAtEnd calls (shows found.0)) (sym is) found.1)
+
+pub link_at_end : {C : Type 0} (shows : C → Seen) (a b c d : Option (List Call)) (t : Option Stream) (x : Option (List ℕ)) (n : ℕ) (v : Visit)
+    → Adds a b (Accepted false) → Makes b c v.calls → AddsClose c d t x n → EarlyAtEnd c shows → LinkAtEnd (Shown shows) (up_to_close a d v)
+link_at_end shows a b c None t x n v accept makes close early = λ short. absurd short
+link_at_end shows None b c (Some d) t x n v accept makes close early = λ short. absurd short
+link_at_end shows (Some a) b c (Some d) None x n v accept makes close early = absurd close
+link_at_end shows (Some a) b c (Some d) (Some t) None n v accept makes close early = absurd close
+link_at_end shows (Some a) b None (Some d) (Some t) (Some x) n v accept makes close early = absurd close
+link_at_end shows (Some a) None (Some c) (Some d) (Some t) (Some x) n v accept makes close early = absurd makes
+link_at_end shows (Some a) (Some b) (Some c) (Some d) (Some t) (Some x) n v accept makes close early =
+    at_end shows (Some c) (Some (a ++ Accepted false ∷ v.calls)) (ap Some (behind_accept a b c v.calls accept makes)) early
+
+-- ---- a connection that took nothing
+
+pub of_broken : (d : Option (List Call)) (v : Visit) (u : Broken) (t : Option Stream) (x : Option (List ℕ)) → u.given ≡ v.given → u.left ≡ v.left → v.taken ≡ [] → v.faults ≡ 0
+    → IsOfTold d v t x 0 → IsOfBrokenTold d u t x 0
+of_broken None v u t x given left taken faults of = tt
+of_broken (Some d) v u t x given left taken faults of =
+    (of.0 ∙ ap Some (same_stream v.given u.given v.left u.left (sym given) (sym left)), of.1 ∙ ap Some taken, refl)

@@ -1,42 +1,21 @@
 -- One visit after another.
-use Rattle.std.proofs.Common.{◌≡◌, ℕ, ◌+◌, ◌<◌, true, Bool, cond, List, [], ◌∷◌, ◌++◌, length, Option, Some, None, Result, Err, refl, sym, ap, subst, arith}
-use Rattle.std.specs.Prelude.{All, flat_map, count_by}
+use Rattle.std.proofs.Common.{◌≡◌, ℕ, ◌+◌, ◌<◌, cond, List, [], ◌∷◌, ◌++◌, length, Ok, Err, refl, ap, subst, arith, Bool}
+use Rattle.std.specs.Prelude.{flat_map, count_by}
 use Rattle.std.proofs.lemmas.List.{length-append, flat_map_more}
-use Rattle.std.proofs.lemmas.List.Elements.{All-nil, All-push, All-weaker}
 use Rattle.std.proofs.lemmas.List.Sums.{sum_by-append}
 use Rattle.express_words.specs.Seen.{Seen}
-use Rattle.express_words.specs.Streams.{Stream}
-use Rattle.express_words.specs.Causes.{next}
-use Rattle.express_words.specs.Calls.{Call, Accepted}
-use Rattle.express_words.specs.declared.outside.Failed.{Failed}
 use Rattle.node_exchange.specs.Exchanging.{Makes}
-use Rattle.node_serve.specs.declared.node.Node.{Node}
+use Rattle.node_restart.specs.Frames.{Handed}
+use Rattle.node_serve.specs.Logs.{Log}
 use Rattle.node_serve.specs.declared.node.Served.{Served}
+use Rattle.node_host.specs.declared.stop.Halt.{Halt}
+use Rattle.node_host.specs.declared.stop.Halt.TheVariants as halt
 use Rattle.node_host.specs.declared.tally.Tally.{Tally}
 use Rattle.node_host.specs.Tallies.{is_answered, is_ended, is_connection_fault, is_link_fault, is_bad_link, count_of, tally_of}
-use Rattle.node_host.specs.Hosting.{Hosts}
-use Rattle.node_host.specs.Visits.{Visit, visit_calls, Standing, standing, IsVisit, Visits, none, then, IsOfTold}
+use Rattle.node_host.specs.Hosting.{Visited, Hosts}
+use Rattle.node_host.specs.Visits.{Visit, visit_calls, Standing, VisitEnds, none, then}
 use Rattle.node_host.proofs.CallLaws.{makes_none, makes_both}
-
--- it was a connection of this kind
-abbrev pub Of : {C : Type 0} → (C → Seen) → Option (List Call) → Visit → Type 0
-Of {C} shown a v = (conn : C) × IsOfTold a v (shown conn).content (shown conn).written (shown conn).faults
-
--- where a server stands after so many visits
-pub record Hosting {C : Type 0} (shown : C → Seen)
-    (start now : Standing) (number : ℕ) (tally : Tally) (a b : Option (List Call)) : Type 0 where
-  pub visits : List Visit
-  pub all : length visits ≡ number
-  pub made : Visits start visits now
-  pub tally_is : tally ≡ tally_of visits
-  pub calls : Makes a b (flat_map visit_calls visits)
-  pub conns : All (Of shown b) visits
-
-pub still_of : (a b : Option (List Call)) (calls : List Call) (v : Visit) (content : Option Stream) (written : Option (List ℕ)) (faults : ℕ)
-    → Makes a b calls → IsOfTold a v content written faults → IsOfTold b v content written faults
-still_of a None calls v content written faults makes h = tt
-still_of None (Some b) calls v content written faults makes h = absurd makes
-still_of (Some a) (Some b) calls v content written faults makes h = h
+use Rattle.node_host.proofs.VisitLaws.{visit_takes}
 
 counts_more : (is : Served → Bool) (visits : List Visit) (v : Visit) (answer : Served) (old new : ℕ) → v.answer ≡ answer
     → old ≡ count_of is visits → new ≡ old + count_by is (answer ∷ []) → new ≡ count_of is (visits ++ v ∷ [])
@@ -70,47 +49,70 @@ tally_more old new visits v answer same before more =
     new.connection_faults (count_of is_connection_fault (visits ++ v ∷ [])) new.link_faults (count_of is_link_fault (visits ++ v ∷ []))
     new.bad_links (count_of is_bad_link (visits ++ v ∷ [])) first second third fourth fifth
 
-pub hosting : {C : Type 0} (shown : C → Seen) (start : Standing) (tally : Tally) (a : Option (List Call))
-    → tally ≡ tally_of [] → Hosting shown start start 0 tally a a
-hosting shown start tally a is =
-    record { visits = []; all = refl; made = none; tally_is = is; calls = makes_none a; conns = All-nil (Of shown a) }
+-- ---- where a server stands after so many visits
 
-pub hosting_more : {C : Type 0} (shown : C → Seen) (start old new : Standing) (number : ℕ) (tally more : Tally) (answer : Served) (a b c : Option (List Call))
-    → Hosting shown start old number tally a b
-    → (v : Visit) × (v.answer ≡ answer) × IsVisit v old new × Makes b c (visit_calls v) × Of shown c v
-    → CountsMore tally more answer → Hosting shown start new (number + 1) more a c
-hosting_more shown start old new number tally more answer a b c h (v, same, is, makes, of) counts = record {
-  visits = h.visits ++ v ∷ [];
-  all = omega (arith, h.all, length-append h.visits (v ∷ []));
-  made = then h.visits old v new h.made is;
-  tally_is = tally_more tally more h.visits v answer same h.tally_is counts;
-  calls = subst (Makes a c) (flat_map_more visit_calls [] h.visits v) (makes_both a b c (flat_map visit_calls h.visits) (visit_calls v) h.calls makes);
-  conns = All-push (Of shown c) h.visits v (All-weaker (Of shown b) (Of shown c)
-      (λ (u : Visit) known. (known.0, still_of b c (visit_calls v) u (shown known.0).content (shown known.0).written (shown known.0).faults makes known.1)) h.visits h.conns) of;
+pub record Hosting {S F : Type 0} (log : Log S F) (peer : List ℕ) (shown : Seen → Type 0)
+    (start now : Standing S) (number : ℕ) (tally : Tally) : Type 0 where
+  pub done : Visited log peer shown start now
+  pub all : length done.visits ≡ number
+  pub tally_is : tally ≡ tally_of done.visits
+
+pub hosting : {S F : Type 0} (log : Log S F) (peer : List ℕ) (shown : Seen → Type 0) (start : Standing S) (tally : Tally)
+    → ((s : S) → log.takes s s []) → tally ≡ tally_of [] → Hosting log peer shown start start 0 tally
+hosting log peer shown start tally untaken is = record {
+  done = record { visits = []; frames = []; made = none; takes = untaken start.server; calls = makes_none start.net.calls };
+  all = refl;
+  tally_is = is;
 }
+
+-- frames, and frames behind them
+abbrev Both : {S F : Type 0} → Log S F → Type 0
+Both {S} log = (a b c : S) (xs ys : List Handed) → log.takes a b xs → log.takes b c ys → log.takes a c (xs ++ ys)
+
+pub hosting_more : {S F : Type 0} (log : Log S F) (peer : List ℕ) (shown : Seen → Type 0) (start old new : Standing S) (number : ℕ) (tally more : Tally) (answer : Served)
+    → ((s : S) → log.takes s s []) → Both log
+    → Hosting log peer shown start old number tally → VisitEnds log peer shown (Ok answer) old new
+    → CountsMore tally more answer → Hosting log peer shown start new (number + 1) more
+hosting_more log peer shown start old new number tally more answer untaken both h (v, same, (frames, is)) counts =
+    let done = h.done in
+    record {
+      done = record {
+        visits = done.visits ++ v ∷ [];
+        frames = done.frames ++ frames;
+        made = then done.visits done.frames old v frames new done.made is;
+        takes = both start.server old.server new.server done.frames frames done.takes (visit_takes log peer shown v frames old new untaken is);
+        calls = subst (Makes start.net.calls new.net.calls) (flat_map_more visit_calls [] done.visits v)
+            (makes_both start.net.calls old.net.calls new.net.calls (flat_map visit_calls done.visits) (visit_calls v) done.calls is.calls);
+      };
+      all = omega (arith, h.all, length-append done.visits (v ∷ []));
+      tally_is = tally_more tally more done.visits v answer same h.tally_is counts;
+    }
 
 -- ---- how it ends
 
--- the visits of a server that ended so
-abbrev Hosted : {C : Type 0} → (C → Seen) → ℕ → Result Tally Failed → (start end : Standing) → (a b : Option (List Call)) → Type 0
-Hosted shown connections result start end a b =
-    (visits : List Visit) × Hosts connections result visits start end a b × All (Of shown b) visits
+pub hosted : {S F : Type 0} (log : Log S F) (peer : List ℕ) (shown : Seen → Type 0) (start end : Standing S) (number connections : ℕ) (tally : Tally)
+    → number ≡ connections → Hosting log peer shown start end number tally → Hosts log peer shown connections start end (Ok tally)
+hosted log peer shown start end number connections tally all h =
+    record { between = end; done = h.done; enough = omega (arith, h.all, all); tally_is = h.tally_is; ends = refl }
 
-pub door_failed : {C : Type 0} (shown : C → Seen) (start : Standing) (old new : Node) (before now : ℕ) (number connections : ℕ) (tally : Tally) (failed : Failed) (a b c : Option (List Call))
-    → Hosting shown start (standing old before) number tally a b → number < connections
-    → Makes b c (Accepted true ∷ []) → new ≡ old → now ≡ next before
-    → Hosted shown connections (Err failed) start (standing new now) a c
-door_failed shown start old new before now number connections tally failed a b c h less makes stays one_more =
-    let made : Visits start h.visits (standing new before) = subst (λ (n : Node). Visits start h.visits (standing n before)) (sym stays) h.made in
-    let conns = All-weaker (Of shown b) (Of shown c)
-    (λ (u : Visit) known. (known.0, still_of b c (Accepted true ∷ []) u (shown known.0).content (shown known.0).written (shown known.0).faults makes known.1)) h.visits h.conns in (
-      h.visits,
-      record {
-        fewer = omega (arith, h.all, less);
-        faults = before;
-        made = made;
-        one_more = one_more;
-        calls = makes_both a b c (flat_map visit_calls h.visits) (Accepted true ∷ []) h.calls makes;
-      },
-      conns,
-    )
+-- frames, and frames up to one that is refused behind them
+abbrev Stopping : {S F : Type 0} → Log S F → Type 0
+Stopping {S} {F} log = (a b c : S) (xs ys : List Handed) (h : Handed) (why : F) → log.takes a b xs → log.stops b c ys h why
+    → log.stops a c (xs ++ ys) h why
+
+pub halted : {S F : Type 0} (log : Log S F) (peer : List ℕ) (shown : Seen → Type 0) (start old new : Standing S) (number connections : ℕ) (tally : Tally) (why : Halt F)
+    → Stopping log → Hosting log peer shown start old number tally → number < connections → VisitEnds log peer shown (Err why) old new
+    → Hosts log peer shown connections start new (Err (record { halt = why; tally = tally }))
+halted log peer shown start old new number connections tally halt.Door stopping h less fails =
+    record { between = old; done = h.done; enough = omega (arith, h.all, less); tally_is = h.tally_is; ends = fails }
+halted log peer shown start old new number connections tally (halt.Log fault) stopping h less (last, broken) = record {
+  between = old;
+  done = h.done;
+  enough = omega (arith, h.all, less);
+  tally_is = h.tally_is;
+  ends = record {
+    last = last;
+    broken = broken;
+    stops = stopping start.server old.server new.server h.done.frames broken.frames broken.refused fault h.done.takes broken.stops;
+  };
+}

@@ -1,3 +1,4 @@
+pub mod OpenLaws
 pub mod CallLaws
 pub mod VisitLaws
 pub mod HostLaws

@@ -1,38 +1,39 @@
 //! A server at its door.
-ghost use Rattle.std.specs.Prelude.{◌≡◌, ◌≤◌, List, IfOk, All};
-ghost use Rattle.express_words.specs.Causes.{CountsFailure};
-ghost use Rattle.node_host.specs.Hosting.{Hosts};
+ghost use Rattle.std.specs.Prelude.{◌≡◌, ◌≤◌, IfOk};
+ghost use Rattle.node_host.specs.Hosting.{Hosts, halt_in};
 ghost use Rattle.node_host.specs.Tallies.{total};
-ghost use Rattle.node_host.specs.Visits.{Visit, standing, IsOf};
+ghost use Rattle.node_host.specs.Visits.{Shown, DoorBy, LogBy, standing};
 
+use crate::stop::Stop;
 use crate::tally::Tally;
 use crate::visiting::visit;
-use express_words::outside::{Failed, Net};
-use node_serve::Node;
+use express_words::outside::Net;
+use node_serve::Logged;
 use wire_frames::Gather;
 
 /// Serves so many connections, one after another, with `gather`, and goes on whatever became of one. Gives how many
-/// had each answer; Failed where an accept failed, behind which there is no other call.
-pub fn host<N: Net>(
-    node: &mut Node,
+/// had each answer. It ends early where an accept fails, behind which there is no other call, or where the log refuses
+/// a frame, once that connection was closed. The door is opened by the caller; a leader's helper listens at `peer`.
+pub fn host<N: Net, S: Logged>(
+    server: &mut S,
+    peer: &str,
     gather: &mut Gather,
     connections: u32,
     net: &mut N,
-) -> Result<Tally, Failed>
-    ensures hosts { (visits : List Visit)
-        × Hosts connections result visits (standing node.old (N.seen net.old).faults) (standing node.new
-        (N.seen net.new).faults)
-        (N.seen net.old).calls (N.seen net.new).calls
-        × All (λ v. (conn : N.Conn) × IsOf (N.seen net.new).calls v (N.Conn.seen conn)) visits }
+) -> Result<Tally, Stop<S::Fault>>
+    ensures hosts { Hosts S.log peer.now (Shown N.Conn.seen) connections
+        (standing server.old (N.seen net.old)) (standing server.new (N.seen net.new)) result }
     ensures sum { IfOk result (λ tally. total tally ≡ connections) }
-    ensures door { CountsFailure (N.seen net.old).doors (N.seen net.new).doors result }
+    // The door's count rose where an accept failed, and the log's where its fault says so.
+    ensures door { DoorBy (halt_in result) (N.seen net.old).doors (N.seen net.new).doors }
+    ensures counts { LogBy S.rises (halt_in result) (S.failures server.old) (S.failures server.new) }
     ensures later { (N.seen net.old).faults ≤ (N.seen net.new).faults }
 {
     let mut tally = Tally::new();
     for _ in 0..connections {
-        match visit(node, gather, net) {
+        match visit(server, peer, gather, net) {
             Ok(answer) => tally.count(answer),
-            Err(failed) => return Err(failed),
+            Err(halt) => return Err(Stop { halt, tally }),
         }
     }
     Ok(tally)

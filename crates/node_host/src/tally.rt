@@ -5,7 +5,7 @@ ghost use Rattle.node_host.specs.Tallies.{is_answered, is_ended, is_connection_f
 use node_serve::Served;
 use std::fmt;
 
-/// How many connections had each answer of `serve_one`.
+/// How many connections had each answer.
 #[derive(Clone, Copy, Debug, PartialEq, Eq)]
 pub struct Tally {
     pub answered: u32,

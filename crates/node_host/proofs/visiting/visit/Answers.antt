@@ -1,25 +1,44 @@
-use Rattle.std.proofs.Common.{ℕ, ap, subst, arith}
-use Rattle.node_serve.specs.Draining.{FaultIn}
-use Rattle.node_host.proofs.VisitLaws.{visited, fault_later}
+use Rattle.std.proofs.Common.{ap}
+use Rattle.node_host.proofs.VisitLaws.{visited, broken}
 use Rattle.node_host.proofs.visiting.visit.Goals as goal
 
-pub returns-clause-visit : goal.returns-clause-visit
-returns-clause-visit g c =
-    let d = c.in_ok-conn.ensures in
-    let h = c.serve_one-answer.ensures in
-    let link = subst (λ (n : ℕ). FaultIn c.serve_one-answer.result n (g.N.Counted.seen c.serve_one-answer.new.net).faults) d.counts.unfailed h.fault in
-    let v = visited _ _ _ _ _ _ _ _ _ _ _ _ _ _ _ _ _ (record {
-      cut = h.cut;
+pub returns-in-Ok-answer-clause-ends : goal.returns-in-Ok-answer-clause-ends
+returns-in-Ok-answer-clause-ends g c =
+    let net = g.N.Counted.seen in
+    let shows = g.N.Conn.Counted.seen in
+    let d = c.in-Ok.ensures in
+    let h = c.serve-answer.ensures in
+    let k = c.in-Ok-answer.ensures in
+    let e = c.close.ensures in
+    visited g.S.Logged.log c.args.peer.now shows c.args.server.now c.serve-answer.new.server c.in-Ok-answer.answer
+    (net c.args.net.now) (net c.accept.new.self) (net c.serve-answer.new.net) (net c.close.new.self) (shows c.in-Ok.conn) c.serve-answer.new.conn _ h.brings (record {
+      cut = k.cut;
       stays = h.stays;
-      rests = λ e. ap (λ x. (g.N.Counted.seen x).calls) (h.net_rests e);
+      rests = λ short. ap (λ x. (net x).calls) (h.net_rests short);
       untold = h.writes_nothing;
-      serves = h.serves;
-      alone = λ is. ap (λ x. (g.N.Counted.seen x).calls) (h.helper_rests is);
-    }) d.whole d.call d.tells d.unwritten h.brings link c.close.ensures.call (record { whole = c.close.ensures.whole; broken = c.close.ensures.broken }) in
-    (v.0, v.1, v.2, v.3, (c.serve_one-answer.new.conn, v.4))
+      serves = k.serves;
+      early = k.early;
+      alone = λ is. ap (λ x. (net x).calls) (h.helper_rests is);
+      fault = k.fault;
+      doors = h.door;
+    }) (record { whole = d.whole; blank = d.unwritten; tells = d.tells; call = d.call; faults = d.counts.unfailed; doors = d.door.kept })
+    (record { call = e.call; counts = record { whole = e.whole; broken = e.broken }; doors = e.door })
 
-pub returns-clause-later : goal.returns-clause-later
-returns-clause-later g c =
-    let same = c.in_ok-conn.ensures.counts.unfailed in
-    let served = fault_later _ _ _ (omega (arith, c.faults.type_inv, c.faults.ensures)) c.serve_one-answer.ensures.fault in
-    omega (arith, same, served, c.close.ensures.later)
+pub returns-in-Err-answer-clause-ends : goal.returns-in-Err-answer-clause-ends
+returns-in-Err-answer-clause-ends g c =
+    let net = g.N.Counted.seen in
+    let shows = g.N.Conn.Counted.seen in
+    let d = c.in-Ok.ensures in
+    let h = c.serve-answer.ensures in
+    let k = c.in-Err-answer.ensures in
+    let e = c.close.ensures in
+    broken g.S.Logged.log c.args.peer.now shows c.args.server.now c.serve-answer.new.server c.in-Err-answer.fault
+    (net c.args.net.now) (net c.accept.new.self) (net c.serve-answer.new.net) (net c.close.new.self) (shows c.in-Ok.conn) c.serve-answer.new.conn _ h.brings (record {
+      stops = k.stops;
+      alone = λ is. ap (λ x. (net x).calls) (h.helper_rests is);
+      untold = k.unanswered.0;
+      unfailed = k.unanswered.1;
+      faults = k.unfailed;
+      doors = h.door;
+    }) (record { whole = d.whole; blank = d.unwritten; tells = d.tells; call = d.call; faults = d.counts.unfailed; doors = d.door.kept })
+    (record { call = e.call; counts = record { whole = e.whole; broken = e.broken }; doors = e.door })

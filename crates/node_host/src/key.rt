@@ -1,6 +1,6 @@
 //! A setting's name.
 ghost use Rattle.std.specs.Prelude.{◌≡◌, ◌↔◌, IsTrue, Some, IsNone, IfSome};
-ghost use Rattle.node_keep.specs.Opening.{key_text, IsSame, DiffersAt};
+ghost use Rattle.node_host.specs.KeptOpening.{key_text, IsSame, DiffersAt};
 
 use node_restart::{Opening, Role};
 use std::fmt;

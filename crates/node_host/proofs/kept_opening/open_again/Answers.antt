@@ -1,6 +1,6 @@
-use Rattle.node_keep.specs.declared.opening.TheConstants.{JOURNAL_LIMIT}
-use Rattle.node_keep.proofs.OpenLaws.{cause_reopened}
-use Rattle.node_keep.proofs.opening.open_again.Goals as goal
+use Rattle.node_host.specs.declared.kept_opening.TheConstants.{JOURNAL_LIMIT}
+use Rattle.node_host.proofs.OpenLaws.{cause_reopened}
+use Rattle.node_host.proofs.kept_opening.open_again.Goals as goal
 
 pub returns-in-Err-clause-why : goal.returns-in-Err-clause-why
 returns-in-Err-clause-why g c =

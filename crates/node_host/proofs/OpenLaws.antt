@@ -10,9 +10,9 @@ use Rattle.node_restart.specs.declared.fault.KeepFault.TheVariants.{Journal, NoM
 use Rattle.node_restart.specs.Faults.{OnForeign, OnDamaged}
 use Rattle.node_restart.specs.Frames.{IsForeign}
 use Rattle.node_restart.specs.Kept.{KeptState, Stands, IsDamagedAt}
-use Rattle.node_keep.specs.declared.fault.OpenFault.{OpenFault}
-use Rattle.node_keep.specs.declared.fault.OpenFault.TheVariants as opens
-use Rattle.node_keep.specs.Opening.{IsReopened, IsCauseOf, LeavesDisk, CountsOpen}
+use Rattle.node_host.specs.declared.open_fault.OpenFault.{OpenFault}
+use Rattle.node_host.specs.declared.open_fault.OpenFault.TheVariants as opens
+use Rattle.node_host.specs.KeptOpening.{IsReopened, IsCauseOf, LeavesDisk, CountsOpen}
 
 pub untouched_both : (a b c : DiskSeen) → IsUntouched a b → IsUntouched b c → IsUntouched a c
 untouched_both a b c one two = record {

@@ -16,10 +16,10 @@ use Rattle.node_restart.specs.Steps.{fold}
 use Rattle.node_restart.specs.Texts as restart
 use Rattle.settings_text.specs.declared.serve.ServeSettings.{ServeSettings}
 use Rattle.settings_text.specs.declared.serve.TheConstants.{LEADER}
-use Rattle.node_keep.specs.declared.key.SettingsKey.{SettingsKey}
-use Rattle.node_keep.specs.declared.key.SettingsKey.TheVariants as key
-use Rattle.node_keep.specs.declared.fault.OpenFault.{OpenFault}
-use Rattle.node_keep.specs.declared.fault.OpenFault.TheVariants as opens
+use Rattle.node_host.specs.declared.key.SettingsKey.{SettingsKey}
+use Rattle.node_host.specs.declared.key.SettingsKey.TheVariants as key
+use Rattle.node_host.specs.declared.open_fault.OpenFault.{OpenFault}
+use Rattle.node_host.specs.declared.open_fault.OpenFault.TheVariants as opens
 
 -- the opening that settings and a seed spell
 abbrev pub role_by : ℕ → Role

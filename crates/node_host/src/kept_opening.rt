@@ -2,11 +2,11 @@
 ghost use Rattle.std.specs.Prelude.{◌≡◌, ◌≢◌, ◌≤◌, ◌⊎◌, ℕ, List, [], IfOk, IfErr};
 ghost use Rattle.express_words.specs.Limits.{KeepsLimits};
 ghost use Rattle.node_journal.specs.Disk.{IsUntouched};
-ghost use Rattle.node_keep.specs.Opening.{opening_of, IsCreated, IsReopened};
-ghost use Rattle.node_keep.specs.Opening.{IsOfOpening, IsCauseOf, LeavesDisk, CountsOpen};
+ghost use Rattle.node_host.specs.KeptOpening.{opening_of, IsCreated, IsReopened};
+ghost use Rattle.node_host.specs.KeptOpening.{IsOfOpening, IsCauseOf, LeavesDisk, CountsOpen};
 
-use crate::fault::OpenFault;
 use crate::key::first_difference;
+use crate::open_fault::OpenFault;
 use node_journal::{Disk, JournalFault};
 use node_restart::{KeepFault, Kept, Opening, Role};
 use settings_text::{HELPER, LEADER, ServeSettings};

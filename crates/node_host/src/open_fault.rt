@@ -1,6 +1,6 @@
 //! Why a server isn't opened.
 ghost use Rattle.std.specs.Prelude.{◌≡◌, Some};
-ghost use Rattle.node_keep.specs.Opening.{fault_text};
+ghost use Rattle.node_host.specs.KeptOpening.{fault_text};
 
 use crate::key::SettingsKey;
 use node_restart::KeepFault;

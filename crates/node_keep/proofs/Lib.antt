@@ -1,3 +1,0 @@
-pub mod OpenLaws
-pub mod VisitLaws
-pub mod HostLaws

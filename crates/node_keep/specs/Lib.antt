@@ -1,4 +1,0 @@
-pub mod Opening
-pub mod Visits
-pub mod Hosting
-pub mod Texts
