@@ -1,7 +1,7 @@
 //! The folder of a desk.
 ghost use Rattle.std.specs.Prelude.{◌≡◌, ℕ, List, Option, IfOk, is_err};
 ghost use Rattle.express_words.specs.Causes.{HasCause, CountsFault};
-ghost use Rattle.desk_outside.specs.Calls.{FolderCall, Held, Looked, Opened, Placed, Removed, Adds};
+ghost use Rattle.desk_outside.specs.Calls.{FolderCall, Held, Looked, Opened, Placed, Removed, Adds, given};
 
 use express_words::outside::{Counted, Failed};
 use node_journal::Disk;
@@ -34,7 +34,7 @@ pub trait Folder: Counted {
     type File: Disk + Drop;
 
     /// Its calls so far, if it tells.
-    ghost calls: { Self → Option (List FolderCall) };
+    ghost calls: { Self → Option (List (FolderCall Self.File)) };
 
     /// Makes the folder where there is none, and takes it for this process alone.
     fn hold(&mut self) -> Result<Hold, Failed>
@@ -44,14 +44,14 @@ pub trait Folder: Counted {
 
     /// Whether the file is there.
     fn is_there(&mut self, file: DeskFile) -> Result<bool, Failed>
-        ensures call { Adds (calls self.old) (calls self.new) (Looked file (is_err result)) }
+        ensures call { Adds (calls self.old) (calls self.new) (Looked file (given result)) }
         ensures cause { HasCause (Self.seen self.old).faults (Self.seen self.new).faults result }
         ensures counts { CountsFault (Self.seen self.old).faults (Self.seen self.new).faults result };
 
     /// The file as a disk, which is empty where there was none.
     fn open(&mut self, file: DeskFile) -> Result<Self::File, Failed>
         ensures whole { IfOk result (λ disk. (Self.File.seen disk).faults ≡ 0) }
-        ensures call { Adds (calls self.old) (calls self.new) (Opened file (is_err result)) }
+        ensures call { Adds (calls self.old) (calls self.new) (Opened file (given result)) }
         ensures cause { HasCause (Self.seen self.old).faults (Self.seen self.new).faults result }
         ensures counts { CountsFault (Self.seen self.old).faults (Self.seen self.new).faults result };
 
