@@ -1,5 +1,5 @@
 -- What a call that notes something leaves of a desk.
-use Rattle.std.proofs.Common.{◌≡◌, inr, ℕ, List, [], ◌∷◌, ◌++◌, Result, Ok, Err, false, refl, sym, ◌∙◌, ap, subst}
+use Rattle.std.proofs.Common.{◌≡◌, inl, inr, ℕ, List, [], ◌∷◌, ◌++◌, Result, Ok, Err, false, refl, sym, ◌∙◌, ap, subst}
 use Rattle.express_words.specs.Seen.{Seen}
 use Rattle.node_journal.specs.Disk.{DiskSeen}
 use Rattle.client_restart.specs.declared.fault.KeepFault.{KeepFault}
@@ -11,7 +11,7 @@ use Rattle.client_restart.specs.Steps.{CoreState}
 use Rattle.desk_entries.specs.declared.entry.Entry.{Entry}
 use Rattle.desk_entries.specs.Records.{IsEntry, entry_record}
 use Rattle.desk_ledger.specs.declared.pair.Pair.{Pair}
-use Rattle.desk_ledger.specs.Ledgers.{IsDesk, LedgerState}
+use Rattle.desk_ledger.specs.Ledgers.{EntriesOnly, IsDesk, LedgerState}
 use Rattle.desk_ledger.specs.Notes.{Notes}
 use Rattle.desk_ledger.proofs.DeskLaws.{desk_push}
 
@@ -51,3 +51,36 @@ not_noted shows counts e words p entries now was k old s f old_is s_is same said
     record { added = tt; none_added = same; pair = refl; keeps = inr (keeps_record shows counts e words was k (Err f) said keeps) } in
     subst (λ (x : LedgerState _). Notes {T = Unit {0}} shows counts e x s (Err f)) old_is
     (subst (λ (x : LedgerState _). Notes {T = Unit {0}} shows counts e before x (Err f)) (sym s_is) so)
+
+-- ---- what a note leaves as it was
+
+pub entries_rest : {D : Type 0} (l : LedgerState D) → EntriesOnly l l
+entries_rest l = record { pair = refl; opening = refl; boxes = refl; client = refl; untold = refl }
+
+pub entries_same : {D : Type 0} (old new : LedgerState D) → new ≡ old → EntriesOnly old new
+entries_same old new same = subst (λ (l : LedgerState _). EntriesOnly old l) (sym same) (entries_rest old)
+
+entries_kept : {D T : Type 0} (shows : D → DiskSeen) (counts : D → Seen) (e : Entry) (old new : LedgerState D) (r : Result T KeepFault)
+    → new.pair ≡ old.pair → Keeps {T = T} (Remark (entry_record e)) (sight shows counts old.client) (sight shows counts new.client) r
+    → EntriesOnly old new
+entries_kept shows counts e old new (Ok done) pair keeps = record {
+  pair = pair;
+  opening = keeps.opening;
+  boxes = ap (λ (k : CoreState). k.boxes) keeps.step;
+  client = ap (λ (k : CoreState). k.client) keeps.step;
+  untold = ap (λ (k : CoreState). k.untold) keeps.step;
+}
+entries_kept shows counts e old new (Err f) pair keeps = record {
+  pair = pair;
+  opening = keeps.opening;
+  boxes = ap (λ (k : CoreState). k.boxes) keeps.no_step;
+  client = ap (λ (k : CoreState). k.client) keeps.no_step;
+  untold = ap (λ (k : CoreState). k.untold) keeps.no_step;
+}
+
+pub entries_only : {D T : Type 0} (shows : D → DiskSeen) (counts : D → Seen) (e : Entry) (old new : LedgerState D) (r : Result T KeepFault)
+    → Notes {T = T} shows counts e old new r → EntriesOnly old new
+entries_only shows counts e old new r notes = elim notes.keeps [
+  | inl none ↦ entries_same old new none.1
+  | inr keeps ↦ entries_kept shows counts e old new r notes.pair keeps
+]

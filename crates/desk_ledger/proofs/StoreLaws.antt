@@ -21,20 +21,27 @@ pub stores_found : {D : Type 0} (seconds : ℕ) (e : EndedRequest) (old new : Le
     → IfOk r (λ s. s ≡ Some stored) → OnOk r (new.entries ≡ old.entries ++ option_to_list found)
     → OnErr r ((new.entries ≡ old.entries) ⊎ (new.entries ≡ old.entries ++ option_to_list found))
     → OnOk r (new.client.core.untold ≡ drop 1 old.client.core.untold) → OnErr r (new.client.core.untold ≡ old.client.core.untold)
-    → new.pair ≡ old.pair → Stores seconds e old new r
-stores_found seconds e old new (Ok s) stored found is misses answer noted not_noted told untold pair = record {
+    → new.pair ≡ old.pair → new.client.opening ≡ old.client.opening → new.client.core.boxes ≡ old.client.core.boxes
+    → new.client.core.client ≡ old.client.core.client → Stores seconds e old new r
+stores_found seconds e old new (Ok s) stored found is misses answer noted not_noted told untold pair opening boxes client = record {
   answer = answer ∙ ap (λ (x : Stored). Some x) is;
   entry = (found, misses, noted);
   told = told;
   untold = tt;
   no_other = tt;
   pair = pair;
+  opening = opening;
+  boxes = boxes;
+  client = client;
 }
-stores_found seconds e old new (Err f) stored found is misses answer noted not_noted told untold pair = record {
+stores_found seconds e old new (Err f) stored found is misses answer noted not_noted told untold pair opening boxes client = record {
   answer = tt;
   entry = tt;
   told = tt;
   untold = untold;
   no_other = either_adds seconds e old new found misses not_noted;
   pair = pair;
+  opening = opening;
+  boxes = boxes;
+  client = client;
 }

@@ -33,3 +33,11 @@ pub record IsDesk (p : Pair) (entries : List Entry) (remarks : List (List ℕ)) 
   pub are : AreEntries entries
   pub told : remarks ≡ map entry_record entries
   pub pair : IsOfPair p entries
+
+-- Of a desk nothing but its entries has changed.
+pub record EntriesOnly {D : Type 0} (old new : LedgerState D) : Type 0 where
+  pub pair : new.pair ≡ old.pair
+  pub opening : new.client.opening ≡ old.client.opening
+  pub boxes : new.client.core.boxes ≡ old.client.core.boxes
+  pub client : new.client.core.client ≡ old.client.core.client
+  pub untold : new.client.core.untold ≡ old.client.core.untold

@@ -137,3 +137,6 @@ pub record Stores {D : Type 0} (seconds : ℕ) (e : EndedRequest) (old new : Led
   pub untold : OnErr r (new.client.core.untold ≡ old.client.core.untold)
   pub no_other : OnErr r ((new.entries ≡ old.entries) ⊎ Adds seconds e old new)
   pub pair : new.pair ≡ old.pair
+  pub opening : new.client.opening ≡ old.client.opening
+  pub boxes : new.client.core.boxes ≡ old.client.core.boxes
+  pub client : new.client.core.client ≡ old.client.core.client

@@ -18,6 +18,7 @@ ghost use Rattle.desk_entries.specs.Names.{is_name};
 ghost use Rattle.desk_entries.specs.Records.{AreEntries, IsEntry, entry_record};
 ghost use Rattle.desk_entries.specs.Standings.{stands};
 ghost use Rattle.desk_ledger.specs.Cards.{IsCardOf, card_addresses};
+ghost use Rattle.desk_ledger.specs.Ledgers.{EntriesOnly};
 ghost use Rattle.desk_ledger.specs.Notes.{Notes};
 ghost use Rattle.desk_ledger.specs.Storing.{Misses, Stores, stored_of};
 ghost use Rattle.desk_ledger.specs.Tasks.{is_leaving, is_live, name_fault, next_task, place_if, place_of, places_of, request_of, room};
@@ -92,7 +93,7 @@ impl<D: Disk> Ledger<D> {
 
     /// Wants boxes with a name, at these addresses, which were drawn. `Ok(Err(_))` is the refusal, and then
     /// nothing is noted. `next_task` has the requests that register them.
-    #[tactic(auto, using(crate::proofs::NameLaws::taken_entry))]
+    #[tactic(auto, using(crate::proofs::NameLaws::taken_entry, crate::proofs::KeepLaws::entries_only, crate::proofs::KeepLaws::entries_rest))]
     pub fn add_name(
         &mut self,
         name: &str,
@@ -107,6 +108,7 @@ impl<D: Disk> Ledger<D> {
         ensures noted { IfOk result (λ taken. OnOk taken (self.new.entries ≡ self.old.entries
             ++ Entry.Named (record { name = name.now; addresses = addresses.now }) ∷ [])) }
         ensures not_noted { OnErr result (self.new.entries ≡ self.old.entries) }
+        ensures only { EntriesOnly self.old self.new }
         ensures stays { OnStill result (self.new ≡ self.old) }
     {
         match self.name_fault(name, addresses) {
@@ -162,7 +164,7 @@ impl<D: Disk> Ledger<D> {
 
     /// The boxes with a name are to be retired: `next_task` has the requests for it. `Ok(false)`, and nothing
     /// noted, where the desk has no such name; nothing is noted either where they are to be retired already.
-    #[tactic(auto, using(crate::proofs::NameLaws::retiring_then))]
+    #[tactic(auto, using(crate::proofs::NameLaws::retiring_then, crate::proofs::KeepLaws::entries_only, crate::proofs::KeepLaws::entries_rest))]
     pub fn retire_name(&mut self, name: &str) -> Result<bool, KeepFault>
         ensures unknown { is_some (named self.old.entries name.now) ≡ false
             → (result ≡ Ok false) × (self.new ≡ self.old) }
@@ -170,7 +172,10 @@ impl<D: Disk> Ledger<D> {
             → IfOk result (λ known. known ≡ true) }
         ensures retiring { IfOk result (λ known. known ≡ true
             → is_retiring self.new.entries name.now ≡ true) }
+        ensures noted { (self.new.entries ≡ self.old.entries)
+            ⊎ (self.new.entries ≡ self.old.entries ++ Entry.Retiring name.now ∷ []) }
         ensures not_noted { OnErr result (self.new.entries ≡ self.old.entries) }
+        ensures only { EntriesOnly self.old self.new }
         ensures stays { OnStill result (self.new ≡ self.old) }
     {
         if named(&self.entries, name.as_bytes()).is_none() {
@@ -287,6 +292,9 @@ impl<D: Disk> Ledger<D> {
         ensures told { OnOk result (self.new.client.core.untold ≡ drop 1 self.old.client.core.untold) }
         ensures untold { OnErr result (self.new.client.core.untold ≡ self.old.client.core.untold) }
         ensures pair { self.new.pair ≡ self.old.pair }
+        ensures opening { self.new.client.opening ≡ self.old.client.opening }
+        ensures boxes { self.new.client.core.boxes ≡ self.old.client.core.boxes }
+        ensures client { self.new.client.core.client ≡ self.old.client.core.client }
     {
         let Oldest { stored, entry } = found;
         match self.note_missing(entry) {
@@ -322,12 +330,12 @@ impl<D: Disk> Ledger<D> {
         }
     }
 
+    #[tactic(auto, using(crate::proofs::KeepLaws::entries_only, crate::proofs::KeepLaws::entries_rest))]
     fn note_missing(&mut self, entry: Option<Entry>) -> Result<(), KeepFault>
         requires is { IfSome entry IsEntry }
         ensures noted { OnOk result (self.new.entries ≡ self.old.entries ++ option_to_list entry) }
         ensures not_noted { OnErr result (self.new.entries ≡ self.old.entries) }
-        ensures untold { self.new.client.core.untold ≡ self.old.client.core.untold }
-        ensures pair { self.new.pair ≡ self.old.pair }
+        ensures only { EntriesOnly self.old self.new }
     {
         match entry {
             Some(entry) => self.note(entry),
@@ -373,8 +381,10 @@ impl<D: Disk> Ledger<D> {
     }
 
     /// So many of the letters were shown.
+    #[tactic(auto, using(crate::proofs::KeepLaws::entries_only))]
     pub fn mark_shown(&mut self, count: u32) -> Result<(), KeepFault>
         ensures notes { Notes D.disk D.Counted.seen (Entry.Shown count) self.old self.new result }
+        ensures only { EntriesOnly self.old self.new }
         ensures shown { OnOk result (shown_of self.new.entries ≡ count) }
         ensures stays { OnStill result (self.new ≡ self.old) }
     {

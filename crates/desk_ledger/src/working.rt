@@ -23,6 +23,7 @@ impl<D: Disk> Ledger<D> {
             → OnOk result (IsEnded self.old.client.core self.new.client.core) }
         ensures entries { self.new.entries ≡ self.old.entries }
         ensures pair { self.new.pair ≡ self.old.pair }
+        ensures opening { self.new.client.opening ≡ self.old.client.opening }
         ensures net_fault { NetFaultBy result (N.seen net.old).faults (N.seen net.new).faults }
         ensures disk_fault { DiskFaultBy result (D.Counted.seen self.old.client.disk).faults
             (D.Counted.seen self.new.client.disk).faults }

@@ -11,3 +11,4 @@ returns-in-Ok-Some-clause-stores g c e rest is =
     (subst (λ (o : Option Oldest). IfSome o (λ x. x.stored ≡ stored_of e)) c.in-Ok-Some.field-0-is (c.in-Ok-Some.ensures.stored e rest is)) (subst (λ (o : Option Oldest). IfSome o (λ x. Misses c.args.self.now.entries c.args.self.now.client.core.boxes c.args.seconds e x.entry))
     c.in-Ok-Some.field-0-is (c.in-Ok-Some.ensures.misses e rest is))
     c.store_one.ensures.answer c.store_one.ensures.noted c.store_one.ensures.not_noted c.store_one.ensures.told c.store_one.ensures.untold c.store_one.ensures.pair
+    c.store_one.ensures.opening c.store_one.ensures.boxes c.store_one.ensures.client
