@@ -8,6 +8,7 @@ pub mod Talked
 pub mod RanLaws
 pub mod Following
 pub mod Serving
+pub mod AtDoor
 pub mod Telling
 pub mod BatchText
 pub mod CloakLemmas

@@ -1,7 +1,5 @@
 -- What may come of a command over a net, by what its parts may come to.
 use Rattle.std.proofs.Common.{◌≡◌, ◌≢◌, ◌⊎◌, inl, inr, ℕ, List, ◌++◌, Option, Err, false, refl, sym, ap, subst}
-use Rattle.std.specs.Prelude.{All}
-use Rattle.std.proofs.lemmas.List.Elements.{All-weaker}
 use Rattle.clap.specs.Words.{Text}
 use Rattle.express_words.specs.Calls.{Listened, Adds}
 use Rattle.express_words.specs.Streams.{TookPrefix}
@@ -20,11 +18,10 @@ use Rattle.client_run.specs.declared.ran.RunEnd.TheVariants as run
 use Rattle.node_serve.specs.declared.node.Node.{Node}
 use Rattle.node_exchange.specs.Exchanging.{EarlyAtEnd}
 use Rattle.node_host.specs.Opening.{IsOpened}
-use Rattle.node_host.specs.Visits.{Visit, IsOf}
 use Rattle.express_cli.specs.CommandLine.{AsksNet}
 use Rattle.express_cli.specs.Ends.{PrintsBy, Said, BadKeyMay, FaultMay, out_of_memory_text}
 use Rattle.express_cli.specs.Around.{Around, Seen, Shown, around}
-use Rattle.express_cli.specs.Talking.{AtDoor, CarryRan, ClientRan, DoorMay, IsBadKey, LeavesNothing, LeftNothing, ListeningMay, ServeMay, TalkMay, WantsFirst, WereThere, end_by, IsStill}
+use Rattle.express_cli.specs.Talking.{AtDoor, CarryRan, ClientRan, DoorMay, IsBadKey, LeavesNothing, LeftNothing, ListeningMay, ServeMay, TalkMay, WantsFirst, end_by, IsStill}
 use Rattle.express_cli.specs.Talking.{SpellsCarry, SpellsClient, SpellsServe}
 use Rattle.express_cli.specs.declared.words.NetCommand.{NetCommand}
 use Rattle.express_cli.specs.declared.words.NetCommand.TheVariants.{Serve, Client, Carry}
@@ -62,14 +59,9 @@ first_failed May old new before now ends.TooLong front more h other may = absurd
 
 -- ---- a server
 
-pub were_there : {C : Type 0} (shows : C → Seen) (now : Seen) (visits : List Visit) → All (λ v. (conn : C) × IsOf now.calls v (shows conn)) visits → WereThere (Shown shows) now visits
-were_there {C} shows now visits all =
-    All-weaker (λ (v : Visit). (conn : C) × IsOf now.calls v (shows conn)) (λ (v : Visit). (conn : Seen) × Shown shows conn × IsOf now.calls v conn)
-    (λ v found. (shows found.0, (found.0, refl), found.1)) visits all
-
 pub door_may : (shown : Seen → Type 0) (settings : ServeSettings) (node : Node) (before at_door now : Seen) → Adds before.calls at_door.calls (Listened settings.listen false)
     → at_door.faults ≡ before.faults → at_door.doors ≡ before.doors
-    → (end : End) (text : List ℕ) → ListeningMay shown settings.connections node at_door now end text → DoorMay shown settings node before now end text
+    → (end : End) (text : List ℕ) → ListeningMay shown settings node at_door now end text → DoorMay shown settings node before now end text
 door_may shown settings node before at_door now call faults doors ends.Done text may =
     record { at_door = at_door; listens = call; faults = faults; doors = doors; served = may }
 door_may shown settings node before at_door now call faults doors ends.Usage text may = absurd may.1

@@ -1,7 +1,8 @@
 -- What is around a run.
-use Rattle.std.specs.Prelude.{◌≡◌, ℕ, List, Option}
+use Rattle.std.specs.Prelude.{ℕ, List, Option}
 use Rattle.express_words.specs.Streams.{Stream}
 pub use Rattle.express_words.specs.Seen.{Seen}
+pub use Rattle.node_host.specs.Visits.{Shown}
 
 -- what is around a run: the seed that it is handed, its net before and now, and what its net's connections
 -- may show
@@ -17,10 +18,6 @@ pub record Outside : Type 0 where
   pub input_faults : ℕ
   pub written : Option (List ℕ)
   pub output_faults : ℕ
-
--- some connection shows this
-abbrev pub Shown : {C : Type 0} → (C → Seen) → Seen → Type 0
-Shown {C} shows seen = (conn : C) × (shows conn ≡ seen)
 
 -- a net whose connections show themselves so
 abbrev pub around : {C : Type 0} → List ℕ → (before now : Seen) → (C → Seen) → Around

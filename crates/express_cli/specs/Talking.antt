@@ -1,10 +1,9 @@
 -- What comes of a command over a net, by the settings that are its input.
-use Rattle.std.specs.Prelude.{◌≡◌, ◌≤◌, ◌⊎◌, ℕ, Bool, true, false, List, ◌++◌, length, flat_map, codes}
-use Rattle.std.specs.Prelude.{All, Option, Result, Ok, Err}
+use Rattle.std.specs.Prelude.{◌≡◌, ◌≤◌, ◌⊎◌, ℕ, Bool, true, false, List, ◌++◌, length, codes}
+use Rattle.std.specs.Prelude.{Option, Result, Ok, Err}
 use Rattle.express_words.specs.Causes.{Rose}
 use Rattle.express_words.specs.Calls.{Listened, Adds}
 use Rattle.express_words.specs.Streams.{Took}
-use Rattle.express_words.specs.declared.outside.Failed.{Failed}
 use Rattle.settings_text.specs.Tables.{judged}
 use Rattle.settings_text.specs.Serve.{serve_of}
 use Rattle.settings_text.specs.Client.{client_of}
@@ -14,12 +13,16 @@ use Rattle.settings_text.specs.declared.client.ClientSettings.{ClientSettings}
 use Rattle.settings_text.specs.declared.carry.CarryJob.{CarryJob}
 use Rattle.settings_text.specs.declared.carry.CarryJob.TheVariants.{Send, Fetch}
 use Rattle.settings_text.specs.declared.carry.CarrySettings.{CarrySettings}
+use Rattle.node_serve.specs.NoLog.{node_log}
+use Rattle.node_serve.specs.declared.never.Never.{Never}
 use Rattle.node_serve.specs.declared.node.Node.{Node}
 use Rattle.node_host.specs.Opening.{IsOpened}
-use Rattle.node_exchange.specs.Exchanging.{ClosedAtEnd, EndsShort, Makes}
-use Rattle.node_host.specs.Visits.{Visit, Visits, IsOf, standing, visit_calls}
-use Rattle.node_host.specs.Hosting.{Hosts}
+use Rattle.node_exchange.specs.Exchanging.{ClosedAtEnd, EndsShort}
+use Rattle.node_host.specs.Visits.{standing}
+use Rattle.node_host.specs.Hosting.{Hosts, Visited}
 use Rattle.node_host.specs.Tallies.{tally_text}
+use Rattle.node_host.specs.declared.stop.Halt.TheVariants.{Door}
+use Rattle.node_host.specs.declared.stop.Stop.{Stop}
 use Rattle.node_host.specs.declared.tally.Tally.{Tally}
 use Rattle.node_client.specs.declared.finished.Finished.{Finished}
 use Rattle.node_client.specs.Work.{Stand}
@@ -59,46 +62,45 @@ IsBadKey Carry key bytes = judged carry_of bytes ≡ Err key
 abbrev pub listening : List ℕ
 listening = codes "listening\n"
 
--- each was a connection of the net at its close, which had left what the visit says
-abbrev pub WereThere : (Seen → Type 0) → Seen → List Visit → Type 0
-WereThere shown now visits = All (λ v. (conn : Seen) × shown conn × IsOf now.calls v conn) visits
+-- A server was served so many connections as its settings say at the open door, or as many as came before an
+-- accept failed.
+abbrev pub ServesDoor : (Seen → Type 0) → ServeSettings → Node → (before now : Seen) → Result Tally (Stop Never)
+    → Type 0
+ServesDoor shown settings node before now result = (end : Node)
+    × Hosts node_log settings.peer shown settings.connections (standing node before) (standing end now) result
 
--- By these visits, and no other call but an accept that failed, so many connections were served, or as many
--- as came before that accept.
-pub record ServesDoor (shown : Seen → Type 0) (connections : ℕ) (result : Result Tally Failed) (node : Node)
-    (before now : Seen) : Type 0 where
-  pub visits : List Visit
-  pub end : Node
-  pub hosts : Hosts connections result visits (standing node before.faults) (standing end now.faults)
-      before.calls now.calls
-  pub there : WereThere shown now visits
+-- all were served
+abbrev pub ServesAll : (Seen → Type 0) → ServeSettings → Node → (before now : Seen) → Tally → Type 0
+ServesAll shown settings node before now tally = ServesDoor shown settings node before now (Ok tally)
 
--- By these visits, and no other call, some of so many connections were served.
-pub record ServesSome (shown : Seen → Type 0) (connections : ℕ) (node : Node) (before now : Seen)
+-- fewer were, and then an accept failed
+abbrev pub ServesFewer : (Seen → Type 0) → ServeSettings → Node → (before now : Seen) → Tally → Type 0
+ServesFewer shown settings node before now tally =
+    ServesDoor shown settings node before now (Err (record { halt = Door; tally = tally }))
+
+-- By these visits, and no other call, some of the settings' connections were served.
+pub record ServesSome (shown : Seen → Type 0) (settings : ServeSettings) (node : Node) (before now : Seen)
     : Type 0 where
-  pub visits : List Visit
   pub end : Node
-  pub few : length visits ≤ connections
-  pub made : Visits (standing node before.faults) visits (standing end now.faults)
-  pub calls : Makes before.calls now.calls (flat_map visit_calls visits)
-  pub there : WereThere shown now visits
+  pub done : Visited node_log settings.peer shown (standing node before) (standing end now)
+  pub few : length done.visits ≤ settings.connections
 
--- What may come of serving so many connections at the open door, by what a net tells before and now.
-abbrev pub HostMay : (Seen → Type 0) → ℕ → Node → Seen → Seen → End → List ℕ → Type 0
-HostMay shown connections node before now ends.Done text =
-    (tally : Tally) × ServesDoor shown connections (Ok tally) node before now
+-- What may come of serving the settings' connections at the open door, by what a net tells before and now.
+abbrev pub HostMay : (Seen → Type 0) → ServeSettings → Node → Seen → Seen → End → List ℕ → Type 0
+HostMay shown settings node before now ends.Done text =
+    (tally : Tally) × ServesAll shown settings node before now tally
     × (now.doors ≡ before.doors) × (text ≡ tally_text tally ++ codes "\n")
-HostMay shown connections node before now ends.NetFault text =
-    (failed : Failed) × ServesDoor shown connections (Err failed) node before now
+HostMay shown settings node before now ends.NetFault text =
+    (tally : Tally) × ServesFewer shown settings node before now tally
     × Rose before.doors now.doors × (text ≡ net_fault_text)
-HostMay shown connections node before now ends.OutOfMemory text =
-    ServesSome shown connections node before now × (text ≡ out_of_memory_text)
-HostMay shown connections node before now other text = ⊥
+HostMay shown settings node before now ends.OutOfMemory text =
+    ServesSome shown settings node before now × (text ≡ out_of_memory_text)
+HostMay shown settings node before now other text = ⊥
 
 -- It told that it listens, and then serving came to this.
-abbrev pub ListeningMay : (Seen → Type 0) → ℕ → Node → Seen → Seen → End → List ℕ → Type 0
-ListeningMay shown connections node before now end text =
-    (said : List ℕ) × HostMay shown connections node before now end said × (text ≡ listening ++ said)
+abbrev pub ListeningMay : (Seen → Type 0) → ServeSettings → Node → Seen → Seen → End → List ℕ → Type 0
+ListeningMay shown settings node before now end text =
+    (said : List ℕ) × HostMay shown settings node before now end said × (text ≡ listening ++ said)
 
 -- A server listened where its settings say, told so, and serving came to this.
 pub record Hosted (shown : Seen → Type 0) (settings : ServeSettings) (node : Node) (before now : Seen)
@@ -107,7 +109,7 @@ pub record Hosted (shown : Seen → Type 0) (settings : ServeSettings) (node : N
   pub listens : Adds before.calls at_door.calls (Listened settings.listen false)
   pub faults : at_door.faults ≡ before.faults
   pub doors : at_door.doors ≡ before.doors
-  pub served : ListeningMay shown settings.connections node at_door now end text
+  pub served : ListeningMay shown settings node at_door now end text
 
 -- Its listen failed, and no other call was made.
 pub record ListenFailed (settings : ServeSettings) (before now : Seen) (text : List ℕ) : Type 0 where
@@ -139,7 +141,7 @@ abbrev pub LeftNothing : Around → Type 0
 LeftNothing net = IsStill net
     ⊎ (EndsShort net.now.calls → (conn : Seen) × net.shown conn × ClosedAtEnd net.now.calls conn)
 
--- So of a client and of a carrier; of a server it is said connection by connection.
+-- So of a client and of a carrier; of a server it is said connection by connection, in each visit.
 abbrev pub LeavesNothing : NetCommand → Around → Type 0
 LeavesNothing Serve net = Unit {0}
 LeavesNothing Client net = LeftNothing net

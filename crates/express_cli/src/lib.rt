@@ -23,6 +23,7 @@ mod work;
 pub use ends::{End, status_of};
 pub use input::input_of;
 pub use input_reading::{InputFault, LONGEST, SeedFault, read_all, seed_of};
+pub use node_serve::{serve_kept, serve_one};
 pub use promises::laws;
 pub use serve::tally_line;
 pub use texts::{LISTENING, NET_FAULT, OUT_OF_MEMORY, say, say_bad_key, say_fault};

@@ -12,7 +12,7 @@ use crate::End;
 use crate::texts::{LISTENING, NET_FAULT, OUT_OF_MEMORY, say, say_fault};
 use express_words::NoMemory;
 use express_words::outside::{Net, Sink};
-use node_host::{Tally, host, open_node};
+use node_host::{Halt, Tally, host, open_node};
 use node_serve::Node;
 use settings_text::{HELPER, ServeSettings, read_serve};
 use std::alloc::{AllocError, Global};
@@ -40,40 +40,49 @@ pub fn tally_line(alloc: Global, tally: Tally) -> Result<String, AllocError>
     format!(in alloc; "{tally}\n")
 }
 
-// Serves so many connections at the open door, and tells how many had each answer.
+// Serves the settings' connections at the open door, and tells how many had each answer.
 fn serve_all<K: Sink, N: Net>(
     alloc: Global,
+    settings: &ServeSettings,
     node: &mut Node,
     gather: &mut Gather,
-    connections: u32,
     out: &mut K,
     net: &mut N,
 ) -> End
-    ensures ends { Prints (HostMay (Shown N.Conn.seen) connections node.old
+    ensures ends { Prints (HostMay (Shown N.Conn.seen) settings.now node.old
         (N.seen net.old) (N.seen net.new))
         (K.seen out.old) (K.seen out.new) result }
     ensures told { result ≢ End.WriteFault → (K.seen out.new).faults ≡ (K.seen out.old).faults }
     ensures settings { result ≢ End.BadKey }
 {
-    let Ok(tally) = host(node, gather, connections, net) else {
-        return say(out, NET_FAULT, End::NetFault);
-    };
-    match tally_line(alloc, tally) {
-        Ok(line) => say(out, line.as_str(), End::Done),
-        Err(_) => say(out, OUT_OF_MEMORY, End::OutOfMemory),
+    match host(
+        node,
+        settings.peer.as_str(),
+        gather,
+        settings.connections,
+        net,
+    ) {
+        Ok(tally) => match tally_line(alloc, tally) {
+            Ok(line) => say(out, line.as_str(), End::Done),
+            Err(_) => say(out, OUT_OF_MEMORY, End::OutOfMemory),
+        },
+        Err(stop) => match stop.halt {
+            Halt::Door => say(out, NET_FAULT, End::NetFault),
+            Halt::Log(never) => match never {},
+        },
     }
 }
 
 // Says that the server listens, and serves.
 fn tell_and_serve<K: Sink, N: Net>(
     alloc: Global,
+    settings: &ServeSettings,
     node: &mut Node,
     gather: &mut Gather,
-    connections: u32,
     out: &mut K,
     net: &mut N,
 ) -> End
-    ensures ends { Prints (ListeningMay (Shown N.Conn.seen) connections node.old
+    ensures ends { Prints (ListeningMay (Shown N.Conn.seen) settings.now node.old
         (N.seen net.old) (N.seen net.new))
         (K.seen out.old) (K.seen out.new) result }
     ensures breaks { result ≡ End.WriteFault → (net.new ≡ net.old)
@@ -82,7 +91,7 @@ fn tell_and_serve<K: Sink, N: Net>(
     ensures settings { result ≢ End.BadKey }
 {
     match say(out, LISTENING, End::Done) {
-        End::Done => serve_all(alloc, node, gather, connections, out, net),
+        End::Done => serve_all(alloc, settings, node, gather, out, net),
         end => end,
     }
 }
@@ -106,7 +115,7 @@ fn listen_and_serve<K: Sink, N: Net>(
     ensures settings { result ≢ End.BadKey }
 {
     match net.listen(settings.listen.as_str()) {
-        Ok(()) => tell_and_serve(alloc, node, gather, settings.connections, out, net),
+        Ok(()) => tell_and_serve(alloc, settings, node, gather, out, net),
         Err(_) => say(out, NET_FAULT, End::NetFault),
     }
 }

@@ -15,7 +15,7 @@ returns-in-Ok-clause-ends g c =
     let now : Seen = g.N.Counted.seen c.tell_and_serve.new.net in
     let Listens : List ℕ → Type 0 = λ at. Adds before.calls at_door.calls (Listened at false) in
     let shown : Seen → Type 0 = Shown g.N.Conn.Counted.seen in
-    more_may (ListeningMay shown c.args.settings.now.connections c.args.node.now at_door now) (DoorMay shown c.args.settings.now c.args.node.now before now) _ _ _ _ _
+    more_may (ListeningMay shown c.args.settings.now c.args.node.now at_door now) (DoorMay shown c.args.settings.now c.args.node.now before now) _ _ _ _ _
     (door_may shown c.args.settings.now c.args.node.now before at_door now (subst Listens c.as_str.ensures c.in-Ok.ensures.call) c.in-Ok.ensures.counts.unfailed c.in-Ok.ensures.door.kept) c.tell_and_serve.ensures.ends
 
 pub returns-in-Err-clause-ends : goal.returns-in-Err-clause-ends

@@ -1,10 +1,8 @@
-use Rattle.std.proofs.Common.{refl, ◌∙◌, inl, inr, [], arith}
+use Rattle.std.proofs.Common.{refl, ◌∙◌, inl, inr}
 use Rattle.express_cli.specs.Ends.{out_of_memory_text}
-use Rattle.std.proofs.lemmas.List.Elements.{All-nil}
-use Rattle.node_host.specs.Visits.Visits.{none as nothing}
-use Rattle.node_host.proofs.CallLaws.{makes_none}
 use Rattle.express_cli.specs.Around.{Seen, Shown}
 use Rattle.express_cli.specs.Talking.{HostMay, ListeningMay, ServesSome, listening}
+use Rattle.express_cli.proofs.AtDoor.{none_served}
 use Rattle.express_cli.proofs.Causes.{took_as}
 use Rattle.express_cli.proofs.Following.{follows}
 use Rattle.express_cli.proofs.Serving.{done_is_no_fault, first_failed, told_is_no_key}
@@ -16,7 +14,7 @@ returns-in-Done-clause-ends g c =
     let before : Seen = g.N.Counted.seen c.args.net.now in
     let now : Seen = g.N.Counted.seen c.serve_all.new.net in
     let told = c.in-Done.ensures.says in
-    follows (HostMay (Shown g.N.Conn.Counted.seen) c.args.connections c.args.node.now before now) (ListeningMay (Shown g.N.Conn.Counted.seen) c.args.connections c.args.node.now before now) _ _ _ _ _ _ _ listening
+    follows (HostMay (Shown g.N.Conn.Counted.seen) c.args.settings.now c.args.node.now before now) (ListeningMay (Shown g.N.Conn.Counted.seen) c.args.settings.now c.args.node.now before now) _ _ _ _ _ _ _ listening
     (took_as _ _ told.0 listening told.1.1 told.2) (c.in-Done.ensures.told done_is_no_fault) (λ e text may. (text, may, refl)) c.serve_all.ensures.ends
 
 pub returns-in-Done-clause-told : goal.returns-in-Done-clause-told
@@ -25,10 +23,10 @@ returns-in-Done-clause-told g c = λ other. c.serve_all.ensures.told other ∙ c
 pub returns-in_default : goal.returns-in_default
 returns-in_default g c =
     let before : Seen = g.N.Counted.seen c.args.net.now in
-    let none : ServesSome (Shown g.N.Conn.Counted.seen) c.args.connections c.args.node.now before before
-    = record { visits = []; end = c.args.node.now; few = omega arith; made = nothing; calls = makes_none before.calls; there = All-nil _ } in
+    let none : ServesSome (Shown g.N.Conn.Counted.seen) c.args.settings.now c.args.node.now before before
+    = none_served (Shown g.N.Conn.Counted.seen) c.args.settings.now c.args.node.now before in
     record {
-      ends = first_failed (ListeningMay (Shown g.N.Conn.Counted.seen) c.args.connections c.args.node.now before before) _ _ _ _ _ listening out_of_memory_text c.say.ensures.says c.in_default.not-Done (out_of_memory_text, (none, refl), refl);
+      ends = first_failed (ListeningMay (Shown g.N.Conn.Counted.seen) c.args.settings.now c.args.node.now before before) _ _ _ _ _ listening out_of_memory_text c.say.ensures.says c.in_default.not-Done (out_of_memory_text, (none, refl), refl);
       told = c.say.ensures.told;
       breaks = λ failed. inl refl;
       settings = told_is_no_key _ c.say.ensures.only;
@@ -39,4 +37,4 @@ returns-in-Done-clause-breaks g c = λ failed.
     let before : Seen = g.N.Counted.seen c.args.net.now in
     let now : Seen = g.N.Counted.seen c.serve_all.new.net in
     let told = c.in-Done.ensures.says in
-    inr (out_behind (HostMay (Shown g.N.Conn.Counted.seen) c.args.connections c.args.node.now before now) _ _ _ _ _ _ listening (took_as _ _ told.0 listening told.1.1 told.2) c.serve_all.ensures.ends failed)
+    inr (out_behind (HostMay (Shown g.N.Conn.Counted.seen) c.args.settings.now c.args.node.now before now) _ _ _ _ _ _ listening (took_as _ _ told.0 listening told.1.1 told.2) c.serve_all.ensures.ends failed)
