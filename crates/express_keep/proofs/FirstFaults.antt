@@ -8,8 +8,8 @@ use Rattle.node_restart.specs.Kept.{KeptState}
 use Rattle.node_restart.specs.declared.fault.KeepFault.{KeepFault}
 use Rattle.node_restart.specs.declared.fault.KeepFault.TheVariants.{Journal, NoMemory, Foreign}
 use Rattle.node_restart.specs.Keeping.{IsCause, KeepsUpTo, journal_after, kept_of}
-use Rattle.node_keep.specs.Opening.{IsOfOpening}
-use Rattle.node_keep.specs.declared.fault.OpenFault.TheVariants as opening
+use Rattle.node_host.specs.KeptOpening.{IsOfOpening}
+use Rattle.node_host.specs.declared.open_fault.OpenFault.TheVariants as opening
 use Rattle.express_keep.specs.Endings.{IsToldOf}
 
 -- frames that were kept close no journal

@@ -17,10 +17,10 @@ use Rattle.node_restart.specs.Faults.{CountsFault}
 use Rattle.node_restart.specs.Kept.{KeptState}
 use Rattle.node_restart.specs.declared.fault.KeepFault.{KeepFault}
 use Rattle.node_restart.specs.declared.opening.Opening.{Opening}
-use Rattle.node_keep.specs.Opening.{CountsOpen, IsCreated, IsReopened, key_text}
-use Rattle.node_keep.specs.declared.fault.OpenFault.{OpenFault}
-use Rattle.node_keep.specs.declared.key.SettingsKey.{SettingsKey}
-use Rattle.node_keep.specs.declared.fault.OpenFault.TheVariants as opening
+use Rattle.node_host.specs.KeptOpening.{CountsOpen, IsCreated, IsReopened, key_text}
+use Rattle.node_host.specs.declared.open_fault.OpenFault.{OpenFault}
+use Rattle.node_host.specs.declared.key.SettingsKey.{SettingsKey}
+use Rattle.node_host.specs.declared.open_fault.OpenFault.TheVariants as opening
 use Rattle.express_keep.specs.declared.ending.Ending.{Ending}
 use Rattle.express_keep.specs.declared.ending.Ending.TheVariants.{Plain}
 use Rattle.express_keep.specs.Endings.{DiskCounts}

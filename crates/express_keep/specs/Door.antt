@@ -1,16 +1,18 @@
 -- What may come of a server with a journal at its door.
-use Rattle.std.specs.Prelude.{◌≡◌, ◌⊎◌, ℕ, true, false, List, ◌++◌, codes}
-use Rattle.express_words.specs.Causes.{Rose}
+use Rattle.std.specs.Prelude.{◌≡◌, ◌⊎◌, ℕ, false, List, ◌++◌, codes, Result, Ok, Err}
 use Rattle.express_words.specs.Calls.{Listened, Adds}
 use Rattle.node_journal.specs.Disk.{DiskSeen}
 use Rattle.settings_text.specs.declared.serve.ServeSettings.{ServeSettings}
-use Rattle.node_host.specs.Visits.{Visit}
+use Rattle.node_host.specs.Hosting.{Hosts}
 use Rattle.node_host.specs.Tallies.{tally_text}
+use Rattle.node_host.specs.Visits.{DoorBy, Standing, standing}
+use Rattle.node_host.specs.declared.stop.Halt.{Halt}
+use Rattle.node_host.specs.declared.stop.Halt.TheVariants as halt
+use Rattle.node_host.specs.declared.stop.Stop.{Stop}
 use Rattle.node_host.specs.declared.tally.Tally.{Tally}
 use Rattle.node_restart.specs.declared.fault.KeepFault.{KeepFault}
 use Rattle.node_restart.specs.Kept.{KeptState}
-use Rattle.node_keep.specs.Hosting.{ServesAll, DoorFails, KeepFails}
-use Rattle.node_keep.specs.Visits.{Broken, standing}
+use Rattle.node_serve.specs.JournalLog.{journal_log}
 use Rattle.express_cli.specs.Around.{Seen}
 use Rattle.express_cli.specs.Ends.{net_fault_text}
 use Rattle.express_cli.specs.Talking.{listening}
@@ -20,89 +22,82 @@ use Rattle.express_keep.specs.declared.ending.Ending.{Ending}
 use Rattle.express_keep.specs.declared.ending.Ending.TheVariants.{Plain}
 use Rattle.express_keep.specs.Telling.{FaultMay, Says, SaysOrWants}
 
+-- where a server with a journal stands: it with its journal, and what its net shows
+abbrev pub AtDoor : Type 0 → Type 0
+AtDoor D = Standing (KeptState D)
+
 -- how many connections had each answer, unless memory is wanting for its line
 abbrev pub TallyMay : Tally → Ending → List ℕ → Type 0
 TallyMay tally end text = SaysOrWants (Plain Done) (tally_text tally ++ codes "\n") end text
 
+-- what comes of the settings' connections at the open door, with each frame on the disk before its step
+abbrev pub HostsKept : {D : Type 0} → (D → DiskSeen) → (Seen → Type 0) → ServeSettings → (old new : AtDoor D)
+    → Result Tally (Stop KeepFault) → Type 0
+HostsKept disk shown settings old new result =
+    Hosts (journal_log disk) settings.peer shown settings.connections old new result
+
 -- All connections of the settings were served.
-pub record Served {D : Type 0} (shows : D → DiskSeen) (settings : ServeSettings) (old new : KeptState D)
-    (before now : Seen) (end : Ending) (text : List ℕ) : Type 0 where
-  pub visits : List Visit
+pub record Served {D : Type 0} (disk : D → DiskSeen) (shown : Seen → Type 0) (settings : ServeSettings)
+    (old new : AtDoor D) (end : Ending) (text : List ℕ) : Type 0 where
   pub tally : Tally
-  pub serves : ServesAll shows settings.peer settings.connections tally visits
-      (standing old before.faults) (standing new now.faults) before.calls now.calls
-  pub doors : now.doors ≡ before.doors
+  pub serves : HostsKept disk shown settings old new (Ok tally)
+  pub doors : new.net.doors ≡ old.net.doors
   pub says : TallyMay tally end text
 
--- An accept failed.
-pub record DoorFailed {D : Type 0} (shows : D → DiskSeen) (settings : ServeSettings) (old new : KeptState D)
-    (before now : Seen) (end : Ending) (text : List ℕ) : Type 0 where
-  pub visits : List Visit
-  pub tally : Tally
-  pub fails : DoorFails shows settings.peer settings.connections tally visits
-      (standing old before.faults) (standing new now.faults) before.calls now.calls
-  pub doors : Rose before.doors now.doors
-  pub says : Says (Plain NetFault) net_fault_text end text
+-- what is said of why it ended early
+abbrev pub HaltMay : Halt KeepFault → Ending → List ℕ → Type 0
+HaltMay halt.Door end text = Says (Plain NetFault) net_fault_text end text
+HaltMay (halt.Log fault) end text = FaultMay fault end text
 
--- A frame wasn't kept, which ended the run; no answer went out to its connection.
-pub record NotKept {D : Type 0} (shows : D → DiskSeen) (settings : ServeSettings) (old new : KeptState D)
-    (before now : Seen) (end : Ending) (text : List ℕ) : Type 0 where
-  pub visits : List Visit
-  pub tally : Tally
-  pub fault : KeepFault
-  pub last : Broken
-  pub fails : KeepFails shows settings.peer settings.connections tally fault
-      visits last (standing old before.faults) (standing new now.faults) before.calls now.calls
-  pub doors : now.doors ≡ before.doors
-  pub says : FaultMay fault end text
+-- An accept failed, or a frame wasn't kept, which ended the run; no answer went out to its connection.
+pub record Halted {D : Type 0} (disk : D → DiskSeen) (shown : Seen → Type 0) (settings : ServeSettings)
+    (old new : AtDoor D) (end : Ending) (text : List ℕ) : Type 0 where
+  pub stop : Stop KeepFault
+  pub halts : HostsKept disk shown settings old new (Err stop)
+  pub doors : DoorBy {T = Tally} (Err stop.halt) old.net.doors new.net.doors
+  pub says : HaltMay stop.halt end text
 
 -- what may come of serving at the open door
-abbrev pub ServedMay : {D : Type 0} → (D → DiskSeen) → ServeSettings → (old new : KeptState D)
-    → (before now : Seen) → Ending → List ℕ → Type 0
-ServedMay shows settings old new before now end text =
-    Served shows settings old new before now end text
-    ⊎ (DoorFailed shows settings old new before now end text
-    ⊎ NotKept shows settings old new before now end text)
+abbrev pub ServedMay : {D : Type 0} → (D → DiskSeen) → (Seen → Type 0) → ServeSettings → (old new : AtDoor D)
+    → Ending → List ℕ → Type 0
+ServedMay disk shown settings old new end text =
+    Served disk shown settings old new end text ⊎ Halted disk shown settings old new end text
 
 -- The sink failed where it was to be told that it listens: nothing was served.
-pub record Unheard {D : Type 0} (old new : KeptState D) (before now : Seen) (end : Ending) (text : List ℕ)
-    : Type 0 where
-  pub stays : new ≡ old
-  pub quiet : now ≡ before
+pub record Unheard {D : Type 0} (old new : AtDoor D) (end : Ending) (text : List ℕ) : Type 0 where
+  pub stays : new.server ≡ old.server
+  pub quiet : new.net ≡ old.net
   pub says : Says (Plain WriteFault) listening end text
 
 -- It told that it listens, and then serving came to this.
-abbrev pub Heard : {D : Type 0} → (D → DiskSeen) → ServeSettings → (old new : KeptState D)
-    → (before now : Seen) → Ending → List ℕ → Type 0
-Heard shows settings old new before now end text =
-    (said : List ℕ) × ServedMay shows settings old new before now end said
-    × (text ≡ listening ++ said)
+abbrev pub Heard : {D : Type 0} → (D → DiskSeen) → (Seen → Type 0) → ServeSettings → (old new : AtDoor D)
+    → Ending → List ℕ → Type 0
+Heard disk shown settings old new end text =
+    (said : List ℕ) × ServedMay disk shown settings old new end said × (text ≡ listening ++ said)
 
-abbrev pub ListeningMay : {D : Type 0} → (D → DiskSeen) → ServeSettings → (old new : KeptState D)
-    → (before now : Seen) → Ending → List ℕ → Type 0
-ListeningMay shows settings old new before now end text =
-    Heard shows settings old new before now end text
-    ⊎ Unheard old new before now end text
+abbrev pub ListeningMay : {D : Type 0} → (D → DiskSeen) → (Seen → Type 0) → ServeSettings
+    → (old new : AtDoor D) → Ending → List ℕ → Type 0
+ListeningMay disk shown settings old new end text =
+    Heard disk shown settings old new end text ⊎ Unheard old new end text
 
 -- It listened where its settings say, was to tell so, and serving came to this.
-pub record Hosted {D : Type 0} (shows : D → DiskSeen) (settings : ServeSettings) (old new : KeptState D)
-    (before now : Seen) (end : Ending) (text : List ℕ) : Type 0 where
+pub record Hosted {D : Type 0} (disk : D → DiskSeen) (shown : Seen → Type 0) (settings : ServeSettings)
+    (old new : AtDoor D) (end : Ending) (text : List ℕ) : Type 0 where
   pub at_door : Seen
-  pub listens : Adds before.calls at_door.calls (Listened settings.listen false)
-  pub faults : at_door.faults ≡ before.faults
-  pub doors : at_door.doors ≡ before.doors
-  pub served : ListeningMay shows settings old new at_door now end text
+  pub listens : Adds old.net.calls at_door.calls (Listened settings.listen false)
+  pub faults : at_door.faults ≡ old.net.faults
+  pub doors : at_door.doors ≡ old.net.doors
+  pub served : ListeningMay disk shown settings (standing old.server at_door) new end text
 
 -- Its listen failed: no other call was made, and nothing was kept.
-pub record ListenFailed {D : Type 0} (settings : ServeSettings) (old new : KeptState D) (before now : Seen)
-    (end : Ending) (text : List ℕ) : Type 0 where
-  pub failed : serving.ListenFailed settings before now text
-  pub stays : new ≡ old
+pub record ListenFailed {D : Type 0} (settings : ServeSettings) (old new : AtDoor D) (end : Ending)
+    (text : List ℕ) : Type 0 where
+  pub failed : serving.ListenFailed settings old.net new.net text
+  pub stays : new.server ≡ old.server
   pub ending_is : end ≡ Plain NetFault
 
 -- what may come of a server at its door
-abbrev pub DoorMay : {D : Type 0} → (D → DiskSeen) → ServeSettings → (old new : KeptState D)
-    → (before now : Seen) → Ending → List ℕ → Type 0
-DoorMay shows settings old new before now end text =
-    Hosted shows settings old new before now end text
-    ⊎ ListenFailed settings old new before now end text
+abbrev pub DoorMay : {D : Type 0} → (D → DiskSeen) → (Seen → Type 0) → ServeSettings → (old new : AtDoor D)
+    → Ending → List ℕ → Type 0
+DoorMay disk shown settings old new end text =
+    Hosted disk shown settings old new end text ⊎ ListenFailed settings old new end text

@@ -5,11 +5,12 @@ use Rattle.node_journal.specs.Disk.{DiskSeen}
 use Rattle.settings_text.specs.declared.serve.ServeSettings.{ServeSettings}
 use Rattle.node_restart.specs.declared.fault.KeepFault.{KeepFault}
 use Rattle.node_restart.specs.Kept.{KeptState}
-use Rattle.node_keep.specs.Opening.{IsCreated, IsReopened, IsOfOpening, IsCauseOf, LeavesDisk}
-use Rattle.node_keep.specs.Opening.{opening_of, key_text}
-use Rattle.node_keep.specs.declared.fault.OpenFault.{OpenFault}
-use Rattle.node_keep.specs.declared.fault.OpenFault.TheVariants as opening
-use Rattle.node_keep.specs.declared.key.SettingsKey.{SettingsKey}
+use Rattle.node_host.specs.KeptOpening.{IsCreated, IsReopened, IsOfOpening, IsCauseOf, LeavesDisk}
+use Rattle.node_host.specs.KeptOpening.{opening_of, key_text}
+use Rattle.node_host.specs.declared.open_fault.OpenFault.{OpenFault}
+use Rattle.node_host.specs.declared.open_fault.OpenFault.TheVariants as opening
+use Rattle.node_host.specs.declared.key.SettingsKey.{SettingsKey}
+use Rattle.node_host.specs.Visits.{standing}
 use Rattle.express_cli.specs.Around.{Around, Outside, Seen}
 use Rattle.input_reading.specs.Reading.{GaveAll}
 use Rattle.express_cli.specs.Ends.{BadKeyMay, bad_settings}
@@ -38,7 +39,7 @@ pub record Opened {D : Type 0} (shows : D → DiskSeen) (settings : ServeSetting
   pub new : KeptState D
   pub opened : IsCreated shows limit (opening_of settings net.seed) disk old
       ⊎ IsReopened shows limit (opening_of settings net.seed) disk old
-  pub served : DoorMay shows settings old new net.before net.now end text
+  pub served : DoorMay shows net.shown settings (standing old net.before) (standing new net.now) end text
   pub handed_back : after ≡ new.disk
 
 -- what is said of a server that isn't opened

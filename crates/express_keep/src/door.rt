@@ -1,6 +1,7 @@
 //! A server with a journal at its door.
 ghost use Rattle.std.specs.Prelude.{◌≡◌, ◌≢◌, ◌≤◌, ◌⊎◌, ℕ, false, []};
-ghost use Rattle.express_cli.specs.Around.{around};
+ghost use Rattle.node_host.specs.Visits.{standing};
+ghost use Rattle.express_cli.specs.Around.{Shown, around};
 ghost use Rattle.express_cli.specs.Talking.{IsOut, ServeBreaks, listening};
 ghost use Rattle.express_keep.specs.Endings.{DiskCounts};
 ghost use Rattle.express_keep.specs.Telling.{Tells};
@@ -10,9 +11,8 @@ use crate::ending::Ending;
 use crate::telling::{tell, tell_fault};
 use express_cli::{End, LISTENING, NET_FAULT, OUT_OF_MEMORY, tally_line};
 use express_words::outside::{Net, Sink};
-use node_host::Tally;
+use node_host::{Halt, Tally, host};
 use node_journal::Disk;
-use node_keep::{Halt, host_kept};
 use node_restart::Kept;
 use settings_text::ServeSettings;
 use std::alloc::Global;
@@ -46,14 +46,14 @@ fn serve_all<K: Sink, N: Net, D: Disk>(
     net: &mut N,
 ) -> Ending
     requires unclosed { server.old.kept.journal.closed ≡ false }
-    ensures tells { Tells (ServedMay D.disk settings.now server.old.kept server.new.kept
-        (N.seen net.old) (N.seen net.new))
+    ensures tells { Tells (ServedMay D.disk (Shown N.Conn.seen) settings.now
+        (standing server.old.kept (N.seen net.old)) (standing server.new.kept (N.seen net.new)))
         (K.seen out.old) (K.seen out.new) result }
     ensures told { result ≢ Ending.Plain End.WriteFault → (K.seen out.new).faults ≡ (K.seen out.old).faults }
     ensures disk { DiskCounts result (D.Counted.seen server.old.kept.disk).faults
         (D.Counted.seen server.new.kept.disk).faults }
 {
-    match host_kept(
+    match host(
         &mut server.kept,
         settings.peer.as_str(),
         &mut server.gather,
@@ -63,7 +63,7 @@ fn serve_all<K: Sink, N: Net, D: Disk>(
         Ok(tally) => tell_tally(alloc, out, tally),
         Err(stop) => match stop.halt {
             Halt::Door => tell(out, NET_FAULT, Ending::Plain(End::NetFault)),
-            Halt::Keep(fault) => tell_fault(alloc, out, fault),
+            Halt::Log(fault) => tell_fault(alloc, out, fault),
         },
     }
 }
@@ -77,8 +77,8 @@ fn tell_and_serve<K: Sink, N: Net, D: Disk>(
     net: &mut N,
 ) -> Ending
     requires unclosed { server.old.kept.journal.closed ≡ false }
-    ensures tells { Tells (ListeningMay D.disk settings.now server.old.kept server.new.kept
-        (N.seen net.old) (N.seen net.new))
+    ensures tells { Tells (ListeningMay D.disk (Shown N.Conn.seen) settings.now
+        (standing server.old.kept (N.seen net.old)) (standing server.new.kept (N.seen net.new)))
         (K.seen out.old) (K.seen out.new) result }
     ensures announces { result ≡ Ending.Plain End.WriteFault → (net.new ≡ net.old)
         ⊎ IsOut listening (K.seen out.old).written (K.seen out.new).written }
@@ -101,8 +101,8 @@ pub(crate) fn listen_and_serve<K: Sink, N: Net, D: Disk>(
     net: &mut N,
 ) -> Ending
     requires unclosed { server.old.kept.journal.closed ≡ false }
-    ensures tells { Tells (DoorMay D.disk settings.now server.old.kept server.new.kept
-        (N.seen net.old) (N.seen net.new))
+    ensures tells { Tells (DoorMay D.disk (Shown N.Conn.seen) settings.now
+        (standing server.old.kept (N.seen net.old)) (standing server.new.kept (N.seen net.new)))
         (K.seen out.old) (K.seen out.new) result }
     ensures announces { result ≡ Ending.Plain End.WriteFault
         → ServeBreaks settings.now (around [] (N.seen net.old) (N.seen net.new) N.Conn.seen)

@@ -1,7 +1,7 @@
 //! Writes the texts with which a server with a journal ends.
 ghost use Rattle.std.specs.Prelude.{◌≡◌, ◌≢◌, ◌⊎◌, ◌≤◌, ℕ, IfOk, string_bytes};
 ghost use Rattle.node_restart.specs.Faults.{CountsFault};
-ghost use Rattle.node_keep.specs.Opening.{CountsOpen, IsOfOpening, key_text};
+ghost use Rattle.node_host.specs.KeptOpening.{CountsOpen, IsOfOpening, key_text};
 ghost use Rattle.express_keep.specs.Endings.{DiskCounts, IsToldOf};
 ghost use Rattle.express_keep.specs.Keeping.{OpenFaultMay};
 ghost use Rattle.express_keep.specs.Telling.{FaultMay, Says, SaysOrWants, Tells, fault_line};
@@ -9,8 +9,8 @@ ghost use Rattle.express_keep.specs.Telling.{FaultMay, Says, SaysOrWants, Tells,
 use crate::ending::Ending;
 use express_cli::{End, OUT_OF_MEMORY, say, say_bad_key};
 use express_words::outside::Sink;
+use node_host::{OpenFault, SettingsKey};
 use node_journal::JournalFault;
-use node_keep::{OpenFault, SettingsKey};
 use node_restart::KeepFault;
 use std::alloc::{AllocError, Global};
 

@@ -1,7 +1,7 @@
 use Rattle.std.proofs.Common.{ap, subst, sym, List, ℕ}
 use Rattle.express_cli.specs.Ends.{BadKeyMay}
-use Rattle.node_keep.specs.Opening.{CountsOpen, IsOfOpening}
-use Rattle.node_keep.specs.declared.fault.OpenFault.{OpenFault}
+use Rattle.node_host.specs.KeptOpening.{CountsOpen, IsOfOpening}
+use Rattle.node_host.specs.declared.open_fault.OpenFault.{OpenFault}
 use Rattle.express_keep.specs.Keeping.{OpenFaultMay}
 use Rattle.express_keep.specs.Telling.{FaultMay}
 use Rattle.express_keep.specs.declared.ending.Ending.TheVariants.{Plain}
