@@ -2,10 +2,11 @@
 //! program.
 ghost use Rattle.express_words.specs.Limits.{KeepsLimits};
 
-use express_words::outside::{Failed, MemoryConn, MemoryNet};
+use express_words::outside::{MemoryConn, MemoryNet};
 use express_words::{NoMemory, Settings, Text};
-use node_host::{Tally, host, open_node};
-use node_serve::Node;
+use node_host::{Halt, Stop, Tally, host, open_node};
+use node_restart::KeepFault;
+use node_serve::{Never, Node};
 use settings_text::{HELPER, ServeSettings};
 use std::alloc::{AllocError, Global};
 use std::test::Fail;
@@ -46,12 +47,12 @@ fn served(
     gather: &mut Gather,
     connections: u32,
     net: &mut MemoryNet,
-) -> Result<Tally, Failed> {
-    host(node, gather, connections, net)
+) -> Result<Tally, Stop<Never>> {
+    host(node, "", gather, connections, net)
 }
 
 // A helper serves three connections of this net.
-fn hosted(rt: &HostRuntime, net: &mut MemoryNet) -> Result<Result<Tally, Failed>, Fail> {
+fn hosted(rt: &HostRuntime, net: &mut MemoryNet) -> Result<Result<Tally, Stop<Never>>, Fail> {
     let Some(settings) = Settings::new(16, 5, 1, 1) else {
         return Err(Fail::new("settings out of their limits"));
     };
@@ -61,10 +62,13 @@ fn hosted(rt: &HostRuntime, net: &mut MemoryNet) -> Result<Result<Tally, Failed>
 }
 
 // The text of a tally, or of none where an accept failed.
-fn text_of(rt: &HostRuntime, tally: Result<Tally, Failed>) -> Result<String, Fail> {
+fn text_of(rt: &HostRuntime, tally: Result<Tally, Stop<Never>>) -> Result<String, Fail> {
     match tally {
         Ok(tally) => Ok(format!(in rt.alloc(); "{tally}")?),
-        Err(Failed) => Ok(String::from_str(rt.alloc(), "an accept failed")?),
+        Err(stop) => match stop.halt {
+            Halt::Door => Ok(String::from_str(rt.alloc(), "an accept failed")?),
+            Halt::Log(never) => match never {},
+        },
     }
 }
 
@@ -89,5 +93,19 @@ fn connections(rt: HostRuntime) -> Result<(), Fail> {
     let mut net = net_of(&rt, &[DEPOSIT, DEPOSIT, DEPOSIT], &[2])?;
     assert!(rt; hosted(&rt, &mut net)?.is_err());
     assert!(rt; net.closed().len() == 1);
+    Ok(())
+}
+
+// What is said of a server that ended early, with and without a fault of its journal.
+#[test]
+fn stops(rt: HostRuntime) -> Result<(), Fail> {
+    let tally = Tally::new();
+    let counts = "served 0 answered 0 ended 0 connfaults 0 linkfaults 0 linkbad 0";
+    let halt = Halt::Log(KeepFault::NoMemory);
+    let text = format!(in rt.alloc(); "{}", Stop { halt, tally })?;
+    assert!(rt; text.as_str() == format!(in rt.alloc(); "out of memory, {counts}")?.as_str());
+    let halt: Halt<KeepFault> = Halt::Door;
+    let text = format!(in rt.alloc(); "{}", Stop { halt, tally })?;
+    assert!(rt; text.as_str() == format!(in rt.alloc(); "an accept failed, {counts}")?.as_str());
     Ok(())
 }
