@@ -104,6 +104,22 @@ fn links_and_folders_are_refused(rt: HostRuntime) -> Result<(), Fail> {
     Ok(())
 }
 
+const FAR: &str = "journals_tests.far";
+
+// No file of the system has so large an offset.
+const NOWHERE: u64 = u64::MAX;
+
+#[test]
+fn an_error_of_the_system_is_a_fault_and_no_end(rt: HostRuntime) -> Result<(), Fail> {
+    let mut disk = on_file(&rt, FAR);
+    assert!(rt; keeps(&mut disk, 0, b"bytes"));
+    assert!(rt; ends_with(&mut disk, 5, b"") && disk.faults() == 0);
+    assert!(rt; disk.read(NOWHERE, &mut [0; 8]).is_err() && disk.faults() == 1);
+    assert!(rt; !keeps(&mut disk, NOWHERE, b"lost") && disk.faults() == 2);
+    fs::remove_file(&rt, FAR)?;
+    Ok(())
+}
+
 const GONE: &str = "journals_tests.gone";
 
 #[test]
