@@ -64,8 +64,8 @@ listening = codes "listening\n"
 
 -- A server was served so many connections as its settings say at the open door, or as many as came before an
 -- accept failed.
-abbrev pub ServesDoor : (Seen → Type 0) → ServeSettings → Node → (before now : Seen) → Result Tally (Stop Never)
-    → Type 0
+abbrev pub ServesDoor : (Seen → Type 0) → ServeSettings → Node → (before now : Seen)
+    → Result Tally (Stop Never) → Type 0
 ServesDoor shown settings node before now result = (end : Node)
     × Hosts node_log settings.peer shown settings.connections (standing node before) (standing end now) result
 

@@ -11,4 +11,5 @@ halt_text output Door = Some (codes "an accept failed")
 halt_text output (Log fault) = output fault
 
 abbrev pub stop_text : {F : Type 0} → (F → Option (List ℕ)) → Stop F → Option (List ℕ)
-stop_text output stop = option_map (λ text. text ++ (codes ", " ++ tally_text stop.tally)) (halt_text output stop.halt)
+stop_text output stop =
+    option_map (λ text. text ++ (codes ", " ++ tally_text stop.tally)) (halt_text output stop.halt)

@@ -13,7 +13,7 @@ returns-in-Ok-tally_line-clause-ends g c =
     let now : Seen = g.N.Counted.seen c.host.new.net in
     let all = all_served shown c.args.settings.now c.args.node.now c.host.new.server before now c.in-Ok.tally _ c.as_str.ensures c.in-Ok.ensures.hosts in
     said (HostMay shown c.args.settings.now c.args.node.now before now) _ _ _ _ Done _ _
-    (c.in-Ok.tally, all, c.in-Ok.ensures.door, c.as_str-in-Ok-tally_line.ensures.value ∙ c.in-Ok-tally_line.ensures) c.say-in-Ok-tally_line.ensures.says
+    (c.in-Ok.tally, all, c.in-Ok.ensures.door, c.as_str-in-Ok-tally_line.ensures.value ∙ c.in-Ok-tally_line.ensures) c.say.ensures.says
 
 pub returns-in-Err-tally_line-clause-ends : goal.returns-in-Err-tally_line-clause-ends
 returns-in-Err-tally_line-clause-ends g c =
