@@ -10,30 +10,31 @@ use Rattle.desk_entries.specs.declared.entry.Reading.{Reading}
 use Rattle.desk_entries.specs.Desks.{name_of}
 use Rattle.desk_entries.specs.Letters.{letters_of, shown_of}
 use Rattle.desk_run.specs.Printing.{Prints, TellsMet, met_line}
-use Rattle.desk_run.specs.Shown.{Shows, ShowsEach, ShowsReading, TellsOf, none, then, holds_met, is_met, new_letters}
+use Rattle.desk_run.specs.Shown.{Each, Shows, ShowsEach, ShowsReading, none, then, holds_met, is_met, new_letters}
+use Rattle.desk_run.specs.Told.{TellsFile, TellsReading}
 use Rattle.desk_run.proofs.PrintLaws.{took_nothing, took_both, tells_before, tells_behind, tells_line}
 
--- of all these the rest is to be printed yet
-pub record ShownSo (entries : List Entry) (all rest : List Reading) (old new : Option (List ℕ)) : Type 0 where
+-- of all these the rest is to be told yet
+pub record ShownSo (One : Reading → List ℕ → Type 0) (all rest : List Reading) (old new : Option (List ℕ)) : Type 0 where
   pub front : List ℕ
   pub took : Took old new front
-  pub goes_on : (more : List ℕ) → ShowsEach entries rest more → ShowsEach entries all (front ++ more)
+  pub goes_on : (more : List ℕ) → Each One rest more → Each One all (front ++ more)
 
-pub shown_none : (entries : List Entry) (all : List Reading) (old : Option (List ℕ)) → ShownSo entries all all old old
-shown_none entries all old = record { front = []; took = took_nothing old; goes_on = λ more each. each }
+pub shown_none : (One : Reading → List ℕ → Type 0) (all : List Reading) (old : Option (List ℕ)) → ShownSo One all all old old
+shown_none One all old = record { front = []; took = took_nothing old; goes_on = λ more each. each }
 
-pub shown_more : (entries : List Entry) (all rest : List Reading) (r : Reading) (old mid new : Option (List ℕ))
-    → ShownSo entries all (r ∷ rest) old mid → Prints (ShowsReading entries r) mid new → ShownSo entries all rest old new
-shown_more entries all rest r old mid new s p = record {
+pub shown_more : (One : Reading → List ℕ → Type 0) (all rest : List Reading) (r : Reading) (old mid new : Option (List ℕ))
+    → ShownSo One all (r ∷ rest) old mid → Prints (One r) mid new → ShownSo One all rest old new
+shown_more One all rest r old mid new s p = record {
   front = s.front ++ p.0;
   took = took_both old mid new s.front p.0 s.took p.2;
-  goes_on = λ more each. subst (λ (t : List ℕ). ShowsEach entries all t) (sym (append_assoc s.front p.0 more))
+  goes_on = λ more each. subst (λ (t : List ℕ). Each One all t) (sym (append_assoc s.front p.0 more))
       (s.goes_on (p.0 ++ more) (then r rest p.0 more p.1 each));
 }
 
-pub shown_all : (entries : List Entry) (all : List Reading) (old new : Option (List ℕ)) → ShownSo entries all [] old new
-    → Prints (ShowsEach entries all) old new
-shown_all entries all old new s =
+pub shown_all : (One : Reading → List ℕ → Type 0) (all : List Reading) (old new : Option (List ℕ)) → ShownSo One all [] old new
+    → Prints (Each One all) old new
+shown_all One all old new s =
     (s.front ++ [], s.goes_on [] none, subst (λ (t : List ℕ). Took old new t) (sym (append-nil s.front)) s.took)
 
 -- ---- letters that met
@@ -46,58 +47,40 @@ pub or_more : (whole met here rest : Bool) → whole ≡ (met || (here || rest))
 or_more whole true here rest is = is
 or_more whole false here rest is = is
 
-one_tells : (name : List ℕ) (h : Held) (one : List ℕ) → Shows name h one → holds_met h ≡ true → TellsMet one
-one_tells name held.Nothing one shows met = cc
-one_tells name held.Met one shows met = subst (λ (t : List ℕ). TellsMet t) (sym shows) (tells_line name _)
-one_tells name (held.Letter id text) one shows met = cc
+abbrev pub TellsItsMet : (Reading → List ℕ → Type 0) → Type 0
+TellsItsMet One = (r : Reading) (text : List ℕ) → One r text → is_met r ≡ true → TellsMet text
 
-pub each_tells : (entries : List Entry) (rs : List Reading) (text : List ℕ) → ShowsEach entries rs text
+shows_met : (name : List ℕ) (h : Held) (one : List ℕ) → Shows name h one → holds_met h ≡ true → TellsMet one
+shows_met name held.Nothing one shows met = cc
+shows_met name held.Met one shows met = subst (λ (t : List ℕ). TellsMet t) (sym shows) (tells_line name _)
+shows_met name (held.Letter id text) one shows met = cc
+
+pub reading_met : (entries : List Entry) → TellsItsMet (ShowsReading entries)
+reading_met entries r text shows met = shows_met (name_of entries r.registered) r.held text shows met
+
+only_line : (name : List ℕ) → TellsMet (met_line name)
+only_line name = record { name = name; before = []; behind = []; is = sym (append-nil (met_line name)) }
+
+writes_met : (folder name : List ℕ) (serial : ℕ) (h : Held) (one : List ℕ) → TellsFile folder name serial h one → holds_met h ≡ true → TellsMet one
+writes_met folder name serial held.Nothing one tells met = cc
+writes_met folder name serial held.Met one tells met = subst (λ (t : List ℕ). TellsMet t) (sym tells) (only_line name)
+writes_met folder name serial (held.Letter id text) one tells met = cc
+
+pub file_met : (folder : List ℕ) (entries : List Entry) → TellsItsMet (TellsReading folder entries)
+file_met folder entries r text tells met = writes_met folder (name_of entries r.registered) r.serial r.held text tells met
+
+pub each_tells : (One : Reading → List ℕ → Type 0) → TellsItsMet One → (rs : List Reading) (text : List ℕ) → Each One rs text
     → list_any is_met rs ≡ true → TellsMet text
-each_tells entries [] text none met = cc
-each_tells entries (r ∷ rs) text (then _ _ one more shows each) met =
+each_tells One its [] text none met = cc
+each_tells One its (r ∷ rs) text (then _ _ one more here behind) met =
     elim (either (is_met r) (list_any is_met rs) met) [
-      | inl here ↦ tells_before one more (one_tells (name_of entries r.registered) r.held one shows here)
-      | inr there ↦ tells_behind one more (each_tells entries rs more each there)
+      | inl now ↦ tells_before one more (its r one here now)
+      | inr later ↦ tells_behind one more (each_tells One its rs more behind later)
     ]
 
-pub shown_tell : (entries : List Entry) (rs : List Reading) (old new : Option (List ℕ)) (met : Bool)
-    → Prints (ShowsEach entries rs) old new → met ≡ list_any is_met rs → met ≡ true → Prints TellsMet old new
-shown_tell entries rs old new met p is so = (p.0, each_tells entries rs p.0 p.1 (sym is ∙ so), p.2)
-
--- ---- the same, of letters that are written to files
-
--- some text was printed, and where letters met one that says so
-pub record ToldSo (met : Bool) (old new : Option (List ℕ)) : Type 0 where
-  pub text : List ℕ
-  pub took : Took old new text
-  pub tells : met ≡ true → TellsMet text
-
-pub told_none : (old : Option (List ℕ)) → ToldSo false old old
-told_none old = record { text = []; took = took_nothing old; tells = λ so. cc }
-
-held_tells : (h : Held) (text : List ℕ) → TellsOf h text → holds_met h ≡ true → TellsMet text
-held_tells held.Nothing text tells met = cc
-held_tells held.Met text tells met = tells
-held_tells (held.Letter id bytes) text tells met = cc
-
-pub told_more : (r : Reading) (met now : Bool) (old mid new : Option (List ℕ)) → ToldSo met old mid
-    → Prints (TellsOf r.held) mid new → now ≡ (met || is_met r) → ToldSo now old new
-told_more r met now old mid new s p is = record {
-  text = s.text ++ p.0;
-  took = took_both old mid new s.text p.0 s.took p.2;
-  tells = λ so. elim (either met (is_met r) (sym is ∙ so)) [
-    | inl before ↦ tells_before s.text p.0 (s.tells before)
-    | inr here ↦ tells_behind s.text p.0 (held_tells r.held p.0 p.1 here)
-  ];
-}
-
-pub told_all : (met : Bool) (old new : Option (List ℕ)) → ToldSo met old new → met ≡ true → Prints TellsMet old new
-told_all met old new s so = (s.text, s.tells so, s.took)
-
-pub met_told : (name text : List ℕ) (old new : Option (List ℕ)) → text ≡ met_line name → Took old new text
-    → Prints TellsMet old new
-met_told name text old new is took =
-    (text, record { name = name; before = []; behind = []; is = is ∙ sym (append-nil (met_line name)) }, took)
+pub shown_tell : (One : Reading → List ℕ → Type 0) → TellsItsMet One → (rs : List Reading) (old new : Option (List ℕ)) (met : Bool)
+    → Prints (Each One rs) old new → met ≡ list_any is_met rs → met ≡ true → Prints TellsMet old new
+shown_tell One its rs old new met p is so = (p.0, each_tells One its rs p.0 p.1 (sym is ∙ so), p.2)
 
 -- ---- those that are new
 
@@ -107,6 +90,27 @@ new_of f xs entries n are is =
     sym (drop-map f n xs) ∙ ap (λ (l : List Reading). drop n l) are
     ∙ ap (λ (k : ℕ). drop k (letters_of entries)) (is ∙ ap (λ (k : ℕ). min (shown_of entries) k) (sym (length-map xs f) ∙ ap length are))
     ∙ drop_min (shown_of entries) (letters_of entries)
+
+no_length : (xs : List Reading) → length xs ≡ 0 → xs ≡ []
+no_length [] is = refl
+no_length (x ∷ xs) is = absurd (omega (arith, is))
+
+drop_all : (xs : List Reading) (n : ℕ) → length xs ≤ n → drop n xs ≡ []
+drop_all xs n few = no_length (drop n xs) (omega (arith, length-drop n xs, few))
+
+pub none_new : (entries : List Entry) → length (letters_of entries) ≤ shown_of entries → new_letters entries ≡ []
+none_new entries few = drop_all (letters_of entries) (shown_of entries) few
+
+pub some_new : (entries : List Entry) → shown_of entries < length (letters_of entries) → new_letters entries ≡ [] → ⊥
+some_new entries more gone =
+    let count : length (drop (shown_of entries) (letters_of entries)) ≡ 0 = ap length gone in
+    omega (arith, length-drop (shown_of entries) (letters_of entries), more, count)
+
+pub none_there : (entries : List Entry) → length (letters_of entries) ≤ 0 → letters_of entries ≡ []
+none_there entries few = no_length (letters_of entries) (omega (arith, few))
+
+pub some_there : (entries : List Entry) → 0 < length (letters_of entries) → letters_of entries ≡ [] → ⊥
+some_there entries more gone = let count : length (letters_of entries) ≡ 0 = ap length gone in omega (arith, more, count)
 
 -- ---- a loop over a slice, whose rest goes down
 
@@ -131,20 +135,20 @@ step_met {A} f whole rest r m met here next is some at so here_is next_is =
     let two = or_more whole met (is_met (f r)) more one in
     subst (λ (b : Bool). whole ≡ (b || more)) (sym (next_is ∙ ap (λ (b : Bool). met || b) here_is)) two
 
-pub step_shown : {A : Type 0} (f : A → Reading) (entries : List Entry) (all : List Reading) (rest : List A) (r : A) (m : ℕ)
+pub step_shown : {A : Type 0} (f : A → Reading) (One : Reading → List ℕ → Type 0) (all : List Reading) (rest : List A) (r : A) (m : ℕ)
     (old mid new : Option (List ℕ)) → m ≡ length rest → 1 ≤ m → r ≡ get_or rest 0 r
-    → ShownSo entries all (map f rest) old mid → Prints (ShowsReading entries (f r)) mid new
-    → ShownSo entries all (map f (behind m rest)) old new
-step_shown {A} f entries all rest r m old mid new is some at s p =
+    → ShownSo One all (map f rest) old mid → Prints (One (f r)) mid new
+    → ShownSo One all (map f (behind m rest)) old new
+step_shown {A} f One all rest r m old mid new is some at s p =
     let parts = split_rest rest r m is some at in
-    shown_more entries all (map f (behind m rest)) (f r) old mid new
-    (subst (λ (l : List A). ShownSo entries all (map f l) old mid) parts s) p
+    shown_more One all (map f (behind m rest)) (f r) old mid new
+    (subst (λ (l : List A). ShownSo One all (map f l) old mid) parts s) p
 
-pub end_shown : {A : Type 0} (f : A → Reading) (entries : List Entry) (all : List Reading) (rest : List A)
-    (old new : Option (List ℕ)) → length rest < 1 → ShownSo entries all (map f rest) old new
-    → Prints (ShowsEach entries all) old new
-end_shown f entries all [] old new none_left s = shown_all entries all old new s
-end_shown f entries all (x ∷ xs) old new none_left s = absurd (omega (arith, none_left))
+pub end_shown : {A : Type 0} (f : A → Reading) (One : Reading → List ℕ → Type 0) (all : List Reading) (rest : List A)
+    (old new : Option (List ℕ)) → length rest < 1 → ShownSo One all (map f rest) old new
+    → Prints (Each One all) old new
+end_shown f One all [] old new none_left s = shown_all One all old new s
+end_shown f One all (x ∷ xs) old new none_left s = absurd (omega (arith, none_left))
 
 or_false : (met : Bool) → (met || false) ≡ met
 or_false true = refl

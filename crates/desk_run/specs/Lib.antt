@@ -1,9 +1,15 @@
 pub mod Carried
+pub mod Changes
 pub mod Ends
 pub mod LetterEnds
+pub mod Opens
 pub mod Printing
 pub mod Quiet
 pub mod Rests
+pub mod Scenes
 pub mod Sends
 pub mod Shown
 pub mod Statuses
+pub mod Told
+pub mod Tries
+pub mod Works

@@ -6,6 +6,10 @@ use Rattle.express_words.specs.Streams.{Took}
 abbrev pub Prints : (List ℕ → Type 0) → Option (List ℕ) → Option (List ℕ) → Type 0
 Prints Form old new = (text : List ℕ) × Form text × Took old new text
 
+-- it took some text
+abbrev pub PrintsSome : Option (List ℕ) → Option (List ℕ) → Type 0
+PrintsSome old new = (text : List ℕ) × Took old new text
+
 -- the line that tells of letters that met in a box of this name
 unfoldable pub met_line : List ℕ → List ℕ
 met_line name = codes "two letters met in box " ++ name ++ codes ": neither can be read\n"

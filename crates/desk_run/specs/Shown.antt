@@ -13,7 +13,7 @@ use Rattle.desk_ledger.specs.Cards.{IsCardOf}
 use Rattle.desk_letters.specs.Screen.{shown_text}
 use Rattle.desk_texts.specs.declared.sheet.Sheet.{Sheet}
 use Rattle.desk_texts.specs.Printing.{printed}
-use Rattle.desk_run.specs.Printing.{TellsMet, met_line}
+use Rattle.desk_run.specs.Printing.{met_line}
 
 -- ---- one box
 
@@ -49,12 +49,6 @@ Shows name held.Nothing printed = printed ≡ []
 Shows name held.Met printed = printed ≡ met_line name ++ codes "\n"
 Shows name (held.Letter id text) printed = ShowsLetter name text printed
 
--- where letters met, that is told
-abbrev pub TellsOf : Held → List ℕ → Type 0
-TellsOf held.Nothing text = Unit {0}
-TellsOf held.Met text = TellsMet text
-TellsOf (held.Letter id bytes) text = Unit {0}
-
 abbrev pub holds_met : Held → Bool
 holds_met held.Nothing = false
 holds_met held.Met = true
@@ -69,11 +63,15 @@ ShowsReading entries r printed = Shows (name_of entries r.registered) r.held pri
 
 -- ---- several boxes
 
+-- One text of each reading stands behind another.
+pub data Each (One : Reading → List ℕ → Type 0) : List Reading → List ℕ → Type 0 where
+  none : Each One [] []
+  then : (r : Reading) (readings : List Reading) (one more : List ℕ) → One r one
+      → Each One readings more → Each One (r ∷ readings) (one ++ more)
+
 -- These are printed one behind another, each under the name of its box.
-pub data ShowsEach (entries : List Entry) : List Reading → List ℕ → Type 0 where
-  none : ShowsEach entries [] []
-  then : (r : Reading) (readings : List Reading) (one more : List ℕ) → ShowsReading entries r one
-      → ShowsEach entries readings more → ShowsEach entries (r ∷ readings) (one ++ more)
+abbrev pub ShowsEach : List Entry → List Reading → List ℕ → Type 0
+ShowsEach entries = Each (ShowsReading entries)
 
 -- the letters that weren't shown
 abbrev pub new_letters : List Entry → List Reading

@@ -1,8 +1,9 @@
 //! What is left to be done, carried on.
 ghost use Rattle.std.specs.Prelude.{◌≡◌, Err, IfErr, OnOk};
 ghost use Rattle.desk_run.specs.Carried.{HasNothingLeft};
-ghost use Rattle.desk_run.specs.Ends.{IsUndone, Unfailed};
+ghost use Rattle.desk_run.specs.Ends.{IsCause, IsUndone, Unfailed};
 ghost use Rattle.desk_run.specs.Sends.{SendsOn};
+ghost use Rattle.desk_run.specs.Works.{Does, Goes, OnSettled, Settles, StoresAll};
 
 use crate::ledgers::is_full;
 use crate::trouble::{Trouble, halted};
@@ -27,25 +28,31 @@ fn is_noted(stored: &Stored) -> bool {
     }
 }
 
+// The last refusal that leaves no entry.
+fn last_refused(before: Option<Refusal>, stored: &Stored) -> Option<Refusal> {
+    if is_noted(stored) {
+        before
+    } else {
+        stored.refusal
+    }
+}
+
 // Stores what the ended requests came to; the last refusal that leaves no entry is given.
 fn store_all<'a, D: Disk>(
     ledger: &mut Ledger<D>,
     seconds: u64,
 ) -> Result<Option<Refusal>, Trouble<'a>>
-    ensures undone { IfErr result IsUndone }
+    ensures stores { OnOk result (StoresAll ledger.old ledger.new) }
+    ensures cause { IfErr result IsCause }
 {
     let mut refused = None;
-    for _ in 0..MOST_TASKS {
+    'outcomes: for _ in 0..MOST_TASKS {
         match ledger.store(seconds)? {
             None => return Ok(refused),
-            Some(stored) => {
-                if !is_noted(&stored) {
-                    refused = stored.refusal;
-                }
-            }
+            Some(stored) => refused = last_refused(refused, &stored),
         }
     }
-    Ok(refused)
+    Err(Trouble::Later)
 }
 
 /// Works off the request that is under way, and stores what it came to.
@@ -60,6 +67,9 @@ pub(crate) fn settle<'a, D: Disk, N: Net, C: Clock>(
     ensures sends { SendsOn D.disk D.Counted.seen (N.seen net.old).calls (N.seen net.new).calls }
     ensures refused { (r : Refusal) → result ≡ Err (Trouble.Refused r)
         → (N.seen net.new).faults ≡ (N.seen net.old).faults }
+    // Also where a server refused the request.
+    ensures settles { OnSettled result
+        (Settles ledger.old ledger.new (N.seen net.old).calls (N.seen net.new).calls) }
 {
     if let Err(halt) = ledger.work(net) {
         return Err(halted(halt, ledger.server()));
@@ -85,6 +95,8 @@ pub(crate) fn do_task<'a, D: Disk, N: Net, C: Clock>(
     ensures sends { SendsOn D.disk D.Counted.seen (N.seen net.old).calls (N.seen net.new).calls }
     ensures refused { (r : Refusal) → result ≡ Err (Trouble.Refused r)
         → (N.seen net.new).faults ≡ (N.seen net.old).faults }
+    ensures does { OnSettled result
+        (Does task ledger.old ledger.new (N.seen net.old).calls (N.seen net.new).calls) }
 {
     if is_full(ledger.used()) {
         return Err(Trouble::Full);
@@ -101,6 +113,7 @@ pub(crate) fn carry_on<'a, D: Disk, N: Net, C: Clock>(
     net: &mut N,
     clock: &mut C,
 ) -> Result<(), Trouble<'a>>
+    ensures goes { OnOk result (Goes ledger.old (N.seen net.old).calls ledger.new (N.seen net.new).calls) }
     ensures nothing_left { OnOk result (HasNothingLeft ledger.new) }
     ensures undone { IfErr result IsUndone }
     ensures net { Unfailed (N.seen net.old).faults (N.seen net.new).faults result }

@@ -1,6 +1,8 @@
 //! The ledger of a desk's folder.
-ghost use Rattle.std.specs.Prelude.{IfErr};
+ghost use Rattle.std.specs.Prelude.{IfErr, IfOk};
+ghost use Rattle.desk_run.specs.Changes.{MakesFile};
 ghost use Rattle.desk_run.specs.Ends.{IsUndone};
+ghost use Rattle.desk_run.specs.Opens.{Finds, Opens};
 
 use crate::trouble::Trouble;
 use desk_ledger::{Ledger, OpenFault};
@@ -39,7 +41,8 @@ pub(crate) fn ledger_in<'a, F: Folder>(
     alloc: Global,
     folder: &mut F,
 ) -> Result<Option<Ledger<F::File>>, Trouble<'a>>
-    ensures { IfErr result IsUndone }
+    ensures told { IfOk result (λ found. Finds F.File.disk (F.calls folder.old) (F.calls folder.new) found) }
+    ensures undone { IfErr result IsUndone }
 {
     match folder.is_there(DeskFile::Ledger) {
         Ok(true) => {}
@@ -60,7 +63,8 @@ pub(crate) fn desk_in<'a, F: Folder>(
     alloc: Global,
     folder: &mut F,
 ) -> Result<Ledger<F::File>, Trouble<'a>>
-    ensures { IfErr result IsUndone }
+    ensures opens { IfOk result (λ l. Opens F.File.disk (F.calls folder.old) (F.calls folder.new) l) }
+    ensures undone { IfErr result IsUndone }
 {
     match ledger_in(alloc, folder)? {
         Some(ledger) => Ok(ledger),
@@ -74,7 +78,8 @@ pub(crate) fn empty_file<'a, F: Folder>(
     folder: &mut F,
     next: DeskFile,
 ) -> Result<F::File, Trouble<'a>>
-    ensures { IfErr result IsUndone }
+    ensures made { IfOk result (λ disk. MakesFile next disk (F.calls folder.old) (F.calls folder.new)) }
+    ensures undone { IfErr result IsUndone }
 {
     if folder.remove(next).is_err() {
         return Err(Trouble::Folder);

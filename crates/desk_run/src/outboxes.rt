@@ -1,10 +1,13 @@
 //! A stranger's letter on its way.
-ghost use Rattle.std.specs.Prelude.{◌≡◌, ◌++◌, Err, IfErr, OnOk};
+ghost use Rattle.std.specs.Prelude.{◌≡◌, ◌++◌, Err, IfErr, IfOk, Ok, OnOk, false, true};
 ghost use Rattle.express_words.specs.Streams.{Took};
+ghost use Rattle.desk_outside.specs.Calls.{Adds, Removed};
 ghost use Rattle.desk_outbox.specs.Trying.{IsOfNext};
+ghost use Rattle.desk_outbox.specs.Works.{Works};
 ghost use Rattle.desk_run.specs.LetterEnds.{end_text};
 ghost use Rattle.desk_run.specs.Ends.{IsOfPaper, IsUndone, Unfailed};
 ghost use Rattle.desk_run.specs.Sends.{SendsOn};
+ghost use Rattle.desk_run.specs.Tries.{Carries, ComesTo, TriesAgain};
 
 use crate::ledgers::empty_file;
 use crate::saying::say;
@@ -66,7 +69,9 @@ fn next_trouble<'a>(fault: StartFault) -> Trouble<'a>
 }
 
 // Whether two cards are the same.
-fn is_same_card(one: &Sheet, other: &Sheet) -> bool {
+fn is_same_card(one: &Sheet, other: &Sheet) -> bool
+    ensures { result ≡ true → one.now ≡ other.now }
+{
     one.head == other.head
         && one.leader.as_str() == other.leader.as_str()
         && one.helper.as_str() == other.helper.as_str()
@@ -74,7 +79,9 @@ fn is_same_card(one: &Sheet, other: &Sheet) -> bool {
 }
 
 /// Whether the letter that is on its way has this text, and goes out with this card.
-pub(crate) fn is_of<D: Disk>(outbox: &Outbox<D>, card: &Sheet, text: &[u8]) -> bool {
+pub(crate) fn is_of<D: Disk>(outbox: &Outbox<D>, card: &Sheet, text: &[u8]) -> bool
+    ensures { result ≡ true → Carries card.now text.now outbox.now }
+{
     let message = outbox.message();
     if message.len() > MOST_WIDTH as usize {
         return false;
@@ -103,7 +110,8 @@ fn next_try<'a, F: Folder>(
     draws: &mut Draws,
     folder: &mut F,
 ) -> Result<Outbox<F::File>, Trouble<'a>>
-    ensures { IfErr result IsUndone }
+    ensures again { IfOk result (λ next. TriesAgain F.File.disk outbox.now next) }
+    ensures undone { IfErr result IsUndone }
 {
     if !outbox.place().is_followed() {
         return Err(Trouble::Later);
@@ -121,6 +129,8 @@ fn next_try<'a, F: Folder>(
 // What is to be done behind the present try.
 #[tactic(auto, using(crate::proofs::SendLaws::on_letter))]
 fn worked<'a, D: Disk, N: Net>(outbox: &mut Outbox<D>, net: &mut N) -> Result<Next, Trouble<'a>>
+    ensures works { IfOk result (λ next. Works D.disk D.Counted.seen outbox.old outbox.new (Ok next)
+        (N.seen net.old).calls (N.seen net.new).calls) }
     ensures undone { IfErr result IsUndone }
     ensures net { Unfailed (N.seen net.old).faults (N.seen net.new).faults result }
     ensures sends { SendsOn D.disk D.Counted.seen (N.seen net.old).calls (N.seen net.new).calls }
@@ -139,6 +149,8 @@ pub(crate) fn work_off<'a, F: Folder, N: Net>(
     folder: &mut F,
     net: &mut N,
 ) -> Result<End, Trouble<'a>>
+    ensures comes { IfOk result (λ end. ComesTo F.File.disk F.File.Counted.seen outbox end
+        (N.seen net.old).calls (N.seen net.new).calls) }
     ensures undone { IfErr result IsUndone }
     ensures net { Unfailed (N.seen net.old).faults (N.seen net.new).faults result }
     ensures sends { SendsOn F.File.disk F.File.Counted.seen (N.seen net.old).calls (N.seen net.new).calls }
@@ -179,6 +191,7 @@ pub(crate) fn tell_end<'a, F: Folder, K: Sink>(
 ) -> Result<(), Trouble<'a>>
     ensures told { OnOk result (Took (K.seen out.old).written (K.seen out.new).written
         (whose.now ++ end_text end)) }
+    ensures removed { OnOk result (Adds (F.calls folder.old) (F.calls folder.new) (Removed DeskFile.Outbox false)) }
     // Where it couldn't be told it isn't forgotten.
     ensures untold { result ≡ Err Trouble.Out → folder.new ≡ folder.old }
     ensures undone { IfErr result IsUndone }

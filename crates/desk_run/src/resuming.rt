@@ -1,7 +1,8 @@
 //! The word `resume`, and what every word does first.
-ghost use Rattle.std.specs.Prelude.{◌≡◌, ◌≢◌, IfErr, IfOk, IfSome, Ok};
-ghost use Rattle.desk_run.specs.Carried.{HasNothingLeft};
+ghost use Rattle.std.specs.Prelude.{◌≡◌, ◌≢◌, IfErr, IfOk, Ok};
+ghost use Rattle.desk_run.specs.Carried.{Resumes, ResumesIf};
 ghost use Rattle.desk_run.specs.Ends.{IsUndone, Unfailed};
+ghost use Rattle.desk_run.specs.Scenes.{scene};
 ghost use Rattle.desk_run.specs.Sends.{SendsOn};
 ghost use Rattle.desk_run.specs.LetterEnds.{resume_end};
 
@@ -49,7 +50,8 @@ fn resume_desk<'a, S: Source, K: Sink, N: Net, F: Folder, P: Papers, C: Clock>(
     alloc: Global,
     around: &mut Around<S, K, N, F, P, C>,
 ) -> Result<Option<Ledger<F::File>>, Trouble<'a>>
-    ensures nothing_left { IfOk result (λ found. IfSome found HasNothingLeft) }
+    ensures resumed { IfOk result (λ found. ResumesIf F.File.disk
+        (scene K.seen N.seen F.calls around.old) (scene K.seen N.seen F.calls around.new) found) }
     ensures undone { IfErr result IsUndone }
     ensures out { around.new.out ≡ around.old.out }
     ensures net { Unfailed (N.seen around.old.net).faults (N.seen around.new.net).faults result }
@@ -68,7 +70,8 @@ pub(crate) fn desk_resumed<'a, S: Source, K: Sink, N: Net, F: Folder, P: Papers,
     alloc: Global,
     around: &mut Around<S, K, N, F, P, C>,
 ) -> Result<Ledger<F::File>, Trouble<'a>>
-    ensures nothing_left { IfOk result HasNothingLeft }
+    ensures resumed { IfOk result (λ l. Resumes F.File.disk
+        (scene K.seen N.seen F.calls around.old) (scene K.seen N.seen F.calls around.new) l) }
     ensures undone { IfErr result IsUndone }
     ensures out { around.new.out ≡ around.old.out }
     ensures net { Unfailed (N.seen around.old.net).faults (N.seen around.new.net).faults result }

@@ -1,7 +1,8 @@
 //! Letters, shown.
-ghost use Rattle.std.specs.Prelude.{◌≡◌, ◌≤◌, ◌++◌, ◌||◌, codes, Err, IfErr, IfOk, OnOk, false, length, map, string_bytes, true};
+ghost use Rattle.std.specs.Prelude.{◌≡◌, ◌≢◌, ◌≤◌, ◌<◌, ◌++◌, ◌||◌, [], codes, Err, IfErr, IfOk, OnOk, false, length, map, string_bytes, true};
 ghost use Rattle.std.specs.List.{list_any};
 ghost use Rattle.desk_entries.specs.Letters.{letters_of, shown_of};
+ghost use Rattle.desk_ledger.specs.Ledgers.{EntriesOnly};
 ghost use Rattle.desk_run.specs.Ends.{IsCause, IsUndone, Unfailed};
 ghost use Rattle.desk_run.specs.Printing.{Prints, TellsMet, met_line};
 ghost use Rattle.desk_run.specs.Shown.{Shows, ShowsEach, ShowsLetter, ShowsReading, ShowsText, head_line, is_met, new_letters, no_text};
@@ -174,6 +175,8 @@ fn show_those<'a, D: Disk, K: Sink>(
     ensures count { IfOk result (λ shown. shown.count ≡ length (letters_of ledger.now.entries)) }
     ensures none { IfOk result (λ shown. shown.any ≡ false
         → length (letters_of ledger.now.entries) ≤ shown_of ledger.now.entries) }
+    ensures some { IfOk result (λ shown. shown.any ≡ true
+        → shown_of ledger.now.entries < length (letters_of ledger.now.entries)) }
     ensures met { IfOk result (λ shown. shown.met ≡ list_any is_met (new_letters ledger.now.entries)) }
     ensures told { IfOk result (λ shown. shown.met ≡ true
         → Prints TellsMet (K.seen out.old).written (K.seen out.new).written) }
@@ -192,6 +195,7 @@ fn show_those<'a, D: Disk, K: Sink>(
 }
 
 /// Prints the letters that weren't shown, and notes then that they were.
+#[tactic(auto, using(crate::proofs::ShowLaws::none_new, crate::proofs::ShowLaws::some_new))]
 pub(crate) fn show_new<'a, D: Disk, K: Sink>(
     alloc: Global,
     ledger: &mut Ledger<D>,
@@ -199,10 +203,13 @@ pub(crate) fn show_new<'a, D: Disk, K: Sink>(
 ) -> Result<Shown, Trouble<'a>>
     ensures shown { OnOk result (Prints (ShowsEach ledger.old.entries (new_letters ledger.old.entries))
         (K.seen out.old).written (K.seen out.new).written) }
+    ensures none { IfOk result (λ shown. shown.any ≡ false → new_letters ledger.old.entries ≡ []) }
+    ensures some { IfOk result (λ shown. shown.any ≡ true → new_letters ledger.old.entries ≢ []) }
     ensures met { IfOk result (λ shown. shown.met ≡ list_any is_met (new_letters ledger.old.entries)) }
     ensures told { IfOk result (λ shown. shown.met ≡ true
         → Prints TellsMet (K.seen out.old).written (K.seen out.new).written) }
     ensures noted { OnOk result (length (letters_of ledger.old.entries) ≤ shown_of ledger.new.entries) }
+    ensures only { EntriesOnly ledger.old ledger.new }
     // Where they couldn't be printed they weren't noted.
     ensures unshown { result ≡ Err Trouble.Out → ledger.new ≡ ledger.old }
     ensures undone { IfErr result IsUndone }
@@ -221,6 +228,7 @@ pub(crate) fn note_shown<'a, D: Disk>(
     count: usize,
 ) -> Result<(), Trouble<'a>>
     ensures noted { OnOk result (shown_of ledger.new.entries ≡ count) }
+    ensures only { EntriesOnly ledger.old ledger.new }
     ensures cause { IfErr result IsCause }
 {
     match u32::try_from(count) {

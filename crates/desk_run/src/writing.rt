@@ -1,10 +1,11 @@
 //! Letters, written to files.
-ghost use Rattle.std.specs.Prelude.{◌≡◌, Err, IfErr, IfOk, OnOk, map, true};
+ghost use Rattle.std.specs.Prelude.{◌≡◌, ◌≢◌, ◌≤◌, ◌<◌, ℕ, List as Listed, [], Err, IfErr, IfOk, OnOk, false, length, map, string_bytes, true};
 ghost use Rattle.std.specs.List.{list_any};
 ghost use Rattle.desk_entries.specs.Letters.{letters_of};
 ghost use Rattle.desk_run.specs.Ends.{IsUndone, Unfailed};
 ghost use Rattle.desk_run.specs.Printing.{Prints, TellsMet};
-ghost use Rattle.desk_run.specs.Shown.{TellsOf, is_met};
+ghost use Rattle.desk_run.specs.Shown.{Each, is_met};
+ghost use Rattle.desk_run.specs.Told.{TellsFile, TellsReading, file_line, file_name, place_text};
 
 use crate::moment::moment_text;
 use crate::saying::say;
@@ -19,32 +20,81 @@ use node_journal::Disk;
 use std::alloc::Global;
 
 // The name of a letter's file, by the number of the request that read it.
-fn file_name(alloc: Global, name: &str, serial: u32) -> Result<String, NoMemory> {
+#[tactic(auto, unfolding(crate::specs::Told::file_name))]
+fn file_name(alloc: Global, name: &str, serial: u32) -> Result<String, NoMemory>
+    ensures { IfOk result (λ file. string_bytes file ≡ file_name name.now serial) }
+{
     let text = format!(in alloc; "{name}-{serial}.txt")?;
     Ok(text)
 }
 
-fn line_text(
-    alloc: Global,
-    name: &str,
-    seconds: u64,
-    folder: &str,
-    file: &str,
-) -> Result<String, NoMemory> {
-    let moment = moment_text(alloc, seconds)?;
-    let moment = moment.as_str();
-    let text = format!(in alloc; "letter from box {name}, read {moment}: {folder}/{file}\n")?;
+#[tactic(auto, unfolding(crate::specs::Told::place_text))]
+fn place_text(alloc: Global, folder: &str, file: &str) -> Result<String, NoMemory>
+    ensures { IfOk result (λ text. string_bytes text ≡ place_text folder.now file.now) }
+{
+    let text = format!(in alloc; ": {folder}/{file}\n")?;
     Ok(text)
 }
 
-#[tactic(auto, using(crate::proofs::ShowLaws::met_told))]
-fn say_met<'a, K: Sink>(alloc: Global, name: &str, out: &mut K) -> Result<(), Trouble<'a>>
-    ensures told { OnOk result (Prints TellsMet (K.seen out.old).written (K.seen out.new).written) }
-    ensures undone { IfErr result IsUndone }
-    ensures sink { Unfailed (K.seen out.old).faults (K.seen out.new).faults result }
+#[tactic(auto, unfolding(crate::specs::Told::file_line))]
+fn line_at(
+    alloc: Global,
+    name: &str,
+    moment: &str,
+    folder: &str,
+    file: &str,
+) -> Result<String, NoMemory>
+    ensures { IfOk result (λ text. string_bytes text ≡ file_line folder.now name.now moment.now file.now) }
 {
-    let text = met_text(alloc, name)?;
-    say(out, text.as_str())
+    let mut text = format!(in alloc; "letter from box {name}, read ")?;
+    text.push_str(moment)?;
+    let place = place_text(alloc, folder, file)?;
+    text.push_str(place.as_str())?;
+    Ok(text)
+}
+
+// What is told of a letter that is in its file.
+fn line_text(alloc: Global, name: &str, reading: &Reading, folder: &str) -> Result<String, NoMemory>
+    ensures { IfOk result (λ text. (moment : Listed ℕ)
+        × (string_bytes text ≡ file_line folder.now name.now moment (file_name name.now reading.now.serial))) }
+{
+    let moment = moment_text(alloc, reading.seconds)?;
+    let file = file_name(alloc, name, reading.serial)?;
+    line_at(alloc, name, moment.as_str(), folder, file.as_str())
+}
+
+// What is told of what a box held.
+fn told_text(alloc: Global, folder: &str, name: &str, reading: &Reading) -> Result<String, NoMemory>
+    ensures { IfOk result (λ text. TellsFile folder.now name.now reading.now.serial reading.now.held
+        (string_bytes text)) }
+{
+    match &reading.held {
+        Held::Nothing => Ok(String::new(alloc)),
+        Held::Met => met_text(alloc, name),
+        Held::Letter { .. } => line_text(alloc, name, reading, folder),
+    }
+}
+
+// Writes a letter into its file.
+fn write_file<'a, P: Papers>(
+    alloc: Global,
+    folder: &'a str,
+    name: &str,
+    reading: &Reading,
+    papers: &mut P,
+) -> Result<(), Trouble<'a>>
+    ensures { IfErr result IsUndone }
+{
+    if let Held::Letter { id: _, text } = &reading.held {
+        let file = file_name(alloc, name, reading.serial)?;
+        if papers
+            .write(folder, file.as_str(), text.as_slice())
+            .is_err()
+        {
+            return Err(Trouble::Unwritten(folder));
+        }
+    }
+    Ok(())
 }
 
 // Writes what a box held into its file, and says so.
@@ -56,26 +106,14 @@ fn write_letter<'a, P: Papers, K: Sink>(
     papers: &mut P,
     out: &mut K,
 ) -> Result<(), Trouble<'a>>
-    ensures told { OnOk result (Prints (TellsOf reading.now.held)
+    ensures told { OnOk result (Prints (TellsFile folder.entry.now name.now reading.now.serial reading.now.held)
         (K.seen out.old).written (K.seen out.new).written) }
     ensures undone { IfErr result IsUndone }
     ensures sink { Unfailed (K.seen out.old).faults (K.seen out.new).faults result }
 {
-    match &reading.held {
-        Held::Nothing => Ok(()),
-        Held::Met => say_met(alloc, name, out),
-        Held::Letter { id: _, text } => {
-            let file = file_name(alloc, name, reading.serial)?;
-            if papers
-                .write(folder, file.as_str(), text.as_slice())
-                .is_err()
-            {
-                return Err(Trouble::Unwritten(folder));
-            }
-            let line = line_text(alloc, name, reading.seconds, folder, file.as_str())?;
-            say(out, line.as_str())
-        }
-    }
+    write_file(alloc, folder, name, reading, papers)?;
+    let text = told_text(alloc, folder, name, reading)?;
+    say(out, text.as_str())
 }
 
 fn write_all<'a, D: Disk, P: Papers, K: Sink>(
@@ -86,6 +124,8 @@ fn write_all<'a, D: Disk, P: Papers, K: Sink>(
     papers: &mut P,
     out: &mut K,
 ) -> Result<bool, Trouble<'a>>
+    ensures each { OnOk result (Prints (Each (TellsReading folder.entry.now ledger.now.entries)
+        (map (λ r. r.now) readings.now)) (K.seen out.old).written (K.seen out.new).written) }
     ensures met { IfOk result (λ met. met ≡ list_any is_met (map (λ r. r.now) readings.now)) }
     ensures told { IfOk result (λ met. met ≡ true
         → Prints TellsMet (K.seen out.old).written (K.seen out.new).written) }
@@ -111,6 +151,10 @@ fn write_those<'a, D: Disk, P: Papers, K: Sink>(
     papers: &mut P,
     out: &mut K,
 ) -> Result<Shown, Trouble<'a>>
+    ensures each { OnOk result (Prints (Each (TellsReading folder.entry.now ledger.now.entries)
+        (letters_of ledger.now.entries)) (K.seen out.old).written (K.seen out.new).written) }
+    ensures none { IfOk result (λ shown. shown.any ≡ false → length (letters_of ledger.now.entries) ≤ 0) }
+    ensures some { IfOk result (λ shown. shown.any ≡ true → 0 < length (letters_of ledger.now.entries)) }
     ensures met { IfOk result (λ shown. shown.met ≡ list_any is_met (letters_of ledger.now.entries)) }
     ensures told { IfOk result (λ shown. shown.met ≡ true
         → Prints TellsMet (K.seen out.old).written (K.seen out.new).written) }
@@ -128,6 +172,7 @@ fn write_those<'a, D: Disk, P: Papers, K: Sink>(
 }
 
 /// Writes all letters that the ledger has into files of a folder, and notes then that they were shown.
+#[tactic(auto, using(crate::proofs::ShowLaws::none_there, crate::proofs::ShowLaws::some_there))]
 pub(crate) fn write_letters<'a, D: Disk, P: Papers, K: Sink>(
     alloc: Global,
     folder: &'a str,
@@ -135,6 +180,10 @@ pub(crate) fn write_letters<'a, D: Disk, P: Papers, K: Sink>(
     papers: &mut P,
     out: &mut K,
 ) -> Result<Shown, Trouble<'a>>
+    ensures each { OnOk result (Prints (Each (TellsReading folder.entry.now ledger.old.entries)
+        (letters_of ledger.old.entries)) (K.seen out.old).written (K.seen out.new).written) }
+    ensures none { IfOk result (λ shown. shown.any ≡ false → letters_of ledger.old.entries ≡ []) }
+    ensures some { IfOk result (λ shown. shown.any ≡ true → letters_of ledger.old.entries ≢ []) }
     ensures met { IfOk result (λ shown. shown.met ≡ list_any is_met (letters_of ledger.old.entries)) }
     ensures told { IfOk result (λ shown. shown.met ≡ true
         → Prints TellsMet (K.seen out.old).written (K.seen out.new).written) }

@@ -1,6 +1,6 @@
 use Rattle.std.proofs.Common.{◌≡◌, ◌||◌, length, map}
 use Rattle.std.specs.List.{list_any}
-use Rattle.desk_run.specs.Shown.{is_met}
+use Rattle.desk_run.specs.Shown.{ShowsReading, is_met}
 use Rattle.desk_run.proofs.ShowLaws.{ShownSo}
 use Rattle.desk_run.proofs.showing.show_all.Given as goal
 
@@ -9,7 +9,7 @@ invariant-readings g l =
     record {
       faults : (g.K.Counted.seen l.out).faults ≡ (g.K.Counted.seen l.fn.out).faults;
       met : list_any is_met (map (λ r. r.now) l.readings) ≡ (l.met || list_any is_met (map (λ r. r.now) l.rest));
-      shown : ShownSo l.ledger.entries (map (λ r. r.now) l.readings) (map (λ r. r.now) l.rest)
+      shown : ShownSo (ShowsReading l.ledger.entries) (map (λ r. r.now) l.readings) (map (λ r. r.now) l.rest)
           (g.K.Counted.seen l.fn.out).written (g.K.Counted.seen l.out).written;
     }
 

@@ -1,0 +1,63 @@
+-- What is told of the letters that stand in a ledger.
+use Rattle.std.specs.Prelude.{◌≡◌, ◌≢◌, ◌⊎◌, ℕ, List, [], ◌++◌, Option, Some, None, if◌then◌else◌, codes}
+use Rattle.std.specs.Fmt.{decimal}
+use Rattle.std.specs.List.{list_any}
+use denote.Bor.{Bor}
+use Rattle.desk_entries.specs.declared.entry.Entry.{Entry}
+use Rattle.desk_entries.specs.declared.entry.Held.{Held}
+use Rattle.desk_entries.specs.declared.entry.Held.TheVariants as held
+use Rattle.desk_entries.specs.declared.entry.Reading.{Reading}
+use Rattle.desk_entries.specs.Desks.{name_of}
+use Rattle.desk_entries.specs.Letters.{letters_of}
+use Rattle.desk_run.specs.declared.ending.End.{End}
+use Rattle.desk_run.specs.declared.ending.End.TheVariants.{Done, Met}
+use Rattle.desk_run.specs.Printing.{met_line}
+use Rattle.desk_run.specs.Shown.{Each, ShowsReading, is_met, new_letters}
+
+-- ---- letters that are written to files
+
+-- a letter's file, by its box's name and the serial of the request that read it
+unfoldable pub file_name : List ℕ → ℕ → List ℕ
+file_name name serial = name ++ codes "-" ++ decimal serial ++ codes ".txt"
+
+-- where it lies
+unfoldable pub place_text : List ℕ → List ℕ → List ℕ
+place_text folder file = codes ": " ++ folder ++ codes "/" ++ file ++ codes "\n"
+
+unfoldable pub file_line : List ℕ → List ℕ → List ℕ → List ℕ → List ℕ
+file_line folder name moment file =
+    codes "letter from box " ++ name ++ codes ", read " ++ moment ++ place_text folder file
+
+-- This is told of what a box held, once a letter is in its file.
+abbrev pub TellsFile : List ℕ → List ℕ → ℕ → Held → List ℕ → Type 0
+TellsFile folder name serial held.Nothing text = text ≡ []
+TellsFile folder name serial held.Met text = text ≡ met_line name
+TellsFile folder name serial (held.Letter id bytes) text =
+    (moment : List ℕ) × (text ≡ file_line folder name moment (file_name name serial))
+
+abbrev pub TellsReading : List ℕ → List Entry → Reading → List ℕ → Type 0
+TellsReading folder entries r text = TellsFile folder (name_of entries r.registered) r.serial r.held text
+
+-- ---- letters, as a word is to tell them
+
+-- those that weren't shown; with a folder all of them
+abbrev pub told_of : Option (Bor (List ℕ)) → List Entry → List Reading
+told_of None entries = new_letters entries
+told_of (Some folder) entries = letters_of entries
+
+abbrev pub TellsOne : Option (Bor (List ℕ)) → List Entry → Reading → List ℕ → Type 0
+TellsOne None entries = ShowsReading entries
+TellsOne (Some folder) entries = TellsReading folder.now entries
+
+-- each of them once, in order
+abbrev pub TellsEach : Option (Bor (List ℕ)) → List Entry → List ℕ → Type 0
+TellsEach out entries text = Each (TellsOne out entries) (told_of out entries) text
+
+-- the same, or that there are none
+abbrev pub TellsLetters : Option (Bor (List ℕ)) → List Entry → List ℕ → Type 0
+TellsLetters out entries text = ((told_of out entries ≡ []) × (text ≡ codes "no new letters\n"))
+    ⊎ ((told_of out entries ≢ []) × TellsEach out entries text)
+
+-- the word is done, and where letters met it says so
+abbrev pub end_of : List Reading → End
+end_of readings = if list_any is_met readings then Met else Done

@@ -1,0 +1,85 @@
+-- What a desk's requests do to its ledger, and on the net.
+use Rattle.std.specs.Prelude.{◌≡◌, ◌≢◌, ◌≤◌, ◌^◌, ℕ, List, [], ◌∷◌, ◌++◌, Option, Some, None, Result, Ok, Err, IsOk, length}
+use Rattle.express_words.specs.Calls.{Call}
+use Rattle.step_rules.specs.ClientAsks as asks
+use Rattle.client_restart.specs.Notes.{Asked}
+use Rattle.client_restart.specs.Steps.{EndedRequest, step_of}
+use Rattle.kept_errands.specs.Works.{IsEnded}
+use Rattle.desk_ledger.specs.declared.stored.Stored.{Stored}
+use Rattle.desk_ledger.specs.declared.task.Task.{Task}
+use Rattle.desk_ledger.specs.declared.task.Task.TheVariants.{Read}
+use Rattle.desk_ledger.specs.Ledgers.{LedgerState}
+use Rattle.desk_ledger.specs.Storing.{Stores}
+use Rattle.desk_ledger.specs.Tasks.{is_live, places_of, request_of}
+use Rattle.desk_ledger.specs.Works.{WorksAt}
+use Rattle.desk_run.specs.declared.trouble.Trouble.{Trouble}
+use Rattle.desk_run.specs.declared.trouble.Trouble.TheVariants.{Refused}
+
+-- ---- one request
+
+-- outcomes are stored at this time, one after another, the oldest first
+pub data StoresOn {D : Type 0} (seconds : ℕ) (start : LedgerState D) : LedgerState D → Type 0 where
+  unstored : StoresOn seconds start start
+  stored : (l new : LedgerState D) (e : EndedRequest) (rest : List EndedRequest) (told : Stored)
+      → StoresOn seconds start l → l.client.core.untold ≡ e ∷ rest
+      → Stores seconds e l new (Ok (Some told)) → StoresOn seconds start new
+
+-- all of them are
+pub record StoresAll {D : Type 0} (old new : LedgerState D) : Type 0 where
+  pub seconds : ℕ
+  pub stores : StoresOn seconds old new
+  pub none_left : new.client.core.untold ≡ []
+
+-- The request that is under way is worked off at the pair's servers, and what it came to is stored.
+pub record Settles {D : Type 0} (old new : LedgerState D) (before now : Option (List Call)) : Type 0 where
+  pub worked : LedgerState D
+  pub idle : old.client.core.client.current ≡ None → (worked ≡ old) × (now ≡ before)
+  pub works : old.client.core.client.current ≢ None
+      → WorksAt old.pair old.client.core worked.client.core (Ok tt) before now
+  pub ended : old.client.core.client.current ≢ None → IsEnded old.client.core worked.client.core
+  pub entries : worked.entries ≡ old.entries
+  pub pair : worked.pair ≡ old.pair
+  pub opening : worked.client.opening ≡ old.client.opening
+  pub stores : StoresAll worked new
+
+-- The servers are asked for one thing, and it is settled.
+pub record Does {D : Type 0} (t : Task) (old new : LedgerState D) (before now : Option (List Call)) : Type 0 where
+  pub accepted : IsOk (asks.asked old.client.core.client (request_of t))
+  pub asked : LedgerState D
+  pub taken : asked.client.core ≡ step_of old.client.core (Asked (request_of t))
+  pub entries : asked.entries ≡ old.entries
+  pub pair : asked.pair ≡ old.pair
+  pub opening : asked.client.opening ≡ old.client.opening
+  pub settles : Settles asked new before now
+
+-- P, where a request was settled: it went well, or a server refused it
+abbrev pub OnSettled : {T : Type 0} → Result T Trouble → Type 0 → Type 0
+OnSettled (Ok done) P = P
+OnSettled (Err (Refused r)) P = P
+OnSettled (Err other) P = Unit {0}
+
+-- ---- several
+
+-- what is under way is settled, and tasks are done, one after another
+pub data Goes {D : Type 0} (start : LedgerState D) (before : Option (List Call))
+    : LedgerState D → Option (List Call) → Type 0 where
+  rests : Goes start before start before
+  settled : (l new : LedgerState D) (mid now : Option (List Call)) → Goes start before l mid
+      → Settles l new mid now → Goes start before new now
+  done : (t : Task) (l new : LedgerState D) (mid now : Option (List Call)) → Goes start before l mid
+      → Does t l new mid now → Goes start before new now
+
+-- the own boxes at these places are read, one after another
+pub data ReadsEach {D : Type 0} (start : LedgerState D) (before : Option (List Call))
+    : List ℕ → LedgerState D → Option (List Call) → Type 0 where
+  unread : ReadsEach start before [] start before
+  read : (places : List ℕ) (own : ℕ) (l new : LedgerState D) (mid now : Option (List Call))
+      → ReadsEach start before places l mid → Does (Read own) l new mid now
+      → ReadsEach start before (places ++ own ∷ []) new now
+
+-- each live box is read once; a client has fewer than 2^32
+pub record ReadsLive {D : Type 0} (old new : LedgerState D) (before now : Option (List Call)) : Type 0 where
+  pub live : List ℕ
+  pub all : length old.client.core.boxes ≤ 2 ^ 32
+      → live ≡ places_of (is_live old.entries) 0 old.client.core.boxes
+  pub each : ReadsEach old before live new now
