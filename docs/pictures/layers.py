@@ -6,16 +6,15 @@ from drawing import FAINT, GROUND, INK, Picture
 BASE = "express_words"  # nearly all stand on it, so no line is drawn to it
 GROUPS = [
     ("definitions and laws", "#efe3f7", "mailbox_rules token_rules dpf_rules tower_numbers tower_laws audit_rules "
-     "frame_rules step_rules step_tokens run_rules file_table"),
+     "frame_rules step_rules step_tokens run_rules"),
     ("the point function", "#dbeafe", "chacha_expand dpf_keys dpf_eval"),
     ("the field, the audit, what one server sees", "#dcf5e4", "tower_field field_tables poly_roots write_sketch "
      "snip_proof batch_audit write_hiding run_hiding"),
-    ("frames, texts and files", "#fdecc8", "wire_frames outcome_text schedule_text express_texts settings_text "
+    ("frames, texts and files", "#fdecc8", "wire_frames schedule_text express_texts settings_text "
      "file_carry desk_letters desk_texts desk_tries"),
     ("stores", "#e2e8f0", "block_region lane_table link_order share_store box_registry server_boxes"),
-    ("servers and client", "#fbdcd3", "helper_core leader_core server_steps client_core"),
-    ("on sockets and disks", "#cfeff2", "node_journal node_restart node_serve node_host node_client "
-     "client_run"),
+    ("servers and client", "#fbdcd3", "helper_core leader_core client_core"),
+    ("on sockets and disks", "#cfeff2", "node_journal node_restart node_serve node_client client_run"),
 ]
 TALL, DEEP, WIDE, GAP, THIN = 30, 78, 112, 14, 12
 SWEEPS, MARGIN, TOP = 40, 24, 62

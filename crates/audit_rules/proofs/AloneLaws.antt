@@ -8,8 +8,8 @@ use Rattle.tower_laws.specs.Elements.{element_one}
 use Rattle.tower_laws.proofs.ElementLaws.{level_laws, element_path}
 use Rattle.tower_laws.specs.Gf.{gf, values}
 use Rattle.tower_laws.proofs.GfLaws.{gf_two}
-use Rattle.poly_roots.specs.Polynomials.{value_at, plus_of, times_of}
-use Rattle.poly_roots.specs.Through.{through}
+use Rattle.tower_laws.specs.Polynomials.{value_at, plus_of, times_of}
+use Rattle.tower_laws.specs.Through.{through}
 use Rattle.audit_rules.specs.Sketch as sketch
 use Rattle.audit_rules.specs.Passing.{Passes}
 use Rattle.audit_rules.proofs.Words.{word_in_range}

@@ -3,10 +3,10 @@ use Rattle.std.specs.Prelude.{◌≡◌, ◌≢◌, ℕ, ◌<◌, Bool, List, []
 use Rattle.std.proofs.Common.{zero, suc, ◌∙◌, ap, get_or, arith}
 use Rattle.tower_laws.specs.Laws.{FieldLaws}
 use Rattle.tower_laws.proofs.Rings.{var, nil, ◌⊕◌, ◌⊗◌, solve, zero_add}
-use Rattle.poly_roots.specs.Polynomials.{value_at, times_of}
-use Rattle.poly_roots.specs.Through.{through}
-use Rattle.poly_roots.proofs.ThroughLaws.{through_one, through_two}
-use Rattle.poly_roots.proofs.ValueLaws.{value-times}
+use Rattle.tower_laws.specs.Polynomials.{value_at, times_of}
+use Rattle.tower_laws.specs.Through.{through}
+use Rattle.tower_laws.proofs.ThroughLaws.{through_one, through_two}
+use Rattle.tower_laws.proofs.ValueLaws.{value-times}
 use Rattle.audit_rules.specs.Sketch.{total, dot, dot3}
 use Rattle.audit_rules.specs.Passing.{Passes}
 

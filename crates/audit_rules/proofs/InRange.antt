@@ -4,8 +4,8 @@ use Rattle.std.proofs.Common.{suc, ◌∙◌, ap, sym, subst, arith}
 use Rattle.std.proofs.lemmas.Nat.{xor_lt}
 use Rattle.std.proofs.lemmas.List.Elements.{All-nil, All-cons, All-head, All-tail}
 use Rattle.tower_laws.specs.Gf.{gf, values}
-use Rattle.poly_roots.specs.Polynomials.{plus_of, times_of}
-use Rattle.poly_roots.specs.Through.{through}
+use Rattle.tower_laws.specs.Polynomials.{plus_of, times_of}
+use Rattle.tower_laws.specs.Through.{through}
 use Rattle.express_words.specs.declared.audit.ProofShare.{ProofShare}
 use Rattle.audit_rules.specs.Sketch as sketch
 use Rattle.express_words.specs.Ranges.{IsProofShare}

@@ -3,11 +3,11 @@ use Rattle.std.specs.Prelude.{◌≡◌, ◌≢◌, ℕ, ◌≤◌, Bool, List, 
 use Rattle.std.proofs.Common.{zero, suc, sym, ◌∙◌, ap, arith, get_or}
 use Rattle.tower_laws.specs.Laws.{FieldLaws}
 use Rattle.tower_laws.proofs.Rings.{mul_zero, zero_add}
-use Rattle.poly_roots.specs.Polynomials.{value_at, plus_of, times_of}
-use Rattle.poly_roots.proofs.Roots.{all_zero, sum_zero, product_zero}
-use Rattle.poly_roots.proofs.ValueLaws.{value-plus, value-times, value-all_zero}
-use Rattle.poly_roots.specs.Through.{through}
-use Rattle.poly_roots.proofs.ThroughLaws.{through_one, through_two}
+use Rattle.tower_laws.specs.Polynomials.{value_at, plus_of, times_of}
+use Rattle.tower_laws.proofs.Roots.{all_zero, sum_zero, product_zero}
+use Rattle.tower_laws.proofs.ValueLaws.{value-plus, value-times, value-all_zero}
+use Rattle.tower_laws.specs.Through.{through}
+use Rattle.tower_laws.proofs.ThroughLaws.{through_one, through_two}
 use Rattle.audit_rules.specs.Passing.{Passes}
 
 length_plus : {F : Type 0} (add : F → F → F) (n : ℕ) (p q : List F) → length p ≤ n → length q ≤ n → length (plus_of add p q) ≤ n

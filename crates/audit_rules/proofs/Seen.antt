@@ -3,7 +3,7 @@ use Rattle.std.specs.Prelude.{◌≡◌, ◌≢◌, ℕ, ◌<◌, Bool, List, []
 use Rattle.std.proofs.Common.{zero, suc, sym, ◌∙◌, ap, get_or, set, arith}
 use Rattle.tower_laws.specs.Laws.{FieldLaws}
 use Rattle.tower_laws.proofs.Rings.{var, nil, ◌⊕◌, ◌⊗◌, solve, mul_zero}
-use Rattle.poly_roots.proofs.Roots.{sum_zero, product_zero}
+use Rattle.tower_laws.proofs.Roots.{sum_zero, product_zero}
 use Rattle.audit_rules.specs.Sketch.{total, dot, dot3, verdict, bad_s, divisor, bad_r}
 
 module _ {F : Type 0} {z o : F} {add mul : F → F → F} {inverse : F → F} {eq : F → F → Bool} (laws : FieldLaws z o add mul inverse eq) where

@@ -3,8 +3,8 @@ use Rattle.std.specs.Prelude.{◌≡◌, Bool, List, [], ◌∷◌, length, refl
 use Rattle.std.proofs.Common.{◌∙◌, ap, sym, arith}
 use Rattle.tower_laws.specs.Laws.{FieldLaws}
 use Rattle.tower_laws.proofs.Rings.{var, nil, ◌⊕◌, ◌⊗◌, solve}
-use Rattle.poly_roots.specs.Polynomials.{value_at}
-use Rattle.poly_roots.specs.Through.{through}
+use Rattle.tower_laws.specs.Polynomials.{value_at}
+use Rattle.tower_laws.specs.Through.{through}
 use Rattle.audit_rules.specs.Sketch.{total, dot, dot3, both}
 
 module _ {F : Type 0} {z o : F} {add mul : F → F → F} {inverse : F → F} {eq : F → F → Bool} (laws : FieldLaws z o add mul inverse eq) where

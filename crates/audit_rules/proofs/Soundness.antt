@@ -8,8 +8,8 @@ use Rattle.tower_laws.specs.Elements.{element_one}
 use Rattle.tower_laws.proofs.ElementLaws.{element_path, level_laws}
 use Rattle.tower_laws.specs.Gf.{gf, values}
 use Rattle.tower_laws.proofs.GfLaws.{gf_two}
-use Rattle.poly_roots.specs.Polynomials.{value_at}
-use Rattle.poly_roots.specs.Through.{through}
+use Rattle.tower_laws.specs.Polynomials.{value_at}
+use Rattle.tower_laws.specs.Through.{through}
 use Rattle.express_words.specs.declared.audit.ProofShare.{ProofShare}
 use Rattle.audit_rules.specs.Sketch as sketch
 use Rattle.audit_rules.specs.Passing.{Passes}

@@ -6,7 +6,7 @@ use Rattle.std.proofs.lemmas.List.Elements.{All-head, All-tail}
 use Rattle.tower_numbers.specs.Levels.{inverse_at}
 use Rattle.tower_laws.specs.Elements.{Element, element_zero, element_add, element_mul, element_inverse}
 use Rattle.tower_laws.specs.Gf.{values}
-use Rattle.poly_roots.specs.Polynomials.{value_at, plus_of, scaled_of, times_of}
+use Rattle.tower_laws.specs.Polynomials.{value_at, plus_of, scaled_of, times_of}
 use Rattle.audit_rules.specs.Sketch as sketch
 use Rattle.audit_rules.specs.Audit.{product, value, sums_of, bad_s, bad_r_divisor, bad_r, difference}
 

@@ -7,8 +7,8 @@ use Rattle.std.proofs.lemmas.Nat.{xor_lt}
 use Rattle.std.proofs.lemmas.List.{length-map}
 use Rattle.tower_numbers.proofs.Bounds.{product_below}
 use Rattle.tower_laws.specs.Gf.{gf}
-use Rattle.poly_roots.specs.Polynomials.{value_at}
-use Rattle.poly_roots.specs.Through.{through}
+use Rattle.tower_laws.specs.Polynomials.{value_at}
+use Rattle.tower_laws.specs.Through.{through}
 use Rattle.dpf_rules.specs.Bytes.{AreBytes}
 use Rattle.dpf_rules.specs.Walk.{leaf_of}
 use Rattle.dpf_rules.specs.Evaluation.{leaves, difference_vector}

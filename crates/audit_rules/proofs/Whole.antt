@@ -6,9 +6,9 @@ use Rattle.std.proofs.lemmas.Nat.{xor_comm}
 use Rattle.tower_laws.specs.Elements.{element_one}
 use Rattle.tower_laws.proofs.ElementLaws.{level_laws}
 use Rattle.tower_laws.specs.Gf.{gf, values}
-use Rattle.poly_roots.specs.Polynomials.{value_at, plus_of}
-use Rattle.poly_roots.specs.Through.{through}
-use Rattle.poly_roots.proofs.ValueLaws.{value-plus}
+use Rattle.tower_laws.specs.Polynomials.{value_at, plus_of}
+use Rattle.tower_laws.specs.Through.{through}
+use Rattle.tower_laws.proofs.ValueLaws.{value-plus}
 use Rattle.express_words.specs.declared.audit.ProofShare.{ProofShare}
 use Rattle.audit_rules.specs.declared.sums.Sums.{Sums}
 use Rattle.audit_rules.specs.Sketch as sketch

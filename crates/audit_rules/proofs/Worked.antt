@@ -7,7 +7,7 @@ use Rattle.tower_laws.specs.Elements.{element_one}
 use Rattle.tower_laws.specs.Gf.{gf}
 use Rattle.tower_laws.proofs.ElementLaws.{level_laws, element_path}
 use Rattle.tower_laws.proofs.Rings.{var, nil, unit, ◌⊕◌, ◌⊗◌, solve}
-use Rattle.poly_roots.specs.Polynomials.{times_of}
+use Rattle.tower_laws.specs.Polynomials.{times_of}
 use Rattle.audit_rules.specs.Audit.{product, value, sums_of, f_of, g_of, bad_s, opening_of, closing_of}
 use Rattle.audit_rules.specs.Worked.{verdict, worked_sums, worked_share, worked_opening, worked_closing, ThreeOnesAreCaught, SquaresHideThreeOnes, OneIsTheBadValue, TwoOnesAreHidden, RightProofPasses, WrongConstantIsRefused, WrongTripleHidesAtOnePoint}
 use Rattle.audit_rules.proofs.Transfer.{E, add, mul, element}

@@ -4,8 +4,8 @@
 -- values is their XOR.
 use Rattle.std.specs.Prelude.{◌≡◌, ℕ, ◌==◌, ◌&&◌, Bool, if◌then◌else◌, List, [], ◌∷◌, slice_index, bit_xor}
 use Rattle.tower_numbers.specs.Levels.{product_at, inverse_at}
-use Rattle.poly_roots.specs.Polynomials.{value_at, plus_of, times_of}
-use Rattle.poly_roots.specs.Through.{through}
+use Rattle.tower_laws.specs.Polynomials.{value_at, plus_of, times_of}
+use Rattle.tower_laws.specs.Through.{through}
 use Rattle.express_words.specs.declared.audit.ProofShare.{ProofShare}
 use Rattle.express_words.specs.declared.audit.Openings.{Openings}
 use Rattle.express_words.specs.declared.audit.Closing.{Closing}

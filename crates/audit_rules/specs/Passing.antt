@@ -1,6 +1,6 @@
 -- When a proof passes at a point, over the operations of any field.
 use Rattle.std.specs.Prelude.{◌≡◌, List}
-use Rattle.poly_roots.specs.Polynomials.{value_at}
+use Rattle.tower_laws.specs.Polynomials.{value_at}
 
 -- the polynomials f, g and h with the triple's error alpha pass at the point p, where t is the element 2
 pub record Passes {F : Type 0} (z o : F) (add mul : F → F → F) (f g h : List F) (t alpha p : F) : Type 0 where

@@ -1,6 +1,6 @@
 -- Three small sketches and one small proof, worked out.
 use Rattle.std.specs.Prelude.{◌≡◌, ℕ, ◌^◌, ◌<◌, ◌↔◌, List, [], ◌∷◌, bit_xor}
-use Rattle.poly_roots.specs.Polynomials.{times_of}
+use Rattle.tower_laws.specs.Polynomials.{times_of}
 use Rattle.express_words.specs.declared.audit.ProofShare.{ProofShare}
 use Rattle.express_words.specs.declared.audit.Openings.{Openings}
 use Rattle.express_words.specs.declared.audit.Closing.{Closing}

@@ -6,9 +6,9 @@ use Rattle.std.proofs.lemmas.Grind.{common_steps}
 use Rattle.std.proofs.lemmas.List.Elements.{All-nil, All-cons, All-head, All-tail}
 use Rattle.tower_laws.proofs.ElementLaws.{level_laws, element_path}
 use Rattle.tower_laws.specs.Gf.{values}
-use Rattle.poly_roots.specs.Polynomials.{value_at, plus_of}
-use Rattle.poly_roots.proofs.ValueLaws.{value-plus, value-all_zero}
-use Rattle.poly_roots.proofs.Roots.{all_zero}
+use Rattle.tower_laws.specs.Polynomials.{value_at, plus_of}
+use Rattle.tower_laws.proofs.ValueLaws.{value-plus, value-all_zero}
+use Rattle.tower_laws.proofs.Roots.{all_zero}
 use Rattle.express_words.specs.declared.audit.Closing.{Closing}
 use Rattle.audit_rules.specs.Audit.{value, accepts}
 use Rattle.audit_rules.proofs.Transfer.{E, z, add, mul, element, elements, values-elements, length-values, get_or-default, value-values, plus-values}

@@ -7,3 +7,4 @@ pub mod GivingUp
 pub mod LastProof
 pub mod Answers
 pub mod Writes
+pub mod Outcomes

@@ -6,6 +6,7 @@ mod client;
 mod drawing;
 mod frames;
 mod hearing;
+mod outcomes;
 mod progress;
 mod replying;
 mod request;
@@ -14,5 +15,6 @@ mod standing;
 mod state;
 
 pub use client::Client;
+pub use outcomes::{no_box_text, outcome_text};
 pub use progress::{Outcome, Progress};
 pub use request::{AskFault, Request};

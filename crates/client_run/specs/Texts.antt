@@ -1,7 +1,7 @@
 -- The lines that a run prints.
 use Rattle.std.specs.Prelude.{ℕ, List, ◌++◌, codes, Result, Ok, Err}
 use Rattle.std.specs.Fmt.{decimal}
-use Rattle.outcome_text.specs.Outcomes.{with_message, outcome_text, no_box_text}
+use Rattle.client_core.specs.Outcomes.{with_message, outcome_text, no_box_text}
 use Rattle.node_client.specs.declared.finished.Finished.{Finished}
 use Rattle.node_client.specs.declared.finished.Told.{Told}
 use Rattle.node_client.specs.declared.finished.Told.TheVariants.{Done, NoOwn}

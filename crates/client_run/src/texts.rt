@@ -2,8 +2,8 @@
 ghost use Rattle.std.specs.Prelude.{◌≡◌, ◌++◌, IfOk, OnOk, codes, flat_map, string_bytes};
 ghost use Rattle.client_run.specs.Texts.{told_text, outcome_line, end_line};
 
+use client_core::{no_box_text, outcome_text};
 use node_client::{Finished, Stop, Told};
-use outcome_text::{no_box_text, outcome_text};
 use std::alloc::{AllocError, Global};
 
 fn told_text(alloc: Global, told: Told, message: &[u8]) -> Result<String, AllocError>

@@ -1,7 +1,15 @@
 -- How a desk is opened, and why it isn't.
-use Rattle.std.specs.Prelude.{◌≡◌, ◌<◌, ℕ, List, length}
+use Rattle.std.specs.Prelude.{◌≡◌, ◌<◌, ℕ, List, length, map}
+use Rattle.node_journal.specs.Disk.{DiskSeen}
 use Rattle.client_restart.specs.declared.fault.KeepFault.TheVariants.{NoMemory}
 use Rattle.client_restart.specs.declared.opening.ClientOpening.{ClientOpening}
+use Rattle.client_restart.specs.Kept.{HoldsNotes}
+use Rattle.client_restart.specs.Notes.{Noted}
+use Rattle.client_restart.specs.Openings.{IsOpening}
+use Rattle.client_restart.specs.Records.{AllNotes}
+use Rattle.client_restart.specs.Steps.{fold}
+use Rattle.desk_entries.specs.declared.entry.Entry.{Entry}
+use Rattle.desk_entries.specs.Records.{AreEntries, entry_record}
 use Rattle.desk_texts.specs.declared.sheet.CardHead.{CardHead}
 use Rattle.desk_texts.specs.declared.sheet.Head.TheVariants.{Card}
 use Rattle.desk_texts.specs.declared.sheet.PairHead.{PairHead}
@@ -10,6 +18,7 @@ use Rattle.desk_texts.specs.Spelling.{IsFirstBadLine, SpellsSheet}
 use Rattle.desk_ledger.specs.declared.fault.OpenFault.{OpenFault}
 use Rattle.desk_ledger.specs.declared.fault.OpenFault.TheVariants.{BadLine, NoPairFile, TooLong, Keep, NoPair}
 use Rattle.desk_ledger.specs.declared.fault.OpenFault.TheVariants.{NoEntry}
+use Rattle.desk_ledger.specs.Ledgers.{LedgerState}
 
 -- on the owner's lane, with room for as many boxes as the servers have, from serial 1 on
 abbrev pub opening_of : PairHead → List ℕ → ClientOpening
@@ -42,3 +51,10 @@ OnText TooLong text P = (8212 < length text) × P
 OnText (Keep fault) text P = Unit {0}
 OnText NoPair text P = ⊥
 OnText (NoEntry number) text P = ⊥
+
+-- of the notes that a disk holds, whose remarks are these entries, the ledger is the one
+abbrev pub IsAsHeld : {D : Type 0} → DiskSeen → LedgerState D → Type 0
+IsAsHeld disk l = (o : ClientOpening) (notes : List Noted) (c : List ℕ) (entries : List Entry)
+    → disk.reads c → IsOpening o → AllNotes notes → HoldsNotes o notes disk.reads
+    → AreEntries entries → (fold o notes).remarks ≡ map entry_record entries
+    → (l.client.opening ≡ o) × (l.client.core ≡ fold o notes) × (l.entries ≡ entries)

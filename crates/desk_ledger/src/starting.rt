@@ -1,16 +1,12 @@
 //! A desk is opened, and opened again.
 ghost use Rattle.std.specs.Prelude.{◌≡◌, ◌≤◌, ◌^◌, ◌∷◌, [], ℕ, List as Listed, map, IfOk, IfErr, OnOk};
 ghost use Rattle.node_journal.specs.Disk.{IsUntouched};
-ghost use Rattle.client_restart.specs.declared.opening.ClientOpening.{ClientOpening};
-ghost use Rattle.client_restart.specs.Kept.{HoldsNotes, Stands};
-ghost use Rattle.client_restart.specs.Notes.{Noted, Remark};
-ghost use Rattle.client_restart.specs.Openings.{IsOpening};
-ghost use Rattle.client_restart.specs.Records.{AllNotes};
+ghost use Rattle.client_restart.specs.Kept.{Stands};
+ghost use Rattle.client_restart.specs.Notes.{Remark};
 ghost use Rattle.client_restart.specs.Steps.{fold};
-ghost use Rattle.desk_entries.specs.declared.entry.Entry.{Entry as Noting};
-ghost use Rattle.desk_entries.specs.Records.{AreEntries, entry_record};
+ghost use Rattle.desk_entries.specs.Records.{entry_record};
 ghost use Rattle.desk_ledger.specs.Ledgers.{IsOfPair, SaysPair};
-ghost use Rattle.desk_ledger.specs.Opening.{OnText, opening_of};
+ghost use Rattle.desk_ledger.specs.Opening.{IsAsHeld, OnText, opening_of};
 
 use crate::fault::OpenFault;
 use crate::ledger::Ledger;
@@ -90,11 +86,7 @@ impl<D: Disk> Ledger<D> {
         ensures stands { IfOk result (λ l. Stands l.client.opening l.client.core (D.disk disk).reads) }
         ensures pair { IfOk result (λ l. IsOfPair l.pair l.entries) }
         ensures entries { IfOk result (λ l. l.client.core.remarks ≡ map entry_record l.entries) }
-        ensures told { IfOk result (λ l. (o : ClientOpening) (notes : Listed Noted) (c : Listed ℕ)
-            (entries : Listed Noting) → (D.disk disk).reads c → IsOpening o → AllNotes notes
-            → HoldsNotes o notes (D.disk disk).reads → AreEntries entries
-            → (fold o notes).remarks ≡ map entry_record entries
-            → (l.client.opening ≡ o) × (l.client.core ≡ fold o notes) × (l.entries ≡ entries)) }
+        ensures told { IfOk result (λ l. IsAsHeld (D.disk disk) l) }
         ensures untouched_ok { IfOk result (λ l. IsUntouched (D.disk disk) (D.disk l.client.disk)) }
         ensures untouched { IfErr result (λ x. IsUntouched (D.disk disk) (D.disk x.1)) }
     {

@@ -1,6 +1,6 @@
 -- What holds of letters, and of a letter that is written to the plain table.
 use Rattle.std.specs.Prelude.{◌≡◌, ℕ, List}
-use Rattle.file_table.specs.Carried.{Journal, IsCarried, IsUnwritten, bytes_given, result_at}
+use Rattle.file_carry.specs.Carried.{Journal, IsCarried, IsUnwritten, bytes_given, result_at}
 use Rattle.desk_letters.specs.Letters.{Fits, letter_of}
 use Rattle.desk_letters.specs.Opening.{Content, Empty, Letter, Opens}
 

@@ -4,10 +4,10 @@ use Rattle.std.specs.Fmt.{decimal}
 use Rattle.std.specs.Str.{bytes_eq}
 use Rattle.std.proofs.lemmas.Bool.{eqb-true}
 use Rattle.std.proofs.lemmas.Slice.Eq.{bytes_eq-Decides}
-use Rattle.text_fields.specs.Fields.{after, spelled_word, wanted}
-use Rattle.text_fields.specs.Numbers.{number_at, last_number}
-use Rattle.text_fields.proofs.FieldLaws.{bind_some, after_found, after_only, wanted_found}
-use Rattle.text_fields.proofs.NumberLaws.{number_found, number_only, last_found, last_only}
+use Rattle.express_texts.specs.LineFields.{after, spelled_word, wanted}
+use Rattle.express_texts.specs.Numbers.{number_at, last_number}
+use Rattle.express_texts.proofs.FieldLaws.{bind_some, after_found, after_only, wanted_found}
+use Rattle.express_texts.proofs.NumberLaws.{number_found, number_only, last_found, last_only}
 use Rattle.desk_texts.specs.declared.sheet.CardHead.{CardHead}
 use Rattle.desk_texts.specs.declared.sheet.Head.{Head}
 use Rattle.desk_texts.specs.declared.sheet.Head.TheVariants.{Card, Pair}

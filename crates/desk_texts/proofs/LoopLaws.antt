@@ -4,7 +4,7 @@ use Rattle.std.specs.Prelude.{IsErrAnd}
 use Rattle.express_texts.specs.Judging.{Gives}
 use Rattle.express_texts.specs.declared.fault.TextFault.{TextFault}
 use Rattle.express_texts.specs.declared.fault.TextFault.TheVariants.{Wrong, WrongKey, NoMemory}
-use Rattle.text_fields.specs.Lines.{lines_of, onto_line}
+use Rattle.express_texts.specs.Lines.{lines_of, onto_line}
 use Rattle.desk_texts.specs.Lines.{trimmed, lines_in}
 use Rattle.desk_texts.specs.Sheets.{line_as, new_address, addresses_at}
 

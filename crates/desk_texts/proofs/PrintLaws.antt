@@ -11,9 +11,9 @@ use Rattle.std.proofs.lemmas.Grind.{common_steps}
 use Rattle.std.proofs.lemmas.List.{length-append}
 use Rattle.sha2.specs.Sha256.{sha256}
 use Rattle.hex.specs.Hex.{lower_digits, encode_with}
-use Rattle.text_fields.specs.Lines.{HasNoLf, AreLines}
-use Rattle.text_fields.proofs.LineLaws.{lines_only}
-use Rattle.text_fields.proofs.NumberLaws.{numerals}
+use Rattle.express_texts.specs.Lines.{HasNoLf, AreLines}
+use Rattle.express_texts.proofs.LineLaws.{lines_only}
+use Rattle.express_texts.proofs.NumberLaws.{numerals}
 use Rattle.desk_texts.specs.declared.sheet.Head.{Head}
 use Rattle.desk_texts.specs.declared.sheet.Head.TheVariants.{Card, Pair}
 use Rattle.desk_texts.specs.declared.sheet.Sheet.{Sheet}

@@ -4,8 +4,8 @@ use Rattle.std.specs.Prelude.{Option, Some, None}
 use Rattle.std.specs.Int.{w128, to_be_bytes}
 use Rattle.std.specs.Str.{bytes_eq}
 use Rattle.hex.specs.Hex.{encode_lower}
-use Rattle.text_fields.specs.Fields.{◌>>=◌, after, spelled_word, wanted}
-use Rattle.text_fields.specs.Numbers.{number_at, last_number}
+use Rattle.express_texts.specs.LineFields.{◌>>=◌, after, spelled_word, wanted}
+use Rattle.express_texts.specs.Numbers.{number_at, last_number}
 use Rattle.desk_texts.specs.declared.sheet.CardHead.{CardHead}
 use Rattle.desk_texts.specs.declared.sheet.Head.{Head}
 use Rattle.desk_texts.specs.declared.sheet.Head.TheVariants.{Card, Pair}

@@ -1,6 +1,6 @@
 -- The lines of a sheet, without the blanks at their ends, and what they say.
 use Rattle.std.specs.Prelude.{ℕ, ◌==◌, ◌||◌, if◌then◌else◌, Bool, List, [], ◌∷◌, map, Result, Ok, Err}
-use Rattle.text_fields.specs.Lines.{lines_of}
+use Rattle.express_texts.specs.Lines.{lines_of}
 use Rattle.express_texts.specs.GameLines.{found_or}
 use Rattle.desk_texts.specs.Checks.{with_content, content_of}
 

@@ -3,7 +3,7 @@ use Rattle.std.specs.Prelude.{ℕ, nat_le, ◌==◌, ◌||◌, ◌&&◌, not, if
 use Rattle.std.specs.Prelude.{length, codes, Option, Some, None, is_some}
 use Rattle.std.specs.Char.{is_ascii_digit, is_ascii_lowercase}
 use Rattle.std.specs.List.{list_all, list_any}
-use Rattle.text_fields.specs.Numbers.{last_number}
+use Rattle.express_texts.specs.Numbers.{last_number}
 
 -- a lower-case letter, a digit, or one of .:-[]
 abbrev pub is_place_byte : ℕ → Bool

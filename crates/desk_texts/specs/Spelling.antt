@@ -2,7 +2,7 @@
 use Rattle.std.specs.Prelude.{◌≡◌, ℕ, zero, suc, ◌+◌, ◌≤◌, ◌%◌, true, false, List, [], ◌∷◌, ◌++◌, map, length}
 use Rattle.std.specs.Prelude.{codes, Some}
 use Rattle.std.specs.Fmt.{decimal}
-use Rattle.text_fields.specs.Fields.{spelled_word}
+use Rattle.express_texts.specs.LineFields.{spelled_word}
 use Rattle.express_texts.specs.GameSpelling.{FaultFrom}
 use Rattle.desk_texts.specs.declared.sheet.CardHead.{CardHead}
 use Rattle.desk_texts.specs.declared.sheet.Head.{Head}

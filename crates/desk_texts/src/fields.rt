@@ -8,8 +8,8 @@ ghost use Rattle.desk_texts.specs.Sheets.{count_of};
 
 use crate::places::is_place;
 use crate::sheet::{CardHead, Head, MOST_ADDRESSES, PairHead};
+use express_texts::{after, last_number, number_at, spelled_word};
 use express_words::limits::{MOST_BOXES, MOST_WIDTH};
-use text_fields::{after, last_number, number_at, spelled_word};
 
 const LEAST_WIDTH: u64 = 32;
 

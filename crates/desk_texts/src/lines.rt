@@ -4,8 +4,7 @@ ghost use Rattle.desk_texts.specs.Lines.{is_blank, trimmed, lines_in, content_at
 ghost use Rattle.express_texts.specs.Judging.{Gives};
 
 use crate::checks::{content_of, say};
-use express_texts::TextFault;
-use text_fields::first_line;
+use express_texts::{TextFault, first_line};
 
 fn is_blank(byte: u8) -> bool
     ensures { result ≡ is_blank byte }
@@ -37,7 +36,7 @@ fn first_trimmed(text: &[u8]) -> (&[u8], &[u8])
 }
 
 /// What the line at this place says, and the text behind it. Its content is added to those so far.
-#[tactic(auto, unfolding(crate::specs::Lines::content_at, text_fields::specs::Lines::lines_of))]
+#[tactic(auto, unfolding(crate::specs::Lines::content_at, express_texts::specs::Lines::lines_of))]
 pub fn content_at<'a>(
     place: u32,
     said: &mut Vec<u8>,

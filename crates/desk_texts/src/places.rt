@@ -4,7 +4,7 @@ ghost use Rattle.std.specs.List.{list_all};
 ghost use Rattle.std.specs.Option.{option_copied};
 ghost use Rattle.desk_texts.specs.Places.{is_place_byte, behind_colon, begins_with_colon, is_port, is_place};
 
-use text_fields::last_number;
+use express_texts::last_number;
 
 const MOST_PLACE: usize = 255;
 

@@ -5,7 +5,7 @@ ghost use Rattle.std.specs.Prelude.{◌≡◌, ◌≢◌, [], ◌∷◌, Contain
 ghost use Rattle.std.specs.IoError.{error_kind};
 ghost use Rattle.std.specs.Process.{exit_status};
 
-use express_keep::run_kept;
+use express_cli::run_kept;
 use express_outside::{Adapter, Direct, FileDisk, JournalFile, TcpNet, TcpPorts, random_seed};
 use std::io::ErrorKind;
 use std::process::ExitCode;

@@ -6,14 +6,14 @@ use Rattle.settings_text.specs.declared.serve.ServeSettings.{ServeSettings}
 use Rattle.node_serve.specs.NoLog.{node_log}
 use Rattle.node_serve.specs.declared.never.Never.{Never}
 use Rattle.node_serve.specs.declared.node.Node.{Node}
-use Rattle.node_host.specs.Hosting.{Hosts, Visited}
-use Rattle.node_host.specs.Visits.{DoorBy, Standing, standing}
-use Rattle.node_host.specs.Visits.Visits.{none as nothing}
-use Rattle.node_host.specs.declared.stop.Halt.{Halt}
-use Rattle.node_host.specs.declared.stop.Halt.TheVariants.{Door}
-use Rattle.node_host.specs.declared.stop.Stop.{Stop}
-use Rattle.node_host.specs.declared.tally.Tally.{Tally}
-use Rattle.node_host.proofs.CallLaws.{makes_none}
+use Rattle.node_serve.specs.Hosting.{Hosts, Visited}
+use Rattle.node_serve.specs.Visits.{DoorBy, Standing, standing}
+use Rattle.node_serve.specs.Visits.Visits.{none as nothing}
+use Rattle.node_serve.specs.declared.stop.Halt.{Halt}
+use Rattle.node_serve.specs.declared.stop.Halt.TheVariants.{Door}
+use Rattle.node_serve.specs.declared.stop.Stop.{Stop}
+use Rattle.node_serve.specs.declared.tally.Tally.{Tally}
+use Rattle.node_serve.proofs.CallLaws.{makes_none}
 use Rattle.express_cli.specs.Around.{Seen}
 use Rattle.express_cli.specs.Talking.{ServesAll, ServesFewer, ServesSome}
 

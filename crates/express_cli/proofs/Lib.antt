@@ -14,3 +14,12 @@ pub mod BatchText
 pub mod CloakLemmas
 pub mod MillText
 pub mod Announcing
+pub mod TellLaws
+pub mod CountLaws
+pub mod FaultTexts
+pub mod FirstFaults
+pub mod HaltLaws
+pub mod KeepLaws
+pub mod StatusLaws
+pub mod OneWord
+pub mod KeptAnnouncing

@@ -17,7 +17,7 @@ use Rattle.client_run.specs.declared.ran.RunEnd.{RunEnd}
 use Rattle.client_run.specs.declared.ran.RunEnd.TheVariants as run
 use Rattle.node_serve.specs.declared.node.Node.{Node}
 use Rattle.node_exchange.specs.Exchanging.{EarlyAtEnd}
-use Rattle.node_host.specs.Opening.{IsOpened}
+use Rattle.node_serve.specs.Opening.{IsOpened}
 use Rattle.express_cli.specs.CommandLine.{AsksNet}
 use Rattle.express_cli.specs.Ends.{PrintsBy, Said, BadKeyMay, FaultMay, out_of_memory_text}
 use Rattle.express_cli.specs.Around.{Around, Seen, Shown, around}

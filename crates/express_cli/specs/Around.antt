@@ -2,7 +2,7 @@
 use Rattle.std.specs.Prelude.{ℕ, List, Option}
 use Rattle.express_words.specs.Streams.{Stream}
 pub use Rattle.express_words.specs.Seen.{Seen}
-pub use Rattle.node_host.specs.Visits.{Shown}
+pub use Rattle.node_serve.specs.Visits.{Shown}
 
 -- what is around a run: the seed that it is handed, its net before and now, and what its net's connections
 -- may show

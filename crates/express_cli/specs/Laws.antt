@@ -29,7 +29,7 @@ use Rattle.replay_world.specs.Strangers.{BusyRowsAwait, ClientsAreAlone, Finishe
 use Rattle.replay_world.specs.Strangers.{HistoryIsOfRun, OfEverySchedule, RequestsAreTold, SchedulesFit}
 use Rattle.replay_world.specs.Strangers.{StrangersAreForeign, StrangersWereBrought}
 use Rattle.express_cli.specs.Settings.{SettingsAreSpelled}
-use Rattle.file_table.specs.Laws.{AnswersJoin, UnwrittenIsMissing}
+use Rattle.file_carry.specs.CarriedLaws.{AnswersJoin, UnwrittenIsMissing}
 use Rattle.batch_audit.specs.Batch.{FewValuesPass}
 use Rattle.batch_audit.specs.Sorting.{SortsAreOne}
 use Rattle.write_hiding.specs.Laws.{ChoicesStay, ViewsStay, MovesReturn, DistinctStay}

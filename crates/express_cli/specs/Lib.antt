@@ -11,3 +11,8 @@ pub mod Runs
 pub mod Headline
 pub mod Ran
 pub mod Laws
+pub mod KeepWord
+pub mod KeptEndings
+pub mod KeptTelling
+pub mod KeptDoor
+pub mod Keeping

@@ -16,14 +16,14 @@ use Rattle.settings_text.specs.declared.carry.CarrySettings.{CarrySettings}
 use Rattle.node_serve.specs.NoLog.{node_log}
 use Rattle.node_serve.specs.declared.never.Never.{Never}
 use Rattle.node_serve.specs.declared.node.Node.{Node}
-use Rattle.node_host.specs.Opening.{IsOpened}
+use Rattle.node_serve.specs.Opening.{IsOpened}
 use Rattle.node_exchange.specs.Exchanging.{ClosedAtEnd, EndsShort}
-use Rattle.node_host.specs.Visits.{standing}
-use Rattle.node_host.specs.Hosting.{Hosts, Visited}
-use Rattle.node_host.specs.Tallies.{tally_text}
-use Rattle.node_host.specs.declared.stop.Halt.TheVariants.{Door}
-use Rattle.node_host.specs.declared.stop.Stop.{Stop}
-use Rattle.node_host.specs.declared.tally.Tally.{Tally}
+use Rattle.node_serve.specs.Visits.{standing}
+use Rattle.node_serve.specs.Hosting.{Hosts, Visited}
+use Rattle.node_serve.specs.Tallies.{tally_text}
+use Rattle.node_serve.specs.declared.stop.Halt.TheVariants.{Door}
+use Rattle.node_serve.specs.declared.stop.Stop.{Stop}
+use Rattle.node_serve.specs.declared.tally.Tally.{Tally}
 use Rattle.node_client.specs.declared.finished.Finished.{Finished}
 use Rattle.node_client.specs.Work.{Stand}
 use Rattle.client_run.specs.Runs.{ClientRuns, RunFault, Plan, CameTo, ClientEnded, client_plan}

@@ -1,13 +1,20 @@
-//! The program's top call: what its words ask for, from the bytes of an input to bytes written and a status.
+//! The program's top calls: what its words ask for, from the bytes of an input to bytes written and a status. `keep` is
+//! `serve` over a server whose frames are kept.
 #![tactic(auto)]
 
+mod asking;
 mod batch;
 mod carry;
 mod client;
 mod cloak;
 mod drawing;
+mod ending;
 mod ends;
 mod input;
+mod keeping;
+mod kept_door;
+mod kept_telling;
+mod kept_top;
 mod mill;
 mod promises;
 mod ran;
@@ -20,12 +27,11 @@ mod views;
 mod words;
 mod work;
 
-pub use ends::{End, status_of};
-pub use input::input_of;
+pub use ending::Ending;
+pub use ends::End;
 pub use input_reading::{InputFault, LONGEST, SeedFault, read_all, seed_of};
+pub use kept_top::run_kept;
 pub use node_serve::{serve_kept, serve_one};
 pub use promises::laws;
-pub use serve::tally_line;
-pub use texts::{LISTENING, NET_FAULT, OUT_OF_MEMORY, say, say_bad_key, say_fault};
 pub use top::run;
 pub use words::{Command, NetCommand};

@@ -2,7 +2,7 @@
 ghost use Rattle.express_cli.specs.Laws.{Laws};
 
 use batch_audit::{few_values_pass, sorts_are_one};
-use file_table::{answers_join, unwritten_is_missing};
+use file_carry::{answers_join, unwritten_is_missing};
 use replay_world::{
     accepted_writes_pass, clients_get_answers, frames_are_heeded, histories_hold, mills_count,
     replies_are_one, requests_are_told, rows_are_awaited, runs_follow_protocol, schedules_fit,

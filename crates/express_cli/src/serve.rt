@@ -1,8 +1,8 @@
 //! Is one of the two servers.
 ghost use Rattle.std.specs.Prelude.{◌≡◌, ◌≢◌, ◌≤◌, ◌⊎◌, [], ◌++◌, IfOk, codes, string_bytes};
 ghost use Rattle.express_words.specs.Limits.{KeepsLimits};
-ghost use Rattle.node_host.specs.Opening.{IsOpened};
-ghost use Rattle.node_host.specs.Tallies.{tally_text};
+ghost use Rattle.node_serve.specs.Opening.{IsOpened};
+ghost use Rattle.node_serve.specs.Tallies.{tally_text};
 ghost use Rattle.express_cli.specs.Around.{around, Shown};
 ghost use Rattle.express_cli.specs.Ends.{Prints};
 ghost use Rattle.express_cli.specs.Talking.{BreaksOff, DoorMay, HostMay, IsOut, ListeningMay, ServeBreaks, ServeMay, TalkMay, listening};
@@ -12,8 +12,7 @@ use crate::End;
 use crate::texts::{LISTENING, NET_FAULT, OUT_OF_MEMORY, say, say_fault};
 use express_words::NoMemory;
 use express_words::outside::{Net, Sink};
-use node_host::{Halt, Tally, host, open_node};
-use node_serve::Node;
+use node_serve::{Halt, Node, Tally, host, open_node};
 use settings_text::{HELPER, ServeSettings, read_serve};
 use std::alloc::{AllocError, Global};
 use wire_frames::Gather;

@@ -2,8 +2,8 @@
 use Rattle.std.proofs.Common.{◌≡◌, ℕ, suc, ◌+◌, ◌-◌, ◌≤◌, ◌⊎◌, inl, inr, nat_eq, Bool, true, false, cond, List, [], ◌∷◌, ◌++◌, length, Option, Some, None, Result, Ok, Err, arith, refl, sym, ap, subst, zero-add}
 use Rattle.std.proofs.lemmas.Bool.{eqb-true, eqb-false, ne_eqb}
 use Rattle.express_words.specs.declared.audit.Closing.{Closing}
-use Rattle.text_fields.specs.Lines.{lines_of, AreLines}
-use Rattle.text_fields.proofs.LineLaws.{lines_found, lines_only}
+use Rattle.express_texts.specs.Lines.{lines_of, AreLines}
+use Rattle.express_texts.proofs.LineLaws.{lines_found, lines_only}
 use Rattle.express_texts.specs.Batch.{Pairs, Batch, most_pairs, pair_of, pair_then, pairs_of, header_of, header_then, under, batch_of_lines, batch_of}
 use Rattle.express_texts.specs.Spelling.{SpellsPairs, SpellsHeader, SpellsBatch, IsNoPair, IsFirstBadOf, IsFirstBadLine}
 use Rattle.express_texts.proofs.PairLaws.{pair_found, pair_only, header_found, header_only}

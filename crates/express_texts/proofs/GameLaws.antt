@@ -3,8 +3,8 @@ use Rattle.std.proofs.Common.{◌≡◌, ℕ, ◌⊎◌, inl, inr, Bool, true, f
 use Rattle.express_texts.specs.declared.cloak.AimText.{AimText}
 use Rattle.express_texts.specs.declared.cloak.CloakGame.{CloakGame}
 use Rattle.express_texts.specs.declared.cloak.GameHeader.{GameHeader}
-use Rattle.text_fields.specs.Lines.{lines_of}
-use Rattle.text_fields.proofs.LineLaws.{lines_found, lines_only}
+use Rattle.express_texts.specs.Lines.{lines_of}
+use Rattle.express_texts.proofs.LineLaws.{lines_found, lines_only}
 use Rattle.express_texts.specs.Fields.{value_line, key_line}
 use Rattle.express_texts.specs.Games.{game_header_of, aim_of, is_among}
 use Rattle.express_texts.specs.GameLines.{◌>>=◌, found_or, line_at, addresses_on, form_of, registered, game_of}

@@ -5,11 +5,11 @@ use Rattle.std.proofs.lemmas.Bool.{eqb-true}
 use Rattle.std.proofs.lemmas.List.Folds.{Any-from_list_any, list_any_at}
 use Rattle.express_texts.specs.declared.cloak.AimText.{AimText}
 use Rattle.express_texts.specs.declared.cloak.GameHeader.{GameHeader}
-use Rattle.text_fields.specs.Fields.{after, end, word_at, seed_of, message_of, wanted}
-use Rattle.text_fields.specs.Numbers.{number_at}
-use Rattle.text_fields.specs.Spelling.{SpellsWord}
-use Rattle.text_fields.proofs.FieldLaws.{bind_some, after_found, after_only, seed_found, seed_only, word_at_found, word_at_only, wanted_found, message_found, message_only}
-use Rattle.text_fields.proofs.NumberLaws.{number_found, number_only}
+use Rattle.express_texts.specs.LineFields.{after, end, word_at, seed_of, message_of, wanted}
+use Rattle.express_texts.specs.Numbers.{number_at}
+use Rattle.express_texts.specs.WordSpelling.{SpellsWord}
+use Rattle.express_texts.proofs.FieldLaws.{bind_some, after_found, after_only, seed_found, seed_only, word_at_found, word_at_only, wanted_found, message_found, message_only}
+use Rattle.express_texts.proofs.NumberLaws.{number_found, number_only}
 use Rattle.express_texts.specs.Fields.{value_line, key_line}
 use Rattle.express_texts.specs.Games.{game_header_of, target_at, aim_of, is_among, address_behind, most_addresses}
 use Rattle.express_texts.specs.GameSpelling.{SpellsGameHeader, SpellsValueLine, SpellsKeyLine, SpellsAim, IsBadAddress}

@@ -1,3 +1,8 @@
+pub mod FieldLaws
+pub mod Numerals
+pub mod NumberLaws
+pub mod LineLemmas
+pub mod LineLaws
 pub mod PairLaws
 pub mod BatchLaws
 pub mod LoopLemmas

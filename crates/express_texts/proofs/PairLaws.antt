@@ -2,8 +2,8 @@
 use Rattle.std.proofs.Common.{◌≡◌, ℕ, List, [], ◌∷◌, ◌++◌, Some, codes, take, refl, sym, ◌∙◌, ap, subst, append_assoc}
 use Rattle.std.proofs.lemmas.List.{append-nil}
 use Rattle.express_words.specs.declared.audit.Closing.{Closing}
-use Rattle.text_fields.specs.Fields.{after, end, seed_of, word_at}
-use Rattle.text_fields.proofs.FieldLaws.{bind_some, after_found, after_only, seed_found, seed_only, word_at_found, word_at_only}
+use Rattle.express_texts.specs.LineFields.{after, end, seed_of, word_at}
+use Rattle.express_texts.proofs.FieldLaws.{bind_some, after_found, after_only, seed_found, seed_only, word_at_found, word_at_only}
 use Rattle.express_texts.specs.Batch.{closing_at, pair_of, header_of}
 use Rattle.express_texts.specs.Spelling.{SpellsClosing, SpellsPair, SpellsHeader}
 

@@ -3,8 +3,8 @@
 use Rattle.std.specs.Prelude.{ℕ, ◌+◌, ◌-◌, ◌==◌, if◌then◌else◌, List, [], ◌∷◌, codes, Option, Some, None}
 use Rattle.std.specs.Prelude.{Result, Ok, Err}
 use Rattle.express_words.specs.declared.audit.Closing.{Closing}
-use Rattle.text_fields.specs.Fields.{◌>>=◌, after, end, seed_of, word_at}
-use Rattle.text_fields.specs.Lines.{lines_of}
+use Rattle.express_texts.specs.LineFields.{◌>>=◌, after, end, seed_of, word_at}
+use Rattle.express_texts.specs.Lines.{lines_of}
 
 -- a batch has at most so many pairs
 unfoldable pub most_pairs : ℕ

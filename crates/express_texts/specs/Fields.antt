@@ -1,6 +1,6 @@
 -- Lines of a word and a value, as functions from their bytes.
 use Rattle.std.specs.Prelude.{ℕ, List, Option, Some}
-use Rattle.text_fields.specs.Fields.{◌>>=◌, after, end, seed_of, word_at}
+use Rattle.express_texts.specs.LineFields.{◌>>=◌, after, end, seed_of, word_at}
 
 -- a line of this word and a field value, or a key
 unfoldable pub value_line : List ℕ → List ℕ → Option ℕ

@@ -4,7 +4,7 @@ use Rattle.std.specs.Prelude.{Option, Some, None, Result, Ok, Err}
 use Rattle.express_texts.specs.declared.cloak.CloakGame.{CloakGame}
 use Rattle.express_texts.specs.Fields.{value_line, key_line}
 use Rattle.express_texts.specs.Games.{game_header_of, aim_of, is_among, address_behind}
-use Rattle.text_fields.specs.Lines.{lines_of}
+use Rattle.express_texts.specs.Lines.{lines_of}
 
 -- one line, and then the next
 infixl 10 ◌>>=◌

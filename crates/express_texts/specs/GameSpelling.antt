@@ -7,8 +7,8 @@ use Rattle.express_texts.specs.declared.cloak.AimText.{AimText}
 use Rattle.express_texts.specs.declared.cloak.CloakGame.{CloakGame}
 use Rattle.express_texts.specs.declared.cloak.GameHeader.{GameHeader}
 use Rattle.express_texts.specs.Games.{most_addresses}
-use Rattle.text_fields.specs.Lines.{AreLines}
-use Rattle.text_fields.specs.Spelling.{SpellsWord}
+use Rattle.express_texts.specs.Lines.{AreLines}
+use Rattle.express_texts.specs.WordSpelling.{SpellsWord}
 
 -- ---- one line
 

@@ -3,8 +3,8 @@ use Rattle.std.specs.Prelude.{ℕ, ◌%◌, ◌==◌, nat_lt, not, Bool, List, l
 use Rattle.std.specs.List.{list_any}
 use Rattle.express_texts.specs.declared.cloak.AimText.{AimText}
 use Rattle.express_texts.specs.declared.cloak.GameHeader.{GameHeader}
-use Rattle.text_fields.specs.Fields.{◌>>=◌, after, word_at, seed_of, message_of, wanted}
-use Rattle.text_fields.specs.Numbers.{number_at}
+use Rattle.express_texts.specs.LineFields.{◌>>=◌, after, word_at, seed_of, message_of, wanted}
+use Rattle.express_texts.specs.Numbers.{number_at}
 use Rattle.express_texts.specs.Fields.{value_line}
 
 -- cloak 1 VIEWER WIDTH SEED

@@ -1,3 +1,7 @@
+pub mod LineFields
+pub mod Numbers
+pub mod Lines
+pub mod WordSpelling
 pub mod Batch
 pub mod FaultText
 pub mod Fields

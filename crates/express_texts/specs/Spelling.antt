@@ -3,8 +3,8 @@ use Rattle.std.specs.Prelude.{◌≡◌, ◌⊎◌, ℕ, ◌+◌, ◌≤◌, len
 use Rattle.hex.specs.Hex.{decode_sized}
 use Rattle.express_words.specs.declared.audit.Closing.{Closing}
 use Rattle.express_texts.specs.Batch.{Pairs, Batch, most_pairs}
-use Rattle.text_fields.specs.Lines.{AreLines}
-use Rattle.text_fields.specs.Spelling.{SpellsWord}
+use Rattle.express_texts.specs.Lines.{AreLines}
+use Rattle.express_texts.specs.WordSpelling.{SpellsWord}
 
 -- O T
 pub record SpellsClosing (closing : Closing) (text : List ℕ) : Type 0 where

@@ -1,14 +1,16 @@
 //! The text of a batch: the closings of many writes at both servers, and the seed by which they are judged.
 ghost use Rattle.std.specs.Prelude.{◌≡◌, ℕ, ◌≤◌, List as Listed, length, IfOk, Some, Ok, Err, option_map};
 ghost use Rattle.express_texts.specs.Batch.{Batch, closing_at, pair_of, header_of, header_then, batch_of};
-ghost use Rattle.text_fields.specs.Lines.{lines_of};
+ghost use Rattle.express_texts.specs.Lines.{lines_of};
 ghost use Rattle.express_texts.specs.Judging.{Gives, Judges, batch_in};
 ghost use Rattle.express_texts.specs.Spelling.{SpellsBatch, IsFirstBadLine};
 
+use crate::digits::{seed_of, word_at};
 use crate::fault::TextFault;
+use crate::text_lines::first_line;
+use crate::words::after;
 use express_words::{Closing, List};
 use std::alloc::Global;
-use text_fields::{after, first_line, seed_of, word_at};
 
 /// A batch has at most so many pairs.
 pub const MOST_PAIRS: usize = 20_000;
@@ -87,7 +89,7 @@ fn read_pairs(alloc: Global, seed: [u8; 32], text: &[u8]) -> Result<BatchPairs, 
     })
 }
 
-#[tactic(auto, unfolding(crate::specs::Batch::batch_of_lines, text_fields::specs::Lines::lines_of))]
+#[tactic(auto, unfolding(crate::specs::Batch::batch_of_lines, crate::specs::Lines::lines_of))]
 fn read_text(alloc: Global, text: &[u8]) -> Result<BatchPairs, TextFault>
     ensures { Gives batch_in result (batch_of text.now) }
 {

@@ -10,15 +10,18 @@ ghost use Rattle.express_texts.specs.GameLines.{line_at, addresses_on, form_of, 
 ghost use Rattle.express_texts.specs.GameSpelling.{SpellsGame, IsFirstBadGameLine};
 ghost use Rattle.express_texts.specs.Games.{game_header_of, target_at, aim_of, address_behind};
 ghost use Rattle.express_texts.specs.Judging.{Gives};
-ghost use Rattle.text_fields.specs.Lines.{lines_of};
+ghost use Rattle.express_texts.specs.Lines.{lines_of};
 
+use crate::digits::{message_of, seed_of, word_at};
 use crate::fault::TextFault;
 use crate::fields::{key_line, value_line};
 use crate::lines::next_line;
+use crate::numbers::number_at;
+use crate::text_lines::first_line;
+use crate::words::after;
 use express_words::limits::{LEAST_WIDTH, MOST_WIDTH};
 use express_words::{List, NoMemory};
 use std::alloc::Global;
-use text_fields::{after, first_line, message_of, number_at, seed_of, word_at};
 
 /// A game has at most so many addresses.
 pub const MOST_ADDRESSES: usize = 4096;

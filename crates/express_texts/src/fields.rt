@@ -2,7 +2,8 @@
 ghost use Rattle.std.specs.Prelude.{◌≡◌};
 ghost use Rattle.express_texts.specs.Fields.{value_line, key_line};
 
-use text_fields::{after, seed_of, word_at};
+use crate::digits::{seed_of, word_at};
+use crate::words::after;
 
 /// The field value on a line that begins with this word.
 #[tactic(auto, unfolding(crate::specs::Fields::value_line))]

@@ -1,3 +1,9 @@
 pub mod BoxLaws
 pub mod CutLaws
 pub mod RowLaws
+pub mod Boxes
+pub mod Journals
+pub mod Joins
+pub mod Plain
+pub mod Worked
+pub mod Registers

@@ -4,3 +4,6 @@ pub mod Joining
 pub mod Laws
 pub mod Parts
 pub mod Resting
+pub mod Carried
+pub mod CarriedLaws
+pub mod Worked

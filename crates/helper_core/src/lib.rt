@@ -8,5 +8,7 @@ mod said;
 mod server;
 mod slot;
 mod taken;
+mod uncounted;
 
 pub use helper::{Helper, LinkTurn};
+pub use uncounted::carry_command;

@@ -1,10 +1,8 @@
 //! What the helper holds of a lane.
-ghost use Rattle.std.specs.Prelude.{◌≡◌, ◌+◌, ◌≤◌, ℕ, List, length, take, map, option_map, IfSome, [], All, IfOk, replicate};
+ghost use Rattle.std.specs.Prelude.{◌≡◌, ◌+◌, ◌≤◌, ℕ, List, length, option_map, IfSome, [], All, IfOk, replicate};
 ghost use Rattle.frame_rules.specs.Frames.{plain_body, Refused};
 ghost use Rattle.frame_rules.specs.Whole.{IsAnswer};
-ghost use Rattle.express_words.specs.Limits.{levels_len};
-ghost use Rattle.dpf_rules.specs.Walk.{leaf_of};
-ghost use Rattle.server_boxes.specs.Held.{write_in};
+ghost use Rattle.server_boxes.specs.Held.{AreLeaves, IsLeafRoom, IsPartRoom, write_in};
 ghost use Rattle.step_rules.specs.Helper.{door, phase_of, want_of, idle, row, Done, Begun as Begins, Audited as Audits};
 ghost use Rattle.step_rules.specs.HelperCommands.{stage_for, held_key, held_root, held_token, held_proof, held_closing};
 ghost use Rattle.step_rules.specs.HelperClients.{deposit_row, proof_row, proof_in};
@@ -144,7 +142,7 @@ impl Slot {
     /// The write that waits for a settle of this serial, and the helper's closing.
     pub(crate) fn closing_for(&self, serial: u32) -> Option<(Begun, Closing)>
         ensures held { option_map (λ x. (write_in x.0 self.now.room.part.items, x.1)) result ≡ held_closing (stage_for (row_in self.now) serial) }
-        ensures leaves { (width limit : ℕ) (addresses : List ℕ) → IsSlot width limit addresses self.now → IfSome result (λ x. (x.0.count ≤ length addresses) × (take x.0.count self.now.room.leaves.items ≡ map (leaf_of self.now.room.part.items 1 x.0.root) (take x.0.count addresses))) }
+        ensures leaves { (width limit : ℕ) (addresses : List ℕ) → IsSlot width limit addresses self.now → IfSome result (λ x. (x.0.count ≤ length addresses) × AreLeaves 1 x.0 self.now.room addresses) }
     {
         if self.serial != serial {
             return None;
@@ -180,7 +178,9 @@ impl Slot {
     /// A write is audited: its leaves stand, and this is the helper's closing.
     pub(crate) fn audited(&mut self, serial: u32, begun: Begun, own: Closing)
         ensures row { row_in self.new ≡ row serial (Audits (write_in begun self.old.room.part.items) own) }
-        ensures is_slot { (width limit : ℕ) (addresses : List ℕ) → length self.old.room.part.items ≡ levels_len + width → length self.old.room.leaves.items ≡ limit → begun.count ≤ length addresses → take begun.count self.old.room.leaves.items ≡ map (leaf_of self.old.room.part.items 1 begun.root) (take begun.count addresses) → IsSlot width limit addresses self.new }
+        ensures is_slot { (width limit : ℕ) (addresses : List ℕ) → IsPartRoom width self.old.room
+            → IsLeafRoom limit self.old.room → begun.count ≤ length addresses
+            → AreLeaves 1 begun self.old.room addresses → IsSlot width limit addresses self.new }
     {
         self.serial = serial;
         self.stage = Stage::Audited(begun, own);

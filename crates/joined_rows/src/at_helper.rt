@@ -7,7 +7,7 @@ use express_words::Settings;
 use frame_rules::FRAME_MAX;
 use helper_core::{Helper, LinkTurn};
 use recordings::{Fault, front_text, no_frame};
-use server_steps::carry_command;
+use helper_core::carry_command;
 use std::alloc::Global;
 use std::marker::Model;
 

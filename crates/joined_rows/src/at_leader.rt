@@ -7,7 +7,7 @@ use express_words::Settings;
 use frame_rules::FRAME_MAX;
 use leader_core::{Ack, Leader, Turn};
 use recordings::{Fault, front_text, no_frame};
-use server_steps::take_request;
+use leader_core::take_request;
 use std::alloc::Global;
 use std::marker::Model;
 

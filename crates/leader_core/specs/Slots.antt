@@ -9,7 +9,7 @@ use Rattle.frame_rules.specs.Whole.{IsAnswer}
 use Rattle.server_boxes.specs.Held.{write_in}
 use Rattle.server_boxes.specs.declared.room.Begun.{Begun}
 use Rattle.step_rules.specs.Leader as steps
-use Rattle.step_rules.specs.LeaderClients.{if_room, audits}
+use Rattle.step_rules.specs.LeaderClients.{if_room, issued_for, audits}
 use Rattle.leader_core.specs.declared.slot.Slot.{Slot}
 use Rattle.leader_core.specs.declared.slot.Stage.{Stage}
 use Rattle.leader_core.specs.declared.slot.Stage.TheVariants as stage
@@ -27,6 +27,10 @@ kept_in (kept.Registered n) own other = frame.Registered n
 kept_in kept.Accepted own other = frame.Accepted
 kept_in kept.Message own other = frame.Message own other
 kept_in (kept.Refused r) own other = frame.Refused r
+
+-- so of a slot
+abbrev pub reply_in : Kept → Slot → PlainBody
+reply_in reply s = kept_in reply s.own.items s.other.items
 
 -- with a public part, and both servers' masked shares of a message
 abbrev pub stage_with : Stage → List ℕ → List ℕ → List ℕ → steps.Stage
@@ -75,6 +79,13 @@ pub record IsSlot (width limit : ℕ) (addresses : List ℕ) (s : Slot) : Type 0
   pub other : length s.other.items ≡ width
   pub stage : IsStage addresses s.room.part.items s.room.leaves.items s.own.items s.other.items s.stage
 
+-- room for the leader's masked share of a message of this width, and for the helper's
+abbrev pub IsOwnRoom : ℕ → Slot → Type 0
+IsOwnRoom width s = length s.own.items ≡ width
+
+abbrev pub IsOtherRoom : ℕ → Slot → Type 0
+IsOtherRoom width s = length s.other.items ≡ width
+
 -- ---- what is said where no command is issued
 
 abbrev pub IsSaid : Said → Type 0
@@ -89,6 +100,10 @@ said_in a f (said.Waiting n) = steps.turn a (steps.StillWaiting n)
 abbrev pub or_said : steps.Leader → PlainFrame → Option Said → steps.Turn → steps.Turn
 or_said a f None issued = issued
 or_said a f (Some s) issued = said_in a f s
+
+-- the command that is asked for, where there is room for one
+abbrev pub ordered : steps.Leader → PlainFrame → steps.Asked → steps.Turn
+ordered a f asked = if_room a f (issued_for a f asked)
 
 -- the audit of the write with this part, or what is said
 abbrev pub audit_or_said : steps.Leader → PlainFrame → ProofShare → List ℕ → Result Begun Said → steps.Turn

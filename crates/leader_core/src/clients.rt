@@ -11,7 +11,7 @@ ghost use Rattle.step_rules.specs.Boxes.{addresses_of};
 ghost use Rattle.step_rules.specs.Leader.{Leader, Asked as Asks, Turn as Turned, want_in};
 ghost use Rattle.step_rules.specs.LeaderClients.{audits, if_named, if_room, issued_for, on_proof, on_submission};
 ghost use Rattle.leader_core.specs.Asked.{asked_with, named_in, IsAsked};
-ghost use Rattle.leader_core.specs.Slots.{or_said, IsSaid};
+ghost use Rattle.leader_core.specs.Slots.{or_said, ordered, IsSaid};
 ghost use Rattle.leader_core.specs.State.{leader_in, IsCore};
 ghost use Rattle.leader_core.specs.Told.{turn_steps, Does};
 
@@ -63,8 +63,7 @@ impl Core {
         requires is { IsCore self.now }
         ensures turn { (asked : Asks) → want ≡ want_in asked
             → on_submission (leader_in self.now) (plain frame.now) asked (named_in named) ≡ or_said
-            (leader_in self.now) (plain frame.now) result (if_room (leader_in self.now) (plain frame.now)
-            (issued_for (leader_in self.now) (plain frame.now) asked)) }
+            (leader_in self.now) (plain frame.now) result (ordered (leader_in self.now) (plain frame.now) asked) }
         ensures said { IfSome result IsSaid }
         ensures lane { IsNone result → frame.now.lane < self.now.settings.lanes }
     {

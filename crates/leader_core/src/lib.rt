@@ -15,8 +15,10 @@ mod said;
 mod slot;
 mod stores;
 mod turn;
+mod uncounted;
 mod writing;
 
 pub use laws::rows_await;
 pub use leader::Leader;
 pub use turn::{Ack, Turn};
+pub use uncounted::take_request;

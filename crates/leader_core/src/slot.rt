@@ -4,8 +4,8 @@ ghost use Rattle.express_words.specs.declared.audit.ProofShare.{ProofShare as Sh
 ghost use Rattle.frame_rules.specs.Frames.{PlainFrame, plain_body, Challenge};
 ghost use Rattle.frame_rules.specs.Whole.{IsAnswer};
 ghost use Rattle.lane_table.specs.Gates.{opening_gate, closing_gate};
-ghost use Rattle.server_boxes.specs.Held.{write_in};
-ghost use Rattle.step_rules.specs.Leader.{Leader, Asked as Asks, Row as Place, row_at, door, phase_of, row, idle, want_of, Auditing, Challenged as Challenges, Done, Settling, Waiting};
+ghost use Rattle.server_boxes.specs.Held.{IsLeafRoom, IsPartRoom, write_in};
+ghost use Rattle.step_rules.specs.Leader.{Leader, Asked as Asks, row_at, door, phase_of, row, idle, want_of, Auditing, Challenged as Challenges, Done, Settling, Waiting};
 ghost use Rattle.step_rules.specs.LeaderClients.{Named as Names, again_at, new_at, submission_at, proof_at, proof_in, if_named, if_room, issued_for};
 ghost use Rattle.step_rules.specs.Boxes.{addresses_of};
 ghost use Rattle.audit_rules.specs.Values.{opens};
@@ -13,7 +13,7 @@ ghost use Rattle.express_words.specs.Limits.{IsPart, levels_len};
 ghost use Rattle.dpf_rules.specs.Evaluation.{prefix_count};
 ghost use Rattle.leader_core.specs.Asked.{asked_with, IsAsked};
 ghost use Rattle.leader_core.specs.Replies.{key_at, writing_at, auditing_at, settling_at};
-ghost use Rattle.leader_core.specs.Slots.{audit_or_said, kept_in, kept_of, or_said, row_in, rows_in, said_in, stage_in, IsSaid, IsSlot};
+ghost use Rattle.leader_core.specs.Slots.{audit_or_said, kept_in, kept_of, or_said, ordered, reply_in, row_in, rows_in, said_in, stage_in, IsOtherRoom, IsOwnRoom, IsSaid, IsSlot};
 
 use crate::asked::Asked;
 use crate::said::Said;
@@ -160,7 +160,10 @@ impl Slot {
     /// What is said to a register, a write, a read or a retire of this serial by the lane's row; None where it is new.
     #[tactic(auto, unfolding(step_rules::specs::LeaderClients::submission_at))]
     pub(crate) fn submission(&self, serial: u32, want: Want) -> Option<Said<'_>>
-        ensures turn { (a : Leader) (f : PlainFrame) (asked : Asks) (named : Option Names) → row_at a f.lane ≡ row_in self.now → submission_at a f asked named (opening_gate (door (row_in self.now)) serial want) ≡ or_said a f result (if_named a f named (if_room a f (issued_for a f asked))) }
+        ensures turn { (a : Leader) (f : PlainFrame) (asked : Asks) (named : _)
+            → row_at a f.lane ≡ row_in self.now
+            → submission_at a f asked named (opening_gate (door (row_in self.now)) serial want)
+            ≡ or_said a f result (if_named a f named (ordered a f asked)) }
         ensures said { (width limit : ℕ) (addresses : List ℕ) → IsSlot width limit addresses self.now → IfSome result IsSaid }
     {
         match opening(&self.door(), serial, want) {
@@ -332,7 +335,10 @@ impl Slot {
     /// The request of this serial is done, with a reply that is kept.
     pub(crate) fn finish(&mut self, serial: u32, want: Want, kept: Kept)
         ensures row { row_in self.new ≡ row serial (Done want (kept_in kept self.old.own.items self.old.other.items)) }
-        ensures is_slot { (width limit : ℕ) (addresses : List ℕ) → length self.old.room.part.items ≡ levels_len + width → length self.old.room.leaves.items ≡ limit → length self.old.own.items ≡ width → length self.old.other.items ≡ width → IsAnswer (kept_in kept self.old.own.items self.old.other.items) → IsSlot width limit addresses self.new }
+        ensures is_slot { (width limit : ℕ) (addresses : List ℕ) → IsPartRoom width self.old.room
+            → IsLeafRoom limit self.old.room → IsOwnRoom width self.old
+            → IsOtherRoom width self.old → IsAnswer (reply_in kept self.old)
+            → IsSlot width limit addresses self.new }
     {
         self.serial = serial;
         self.stage = Stage::Done(want, kept);

@@ -2,6 +2,7 @@
 use Rattle.std.specs.Prelude.{◌≡◌, ℕ, ◌+◌, ◌-◌, ◌≤◌, nat_le, List, [], ◌∷◌, ◌++◌, length, take, drop}
 use Rattle.std.specs.Prelude.{if◌then◌else◌}
 use Rattle.node_journal.specs.Disk.{DiskSeen, Torn}
+use Rattle.node_journal.specs.Records.{body, opened}
 
 -- a write at an offset, or a sync
 pub data Change : Type 0 where
@@ -73,3 +74,8 @@ left_after arriving first (Synced ∷ before) = bytes_after first before
 
 abbrev pub left_of : List ℕ → History → List ℕ
 left_of arriving h = left_after arriving h.first h.changes
+
+-- a write of the gate behind these records is torn, before a whole record and the gate after it
+abbrev pub TornGate : (records : List (List ℕ)) → (added : List ℕ) → (gate after : ℕ) → (tail c : List ℕ) → Type 0
+TornGate records added gate after tail c =
+    Torn (length (opened records)) 1 (opened records ++ gate ∷ (body added ++ after ∷ tail)) c

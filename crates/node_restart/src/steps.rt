@@ -5,9 +5,8 @@ ghost use Rattle.node_restart.specs.Steps.{lead_client, lead_peer, help_client, 
 
 use crate::did::Did;
 use crate::server::Core;
-use helper_core::Helper;
-use leader_core::Leader;
-use server_steps::{carry_command, take_request};
+use helper_core::{Helper, carry_command};
+use leader_core::{Leader, take_request};
 
 /// A client's frame at the leader, which is stepped with it. What it writes stands at the front of `out`.
 #[tactic(auto, unfolding(crate::specs::Steps::lead_client))]

@@ -5,3 +5,7 @@ pub mod DownLaws
 pub mod CompleteLaws
 pub mod TellLaws
 pub mod RespondLaws
+pub mod OpenLaws
+pub mod CallLaws
+pub mod VisitLaws
+pub mod HostLaws

@@ -9,3 +9,9 @@ pub mod Handing
 pub mod Handling
 pub mod Stopping
 pub mod Responding
+pub mod Opening
+pub mod KeptOpening
+pub mod Visits
+pub mod Tallies
+pub mod Hosting
+pub mod Texts

@@ -1,5 +1,6 @@
-//! One connection of a server: a frame is read, the server takes its step once its log has the frame, and one reply is
-//! written. A log is a journal, or nowhere.
+//! A server at its door: it is opened from settings, or from its journal, and serves a number of connections. Of each a
+//! frame is read, the server takes its step once its log has the frame, and one reply is written. A log is a journal, or
+//! nowhere.
 #![tactic(auto)]
 
 mod answering;
@@ -8,17 +9,32 @@ mod draining;
 mod faces;
 mod handing;
 mod helping;
+mod hosting;
 mod journaled;
+mod kept_opening;
+mod key;
 mod leading;
 mod logged;
 mod never;
 mod node;
+mod open_fault;
+mod opening;
 mod serving;
+mod stop;
+mod tally;
 mod unlogged;
+mod visiting;
 
 pub use express_words::outside;
 pub use faces::{serve_kept, serve_one};
+pub use hosting::host;
+pub use kept_opening::{JOURNAL_LIMIT, open_kept};
+pub use key::SettingsKey;
 pub use logged::Logged;
 pub use never::Never;
 pub use node::{Node, Served};
+pub use open_fault::OpenFault;
+pub use opening::open_node;
 pub use serving::serve;
+pub use stop::{Halt, Stop};
+pub use tally::Tally;

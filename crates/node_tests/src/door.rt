@@ -4,9 +4,8 @@ ghost use Rattle.express_words.specs.Limits.{KeepsLimits};
 
 use express_words::outside::{MemoryConn, MemoryNet};
 use express_words::{NoMemory, Settings, Text};
-use node_host::{Halt, Stop, Tally, host, open_node};
 use node_restart::KeepFault;
-use node_serve::{Never, Node};
+use node_serve::{Halt, Never, Node, Stop, Tally, host, open_node};
 use settings_text::{HELPER, ServeSettings};
 use std::alloc::{AllocError, Global};
 use std::test::Fail;

@@ -6,9 +6,9 @@ use Rattle.tower_laws.specs.Elements.{Element, element_add, element_mul}
 use Rattle.tower_laws.proofs.ElementLaws.{level_laws}
 use Rattle.tower_laws.specs.Gf.{gf, values}
 use Rattle.tower_laws.proofs.GfLaws.{gf_value, gf_two}
-use Rattle.poly_roots.specs.Polynomials.{value_at}
-use Rattle.poly_roots.specs.Through.{through}
-use Rattle.poly_roots.proofs.ThroughLaws.{through_zero, through_one, through_two}
+use Rattle.tower_laws.specs.Polynomials.{value_at}
+use Rattle.tower_laws.specs.Through.{through}
+use Rattle.tower_laws.proofs.ThroughLaws.{through_zero, through_one, through_two}
 
 abbrev pub through_of : ℕ → ℕ → ℕ → List (Element 7)
 through_of u x m = through (element_add 7) (element_mul 7) (gf 2) (gf u) (gf x) (gf m)

@@ -1,6 +1,6 @@
 //! How many roots a polynomial has.
 ghost use Rattle.std.specs.Prelude.{◌≡◌, ◌≢◌, ◌<◌, length, All, Any, AllPairs};
-ghost use Rattle.poly_roots.specs.Polynomials.{value_at};
+ghost use Rattle.tower_laws.specs.Polynomials.{value_at};
 
 use tower_field::Field;
 

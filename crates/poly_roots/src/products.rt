@@ -1,6 +1,6 @@
 //! Products of polynomials, by their coefficients.
 ghost use Rattle.std.specs.Prelude.{◌≡◌, ◌+◌, ◌<◌, ◌≤◌, length};
-ghost use Rattle.poly_roots.specs.Polynomials.{value_at, plus_of, scaled_of, times_of};
+ghost use Rattle.tower_laws.specs.Polynomials.{value_at, plus_of, scaled_of, times_of};
 
 use tower_field::Field;
 

@@ -1,8 +1,8 @@
 //! The polynomial through three values.
 ghost use Rattle.std.specs.Prelude.{◌≡◌, bit_xor};
 ghost use Rattle.tower_numbers.specs.Levels.{product_at};
-ghost use Rattle.poly_roots.specs.Polynomials.{value_at};
-ghost use Rattle.poly_roots.specs.Through.{through};
+ghost use Rattle.tower_laws.specs.Polynomials.{value_at};
+ghost use Rattle.tower_laws.specs.Through.{through};
 
 use tower_field::{Field, Gf128};
 

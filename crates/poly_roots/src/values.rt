@@ -1,6 +1,6 @@
 //! A polynomial's value at a point.
 ghost use Rattle.std.specs.Prelude.{◌≡◌};
-ghost use Rattle.poly_roots.specs.Polynomials.{value_at};
+ghost use Rattle.tower_laws.specs.Polynomials.{value_at};
 
 use tower_field::Field;
 

@@ -3,7 +3,7 @@ use Rattle.std.specs.Prelude.{◌≡◌, ℕ, ◌==◌, ◌⊎◌, Bool, List, [
 use Rattle.std.specs.List.{position_or_len, before_first, after_first}
 use Rattle.std.specs.Str.Parse.{IsNumeral, digits_value, without_leading_plus}
 use Rattle.express_words.specs.declared.settings.Settings.{Settings}
-use Rattle.text_fields.specs.Fields.{any_bytes_of}
+use Rattle.express_texts.specs.LineFields.{any_bytes_of}
 
 abbrev is_space : ℕ → Bool
 is_space byte = byte == 32

@@ -2,14 +2,14 @@
 ghost use Rattle.std.specs.Prelude.{◌≡◌, Ok, IfOk, OnErr};
 ghost use Rattle.std.specs.Result.{result_ok};
 ghost use Rattle.express_words.specs.Limits.{KeepsLimits};
-ghost use Rattle.text_fields.specs.Fields.{spelled_word, seed_of};
+ghost use Rattle.express_texts.specs.LineFields.{spelled_word, seed_of};
 ghost use Rattle.recordings.specs.Fields.{first_field, other_fields, IsOneField, SpellsBytes, SpellsSettings};
 
 use crate::fault::Fault;
 use express_words::Settings;
 use std::alloc::Global;
 use std::str::FromStr;
-use text_fields::{any_bytes_of, spelled_word};
+use express_texts::{any_bytes_of, spelled_word};
 
 /// The settings before a recording tells its own.
 pub const LEAST: Settings = Settings {
@@ -51,7 +51,7 @@ pub fn bytes_of(alloc: Global, digits: &str) -> Result<Vec<u8>, Fault>
 pub fn seed_of(digits: &str) -> Result<[u8; 32], Fault>
     ensures { result_ok result ≡ seed_of digits.now }
 {
-    text_fields::seed_of(digits.as_bytes()).ok_or(Fault::Unknown)
+    express_texts::seed_of(digits.as_bytes()).ok_or(Fault::Unknown)
 }
 
 /// An address in hexadecimal digits, the most significant first.

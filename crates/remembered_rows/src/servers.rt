@@ -5,7 +5,8 @@ use crate::stop::Stop;
 use express_words::Settings;
 use helper_core::{Helper, LinkTurn};
 use leader_core::{Ack, Leader, Turn};
-use server_steps::{carry_command, take_request};
+use helper_core::carry_command;
+use leader_core::take_request;
 use std::alloc::Global;
 use std::marker::Model;
 

@@ -10,7 +10,7 @@ use Rattle.mailbox_rules.specs.Requests.{Command, Registers, Begins, Audits, Set
 use Rattle.step_rules.specs.Boxes.{Box}
 use Rattle.step_rules.specs.Leader.{Leader}
 use Rattle.leader_core.specs.State.{share_in}
-use Rattle.outcome_text.specs.Outcomes.{outcome_text, no_box_text}
+use Rattle.client_core.specs.Outcomes.{outcome_text, no_box_text}
 use Rattle.run_rules.specs.Letters.{Value, Registered, Began, Audited, Settled, WasRead, Retired, Refused}
 use Rattle.run_rules.specs.Letters.{JournalLine, Told, Ended, NoOwnBox, Outcome, Shown, FrameWorld}
 

@@ -1,7 +1,7 @@
 -- The parts of a world as the run's rules have them.
 use Rattle.std.specs.Prelude.{ℕ, nat_eq, List, map}
 use Rattle.mailbox_rules.specs.Requests as rules
-use Rattle.outcome_text.specs.Outcomes.{with_message}
+use Rattle.client_core.specs.Outcomes.{with_message}
 use Rattle.run_rules.specs.Letters as run
 use Rattle.run_rules.specs.Letters.{letter}
 use Rattle.run_rules.specs.Run as event

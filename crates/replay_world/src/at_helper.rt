@@ -13,8 +13,7 @@ use crate::lane::lane_in;
 use crate::lines::JournalLine;
 use crate::pool::{Addressee, Letter, post};
 use express_words::NoMemory;
-use helper_core::{Helper, LinkTurn};
-use server_steps::carry_command;
+use helper_core::{Helper, LinkTurn, carry_command};
 use std::alloc::Global;
 
 /// A client's frame: the helper's reply goes into the pool.

@@ -9,8 +9,7 @@ ghost use Rattle.replay_world.specs.Parts.{pool_in};
 use crate::lane::lane_in;
 use crate::pool::{Addressee, Letter, post};
 use express_words::NoMemory;
-use leader_core::{Ack, Leader, Turn};
-use server_steps::take_request;
+use leader_core::{Ack, Leader, Turn, take_request};
 use std::alloc::Global;
 
 /// A client's frame: the leader's reply or its new command goes into the pool.

@@ -11,8 +11,8 @@ ghost use Rattle.replay_world.specs.Parts.{outcomes_in, shown_in, shown_all_in};
 
 use crate::lines::{Command, Entry, JournalLine, OutcomeLine, Shown, Told};
 use crate::state::State;
+use client_core::{no_box_text, outcome_text};
 use express_words::{Closing, Openings};
-use outcome_text::{no_box_text, outcome_text};
 use std::alloc::{AllocError, Global};
 
 // A number as 32 hexadecimal digits, the highest first.

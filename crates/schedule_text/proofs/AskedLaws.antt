@@ -7,11 +7,11 @@ use Rattle.hex.proofs.HexLemmas.{decode_sized-ok}
 use Rattle.express_words.specs.declared.settings.Settings.{Settings}
 use Rattle.schedule_text.specs.declared.schedule.Asked.{Asked}
 use Rattle.schedule_text.specs.declared.schedule.Asked.TheVariants.{Register, Write, Read, Retire}
-use Rattle.text_fields.specs.Fields.{◌>>=◌, after, spelled_word, word_at, message_of}
-use Rattle.text_fields.specs.Numbers.{last_number}
-use Rattle.text_fields.specs.Spelling.{SpellsWord}
-use Rattle.text_fields.proofs.FieldLaws.{bind_some, map_some, after_found, after_only, word_found, word_only, message_found, message_only}
-use Rattle.text_fields.proofs.NumberLaws.{last_found, last_only}
+use Rattle.express_texts.specs.LineFields.{◌>>=◌, after, spelled_word, word_at, message_of}
+use Rattle.express_texts.specs.Numbers.{last_number}
+use Rattle.express_texts.specs.WordSpelling.{SpellsWord}
+use Rattle.express_texts.proofs.FieldLaws.{bind_some, map_some, after_found, after_only, word_found, word_only, message_found, message_only}
+use Rattle.express_texts.proofs.NumberLaws.{last_found, last_only}
 use Rattle.schedule_text.specs.Fields.{or_else}
 use Rattle.schedule_text.specs.Grammar.{register_of, read_of, retire_of, target_of, write_of, asked_of}
 use Rattle.schedule_text.specs.Spelling.{SpellsAsked}

@@ -10,10 +10,10 @@ use Rattle.express_words.specs.declared.settings.Settings.{Settings}
 use Rattle.schedule_text.specs.declared.schedule.Asked.{Asked}
 use Rattle.schedule_text.specs.declared.schedule.Event.{Event}
 use Rattle.schedule_text.specs.declared.schedule.Event.TheVariants.{Ask, Send, Tick, Deliver, Show, Finish, Inject}
-use Rattle.text_fields.specs.Fields.{after, end}
-use Rattle.text_fields.specs.Numbers.{number_at}
-use Rattle.text_fields.proofs.FieldLaws.{bind_some, map_some, after_found, after_only}
-use Rattle.text_fields.proofs.NumberLaws.{number_found, number_only, last_only}
+use Rattle.express_texts.specs.LineFields.{after, end}
+use Rattle.express_texts.specs.Numbers.{number_at}
+use Rattle.express_texts.proofs.FieldLaws.{bind_some, map_some, after_found, after_only}
+use Rattle.express_texts.proofs.NumberLaws.{number_found, number_only, last_only}
 use Rattle.schedule_text.specs.Fields.{server_at, bytes_of}
 use Rattle.schedule_text.specs.Grammar.{asked_of, asker_of, ask_of, numbered, send_of, tick_of, deliver_of, show_of, finish_of, plain_event_of, injected_in, inject_of, event_of}
 use Rattle.schedule_text.specs.Spelling.{SpellsAsked, SpellsEvent, server_letter}

@@ -1,10 +1,10 @@
 -- A field is found exactly where it is spelled so.
 use Rattle.std.proofs.Common.{◌≡◌, ℕ, ◌<◌, ◌^◌, ◌⊎◌, inl, inr, List, ◌++◌, Option, Some, None, codes, ◌∙◌, ap}
 use Rattle.std.specs.Fmt.{decimal}
-use Rattle.text_fields.specs.Fields.{after}
-use Rattle.text_fields.specs.Numbers.{number_at}
-use Rattle.text_fields.proofs.NumberLaws.{number_found}
-use Rattle.text_fields.proofs.FieldLaws.{after_found}
+use Rattle.express_texts.specs.LineFields.{after}
+use Rattle.express_texts.specs.Numbers.{number_at}
+use Rattle.express_texts.proofs.NumberLaws.{number_found}
+use Rattle.express_texts.proofs.FieldLaws.{after_found}
 use Rattle.schedule_text.specs.Fields.{or_else}
 
 pub or_else_some : {A : Type 0} (r s : Option A) (y : A) → or_else r s ≡ Some y → (r ≡ Some y) ⊎ (s ≡ Some y)

@@ -3,10 +3,10 @@ use Rattle.std.proofs.Common.{◌≡◌, ℕ, ◌<◌, ◌^◌, ◌==◌, nat_eq
 use Rattle.std.specs.Fmt.{decimal}
 use Rattle.std.proofs.lemmas.Bool.{eqb-true}
 use Rattle.schedule_text.specs.declared.schedule.Header.{Header}
-use Rattle.text_fields.specs.Fields.{after, wanted, seed_of}
-use Rattle.text_fields.specs.Numbers.{number_at}
-use Rattle.text_fields.proofs.FieldLaws.{bind_some, after_found, after_only, wanted_found, seed_found}
-use Rattle.text_fields.proofs.NumberLaws.{number_found, number_only}
+use Rattle.express_texts.specs.LineFields.{after, wanted, seed_of}
+use Rattle.express_texts.specs.Numbers.{number_at}
+use Rattle.express_texts.proofs.FieldLaws.{bind_some, after_found, after_only, wanted_found, seed_found}
+use Rattle.express_texts.proofs.NumberLaws.{number_found, number_only}
 use Rattle.schedule_text.specs.Grammar.{header_of}
 use Rattle.schedule_text.specs.Spelling.{SpellsHeader}
 use Rattle.schedule_text.proofs.FieldLaws.{spaced}

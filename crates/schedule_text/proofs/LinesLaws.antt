@@ -7,7 +7,7 @@ use Rattle.schedule_text.specs.declared.schedule.TheConstants.{MOST_EVENTS}
 use Rattle.schedule_text.specs.Grammar.{event_of, may_follow, event_after, event_or, events_from}
 use Rattle.schedule_text.specs.Lanes.{MayFollow}
 use Rattle.schedule_text.specs.Spelling.{SpellsEvent, SpellsEvents, IsBadAfter}
-use Rattle.text_fields.proofs.FieldLaws.{bind_some}
+use Rattle.express_texts.proofs.FieldLaws.{bind_some}
 use Rattle.schedule_text.proofs.EventLaws.{event_found, event_only}
 use Rattle.schedule_text.proofs.RuleLaws.{follows_found, follows_only}
 use Rattle.schedule_text.proofs.TextLemmas.{events_from_next, events_from_bad, events_from_full}

@@ -23,9 +23,9 @@ use Rattle.schedule_text.specs.declared.schedule.Schedule.{Schedule}
 use Rattle.schedule_text.specs.Grammar.{schedule_of}
 use Rattle.schedule_text.specs.Printing.{address_text, asked_text, event_text, event_line, header_text, printed}
 use Rattle.schedule_text.specs.Rules.{IsAskable, EventKeepsRules, EventsKeepRules, KeepsRules}
-use Rattle.text_fields.specs.Spelling.{SpellsWord}
-use Rattle.text_fields.specs.Lines.{HasNoLf, AreLines}
-use Rattle.text_fields.proofs.NumberLaws.{numerals}
+use Rattle.express_texts.specs.WordSpelling.{SpellsWord}
+use Rattle.express_texts.specs.Lines.{HasNoLf, AreLines}
+use Rattle.express_texts.proofs.NumberLaws.{numerals}
 use Rattle.schedule_text.specs.Spelling.{SpellsAsked, SpellsEvent, SpellsEvents, SpellsHeader, SpellsSchedule, server_letter}
 use Rattle.schedule_text.proofs.ScheduleLaws.{schedule_only}
 

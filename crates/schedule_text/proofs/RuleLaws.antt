@@ -14,7 +14,7 @@ use Rattle.schedule_text.specs.declared.schedule.Event.TheVariants.{Ask, Send, T
 use Rattle.schedule_text.specs.declared.schedule.Schedule.{Schedule}
 use Rattle.schedule_text.specs.Grammar.{is_apart, may_follow}
 use Rattle.schedule_text.specs.Lanes.{client_of, foreign_by, is_lane, is_used, is_foreign, IsApart, MayFollow}
-use Rattle.text_fields.specs.Spelling.{SpellsWord}
+use Rattle.express_texts.specs.WordSpelling.{SpellsWord}
 use Rattle.schedule_text.specs.Spelling.{SpellsAsked, SpellsEvent, SpellsEvents, SpellsSchedule}
 use Rattle.schedule_text.specs.Rules.{IsAskable, EventKeepsRules, KeepsRulesAfter, EventsKeepRules, KeepsRules}
 use Rattle.schedule_text.proofs.LaneLemmas.{is_used_last, is_foreign_last}

@@ -7,8 +7,8 @@ use Rattle.schedule_text.specs.declared.schedule.Event.TheVariants.{Ask, Send, T
 use Rattle.schedule_text.specs.declared.schedule.Header.{Header}
 use Rattle.schedule_text.specs.declared.schedule.Schedule.{Schedule}
 use Rattle.schedule_text.specs.Grammar.{event_of, header_of, header_then, under, schedule_of_lines, schedule_of}
-use Rattle.text_fields.specs.Lines.{lines_of, AreLines}
-use Rattle.text_fields.proofs.LineLaws.{lines_found, lines_only}
+use Rattle.express_texts.specs.Lines.{lines_of, AreLines}
+use Rattle.express_texts.proofs.LineLaws.{lines_found, lines_only}
 use Rattle.schedule_text.specs.Lanes.{client_of}
 use Rattle.schedule_text.specs.Tables.{IsBelow}
 use Rattle.schedule_text.specs.Spelling.{SpellsEvent, SpellsEvents, SpellsHeader, SpellsSchedule, IsFirstBadOf, IsFirstBadLine}

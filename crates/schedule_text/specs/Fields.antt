@@ -4,7 +4,7 @@ use Rattle.std.specs.Prelude.{codes, length, List, Option, Some, None, option_ma
 use Rattle.std.specs.Result.{result_ok}
 use Rattle.hex.specs.Hex.{decode_of}
 use Rattle.frame_rules.specs.declared.frame.TheConstants.{FRAME_MAX}
-use Rattle.text_fields.specs.Fields.{after}
+use Rattle.express_texts.specs.LineFields.{after}
 
 -- the first that there is
 abbrev pub or_else : {A : Type 0} → Option A → Option A → Option A

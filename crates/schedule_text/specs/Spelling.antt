@@ -15,8 +15,8 @@ use Rattle.schedule_text.specs.declared.schedule.Header.{Header}
 use Rattle.schedule_text.specs.declared.schedule.Schedule.{Schedule}
 use Rattle.schedule_text.specs.declared.schedule.TheConstants.{MOST_EVENTS}
 use Rattle.schedule_text.specs.Lanes.{MayFollow}
-use Rattle.text_fields.specs.Spelling.{SpellsWord}
-use Rattle.text_fields.specs.Lines.{AreLines}
+use Rattle.express_texts.specs.WordSpelling.{SpellsWord}
+use Rattle.express_texts.specs.Lines.{AreLines}
 
 -- a word, and a number up to this one
 abbrev pub SpellsNumber : List ℕ → ℕ → ℕ → List ℕ → Type 0

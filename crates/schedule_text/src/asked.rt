@@ -4,9 +4,9 @@ ghost use Rattle.schedule_text.specs.Fields.{or_else};
 ghost use Rattle.schedule_text.specs.Grammar.{register_of, target_of, write_of, read_of, retire_of, asked_of};
 
 use crate::schedule::Asked;
+use express_texts::{MOST_OWN, after, last_number, message_of, spelled_word, word_at};
 use express_words::{List, NoMemory, Settings};
 use std::alloc::Global;
-use text_fields::{MOST_OWN, after, last_number, message_of, spelled_word, word_at};
 
 #[tactic(auto, unfolding(crate::specs::Grammar::register_of))]
 fn register_of(text: &[u8]) -> Option<Asked>

@@ -6,9 +6,9 @@ ghost use Rattle.schedule_text.specs.Grammar.{finish_of, plain_event_of, injecte
 use crate::asked::asked_of;
 use crate::fields::{bytes_of, server_at};
 use crate::schedule::Event;
+use express_texts::{after, last_number, number_at};
 use express_words::{List, NoMemory, Settings};
 use std::alloc::Global;
-use text_fields::{after, last_number, number_at};
 
 // The client that is asked, and what it is asked.
 #[tactic(auto, unfolding(crate::specs::Grammar::asker_of))]

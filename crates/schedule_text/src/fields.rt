@@ -2,10 +2,10 @@
 ghost use Rattle.std.specs.Prelude.{◌≡◌, option_map, IfOk};
 ghost use Rattle.schedule_text.specs.Fields.{server_at, bytes_of};
 
+use express_texts::{after, any_bytes_of};
 use express_words::NoMemory;
 use frame_rules::FRAME_MAX;
 use std::alloc::Global;
-use text_fields::{after, any_bytes_of};
 
 /// A server and a space at the front, A for the leader (0) and B for the helper (1), and what follows.
 #[tactic(auto, unfolding(crate::specs::Fields::server_at))]
@@ -20,7 +20,7 @@ pub fn server_at(bytes: &[u8]) -> Option<(u8, &[u8])>
 }
 
 /// 1 to 8,213 bytes, in twice as many hexadecimal digits.
-#[tactic(auto, unfolding(crate::specs::Fields::bytes_of, text_fields::specs::Fields::any_bytes_of))]
+#[tactic(auto, unfolding(crate::specs::Fields::bytes_of, express_texts::specs::LineFields::any_bytes_of))]
 pub fn bytes_of(alloc: Global, digits: &[u8]) -> Result<Option<Vec<u8>>, NoMemory>
     ensures { IfOk result (λ found. option_map (λ b. b.items) found ≡ bytes_of digits.now) }
 {

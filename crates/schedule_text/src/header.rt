@@ -3,9 +3,9 @@ ghost use Rattle.std.specs.Prelude.{◌≡◌};
 ghost use Rattle.schedule_text.specs.Grammar.{header_of};
 
 use crate::schedule::Header;
+use express_texts::{after, number_at, seed_of};
 use express_words::Settings;
 use express_words::limits::{LEAST_WIDTH, MOST_BOXES, MOST_LANES, MOST_WIDTH, MOST_WINDOW};
-use text_fields::{after, number_at, seed_of};
 
 /// The header that a line spells.
 #[tactic(auto, unfolding(crate::specs::Grammar::header_of))]

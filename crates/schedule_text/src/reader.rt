@@ -1,7 +1,7 @@
 //! Reads the text of a schedule.
 ghost use Rattle.std.specs.Prelude.{◌≡◌, ℕ, ◌≤◌, ◌<◌, ◌++◌, ◌∷◌, [], List as Listed, length, IfOk, IfSome};
 ghost use Rattle.schedule_text.specs.Grammar.{event_after, events_from, schedule_of};
-ghost use Rattle.text_fields.specs.Lines.{lines_of};
+ghost use Rattle.express_texts.specs.Lines.{lines_of};
 ghost use Rattle.schedule_text.specs.Reading.{Gives};
 ghost use Rattle.schedule_text.specs.Judging.{Judges};
 ghost use Rattle.schedule_text.specs.Rules.{KeepsRules};
@@ -13,9 +13,9 @@ use crate::fault::ReadFault;
 use crate::header::header_of;
 use crate::lanes::Lanes;
 use crate::schedule::{Event, MOST_EVENTS, Schedule};
+use express_texts::first_line;
 use express_words::{List, NoMemory, Settings};
 use std::alloc::Global;
-use text_fields::first_line;
 
 // The event of a line that stands behind those that were noted; it is noted too.
 #[tactic(auto, unfolding(crate::specs::Grammar::event_after))]
@@ -69,7 +69,7 @@ fn read_events(alloc: Global, settings: &Settings, text: &[u8]) -> Result<Vec<Ev
     Ok(events)
 }
 
-#[tactic(auto, unfolding(crate::specs::Grammar::schedule_of_lines, text_fields::specs::Lines::lines_of))]
+#[tactic(auto, unfolding(crate::specs::Grammar::schedule_of_lines, express_texts::specs::Lines::lines_of))]
 fn read_text(alloc: Global, text: &[u8]) -> Result<Schedule, ReadFault>
     ensures { Gives (λ schedule. schedule) result (schedule_of text.now) }
 {

@@ -1,9 +1,11 @@
 -- One server's boxes as a caller sees them.
-use Rattle.std.specs.Prelude.{◌≡◌, ℕ, List, [], ◌∷◌, Option, Some, None, length, replicate, slice_get}
-use Rattle.dpf_rules.specs.Walk.{leaf_bytes}
+use Rattle.std.specs.Prelude.{◌≡◌, ℕ, ◌+◌, List, [], ◌∷◌, Option, Some, None, length, map, replicate, slice_get, take}
+use Rattle.express_words.specs.Limits.{levels_len}
+use Rattle.dpf_rules.specs.Walk.{leaf_bytes, leaf_of}
 use Rattle.audit_rules.specs.Values.{Write}
 use Rattle.step_rules.specs.Boxes.{Box, added, addresses_of}
 use Rattle.server_boxes.specs.declared.room.Begun.{Begun}
+use Rattle.server_boxes.specs.declared.room.Room.{Room}
 
 -- the bytes of a share, at most so many boxes, and those that stand
 pub record Held : Type 0 where
@@ -41,3 +43,18 @@ share_at h number = share_of h.width (slice_get h.boxes number)
 -- a write that has begun, with its public part
 abbrev pub write_in : Begun → List ℕ → Write
 write_in b part = record { root = b.root; part = part; count = b.count; ckey = b.ckey }
+
+-- ---- room for a write
+
+-- room for a public part of this width
+abbrev pub IsPartRoom : ℕ → Room → Type 0
+IsPartRoom width room = length room.part.items ≡ levels_len + width
+
+-- room for so many leaves
+abbrev pub IsLeafRoom : ℕ → Room → Type 0
+IsLeafRoom limit room = length room.leaves.items ≡ limit
+
+-- the room has the leaves of a write at the boxes that it counts, as a server evaluates them
+abbrev pub AreLeaves : (server : ℕ) → Begun → Room → (addresses : List ℕ) → Type 0
+AreLeaves server b room addresses =
+    take b.count room.leaves.items ≡ map (leaf_of room.part.items server b.root) (take b.count addresses)

@@ -8,7 +8,7 @@ ghost use Rattle.dpf_rules.specs.Walk.{leaf_of};
 ghost use Rattle.box_registry.specs.Boxes.{answer_at};
 ghost use Rattle.audit_rules.specs.Values.{opens};
 ghost use Rattle.step_rules.specs.Boxes.{Box, addresses_of, place_of, with_new, with_read, with_write};
-ghost use Rattle.server_boxes.specs.Held.{HasSameAddresses, share_at, with_boxes, with_leaves, write_in};
+ghost use Rattle.server_boxes.specs.Held.{AreLeaves, HasSameAddresses, share_at, with_boxes, with_leaves, write_in};
 
 use crate::room::{Begun, Proof, Room};
 use box_registry::{RegFault, Registry};
@@ -140,7 +140,9 @@ impl ServerBoxes {
         requires there { begun.now.count ≤ length self.old.boxes }
         requires leaves { begun.now.count ≤ length room.now.leaves.items }
         ensures leaves { self.new ≡ with_boxes self.old (with_leaves room.now.part.items (take begun.now.count room.now.leaves.items) self.old.boxes) }
-        ensures added { (server : ℕ) → take begun.now.count room.now.leaves.items ≡ map (leaf_of room.now.part.items server begun.now.root) (take begun.now.count (addresses_of self.old.boxes)) → self.new ≡ with_boxes self.old (with_write room.now.part.items server begun.now.root begun.now.count self.old.boxes) }
+        ensures added { (server : ℕ) → AreLeaves server begun.now room.now (addresses_of self.old.boxes)
+            → self.new ≡ with_boxes self.old (with_write room.now.part.items server begun.now.root begun.now.count
+            self.old.boxes) }
         ensures same { HasSameAddresses self.old self.new }
     {
         match PublicPart::of(&room.part) {

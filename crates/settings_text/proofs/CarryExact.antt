@@ -12,8 +12,8 @@ use Rattle.hex.specs.Hex.{decode_of}
 use Rattle.file_carry.specs.Parts.{count_of}
 use Rattle.toml.specs.Data as toml
 use Rattle.toml.specs.Data.{Data, Members, as_str}
-use Rattle.text_fields.specs.Fields.{any_bytes_of, wanted}
-use Rattle.text_fields.proofs.FieldLaws.{bind_some, wanted_found}
+use Rattle.express_texts.specs.LineFields.{any_bytes_of, wanted}
+use Rattle.express_texts.proofs.FieldLaws.{bind_some, wanted_found}
 use Rattle.settings_text.specs.AccountSpelling.{HasAccount}
 use Rattle.settings_text.specs.Carry.{mode_of, mode_in, send_of, job_of, carry_with, carry_of}
 use Rattle.settings_text.specs.CarrySpelling.{FaultOfCarry, FaultOfJob, HasCarry, HasJob, MeansAddresses, MeansFile, MeansMode}

@@ -3,7 +3,7 @@ use Rattle.std.proofs.Common.{◌≡◌, ◌⊎◌, inl, inr, ℕ, cond, List, [
 use Rattle.std.specs.Str.{bytes_eq}
 use Rattle.toml.specs.Data as toml
 use Rattle.toml.specs.Data.{Data, Members, as_str, as_table}
-use Rattle.text_fields.proofs.FieldLaws.{bind_some, map_some}
+use Rattle.express_texts.proofs.FieldLaws.{bind_some, map_some}
 use Rattle.settings_text.specs.AccountSpelling.{FaultOfAccount, HasAccount, HasOwned, MeansOwned, MeansSeed}
 use Rattle.settings_text.specs.Client.{account_of, client_of, client_with, optional_seed}
 use Rattle.settings_text.specs.ClientSpelling.{FaultOfClient, HasAsking, HasClient, MeansAsking}

@@ -2,8 +2,8 @@
 use Rattle.std.proofs.Common.{◌≡◌, ℕ, List, length, Option, Some, None, sym, ◌∙◌, arith}
 use Rattle.std.specs.Prelude.{IfSome}
 use Rattle.hex.proofs.HexLemmas.{decode_of-ok, decode_sized-ok, decode_sized-twice}
-use Rattle.text_fields.specs.Fields.{message_of}
-use Rattle.text_fields.proofs.FieldLaws.{message_found}
+use Rattle.express_texts.specs.LineFields.{message_of}
+use Rattle.express_texts.proofs.FieldLaws.{message_found}
 
 pub message_width : (width : ℕ) (digits message : List ℕ) → message_of width digits ≡ Some message
     → length message ≡ width

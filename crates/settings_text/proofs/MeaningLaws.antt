@@ -4,8 +4,8 @@ use Rattle.std.specs.Prelude.{ℤ, pos, negsuc, ◌%◌, ◌&&◌, option_and_th
 use Rattle.std.proofs.lemmas.Bool.{eqb-true}
 use Rattle.toml.specs.Data as toml
 use Rattle.toml.specs.Data.{Data, Items, Members, as_str, as_integer, as_array, as_table}
-use Rattle.text_fields.specs.Fields.{◌>>=◌, spelled_word, seed_of, message_of}
-use Rattle.text_fields.proofs.FieldLaws.{bind_some, map_some, word_found, word_only, seed_found, seed_only, message_found, message_only}
+use Rattle.express_texts.specs.LineFields.{◌>>=◌, spelled_word, seed_of, message_of}
+use Rattle.express_texts.proofs.FieldLaws.{bind_some, map_some, word_found, word_only, seed_found, seed_only, message_found, message_only}
 use Rattle.settings_text.specs.Meanings.{EachMeans, MeansAddress, MeansBytes, MeansList, MeansNumber, MeansText, MeansWidth}
 use Rattle.settings_text.specs.Values.{number_within, number_in, width_in, address_in, seed_in, message_in, elements, elements_in, if_within, list_within, every}
 use Rattle.settings_text.proofs.ExactLaws.{ReadsAs}

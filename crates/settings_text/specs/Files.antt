@@ -2,7 +2,7 @@
 use Rattle.std.specs.Prelude.{ℕ, ◌-◌, nat_le, ◌==◌, not, Bool, if◌then◌else◌, List, [], ◌∷◌, ◌++◌, length}
 use Rattle.std.specs.Prelude.{Option, Some, None}
 use Rattle.std.specs.List.{list_any}
-use Rattle.text_fields.specs.Fields.{◌>>=◌, any_bytes_of, wanted}
+use Rattle.express_texts.specs.LineFields.{◌>>=◌, any_bytes_of, wanted}
 use Rattle.file_carry.specs.Parts.{count_of}
 use Rattle.toml.specs.Data.{Data, as_str}
 use Rattle.settings_text.specs.Values.{number_in, address_in, list_within}

@@ -5,7 +5,7 @@ use Rattle.hex.specs.Hex.{decode_sized}
 use Rattle.toml.specs.Data as toml
 use Rattle.toml.specs.Data.{Data, Items, Members, get_member}
 use Rattle.toml.specs.Parse.{parse_document}
-use Rattle.text_fields.specs.Spelling.{SpellsWord}
+use Rattle.express_texts.specs.WordSpelling.{SpellsWord}
 use Rattle.settings_text.specs.Values.{elements}
 
 -- the text is UTF-8, and a document of TOML with this table

@@ -1,6 +1,6 @@
 -- The boxes of an earlier run.
 use Rattle.std.specs.Prelude.{ℕ, ◌≤◌, List, codes, Option, Some}
-use Rattle.text_fields.specs.Fields.{◌>>=◌}
+use Rattle.express_texts.specs.LineFields.{◌>>=◌}
 use Rattle.toml.specs.Data.{Data, as_table}
 use Rattle.settings_text.specs.declared.owned.OwnedBox.{OwnedBox}
 use Rattle.settings_text.specs.Values.{at_key, number_in, list_within, every}

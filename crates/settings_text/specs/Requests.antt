@@ -2,7 +2,7 @@
 use Rattle.std.specs.Prelude.{◌≡◌, ℕ, ◌≤◌, if◌then◌else◌, List, length, codes}
 use Rattle.std.specs.Prelude.{Option, Some, None, option_map}
 use Rattle.std.specs.Str.{bytes_eq}
-use Rattle.text_fields.specs.Fields.{◌>>=◌}
+use Rattle.express_texts.specs.LineFields.{◌>>=◌}
 use Rattle.toml.specs.Data.{Data, Members, as_str, as_table}
 use Rattle.settings_text.specs.declared.requests.Asking.{Asking}
 use Rattle.settings_text.specs.declared.requests.Asking.TheVariants.{Register, Write, Read, Retire}

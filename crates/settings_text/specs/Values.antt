@@ -2,7 +2,7 @@
 use Rattle.std.specs.Prelude.{ℕ, ℤ, pos, negsuc, nat_le, ◌%◌, ◌==◌, ◌&&◌, if◌then◌else◌}
 use Rattle.std.specs.Prelude.{List, [], ◌∷◌, length, Option, Some, None, option_map, option_and_then}
 use Rattle.toml.specs.Data.{Data, Items, no_items, item, Members, get_member, as_integer, as_str, as_array}
-use Rattle.text_fields.specs.Fields.{◌>>=◌, spelled_word, seed_of, message_of}
+use Rattle.express_texts.specs.LineFields.{◌>>=◌, spelled_word, seed_of, message_of}
 
 -- what the value under a key means
 abbrev pub at_key : {A : Type 0} → List ℕ → (Data → Option A) → Members → Option A

@@ -1,6 +1,6 @@
 //! Values in hexadecimal digits, of either case.
 ghost use Rattle.std.specs.Prelude.{◌≡◌, length, option_map, IfOk, IfSome};
-ghost use Rattle.text_fields.specs.Fields.{spelled_word, seed_of, any_bytes_of, message_of};
+ghost use Rattle.express_texts.specs.LineFields.{spelled_word, seed_of, any_bytes_of, message_of};
 
 use express_words::{List, NoMemory};
 use std::alloc::Global;
@@ -9,14 +9,14 @@ use std::alloc::Global;
 pub fn address_of(digits: &str) -> Option<u128>
     ensures { result ≡ spelled_word digits.now }
 {
-    text_fields::spelled_word(digits.as_bytes())
+    express_texts::spelled_word(digits.as_bytes())
 }
 
 /// A seed in 64 digits.
 pub fn seed_of(digits: &str) -> Option<[u8; 32]>
     ensures { result ≡ seed_of digits.now }
 {
-    text_fields::seed_of(digits.as_bytes())
+    express_texts::seed_of(digits.as_bytes())
 }
 
 // The bytes that were found, as a list.
@@ -33,7 +33,7 @@ fn listed(found: Option<Vec<u8>>) -> Option<List<u8>>
 pub fn any_bytes_of(alloc: Global, digits: &str) -> Result<Option<List<u8>>, NoMemory>
     ensures { IfOk result (λ bytes. bytes ≡ any_bytes_of digits.now) }
 {
-    let found = text_fields::any_bytes_of(alloc, digits.as_bytes())?;
+    let found = express_texts::any_bytes_of(alloc, digits.as_bytes())?;
     Ok(listed(found))
 }
 
@@ -42,6 +42,6 @@ pub fn message_of(alloc: Global, width: u32, digits: &str) -> Result<Option<List
     ensures value { IfOk result (λ message. message ≡ message_of width digits.now) }
     ensures width { IfOk result (λ message. IfSome message (λ bytes. length bytes ≡ width)) }
 {
-    let found = text_fields::message_of(alloc, width, digits.as_bytes())?;
+    let found = express_texts::message_of(alloc, width, digits.as_bytes())?;
     Ok(listed(found))
 }

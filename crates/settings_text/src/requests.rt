@@ -10,10 +10,9 @@ ghost use Rattle.settings_text.specs.Values.{at_key, message_in, every};
 use crate::digits::message_of;
 use crate::faults::wrong_key;
 use crate::values::{address_at, list_within, number_at, text_at, value_at};
-use express_texts::TextFault;
+use express_texts::{MOST_OWN, TextFault};
 use express_words::{List, NoMemory};
 use std::alloc::Global;
-use text_fields::MOST_OWN;
 use toml::{Table, Value};
 
 /// A client makes at most so many requests.

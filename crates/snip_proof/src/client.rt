@@ -1,6 +1,6 @@
 //! What a client proves.
 ghost use Rattle.std.specs.Prelude.{◌≡◌, bit_xor};
-ghost use Rattle.poly_roots.specs.Polynomials.{times_of};
+ghost use Rattle.tower_laws.specs.Polynomials.{times_of};
 ghost use Rattle.audit_rules.specs.Audit.{product, zero_share, one_share, honest_f, honest_g};
 
 use crate::polynomials::{plus, through, times};

@@ -1,12 +1,11 @@
 //! The two laws for the keys of a write: what both servers accept where their leaves are those of one
 //! public part. The functions only read their arguments: their contracts are the laws.
 ghost use Rattle.std.specs.Prelude.{◌≡◌, ◌≢◌, ℕ, ◌^◌, ◌<◌, ◌≤◌, ◌⊎◌, length, All, AllPairs, Contains};
-ghost use Rattle.dpf_rules.specs.Expansion.{challenge_r, challenge_s};
 ghost use Rattle.dpf_rules.specs.Walk.{leaf_of};
-ghost use Rattle.dpf_rules.specs.Evaluation.{difference_at, difference_vector, leaves};
-ghost use Rattle.audit_rules.specs.Audit.{zero_share, one_share, ServersAccept};
+ghost use Rattle.dpf_rules.specs.Evaluation.{difference_vector};
 ghost use Rattle.audit_rules.specs.BadWrites.{HasTwo, IsBadChallenge};
-ghost use Rattle.audit_rules.specs.Challenges.{challenge_rs, challenge_ss, sums_under};
+ghost use Rattle.audit_rules.specs.Challenges.{challenge_rs, challenge_ss};
+ghost use Rattle.snip_proof.specs.Passing.{HonestKeysPass, KeysPass};
 
 use crate::both::{ProofShares, WriteKeys};
 use audit_rules::{read_bytes, read_share, read_words};
@@ -23,10 +22,8 @@ pub fn bad_keys_are_caught(
 )
     requires two { HasTwo (difference_vector keys.part.now keys.root0 keys.root1 addresses.now) }
     requires distinct { AllPairs (λ p q. p ≢ q) points.now }
-    requires accepted { let leaves0 = leaves keys.part.now 0 keys.root0 addresses.now in
-        let leaves1 = leaves keys.part.now 1 keys.root1 addresses.now in
-        let sums = sums_under ckey.now addresses.now in
-        All (ServersAccept (sums leaves0) (sums leaves1) shares.zero.now shares.one.now) points.now }
+    requires accepted { All (KeysPass keys.part.now keys.root0 keys.root1 ckey.now addresses.now
+        shares.zero.now shares.one.now) points.now }
     ensures caught { let w =
         difference_vector keys.entry.part.now keys.entry.root0 keys.entry.root1 addresses.now in
         let r = challenge_rs ckey.now addresses.now in
@@ -54,13 +51,8 @@ pub fn honest_keys_are_accepted(
         → leaf_of keys.part.now 0 keys.root0 address ≡ leaf_of keys.part.now 1 keys.root1 address }
     requires distinct { AllPairs (λ p q. p ≢ q) addresses.now }
     requires registered { Contains addresses.now target }
-    ensures accepted { let leaves0 = leaves keys.entry.part.now 0 keys.entry.root0 addresses.now in
-        let leaves1 = leaves keys.entry.part.now 1 keys.entry.root1 addresses.now in
-        let sums = sums_under ckey.now addresses.now in
-        let m = difference_at keys.entry.part.now keys.entry.root0 keys.entry.root1 target in
-        let r = challenge_r ckey.now target in
-        let s = challenge_s ckey.now target in
-        ServersAccept (sums leaves0) (sums leaves1) (zero_share choices.now) (one_share m r s choices.now) sigma }
+    ensures accepted { HonestKeysPass keys.entry.part.now keys.entry.root0 keys.entry.root1 target
+        ckey.now addresses.now choices.now sigma }
 {
     read_bytes(keys.part);
     read_words(&[keys.root0, keys.root1]);

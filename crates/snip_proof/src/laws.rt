@@ -1,10 +1,10 @@
 //! Both servers' audit of a write as one call, and the two laws on what they accept. The laws' functions
 //! only read their arguments: their contracts are the laws.
-ghost use Rattle.std.specs.Prelude.{◌≡◌, ◌≢◌, ℕ, ◌<◌, ◌≤◌, ◌↔◌, ◌⊎◌, length, All, AllPairs, IsTrue, slice_index, bit_xor};
-ghost use Rattle.dpf_rules.specs.Expansion.{challenge_r, challenge_s};
-ghost use Rattle.audit_rules.specs.Audit.{difference, whole_proof, zero_share, one_share, PassesAt, ServersAccept};
+ghost use Rattle.std.specs.Prelude.{◌≡◌, ◌≢◌, ℕ, ◌<◌, ◌≤◌, ◌↔◌, ◌⊎◌, length, All, AllPairs, IsTrue, slice_index};
+ghost use Rattle.audit_rules.specs.Audit.{difference, whole_proof, PassesAt};
 ghost use Rattle.audit_rules.specs.BadWrites.{HasTwo, IsBadChallenge};
 ghost use Rattle.audit_rules.specs.Challenges.{challenge_rs, challenge_ss, sums_under};
+ghost use Rattle.snip_proof.specs.Passing.{HonestLeavesPass, LeavesPass};
 
 use crate::both::{ProofShares, WriteLeaves};
 use crate::servers::{close_share, judge, open_share};
@@ -23,10 +23,8 @@ pub fn servers_accept(
 ) -> bool
     requires zero { length leaves.zero.now ≡ length addresses.now }
     requires one { length leaves.one.now ≡ length addresses.now }
-    ensures accept { let sums = sums_under ckey.now addresses.now in
-        IsTrue result
-        ↔ ServersAccept (sums leaves.entry.zero.now) (sums leaves.entry.one.now)
-        shares.entry.zero.now shares.entry.one.now sigma }
+    ensures accept { IsTrue result ↔ LeavesPass leaves.entry.zero.now leaves.entry.one.now
+        ckey.now addresses.now shares.entry.zero.now shares.entry.one.now sigma }
     ensures passes { let sums = sums_under ckey.now addresses.now in
         IsTrue result
         ↔ PassesAt (sums (difference leaves.entry.zero.now leaves.entry.one.now))
@@ -62,9 +60,8 @@ pub fn accepted_points_are_few(
     requires one { length leaves.one.now ≡ length addresses.now }
     requires two { HasTwo (difference leaves.zero.now leaves.one.now) }
     requires distinct { AllPairs (λ p q. p ≢ q) points.now }
-    requires accepted { let sums = sums_under ckey.now addresses.now in
-        All (ServersAccept (sums leaves.zero.now) (sums leaves.one.now) shares.zero.now shares.one.now)
-        points.now }
+    requires accepted { All (LeavesPass leaves.zero.now leaves.one.now ckey.now addresses.now
+        shares.zero.now shares.one.now) points.now }
     ensures caught { let w = difference leaves.entry.zero.now leaves.entry.one.now in
         let r = challenge_rs ckey.now addresses.now in
         let s = challenge_ss ckey.now addresses.now in
@@ -94,14 +91,8 @@ pub fn honest_writes_are_accepted(
     requires equal { (i : ℕ) → i < length addresses.now
         → slice_index addresses.now i ≢ slice_index addresses.now place
         → slice_index leaves.zero.now i ≡ slice_index leaves.one.now i }
-    ensures accepted { let m =
-        bit_xor (slice_index leaves.entry.zero.now place) (slice_index leaves.entry.one.now place) in
-        let target = slice_index addresses.now place in
-        let r = challenge_r ckey.now target in
-        let s = challenge_s ckey.now target in
-        let sums = sums_under ckey.now addresses.now in
-        ServersAccept (sums leaves.entry.zero.now) (sums leaves.entry.one.now)
-        (zero_share choices.now) (one_share m r s choices.now) sigma }
+    ensures accepted { HonestLeavesPass leaves.entry.zero.now leaves.entry.one.now place
+        ckey.now addresses.now choices.now sigma }
 {
     read_words(leaves.zero);
     read_words(leaves.one);

@@ -1,6 +1,6 @@
 //! Polynomials over the field of 2^128 elements, by the tables' products.
 ghost use Rattle.std.specs.Prelude.{◌≡◌, bit_xor};
-ghost use Rattle.poly_roots.specs.Polynomials.{plus_of, times_of};
+ghost use Rattle.tower_laws.specs.Polynomials.{plus_of, times_of};
 ghost use Rattle.audit_rules.specs.Audit.{product, value, through_three};
 
 use field_tables::{Tables, mul_fast};

@@ -5,3 +5,6 @@ pub mod Pulled
 pub mod ElementLaws
 pub mod GfLaws
 pub mod Products
+pub mod Roots
+pub mod ThroughLaws
+pub mod ValueLaws

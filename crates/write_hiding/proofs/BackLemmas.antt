@@ -6,7 +6,7 @@ use Rattle.express_words.specs.declared.audit.ProofShare.{ProofShare}
 use Rattle.express_words.specs.declared.audit.Openings.{Openings}
 use Rattle.audit_rules.specs.declared.sums.Sums.{Sums}
 use Rattle.audit_rules.specs.Audit.{product, value, through_three, zero_share, one_share, opening_of, honest_f, honest_g}
-use Rattle.poly_roots.specs.Polynomials.{plus_of, times_of}
+use Rattle.tower_laws.specs.Polynomials.{plus_of, times_of}
 use Rattle.write_hiding.specs.Choices.{PlainChoice, PlainAim, PlainGame, IsChoice, IsAim, IsGame}
 use Rattle.write_hiding.specs.Views.{public_part, other_sums, drawn, difference_of, share_of, other_opening}
 use Rattle.write_hiding.specs.Moved.{moved_list, walked, moved_a, moved_b, moved_h, moved_words, moved}

@@ -14,7 +14,7 @@ use Rattle.audit_rules.proofs.Words.{word_in_range}
 use Rattle.audit_rules.proofs.InRange.{sums-in_range, zero-in_range, one-in_range}
 use Rattle.audit_rules.proofs.Transfer.{E, element}
 use Rattle.tower_laws.specs.Gf.{values}
-use Rattle.poly_roots.specs.Polynomials.{times_of}
+use Rattle.tower_laws.specs.Polynomials.{times_of}
 use Rattle.dpf_rules.proofs.RangeLemmas.{stream_word_lt}
 use Rattle.audit_rules.specs.Challenges.{challenge_rs, challenge_ss}
 use Rattle.audit_rules.proofs.ChallengeLemmas.{all_map, rs-in_range, ss-in_range}

@@ -7,7 +7,7 @@ use Rattle.express_words.proofs.Bytes.{xor_bytes_comm}
 use Rattle.dpf_rules.specs.Expansion.{block, challenge_r, challenge_s}
 use Rattle.dpf_rules.specs.Walk.{word_of, right_of, last_of, side_at, step, state_at}
 use Rattle.dpf_rules.specs.Keys.{Expansions, pair_at, raw_pair}
-use Rattle.poly_roots.specs.Polynomials.{plus_of, times_of}
+use Rattle.tower_laws.specs.Polynomials.{plus_of, times_of}
 use Rattle.audit_rules.specs.declared.sums.Sums.{Sums}
 use Rattle.audit_rules.specs.Audit.{product, value, through_three, honest_f, honest_g}
 use Rattle.write_hiding.specs.declared.choice.View.{View}

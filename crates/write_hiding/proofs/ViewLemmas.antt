@@ -6,7 +6,7 @@ use Rattle.express_words.specs.declared.audit.ProofShare.{ProofShare}
 use Rattle.express_words.specs.declared.audit.Openings.{Openings}
 use Rattle.audit_rules.specs.declared.sums.Sums.{Sums}
 use Rattle.audit_rules.specs.Audit.{product, value, through_three, zero_share, one_share, opening_of, honest_f, honest_g}
-use Rattle.poly_roots.specs.Polynomials.{times_of}
+use Rattle.tower_laws.specs.Polynomials.{times_of}
 use Rattle.audit_rules.specs.Challenges.{sums_under}
 use Rattle.write_hiding.specs.declared.choice.View.{View}
 use Rattle.write_hiding.specs.Choices.{PlainChoice, PlainAim, PlainGame, IsChoice, IsAim, IsGame}

@@ -2,7 +2,7 @@
 use Rattle.std.proofs.Common.{◌≡◌, ℕ, List, [], ◌∷◌, ◌++◌, length, ap, arith, bit_xor}
 use Rattle.std.specs.Prelude.{slice_index}
 use Rattle.std.specs.Int.Bits.{xor_comm}
-use Rattle.poly_roots.specs.Polynomials.{plus_of, times_of}
+use Rattle.tower_laws.specs.Polynomials.{plus_of, times_of}
 use Rattle.audit_rules.specs.Audit.{product, zero_share, one_share, honest_f, honest_g}
 use Rattle.write_hiding.proofs.AuditLemmas.{plus_comm}
 

@@ -8,7 +8,7 @@ use Rattle.dpf_rules.specs.Expansion.{with_bit, block, challenge_r, challenge_s}
 use Rattle.dpf_rules.specs.Walk.{word_of, right_of, last_of, side_at, state_at}
 use Rattle.dpf_rules.specs.Keys.{Expansions, pair_at, on_side, raw_pair}
 use Rattle.audit_rules.specs.Audit.{product, value, through_three, honest_f, honest_g}
-use Rattle.poly_roots.specs.Polynomials.{plus_of, times_of}
+use Rattle.tower_laws.specs.Polynomials.{plus_of, times_of}
 use Rattle.audit_rules.specs.declared.sums.Sums.{Sums}
 use Rattle.write_hiding.specs.declared.choice.View.{View}
 use Rattle.write_hiding.specs.declared.audit.Audited.{Audited}

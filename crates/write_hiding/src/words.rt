@@ -86,10 +86,10 @@ pub fn moved_words(
     requires viewer { choice.now.viewer ≤ 1 }
     requires size { length seen.now.proof.h ≡ 5 }
     ensures { (from : PlainAim) →
-        let viewer = choice.now.viewer in
         let c = plain_choice choice.now in
-        IsAudited viewer c from (plain_aim to.now) (plain_game game.now) seen.now audited.now →
-        result ≡ moved_words viewer c from (plain_aim to.now) (plain_game game.now) }
+        let g = plain_game game.now in
+        IsAudited choice.now.viewer c from (plain_aim to.now) g seen.now audited.now →
+        result ≡ moved_words choice.now.viewer c from (plain_aim to.now) g }
 {
     let (a, b) = moved_factors(choice, &seen.opened, &audited.other, game.sigma);
     if choice.viewer == 0 {

@@ -1,7 +1,7 @@
 use Rattle.std.proofs.Common.{ℕ, List, replicate, ap, sym, subst}
 use Rattle.std.proofs.lemmas.List.{length-replicate}
-use Rattle.file_table.specs.Carried.{bytes_given}
-use Rattle.file_table.proofs.Journals.{parts_are_given, zeros_are_given}
+use Rattle.file_carry.specs.Carried.{bytes_given}
+use Rattle.file_carry.proofs.Journals.{parts_are_given, zeros_are_given}
 use Rattle.desk_letters.specs.Letters.{letter_of}
 use Rattle.desk_letters.specs.Laws.{WrittenAreRead, UnwrittenAreEmpty}
 use Rattle.desk_letters.specs.Opening.{Empty, Letter, Opens}

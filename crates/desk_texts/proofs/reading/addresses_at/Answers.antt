@@ -1,7 +1,7 @@
 use Rattle.std.proofs.Common.{◌≡◌, ◌∙◌, ◌+◌, ◌-◌, ◌<◌, ℕ, List, [], length, ap, sym, arith, Ok, Err}
 use Rattle.std.proofs.lemmas.Grind.{common_steps}
-use Rattle.text_fields.specs.Lines.{lines_of}
-use Rattle.text_fields.proofs.LineLemmas.{empty_from}
+use Rattle.express_texts.specs.Lines.{lines_of}
+use Rattle.express_texts.proofs.LineLemmas.{empty_from}
 use Rattle.desk_texts.specs.Lines.{lines_in}
 use Rattle.desk_texts.specs.Sheets.{addresses_at}
 use Rattle.desk_texts.proofs.LoopLaws.{step_ok, step_err, end_ok, more_lines, handed_on}

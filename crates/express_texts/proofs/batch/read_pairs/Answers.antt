@@ -1,8 +1,8 @@
 use Rattle.std.proofs.Common.{◌≡◌, ◌+◌, ◌<◌, ℕ, List, [], length, arith, ap, sym, ◌∙◌, refl, None, Result, Ok, Err}
 use Rattle.std.proofs.lemmas.List.{length_push}
 use Rattle.std.proofs.lemmas.Grind.{common_steps}
-use Rattle.text_fields.specs.Lines.{lines_of}
-use Rattle.text_fields.proofs.LineLemmas.{empty_from}
+use Rattle.express_texts.specs.Lines.{lines_of}
+use Rattle.express_texts.proofs.LineLemmas.{empty_from}
 use Rattle.express_words.specs.declared.audit.Closing.{Closing}
 use Rattle.express_texts.specs.Batch.{Batch, most_pairs, pair_of, under}
 use Rattle.express_texts.proofs.LoopLemmas.{left_of, left-bad, left-full, left-none, left-step}

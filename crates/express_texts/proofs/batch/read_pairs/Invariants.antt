@@ -1,5 +1,5 @@
 use Rattle.std.proofs.Common.{◌≡◌, ◌≤◌, length}
-use Rattle.text_fields.specs.Lines.{lines_of}
+use Rattle.express_texts.specs.Lines.{lines_of}
 use Rattle.express_texts.specs.Batch.{most_pairs, pairs_of}
 use Rattle.express_texts.proofs.LoopLemmas.{left_of}
 use Rattle.express_texts.proofs.batch.read_pairs.Given as goal

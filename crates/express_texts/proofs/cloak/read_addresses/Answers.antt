@@ -1,8 +1,8 @@
 use Rattle.std.proofs.Common.{◌≡◌, ◌+◌, ◌∙◌, [], length, Ok, Err, arith, ap, sym}
 use Rattle.std.proofs.lemmas.List.{length_push}
 use Rattle.std.proofs.lemmas.Grind.{common_steps}
-use Rattle.text_fields.specs.Lines.{lines_of}
-use Rattle.text_fields.proofs.LineLemmas.{empty_from}
+use Rattle.express_texts.specs.Lines.{lines_of}
+use Rattle.express_texts.proofs.LineLemmas.{empty_from}
 use Rattle.express_texts.specs.Games.{address_behind}
 use Rattle.express_texts.proofs.AddressLaws.{on_next, on_none, on_end, on_nothing}
 use Rattle.express_texts.proofs.cloak.read_addresses.Goals as goal

@@ -1,5 +1,5 @@
 use Rattle.std.proofs.Common.{◌≡◌, ◌≤◌, [], length}
-use Rattle.text_fields.specs.Lines.{lines_of}
+use Rattle.express_texts.specs.Lines.{lines_of}
 use Rattle.express_texts.specs.GameLines.{addresses_on}
 use Rattle.express_texts.proofs.cloak.read_addresses.Given as goal
 

@@ -1,6 +1,6 @@
 use Rattle.std.proofs.Common.{sym, ◌∙◌, length, inl, inr}
 use Rattle.std.proofs.lemmas.Bool.{cases_lt}
-use Rattle.poly_roots.proofs.Roots.{all_zero}
+use Rattle.tower_laws.proofs.Roots.{all_zero}
 use Rattle.poly_roots.proofs.laws.roots_are_few.Goals as goal
 
 pub returns : goal.returns

@@ -1,5 +1,5 @@
 use Rattle.std.proofs.Common.{◌≡◌, get_or, take, set, ◌∙◌, ap, sym, add-one}
-use Rattle.poly_roots.specs.Polynomials.{plus_of, scaled_of}
+use Rattle.tower_laws.specs.Polynomials.{plus_of, scaled_of}
 use Rattle.poly_roots.proofs.Steps.{scaled_more}
 use Rattle.poly_roots.proofs.products.add_scaled.Goals as goal
 

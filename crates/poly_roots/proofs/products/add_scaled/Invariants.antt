@@ -1,5 +1,5 @@
 use Rattle.std.proofs.Common.{◌≡◌, take}
-use Rattle.poly_roots.specs.Polynomials.{plus_of, scaled_of}
+use Rattle.tower_laws.specs.Polynomials.{plus_of, scaled_of}
 use Rattle.poly_roots.proofs.products.add_scaled.Given as goal
 
 abbrev pub invariant-loop-j : goal.invariant-loop-j

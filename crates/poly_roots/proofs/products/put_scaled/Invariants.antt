@@ -1,5 +1,5 @@
 use Rattle.std.proofs.Common.{◌≡◌, take, length}
-use Rattle.poly_roots.specs.Polynomials.{scaled_of}
+use Rattle.tower_laws.specs.Polynomials.{scaled_of}
 use Rattle.poly_roots.proofs.products.put_scaled.Given as goal
 
 abbrev pub invariant-loop-j : goal.invariant-loop-j

@@ -1,9 +1,9 @@
 use Rattle.std.proofs.Common.{◌≡◌, ℕ, ◌+◌, ◌-◌, ◌≤◌, List, [], ◌∷◌, length, get_or, take, drop, ◌∙◌, ap, sym, arith, suc, zero}
 use Rattle.std.proofs.lemmas.Grind.{common_steps}
 use borrow.Rule.Slice.PartMut.{put_mid}
-use Rattle.poly_roots.specs.Polynomials.{value_at, times_of}
+use Rattle.tower_laws.specs.Polynomials.{value_at, times_of}
 use Rattle.poly_roots.proofs.Steps.{scaled_alone}
-use Rattle.poly_roots.proofs.ValueLaws.{value-times}
+use Rattle.tower_laws.proofs.ValueLaws.{value-times}
 use Rattle.poly_roots.proofs.products.times.Goals as goal
 
 tail_put : {X : Type 0} (xs ys : List X) (a : ℕ) → a + length ys ≡ length xs → drop a (put_mid a (length xs - a) xs ys) ≡ ys

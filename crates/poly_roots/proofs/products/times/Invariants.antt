@@ -1,5 +1,5 @@
 use Rattle.std.proofs.Common.{◌≡◌, ◌+◌, ◌<◌, drop, length}
-use Rattle.poly_roots.specs.Polynomials.{times_of}
+use Rattle.tower_laws.specs.Polynomials.{times_of}
 use Rattle.poly_roots.proofs.products.times.Given as goal
 
 abbrev pub invariant-loop-left : goal.invariant-loop-left

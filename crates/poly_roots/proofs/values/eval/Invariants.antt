@@ -1,5 +1,5 @@
 use Rattle.std.proofs.Common.{◌≡◌, ◌≤◌, length, drop}
-use Rattle.poly_roots.specs.Polynomials.{value_at}
+use Rattle.tower_laws.specs.Polynomials.{value_at}
 use Rattle.poly_roots.proofs.values.eval.Given as goal
 
 abbrev pub invariant-loop-left : goal.invariant-loop-left

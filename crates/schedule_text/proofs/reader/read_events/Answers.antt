@@ -2,8 +2,8 @@ use Rattle.std.proofs.Common.{arith, ap, sym, ◌∙◌, ◌≡◌, [], length, 
 use Rattle.std.proofs.lemmas.List.{length_push}
 use Rattle.std.proofs.lemmas.Grind.{common_steps}
 use Rattle.schedule_text.specs.Grammar.{events_from}
-use Rattle.text_fields.specs.Lines.{lines_of}
-use Rattle.text_fields.proofs.LineLemmas.{empty_from}
+use Rattle.express_texts.specs.Lines.{lines_of}
+use Rattle.express_texts.proofs.LineLemmas.{empty_from}
 use Rattle.schedule_text.proofs.TextLemmas.{events_from_next, events_from_bad, events_from_full}
 use Rattle.schedule_text.proofs.reader.read_events.Goals as goal
 

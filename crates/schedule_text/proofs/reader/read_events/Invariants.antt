@@ -1,6 +1,6 @@
 use Rattle.std.proofs.Common.{◌≡◌, ◌≤◌, [], length}
 use Rattle.schedule_text.specs.Grammar.{events_from}
-use Rattle.text_fields.specs.Lines.{lines_of}
+use Rattle.express_texts.specs.Lines.{lines_of}
 use Rattle.schedule_text.specs.Tables.{IsTableOf}
 use Rattle.schedule_text.specs.declared.schedule.TheConstants.{MOST_EVENTS}
 use Rattle.schedule_text.proofs.reader.read_events.Given as goal

@@ -1,6 +1,6 @@
 use Rattle.std.proofs.Common.{◌≡◌, ◌∙◌, ap}
 use Rattle.std.specs.Prelude.{bit_xor, slice_index}
-use Rattle.poly_roots.specs.Polynomials.{plus_of, times_of}
+use Rattle.tower_laws.specs.Polynomials.{plus_of, times_of}
 use Rattle.audit_rules.specs.Audit.{product, zero_share, one_share, honest_f, honest_g}
 use Rattle.snip_proof.proofs.client.prove.Goals as goal
 

@@ -1,0 +1,66 @@
+//! The top call with a journal.
+ghost use Rattle.std.specs.Prelude.{◌≡◌, ◌≢◌, ◌≤◌, [], ◌∷◌, Contains, map, string_bytes};
+ghost use Rattle.express_words.specs.Causes.{Rose};
+ghost use Rattle.express_cli.specs.Around.{around, outside};
+ghost use Rattle.express_cli.specs.CommandLine.{AskSome, AskTalk};
+ghost use Rattle.express_cli.specs.Laws.{Laws};
+ghost use Rattle.input_reading.specs.Reading.{LastFailed};
+ghost use Rattle.express_cli.specs.Keeping.{Keeps, OtherRan};
+ghost use Rattle.express_cli.specs.KeepWord.{AsksKeep};
+
+use crate::asking::asks_keep;
+use crate::keeping::keep;
+use crate::promises::laws;
+use crate::top::run;
+use express_words::outside::{Net, Sink, Source};
+use node_journal::Disk;
+use std::alloc::Global;
+
+/// Does what the words ask for, as `run` does, and answers the status of the program and the disk. For the one word
+/// `keep` it is `serve` with a journal on the disk: each frame is on the disk before its step, no answer goes out
+/// before that, and a server that was stopped at any moment goes on where its journal ends.
+///
+/// With `keep` the status may also be 10 where the disk failed, 11 where the journal, of at most 2^30 bytes, has no
+/// room for a frame, 12 where its record at some offset is damaged and 13 where a record isn't one that a server
+/// writes; each ends the run.
+pub fn run_kept<S: Source, K: Sink, N: Net, D: Disk>(
+    alloc: Global,
+    words: &Vec<String>,
+    seed: &[u8; 32],
+    input: &mut S,
+    out: &mut K,
+    net: &mut N,
+    disk: D,
+) -> (u8, D)
+    // For all other words it is `run`, and no call is made on the disk.
+    ensures ran { OtherRan words.now.items (outside (S.seen input.old) (K.seen out.old))
+        (outside (S.seen input.new) (K.seen out.new))
+        (around seed.now (N.seen net.old) (N.seen net.new) N.Conn.seen) result.0 }
+    ensures disk_rests { (AsksKeep (map string_bytes words.now.items) → ⊥) → result.1 ≡ disk }
+    ensures input_rests { (AsksKeep (map string_bytes words.now.items) → ⊥)
+        → (AskSome (map string_bytes words.now.items) → ⊥) → input.new ≡ input.old }
+    ensures net_rests { (AsksKeep (map string_bytes words.now.items) → ⊥)
+        → (AskTalk (map string_bytes words.now.items) → ⊥) → net.new ≡ net.old }
+    ensures net_waits { (AsksKeep (map string_bytes words.now.items) → ⊥)
+        → Contains (2 ∷ 3 ∷ 4 ∷ 8 ∷ []) result.0 → net.new ≡ net.old }
+    ensures laws { Laws }
+    ensures kept { Keeps words.now.items D.disk D.Counted.seen
+        (outside (S.seen input.old) (K.seen out.old))
+        (outside (S.seen input.new) (K.seen out.new))
+        (around seed.now (N.seen net.old) (N.seen net.new) N.Conn.seen) disk result.1 result.0 }
+    // Nothing is taken from the input after a fault of it.
+    ensures last_take { result.0 ≡ 4 → (last : S)
+        × LastFailed (S.seen input.old).faults (S.seen last).faults (S.seen input.new).faults
+        (S.seen last).content (S.seen input.new).content }
+    // The disk failed only where its count rose.
+    ensures disk_fault { result.0 ≡ 10 → Rose (D.Counted.seen disk).faults (D.Counted.seen result.1).faults }
+    ensures statuses { Contains (0 ∷ 2 ∷ 3 ∷ 4 ∷ 5 ∷ 6 ∷ 7 ∷ 8 ∷ 10 ∷ 11 ∷ 12 ∷ 13 ∷ []) result.0 }
+{
+    laws();
+    if asks_keep(words) {
+        let (ending, disk) = keep(alloc, seed, input, out, net, disk);
+        (ending.status(), disk)
+    } else {
+        (run(alloc, words, seed, input, out, net), disk)
+    }
+}

@@ -1,9 +1,0 @@
-use Rattle.file_table.proofs.Joins as join
-use Rattle.file_table.proofs.Journals as journal
-use Rattle.file_table.proofs.answers_join.Goals as goal
-
-pub returns-clause-given : goal.returns-clause-given
-returns-clause-given c = journal.parts_are_given
-
-pub returns-clause-join : goal.returns-clause-join
-returns-clause-join c = join.answers_join

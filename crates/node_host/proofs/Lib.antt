@@ -1,4 +1,0 @@
-pub mod OpenLaws
-pub mod CallLaws
-pub mod VisitLaws
-pub mod HostLaws

@@ -1,0 +1,144 @@
+-- The calls of a visit.
+use Rattle.std.proofs.Common.{◌≡◌, ◌≢◌, ℕ, ◌==◌, false, List, [], ◌∷◌, ◌++◌, Option, Some, None, refl, sym, ap, ◌∙◌, subst, append_assoc}
+use Rattle.std.proofs.lemmas.List.{append-nil}
+use Rattle.express_words.specs.Seen.{Seen}
+use Rattle.express_words.specs.Streams.{Stream, Gave}
+use Rattle.express_words.specs.Calls.{Call, Accepted, Closed, Adds, AddsClose, GivesTelling}
+use Rattle.node_exchange.specs.Exchanging.{Makes, Exchange}
+use Rattle.node_exchange.specs.Exchanging.{ClosedAtEnd, EarlyAtEnd, EndsShort, ExchangesOn}
+use Rattle.frame_rules.specs.Frames.{PlainFrame}
+use Rattle.frame_rules.specs.Whole.{whole}
+use Rattle.step_rules.specs.Leader.{Leader}
+use Rattle.node_restart.specs.Frames.{Handed}
+use Rattle.node_restart.specs.declared.server.Core.{Core}
+use Rattle.node_restart.specs.declared.server.Core.TheVariants.{Lead, Help}
+use Rattle.node_serve.specs.Handling.{IsHelp}
+use Rattle.node_serve.specs.Leading.{taken_in}
+use Rattle.node_serve.specs.Responding.{Responds, Stretch, meanwhile}
+use Rattle.node_serve.specs.Stopping.{LeadStops, Stops}
+use Rattle.node_serve.specs.declared.node.Served.{Served}
+use Rattle.node_serve.specs.Visits.{Visit, visit_calls, Broken, Shown, IsOfTold, IsOfBrokenTold, LinkAtEnd, up_to_close}
+
+pub makes_none : (a : Option (List Call)) → Makes a a []
+makes_none None = tt
+makes_none (Some a) = sym (append-nil a)
+
+pub makes_one : (a b : Option (List Call)) (call : Call) → Adds a b call → Makes a b (call ∷ [])
+makes_one a None call h = tt
+makes_one None (Some b) call h = absurd h
+makes_one (Some a) (Some b) call h = h
+
+pub makes_both : (a b c : Option (List Call)) (x y : List Call) → Makes a b x → Makes b c y → Makes a c (x ++ y)
+makes_both a b None x y g h = tt
+makes_both a None (Some c) x y g h = absurd h
+makes_both None (Some b) (Some c) x y g h = absurd g
+makes_both (Some a) (Some b) (Some c) x y g h = h ∙ ap (λ (t : List Call). t ++ y) g ∙ append_assoc a x y
+
+-- ---- a server's own calls
+
+-- the same exchanges behind other calls
+pub told : (peer : List ℕ) (es : List Exchange) (a b : Option (List Call)) (before : List Call) → ExchangesOn peer es a b
+    → (calls : List Call) × Makes a b calls × ExchangesOn peer es (Some before) (Some (before ++ calls))
+told peer [] a b before same = ([], subst (λ (x : Option (List Call)). Makes a x []) (sym same) (makes_none a), ap Some (append-nil before))
+told peer (e ∷ es) a b before (next, (calls, makes, is), others) =
+    let rest = told peer es next b (before ++ calls) others in (
+      calls ++ rest.0,
+      makes_both a next b calls rest.0 makes rest.1,
+      (
+        Some (before ++ calls),
+        (calls, refl, is),
+        subst (λ (x : List Call). ExchangesOn peer es (Some (before ++ calls)) (Some x)) (append_assoc before calls rest.0) rest.2,
+      ),
+    )
+
+pub responds_told : (peer : List ℕ) (core : Core) (bytes : List ℕ) (new : Core) (frames : List Handed) (net : Stretch) (why : Served) (reply : List ℕ)
+    → Responds peer core bytes new frames net why reply → (IsHelp core → net.now ≡ net.before)
+    → (calls : List Call) × Makes net.before net.now calls × Responds peer core bytes new frames (meanwhile calls net.count) why reply × (IsHelp core → calls ≡ [])
+responds_told peer (Help h) bytes new frames net why reply responds rests =
+    ([], subst (λ (x : Option (List Call)). Makes net.before x []) (sym (rests tt)) (makes_none net.before), responds, λ is. refl)
+responds_told peer (Lead l) bytes new frames net why reply (now, is, (made, on, leads)) rests =
+    let calls = told peer made net.before net.now [] on in
+    (calls.0, calls.1, (now, is, (made, calls.2, leads)), λ none. absurd none)
+
+lead_told : (found : Option PlainFrame) (peer : List ℕ) (l : Leader) (bytes : List ℕ) (new : Core) (frames : List Handed) (refused : Handed) (a b : Option (List Call))
+    → LeadStops found peer l bytes new frames refused a b
+    → (calls : List Call) × Makes a b calls × LeadStops found peer l bytes new frames refused (Some []) (Some calls)
+lead_told None peer l bytes new frames refused a b (same, at) =
+    ([], subst (λ (x : Option (List Call)). Makes a x []) (sym same) (makes_none a), (refl, at))
+lead_told (Some f) peer l bytes new frames refused a b (now, is, (made, on, down)) =
+    let calls = told peer made a b [] on in
+    (calls.0, calls.1, (now, is, (made, calls.2, down)))
+
+pub stops_told : (peer : List ℕ) (core : Core) (bytes : List ℕ) (new : Core) (frames : List Handed) (refused : Handed) (a b : Option (List Call))
+    → Stops peer core bytes new frames refused a b → (IsHelp core → b ≡ a)
+    → (calls : List Call) × Makes a b calls × Stops peer core bytes new frames refused (Some []) (Some calls) × (IsHelp core → calls ≡ [])
+stops_told peer (Help h) bytes new frames refused a b stops rests =
+    ([], subst (λ (x : Option (List Call)). Makes a x []) (sym (rests tt)) (makes_none a), stops, λ is. refl)
+stops_told peer (Lead l) bytes new frames refused a b stops rests =
+    let calls = lead_told (taken_in (whole bytes)) peer l bytes new frames refused a b stops in
+    (calls.0, calls.1, calls.2, λ none. absurd none)
+
+-- ---- an accept, these calls, and a close
+
+abbrev pub left_in : Option Stream → List ℕ
+left_in None = []
+left_in (Some stream) = stream.left
+
+abbrev stream : (given left : List ℕ) → Stream
+stream given left = record { given = given; left = left }
+
+same_stream : (a b x y : List ℕ) → a ≡ b → x ≡ y → stream a x ≡ stream b y
+same_stream a b x y given left = cc
+
+pub visit_made : (a b c d : Option (List Call)) (s t : Option Stream) (w x : Option (List ℕ)) (v : Visit)
+    → Adds a b (Accepted false) → GivesTelling b s w → Gave s t v.given → v.left ≡ left_in t → (w ≢ None → x ≡ Some v.taken)
+    → Makes b c v.calls → AddsClose c d t x v.faults → Makes a d (visit_calls v) × IsOfTold d v t x v.faults
+visit_made a b c None s t w x v accept tells gave left took makes close = (tt, tt)
+visit_made a b c (Some d) s None w x v accept tells gave left took makes close = absurd close
+visit_made a b c (Some d) s (Some t) w None v accept tells gave left took makes close = absurd close
+visit_made a b None (Some d) s (Some t) w (Some x) v accept tells gave left took makes close = absurd close
+visit_made a None (Some c) (Some d) s (Some t) w (Some x) v accept tells gave left took makes close = absurd makes
+visit_made None (Some b) (Some c) (Some d) s (Some t) w (Some x) v accept tells gave left took makes close = absurd accept
+visit_made (Some a) (Some b) (Some c) (Some d) None (Some t) w (Some x) v accept tells gave left took makes close = absurd tells
+visit_made (Some a) (Some b) (Some c) (Some d) (Some s) (Some t) None (Some x) v accept tells gave left took makes close = absurd tells
+visit_made (Some a) (Some b) (Some c) (Some d) (Some s) (Some t) (Some w) (Some x) v accept tells gave left took makes close =
+    let given_is : t.given ≡ v.given = gave.1 ∙ ap (λ (y : List ℕ). y ++ v.given) tells.0 in
+    let taken_is : Some x ≡ Some v.taken = took (λ (e : Some w ≡ None). absurd (cc e)) in
+    let same : x ≡ v.taken = cc in
+    let last : Call = Closed v.given v.taken (v.faults == 0) in
+    let close_is : Closed t.given x (v.faults == 0) ≡ last = cc in
+    let content_is : t ≡ stream v.given v.left = same_stream t.given v.given t.left v.left given_is (sym left) in (
+      close ∙ ap (λ (y : Call). c ++ y ∷ []) close_is ∙ ap (λ (y : List Call). y ++ last ∷ []) (makes ∙ ap (λ (y : List Call). y ++ v.calls) accept)
+          ∙ append_assoc (a ++ Accepted false ∷ []) v.calls (last ∷ []) ∙ append_assoc a (Accepted false ∷ []) (v.calls ++ last ∷ []),
+      (ap Some content_is, taken_is, refl),
+    )
+
+-- ---- the connection to the helper
+
+behind_accept : (a b c calls : List Call) → b ≡ a ++ Accepted false ∷ [] → c ≡ b ++ calls → a ++ Accepted false ∷ calls ≡ c
+behind_accept a b c calls accept makes =
+    sym (makes ∙ ap (λ (y : List Call). y ++ calls) accept ∙ append_assoc a (Accepted false ∷ []) calls)
+
+at_end : {C : Type 0} (shows : C → Seen) (c link : Option (List Call)) → link ≡ c → EarlyAtEnd c shows → LinkAtEnd (Shown shows) link
+at_end shows c link is early short =
+    let found = early (subst EndsShort is short) in
+    (shows found.0, (found.0, refl), subst (λ (calls : Option (List Call)). ClosedAtEnd calls (shows found.0)) (sym is) found.1)
+
+pub link_at_end : {C : Type 0} (shows : C → Seen) (a b c d : Option (List Call)) (t : Option Stream) (x : Option (List ℕ)) (n : ℕ) (v : Visit)
+    → Adds a b (Accepted false) → Makes b c v.calls → AddsClose c d t x n → EarlyAtEnd c shows → LinkAtEnd (Shown shows) (up_to_close a d v)
+link_at_end shows a b c None t x n v accept makes close early = λ short. absurd short
+link_at_end shows None b c (Some d) t x n v accept makes close early = λ short. absurd short
+link_at_end shows (Some a) b c (Some d) None x n v accept makes close early = absurd close
+link_at_end shows (Some a) b c (Some d) (Some t) None n v accept makes close early = absurd close
+link_at_end shows (Some a) b None (Some d) (Some t) (Some x) n v accept makes close early = absurd close
+link_at_end shows (Some a) None (Some c) (Some d) (Some t) (Some x) n v accept makes close early = absurd makes
+link_at_end shows (Some a) (Some b) (Some c) (Some d) (Some t) (Some x) n v accept makes close early =
+    at_end shows (Some c) (Some (a ++ Accepted false ∷ v.calls)) (ap Some (behind_accept a b c v.calls accept makes)) early
+
+-- ---- a connection that took nothing
+
+pub of_broken : (d : Option (List Call)) (v : Visit) (u : Broken) (t : Option Stream) (x : Option (List ℕ)) → u.given ≡ v.given → u.left ≡ v.left → v.taken ≡ [] → v.faults ≡ 0
+    → IsOfTold d v t x 0 → IsOfBrokenTold d u t x 0
+of_broken None v u t x given left taken faults of = tt
+of_broken (Some d) v u t x given left taken faults of =
+    (of.0 ∙ ap Some (same_stream v.given u.given v.left u.left (sym given) (sym left)), of.1 ∙ ap Some taken, refl)

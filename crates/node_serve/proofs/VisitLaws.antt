@@ -1,0 +1,239 @@
+-- A connection that was accepted, served and closed is a visit.
+use Rattle.std.proofs.Common.{◌≡◌, ◌≢◌, ◌⊎◌, inl, inr, ℕ, ◌<◌, ◌≤◌, ◌^◌, false, List, [], ◌++◌, Option, Some, None, Result, Ok, Err, refl, sym, ap, ◌∙◌, subst, arith}
+use Rattle.express_words.specs.Seen.{Seen}
+use Rattle.express_words.specs.Streams.{Stream, Gave, IsBlank, Took}
+use Rattle.express_words.specs.Calls.{Call, Accepted, Adds, AddsClose, GivesTelling}
+use Rattle.frame_rules.specs.Frames.{PlainFrame}
+use Rattle.frame_rules.specs.Gathering.{gathered}
+use Rattle.frame_rules.specs.Reading.{decoded}
+use Rattle.frame_rules.specs.declared.fault.FrameFault.{FrameFault}
+use Rattle.frame_rules.specs.declared.fault.FrameFault.TheVariants.{Short, Malformed, Version}
+use Rattle.node_exchange.specs.Taking.{IsWanted}
+use Rattle.node_exchange.specs.Exchanging.{EarlyAtEnd, Makes}
+use Rattle.node_restart.specs.Frames.{Handed}
+use Rattle.node_serve.specs.Draining.{FaultIn}
+use Rattle.node_serve.specs.Handling.{IsHelp}
+use Rattle.node_serve.specs.Logs.{Log}
+use Rattle.node_serve.specs.Responding.{Answers, StopsShort, moved, stretch}
+use Rattle.node_serve.specs.Serving.{Brings, IsCut, WritesTold}
+use Rattle.node_serve.specs.declared.node.Served.{Served}
+use Rattle.node_serve.specs.declared.node.Served.TheVariants as served
+use Rattle.node_serve.specs.Visits.{Visit, Standing, standing, Shown, WasThere, IsCutOff, IsStepped, ClosesWith, IsVisit}
+use Rattle.node_serve.specs.Visits.{Broken, IsBroken, IsOfBrokenTold}
+use Rattle.node_serve.proofs.CallLaws.{makes_none, responds_told, stops_told, left_in, visit_made, link_at_end, of_broken}
+
+pub is_short_or_not : (r : Result (PlainFrame × ℕ) FrameFault) → (r ≡ Err Short) ⊎ (r ≢ Err Short)
+is_short_or_not (Ok x) = inr (λ e. absurd (cc e))
+is_short_or_not (Err Short) = inl refl
+is_short_or_not (Err (Malformed place)) = inr (λ e. absurd (cc e))
+is_short_or_not (Err (Version version)) = inr (λ e. absurd (cc e))
+
+pub cut_told : (answer : Served) (given : List ℕ) (t : Option Stream) (before now : ℕ) → IsCut answer t before now
+    → IsCut answer (Some (record { given = given; left = left_in t })) before now
+cut_told served.Ended given None before now h = (refl, h.1)
+cut_told served.Ended given (Some t) before now h = h
+cut_told (served.ConnFault count) given t before now h = h
+cut_told served.Answered given t before now h = absurd h
+cut_told (served.LinkFault count) given t before now h = absurd h
+cut_told served.LinkBad given t before now h = absurd h
+
+-- ---- what was written to a connection that had taken nothing yet
+
+took_all : (w x : Option (List ℕ)) (bytes : List ℕ) → IsBlank w → Took w x bytes → w ≢ None → x ≡ Some bytes
+took_all None x bytes blank took some = absurd (some refl)
+took_all (Some w) None bytes blank took some = absurd took
+took_all (Some w) (Some x) bytes blank took some = ap Some (took ∙ ap (λ (y : List ℕ). y ++ bytes) blank)
+
+-- these bytes were taken
+abbrev pub Wrote : Served → (w x : Option (List ℕ)) → ℕ → List ℕ → Type 0
+Wrote why w x n reply = (taken : List ℕ) × WritesTold why (Some []) (Some taken) 0 n reply × (w ≢ None → x ≡ Some taken)
+
+pub wrote : (why : Served) (w x : Option (List ℕ)) (n : ℕ) (reply : List ℕ) → IsBlank w → WritesTold why w x 0 n reply → Wrote why w x n reply
+wrote served.Answered w x n reply blank (took, whole) = (reply, (refl, whole), took_all w x reply blank took)
+wrote (served.ConnFault count) w x n reply blank ((front, rest, is, took), rose, told) =
+    (front, ((front, rest, is, refl), rose, told), took_all w x front blank took)
+wrote served.Ended w x n reply blank h = absurd h
+wrote (served.LinkFault count) w x n reply blank (inl (took, whole)) = (reply, inl (refl, whole), took_all w x reply blank took)
+wrote (served.LinkFault count) w x n reply blank (inr ((front, rest, is, took), fault)) =
+    (front, inr ((front, rest, is, refl), fault), took_all w x front blank took)
+wrote served.LinkBad w x n reply blank (inl (took, whole)) = (reply, inl (refl, whole), took_all w x reply blank took)
+wrote served.LinkBad w x n reply blank (inr ((front, rest, is, took), fault)) =
+    (front, inr ((front, rest, is, refl), fault), took_all w x front blank took)
+
+-- ---- an accept, a service and a close
+
+-- an accept gave a connection that shows this
+pub record Accepts (a b s : Seen) : Type 0 where
+  pub whole : s.faults ≡ 0
+  pub blank : IsBlank s.written
+  pub tells : GivesTelling b.calls s.content s.written
+  pub call : Adds a.calls b.calls (Accepted false)
+  pub faults : b.faults ≡ a.faults
+  pub doors : b.doors ≡ a.doors
+
+-- a connection that shows this was closed
+pub record Closes (c d t : Seen) : Type 0 where
+  pub call : AddsClose c.calls d.calls t.content t.written t.faults
+  pub counts : ClosesWith t.faults c.faults d.faults
+  pub doors : d.doors ≡ c.doors
+
+-- what the call that serves a connection says: the net goes from b to c and the connection from s to t
+pub record ServedBy {S F C : Type 0} (log : Log S F) (peer : List ℕ) (shows : C → Seen) (old new : S) (answer : Served)
+    (b c s t : Seen) (held : List ℕ) : Type 0 where
+  pub cut : decoded held ≡ Err Short → IsCut answer t.content s.faults t.faults
+  pub stays : decoded held ≡ Err Short → new ≡ old
+  pub rests : decoded held ≡ Err Short → c.calls ≡ b.calls
+  pub untold : decoded held ≡ Err Short → t.written ≡ s.written
+  pub serves : decoded held ≢ Err Short → Answers log peer held (moved old new) (stretch b c) (moved s t) answer
+  pub early : answer ≡ served.LinkBad → EarlyAtEnd c.calls shows
+  pub alone : IsHelp (log.core old) → c.calls ≡ b.calls
+  pub fault : FaultIn answer b.faults c.faults
+  pub doors : c.doors ≡ b.doors
+
+-- the visit that this makes
+abbrev pub VisitOf : {S F C : Type 0} → Log S F → List ℕ → (C → Seen) → Served → (old new : Standing S) → Type 0
+VisitOf log peer shows answer old new =
+    (v : Visit) × (v.answer ≡ answer) × ((frames : List Handed) × IsVisit log peer (Shown shows) v frames old new)
+
+pub untouched : (w x : Option (List ℕ)) → IsBlank w → x ≡ w → w ≢ None → x ≡ Some []
+untouched None x blank is some = absurd (some refl)
+untouched (Some w) x blank is some = is ∙ ap Some blank
+
+visited_cut : {S F C : Type 0} (log : Log S F) (peer : List ℕ) (shows : C → Seen) (old new : S) (answer : Served) (a b c d s : Seen) (conn : C) (given : List ℕ)
+    → decoded (gathered [] given) ≡ Err Short → Gave s.content (shows conn).content given → IsWanted given
+    → ServedBy log peer shows old new answer b c s (shows conn) (gathered [] given) → Accepts a b s → Closes c d (shows conn)
+    → VisitOf log peer shows answer (standing old a) (standing new d)
+visited_cut log peer shows old new answer a b c d s conn given short gave wanted h accept close =
+    let t : Seen = shows conn in
+    let v : Visit = record { given = given; left = left_in t.content; taken = []; faults = t.faults; calls = []; answer = answer } in
+    let cut : IsCut answer t.content 0 t.faults = subst (λ n. IsCut answer t.content n t.faults) accept.whole (h.cut short) in
+    let off : IsCutOff v old new [] = record { answer = cut_told answer given t.content 0 t.faults cut; stays = h.stays short; none = refl; calls = refl; untold = refl } in
+    let makes : Makes b.calls c.calls [] = subst (λ (y : Option (List Call)). Makes b.calls y []) (sym (h.rests short)) (makes_none b.calls) in
+    let made = visit_made a.calls b.calls c.calls d.calls s.content t.content s.written t.written v accept.call accept.tells gave refl (untouched s.written t.written accept.blank (h.untold short)) makes close.call in
+    let there : WasThere (Shown shows) v a.calls d.calls = record {
+      conn = t;
+      shows = (conn, refl);
+      is = made.1;
+      early = λ bad. link_at_end shows a.calls b.calls c.calls d.calls t.content t.written t.faults v accept.call makes close.call (h.early bad);
+    } in
+    let link : FaultIn answer a.faults c.faults = subst (λ n. FaultIn answer n c.faults) accept.faults h.fault in
+    let is : IsVisit log peer (Shown shows) v [] (standing old a) (standing new d) = record {
+      wanted = wanted;
+      count = c.faults;
+      cut = λ e. off;
+      stepped = λ e. absurd (e short);
+      link = link;
+      close = close.counts;
+      calls = made.0;
+      doors = close.doors ∙ h.doors ∙ accept.doors;
+      there = there;
+    } in
+    (v, refl, ([], is))
+
+visited_step : {S F C : Type 0} (log : Log S F) (peer : List ℕ) (shows : C → Seen) (old new : S) (answer : Served) (a b c d s : Seen) (conn : C) (given : List ℕ)
+    → decoded (gathered [] given) ≢ Err Short → Gave s.content (shows conn).content given → IsWanted given
+    → ServedBy log peer shows old new answer b c s (shows conn) (gathered [] given) → Accepts a b s → Closes c d (shows conn)
+    → VisitOf log peer shows answer (standing old a) (standing new d)
+visited_step log peer shows old new answer a b c d s conn given enough gave wanted h accept close =
+    let t : Seen = shows conn in
+    let step = h.serves enough in
+    let own = responds_told peer (log.core old) (gathered [] given) (log.core new) step.frames (stretch b c) answer step.reply step.responds h.alone in
+    let fresh : WritesTold answer s.written t.written 0 t.faults step.reply = subst (λ n. WritesTold answer s.written t.written n t.faults step.reply) accept.whole step.writes in
+    let written : Wrote answer s.written t.written t.faults step.reply = wrote answer s.written t.written t.faults step.reply accept.blank fresh in
+    let v : Visit = record { given = given; left = left_in t.content; taken = written.0; faults = t.faults; calls = own.0; answer = answer } in
+    let stepped : IsStepped log peer v old new step.frames c.faults =
+    record { reply = step.reply; responds = own.2; writes = written.1; takes = step.takes; alone = own.3 } in
+    let made = visit_made a.calls b.calls c.calls d.calls s.content t.content s.written t.written v accept.call accept.tells gave refl written.2 own.1 close.call in
+    let there : WasThere (Shown shows) v a.calls d.calls = record {
+      conn = t;
+      shows = (conn, refl);
+      is = made.1;
+      early = λ bad. link_at_end shows a.calls b.calls c.calls d.calls t.content t.written t.faults v accept.call own.1 close.call (h.early bad);
+    } in
+    let link : FaultIn answer a.faults c.faults = subst (λ n. FaultIn answer n c.faults) accept.faults h.fault in
+    let is : IsVisit log peer (Shown shows) v step.frames (standing old a) (standing new d) = record {
+      wanted = wanted;
+      count = c.faults;
+      cut = λ e. absurd (enough e);
+      stepped = λ e. stepped;
+      link = link;
+      close = close.counts;
+      calls = made.0;
+      doors = close.doors ∙ h.doors ∙ accept.doors;
+      there = there;
+    } in
+    (v, refl, (step.frames, is))
+
+visited_by : {S F C : Type 0} (log : Log S F) (peer : List ℕ) (shows : C → Seen) (old new : S) (answer : Served) (a b c d s : Seen) (conn : C) (given : List ℕ)
+    → (decoded (gathered [] given) ≡ Err Short) ⊎ (decoded (gathered [] given) ≢ Err Short) → Gave s.content (shows conn).content given → IsWanted given
+    → ServedBy log peer shows old new answer b c s (shows conn) (gathered [] given) → Accepts a b s → Closes c d (shows conn)
+    → VisitOf log peer shows answer (standing old a) (standing new d)
+visited_by log peer shows old new answer a b c d s conn given (inl short) = visited_cut log peer shows old new answer a b c d s conn given short
+visited_by log peer shows old new answer a b c d s conn given (inr enough) = visited_step log peer shows old new answer a b c d s conn given enough
+
+pub visited : {S F C : Type 0} (log : Log S F) (peer : List ℕ) (shows : C → Seen) (old new : S) (answer : Served) (a b c d s : Seen) (conn : C) (held : List ℕ)
+    → Brings s.content (shows conn).content held
+    → ServedBy log peer shows old new answer b c s (shows conn) held → Accepts a b s → Closes c d (shows conn)
+    → VisitOf log peer shows answer (standing old a) (standing new d)
+visited log peer shows old new answer a b c d s conn held (given, gave, wanted, is) h accept close =
+    visited_by log peer shows old new answer a b c d s conn given (is_short_or_not (decoded (gathered [] given))) gave wanted
+    (subst (ServedBy log peer shows old new answer b c s (shows conn)) is h) accept close
+
+-- a count of 64 bits doesn't fall
+pub fault_later : (why : Served) (before now : ℕ) → before < 2 ^ 64 → FaultIn why before now → before ≤ now
+fault_later (served.LinkFault count) before now bound h = omega (arith, h.0, bound)
+fault_later served.Answered before now bound h = omega (arith, h)
+fault_later served.Ended before now bound h = omega (arith, h)
+fault_later (served.ConnFault count) before now bound h = omega (arith, h)
+fault_later served.LinkBad before now bound h = omega (arith, h)
+
+-- ---- a visit at which the log refused a frame
+
+-- what the call that serves a connection says then
+pub record RefusedBy {S F : Type 0} (log : Log S F) (peer : List ℕ) (old new : S) (fault : F) (b c s t : Seen) (held : List ℕ) : Type 0 where
+  pub stops : StopsShort log peer held (moved old new) (stretch b c) fault
+  pub alone : IsHelp (log.core old) → c.calls ≡ b.calls
+  pub untold : t.written ≡ s.written
+  pub unfailed : t.faults ≡ s.faults
+  pub faults : c.faults ≡ b.faults
+  pub doors : c.doors ≡ b.doors
+
+pub broken : {S F C : Type 0} (log : Log S F) (peer : List ℕ) (shows : C → Seen) (old new : S) (fault : F) (a b c d s : Seen) (conn : C) (held : List ℕ)
+    → Brings s.content (shows conn).content held
+    → RefusedBy log peer old new fault b c s (shows conn) held → Accepts a b s → Closes c d (shows conn)
+    → (last : Broken) × IsBroken log peer (Shown shows) last fault (standing old a) (standing new d)
+broken log peer shows old new fault a b c d s conn held (given, gave, wanted, is) h accept close =
+    let t : Seen = shows conn in
+    let here = subst (λ (l : List ℕ). StopsShort log peer l (moved old new) (stretch b c) fault) is h.stops in
+    let whole : t.faults ≡ 0 = h.unfailed ∙ accept.whole in
+    let own = stops_told peer (log.core old) (gathered [] given) (log.core new) here.frames here.refused b.calls c.calls here.far h.alone in
+    let v : Visit = record { given = given; left = left_in t.content; taken = []; faults = 0; calls = own.0; answer = served.Answered } in
+    let u : Broken = record { given = given; left = left_in t.content; calls = own.0 } in
+    let closes : AddsClose c.calls d.calls t.content t.written 0 = subst (AddsClose c.calls d.calls t.content t.written) whole close.call in
+    let made = visit_made a.calls b.calls c.calls d.calls s.content t.content s.written t.written v accept.call accept.tells gave refl (untouched s.written t.written accept.blank h.untold) own.1 closes in
+    let of : IsOfBrokenTold d.calls u t.content t.written t.faults =
+    subst (IsOfBrokenTold d.calls u t.content t.written) (sym whole) (of_broken d.calls v u t.content t.written refl refl refl refl made.1) in
+    let is_broken : IsBroken log peer (Shown shows) u fault (standing old a) (standing new d) = record {
+      frames = here.frames;
+      refused = here.refused;
+      wanted = wanted;
+      far = own.2;
+      stops = here.stops;
+      alone = own.3;
+      faults = close.counts.whole whole ∙ h.faults ∙ accept.faults;
+      calls = made.0;
+      doors = close.doors ∙ h.doors ∙ accept.doors;
+      there = (t, (conn, refl), of);
+    } in
+    (u, is_broken)
+
+-- ---- what a visit hands to the log
+
+pub visit_takes : {S F : Type 0} (log : Log S F) (peer : List ℕ) (shown : Seen → Type 0) (v : Visit) (frames : List Handed) (old new : Standing S)
+    → ((s : S) → log.takes s s []) → IsVisit log peer shown v frames old new → log.takes old.server new.server frames
+visit_takes {S} log peer shown v frames old new none is = elim (is_short_or_not (decoded (gathered [] v.given))) [
+  | inl short ↦
+      let cut = is.cut short in
+      subst (log.takes old.server new.server) (sym cut.none) (subst (λ (k : S). log.takes old.server k []) (sym cut.stays) (none old.server))
+  | inr enough ↦ (is.stepped enough).takes
+]

@@ -1,0 +1,139 @@
+-- How a server is opened, from its settings or from its journal.
+use Rattle.std.specs.Prelude.{◌≡◌, ◌≢◌, ℕ, nat_eq, cond, true, false, List, [], ◌++◌, codes}
+use Rattle.node_journal.specs.Disk.{DiskSeen, Within, IsUntouched}
+use Rattle.node_journal.specs.Records.{content, IsUndamaged}
+use Rattle.node_journal.specs.declared.fault.JournalFault.TheVariants.{Closed, NotEmpty, Full, Disk, Damaged}
+use Rattle.node_restart.specs.declared.opening.Opening.{Opening}
+use Rattle.node_restart.specs.declared.opening.Role.{Role}
+use Rattle.node_restart.specs.declared.opening.Role.TheVariants as role
+use Rattle.node_restart.specs.declared.server.Core.{Core}
+use Rattle.node_restart.specs.declared.fault.KeepFault.TheVariants.{Journal, NoMemory, Foreign}
+use Rattle.node_restart.specs.Faults.{CountsFault}
+use Rattle.node_restart.specs.Frames.{Handed, IsForeign}
+use Rattle.node_restart.specs.Kept.{KeptState, HoldsFrames, Stands, IsDamagedAt}
+use Rattle.node_restart.specs.Openings.{IsOpening}
+use Rattle.node_restart.specs.Steps.{fold}
+use Rattle.node_restart.specs.Texts as restart
+use Rattle.settings_text.specs.declared.serve.ServeSettings.{ServeSettings}
+use Rattle.settings_text.specs.declared.serve.TheConstants.{LEADER}
+use Rattle.node_serve.specs.declared.key.SettingsKey.{SettingsKey}
+use Rattle.node_serve.specs.declared.key.SettingsKey.TheVariants as key
+use Rattle.node_serve.specs.declared.open_fault.OpenFault.{OpenFault}
+use Rattle.node_serve.specs.declared.open_fault.OpenFault.TheVariants as opens
+
+-- the opening that settings and a seed spell
+abbrev pub role_by : ℕ → Role
+role_by number = cond (nat_eq number LEADER) role.Leader role.Helper
+
+abbrev pub opening_of : ServeSettings → List ℕ → Opening
+opening_of s seed = record { role = role_by s.role; settings = s.settings; seed = seed }
+
+-- ---- two openings
+
+-- the same but for the seed
+pub record IsSame (a b : Opening) : Type 0 where
+  pub role : a.role ≡ b.role
+  pub settings : a.settings ≡ b.settings
+
+-- in this setting they differ, and in those before it in the order role, width, boxes, lanes, window they
+-- don't
+abbrev pub DiffersAt : SettingsKey → Opening → Opening → Type 0
+DiffersAt key.Role a b = a.role ≢ b.role
+DiffersAt key.Width a b = (a.role ≡ b.role) × (a.settings.width ≢ b.settings.width)
+DiffersAt key.Boxes a b =
+    (a.role ≡ b.role) × (a.settings.width ≡ b.settings.width) × (a.settings.boxes ≢ b.settings.boxes)
+DiffersAt key.Lanes a b =
+    (a.role ≡ b.role) × (a.settings.width ≡ b.settings.width) × (a.settings.boxes ≡ b.settings.boxes)
+    × (a.settings.lanes ≢ b.settings.lanes)
+DiffersAt key.Window a b =
+    (a.role ≡ b.role) × (a.settings.width ≡ b.settings.width) × (a.settings.boxes ≡ b.settings.boxes)
+    × (a.settings.lanes ≡ b.settings.lanes) × (a.settings.window ≢ b.settings.window)
+
+-- ---- a server that was opened
+
+-- on a disk with no byte: a server before its first frame
+pub record IsCreated {D : Type 0} (shows : D → DiskSeen) (limit : ℕ) (o : Opening)
+    (disk : D) (k : KeptState D) : Type 0 where
+  pub empty : (c : List ℕ) → (shows disk).reads c → c ≡ []
+  pub opening : k.opening ≡ o
+  pub core : k.core ≡ fold o []
+  pub journal : k.journal ≡ record { end = 50; limit = limit; ready = true; closed = false }
+  pub held : HoldsFrames o [] (shows k.disk).reads
+  pub undamaged : (c : List ℕ) → (shows k.disk).reads c → IsUndamaged limit 0 c
+  pub durable : Within (shows k.disk).may_leave (shows k.disk).reads
+
+-- on a disk with a journal, of a server with the same role and settings: the fold of what stands there
+pub record IsReopened {D : Type 0} (shows : D → DiskSeen) (limit : ℕ) (o : Opening)
+    (disk : D) (k : KeptState D) : Type 0 where
+  pub some : (c : List ℕ) → (shows disk).reads c → c ≢ []
+  pub is_opening : IsOpening k.opening
+  pub same : IsSame k.opening o
+  pub stands : Stands k.opening k.core (shows disk).reads
+  pub told : (p : Opening) (frames : List Handed) (c : List ℕ) → (shows disk).reads c → IsOpening p
+      → HoldsFrames p frames (shows disk).reads → (k.opening ≡ p) × (k.core ≡ fold p frames)
+  pub same_limit : k.journal.limit ≡ limit
+  pub unclosed : k.journal.closed ≡ false
+  pub undamaged : (c : List ℕ) → (shows k.disk).reads c → IsUndamaged limit 0 c
+  pub durable : Within (shows k.disk).may_leave (shows k.disk).reads
+  pub untouched : IsUntouched (shows disk) (shows k.disk)
+
+-- ---- a server that wasn't
+
+-- a disk with a byte has no journal that is whole and of the form, or no call on it failed
+abbrev pub IsOfOpening : OpenFault → Type 0
+IsOfOpening (opens.Keep (Journal (Disk faults))) = Unit {0}
+IsOfOpening (opens.Keep (Journal (Damaged at))) = Unit {0}
+IsOfOpening (opens.Keep (Foreign n)) = Unit {0}
+IsOfOpening (opens.Keep NoMemory) = Unit {0}
+IsOfOpening (opens.Keep (Journal Closed)) = ⊥
+IsOfOpening (opens.Keep (Journal NotEmpty)) = ⊥
+IsOfOpening (opens.Keep (Journal (Full end))) = ⊥
+IsOfOpening (opens.Differs key) = Unit {0}
+
+-- a server stands on the disk that was opened otherwise
+pub record StandsOther (key : SettingsKey) (o : Opening) (reads : List ℕ → Type 0) : Type 0 where
+  pub found : Opening
+  pub is_opening : IsOpening found
+  pub core : Core
+  pub stands : Stands found core reads
+  pub differs : DiffersAt key found o
+
+-- what a fault says of the disk, which has a byte then
+abbrev pub IsCauseOf : OpenFault → ℕ → Opening → (List ℕ → Type 0) → Type 0
+IsCauseOf (opens.Keep (Journal (Damaged at))) limit o reads =
+    (c : List ℕ) → reads c → (c ≢ []) × IsDamagedAt limit at c
+IsCauseOf (opens.Keep (Foreign n)) limit o reads = (c : List ℕ) → reads c → (c ≢ []) × IsForeign n (content c)
+IsCauseOf (opens.Keep (Journal Closed)) limit o reads = Unit {0}
+IsCauseOf (opens.Keep (Journal NotEmpty)) limit o reads = Unit {0}
+IsCauseOf (opens.Keep (Journal (Full end))) limit o reads = Unit {0}
+IsCauseOf (opens.Keep (Journal (Disk faults))) limit o reads = Unit {0}
+IsCauseOf (opens.Keep NoMemory) limit o reads = Unit {0}
+IsCauseOf (opens.Differs key) limit o reads = ((c : List ℕ) → reads c → c ≢ []) × StandsOther key o reads
+
+-- but where a call on the disk failed, it is as it was
+abbrev pub LeavesDisk : {D : Type 0} → OpenFault → (D → DiskSeen) → (old new : D) → Type 0
+LeavesDisk (opens.Keep (Journal (Disk faults))) shows old new = Unit {0}
+LeavesDisk (opens.Keep (Journal Closed)) shows old new = Unit {0}
+LeavesDisk (opens.Keep (Journal NotEmpty)) shows old new = Unit {0}
+LeavesDisk (opens.Keep (Journal (Full end))) shows old new = Unit {0}
+LeavesDisk (opens.Keep (Journal (Damaged at))) shows old new = IsUntouched (shows old) (shows new)
+LeavesDisk (opens.Keep (Foreign n)) shows old new = IsUntouched (shows old) (shows new)
+LeavesDisk (opens.Keep NoMemory) shows old new = IsUntouched (shows old) (shows new)
+LeavesDisk (opens.Differs key) shows old new = IsUntouched (shows old) (shows new)
+
+abbrev pub CountsOpen : (before now : ℕ) → OpenFault → Type 0
+CountsOpen before now (opens.Keep fault) = CountsFault before now fault
+CountsOpen before now (opens.Differs key) = now ≡ before
+
+-- ---- texts
+
+abbrev pub key_text : SettingsKey → List ℕ
+key_text key.Role = codes "role"
+key_text key.Width = codes "width"
+key_text key.Boxes = codes "boxes"
+key_text key.Lanes = codes "lanes"
+key_text key.Window = codes "window"
+
+abbrev pub fault_text : OpenFault → List ℕ
+fault_text (opens.Keep fault) = restart.fault_text fault
+fault_text (opens.Differs key) = codes "the journal has another " ++ key_text key

@@ -1,0 +1,65 @@
+//! A setting's name.
+ghost use Rattle.std.specs.Prelude.{◌≡◌, ◌↔◌, IsTrue, Some, IsNone, IfSome};
+ghost use Rattle.node_serve.specs.KeptOpening.{key_text, IsSame, DiffersAt};
+
+use node_restart::{Opening, Role};
+use std::fmt;
+
+/// What two openings are compared by, in this order.
+#[derive(Clone, Copy, Debug, PartialEq, Eq)]
+pub enum SettingsKey {
+    Role,
+    Width,
+    Boxes,
+    Lanes,
+    Window,
+}
+
+impl fmt::Display for SettingsKey {
+    ghost output = { λ key. Some (key_text key) };
+
+    fn fmt<W: fmt::Write>(&self, f: &mut fmt::Formatter<W>) -> fmt::Result {
+        match self {
+            SettingsKey::Role => f.write_str("role"),
+            SettingsKey::Width => f.write_str("width"),
+            SettingsKey::Boxes => f.write_str("boxes"),
+            SettingsKey::Lanes => f.write_str("lanes"),
+            SettingsKey::Window => f.write_str("window"),
+        }
+    }
+}
+
+fn is_same_role(a: Role, b: Role) -> bool
+    ensures { IsTrue result ↔ (a ≡ b) }
+{
+    match a {
+        Role::Leader => match b {
+            Role::Leader => true,
+            Role::Helper => false,
+        },
+        Role::Helper => match b {
+            Role::Leader => false,
+            Role::Helper => true,
+        },
+    }
+}
+
+/// The first setting in which an opening differs from another, if there is one. Seeds aren't compared.
+pub(crate) fn first_difference(a: &Opening, b: &Opening) -> Option<SettingsKey>
+    ensures some { IfSome result (λ key. DiffersAt key a.now b.now) }
+    ensures none { IsNone result → IsSame a.now b.now }
+{
+    if !is_same_role(a.role, b.role) {
+        Some(SettingsKey::Role)
+    } else if a.settings.width != b.settings.width {
+        Some(SettingsKey::Width)
+    } else if a.settings.boxes != b.settings.boxes {
+        Some(SettingsKey::Boxes)
+    } else if a.settings.lanes != b.settings.lanes {
+        Some(SettingsKey::Lanes)
+    } else if a.settings.window != b.settings.window {
+        Some(SettingsKey::Window)
+    } else {
+        None
+    }
+}

@@ -1,0 +1,78 @@
+//! How many connections had each answer.
+ghost use Rattle.std.specs.Prelude.{◌≡◌, ◌+◌, ◌-◌, ◌<◌, ◌^◌, [], ◌∷◌, Some, count_by};
+ghost use Rattle.node_serve.specs.Tallies.{is_answered, is_ended, is_connection_fault, is_link_fault, is_bad_link, total, tally_text};
+
+use crate::node::Served;
+use std::fmt;
+
+/// How many connections had each answer.
+#[derive(Clone, Copy, Debug, PartialEq, Eq)]
+pub struct Tally {
+    pub answered: u32,
+    pub ended: u32,
+    pub connection_faults: u32,
+    pub link_faults: u32,
+    pub bad_links: u32,
+}
+
+impl Tally {
+    /// No connection yet.
+    pub fn new() -> Self
+        ensures { result ≡ record { answered = 0; ended = 0; connection_faults = 0; link_faults = 0; bad_links = 0 } }
+    {
+        Tally {
+            answered: 0,
+            ended: 0,
+            connection_faults: 0,
+            link_faults: 0,
+            bad_links: 0,
+        }
+    }
+
+    /// How many connections there were in all.
+    pub fn total(&self) -> u64
+        ensures { result ≡ total self.now }
+    {
+        u64::from(self.answered)
+            + u64::from(self.ended)
+            + u64::from(self.connection_faults)
+            + u64::from(self.link_faults)
+            + u64::from(self.bad_links)
+    }
+
+    /// Counts one connection more.
+    pub fn count(&mut self, answer: Served)
+        requires room { total self.old < 2 ^ 32 - 1 }
+        ensures answered { self.new.answered ≡ self.old.answered + count_by is_answered (answer ∷ []) }
+        ensures ended { self.new.ended ≡ self.old.ended + count_by is_ended (answer ∷ []) }
+        ensures connection_faults { self.new.connection_faults ≡ self.old.connection_faults + count_by is_connection_fault (answer ∷ []) }
+        ensures link_faults { self.new.link_faults ≡ self.old.link_faults + count_by is_link_fault (answer ∷ []) }
+        ensures one_more { total self.new ≡ total self.old + 1 }
+        ensures bad_links { self.new.bad_links ≡ self.old.bad_links + count_by is_bad_link (answer ∷ []) }
+    {
+        match answer {
+            Served::Answered => self.answered += 1,
+            Served::Ended => self.ended += 1,
+            Served::ConnFault(_) => self.connection_faults += 1,
+            Served::LinkFault(_) => self.link_faults += 1,
+            Served::LinkBad => self.bad_links += 1,
+        }
+    }
+}
+
+impl fmt::Display for Tally {
+    ghost output = { λ tally. Some (tally_text tally) };
+
+    fn fmt<W: fmt::Write>(&self, f: &mut fmt::Formatter<W>) -> fmt::Result {
+        write!(
+            f,
+            "served {} answered {} ended {} connfaults {} linkfaults {} linkbad {}",
+            self.total(),
+            self.answered,
+            self.ended,
+            self.connection_faults,
+            self.link_faults,
+            self.bad_links
+        )
+    }
+}
