@@ -1,8 +1,8 @@
 //! Texts of batches: a worked one, lines that are bad, as many pairs as there may be, and what is printed of
 //! a fault.
 use crate::joined::joined;
-use express_texts::{MOST_PAIRS, TextFault, read_batch};
-use express_words::Closing;
+use crate::told::is_told;
+use express_texts::{MOST_PAIRS, read_batch};
 use std::alloc::Global;
 use std::test::Fail;
 
@@ -11,83 +11,72 @@ const HEADER: &[u8] = b"batch 1 000000000000000000000000000000000000000000000000
 const PAIR: &[u8] = b"pair 00000000000000000000000000000001 0000000000000000000000000000000A \
     0000000000000000000000000000000b 000000000000000000000000000000Ff";
 
-const ZERO: Closing = Closing { o: 1, tau: 10 };
-
-const ONE: Closing = Closing { o: 11, tau: 255 };
-
-fn is_only(closings: &[Closing], wanted: &Closing) -> bool {
-    match closings {
-        [only] => only.o == wanted.o && only.tau == wanted.tau,
-        _ => false,
+// How many pairs are read of a text, or else its fault.
+fn count_told(alloc: Global, text: &[u8]) -> Result<String, Fail> {
+    match read_batch(alloc, text) {
+        Ok(pairs) => Ok(format!(in alloc; "{}\n", pairs.zero.as_slice().len())?),
+        Err(fault) => Ok(format!(in alloc; "{fault}\n")?),
     }
 }
 
-// Whether a text is read as this seed and one pair.
-fn is_one_pair(
-    alloc: Global,
-    text: &[u8],
-    seed: &[u8],
-    pair: (Closing, Closing),
-) -> Result<bool, Fail> {
+fn counts_told(alloc: Global, texts: &[&[&[u8]]]) -> Result<String, Fail> {
+    let mut told = String::new(alloc);
+    for parts in texts {
+        let text = joined(alloc, parts)?;
+        let count = count_told(alloc, &text)?;
+        told.push_str(count.as_str())?;
+    }
+    Ok(told)
+}
+
+// The seed, and the closings of both servers.
+fn pairs_told(alloc: Global, text: &[u8]) -> Result<String, Fail> {
     let pairs = read_batch(alloc, text)?;
-    Ok(
-        pairs.seed.as_slice() == seed
-            && is_only(pairs.zero.as_slice(), &pair.0)
-            && is_only(pairs.one.as_slice(), &pair.1),
-    )
+    let zero = pairs.zero.as_slice();
+    let one = pairs.one.as_slice();
+    Ok(format!(in alloc; "{:?}\n{zero:?}\n{one:?}\n", pairs.seed)?)
 }
 
-// The first bad line of the header and these bytes behind it, or else 0, and how many pairs were read.
-fn read_behind_header(alloc: Global, bytes: &[u8]) -> Result<(u32, usize), Fail> {
-    let text = joined(alloc, &[HEADER, bytes])?;
-    match read_batch(alloc, &text) {
-        Ok(pairs) => Ok((0, pairs.zero.as_slice().len())),
-        Err(TextFault::Wrong(line)) => Ok((line, 0)),
-        Err(fault) => Err(fault)?,
-    }
-}
+const PAIRS: &str =
+    "[0, 0, 0, 0, 0, 0, 0, 0, 0, 0, 0, 0, 0, 0, 0, 0, 0, 0, 0, 0, 0, 0, 0, 0, 0, 0, 0, 0, 0, 0, 0, 255]\n\
+    [Closing { o: 1, tau: 10 }]\n[Closing { o: 11, tau: 255 }]\n";
 
-// What is printed of a text's fault.
-fn printed_fault(alloc: Global, text: &[u8]) -> Result<String, Fail> {
-    let Err(fault) = read_batch(alloc, text) else {
-        return Err("the text was read")?;
-    };
-    Ok(format!(in alloc; "{fault}")?)
-}
+const TEXTS: [&[&[u8]]; 9] = [
+    &[HEADER],
+    &[HEADER, b"\n"],
+    &[HEADER, PAIR, b"\n"],
+    &[HEADER, PAIR, b" \n"],
+    &[HEADER, PAIR, b"\r\n"],
+    &[HEADER, PAIR, b"0\n"],
+    &[HEADER, PAIR, b"\n\n"],
+    &[HEADER, PAIR, b"\npair"],
+    &[],
+];
 
 #[test]
 fn one_pair_and_bad_lines(rt: HostRuntime) -> Result<(), Fail> {
     let text = joined(rt.alloc(), &[HEADER, PAIR])?;
-    let mut seed = [0; 32];
-    seed[31] = 255;
-    assert!(rt; is_one_pair(rt.alloc(), &text, &seed, (ZERO, ONE))?);
-    for (pair, end, wanted) in [
-        (b"".as_slice(), b"".as_slice(), (0, 0)),
-        (b"", b"\n", (2, 0)),
-        (PAIR, b"\n", (0, 1)),
-        (PAIR, b" \n", (2, 0)),
-        (PAIR, b"\r\n", (2, 0)),
-        (PAIR, b"0\n", (2, 0)),
-        (PAIR, b"\n\n", (3, 0)),
-        (PAIR, b"\npair", (3, 0)),
-    ] {
-        let bytes = joined(rt.alloc(), &[pair, end])?;
-        assert_eq!(rt; read_behind_header(rt.alloc(), &bytes)?, wanted);
+    is_told(pairs_told(rt.alloc(), &text), PAIRS)?;
+    let wanted =
+        "0\nbad line 2\n1\nbad line 2\nbad line 2\nbad line 2\nbad line 3\nbad line 3\nbad line 1\n";
+    is_told(counts_told(rt.alloc(), &TEXTS), wanted)
+}
+
+// The header and as many pairs as there may be, and these bytes behind them.
+fn many_pairs(alloc: Global, end: &[u8]) -> Result<Vec<u8>, Fail> {
+    let mut text = Vec::from_slice(alloc, HEADER)?;
+    for _ in 0..MOST_PAIRS {
+        text.extend_from_slice(PAIR)?;
+        text.push(b'\n')?;
     }
-    let printed = printed_fault(rt.alloc(), b"")?;
-    assert!(rt; printed.as_str() == "bad line 1");
-    Ok(())
+    text.extend_from_slice(end)?;
+    Ok(text)
 }
 
 #[test]
 fn as_many_pairs_as_there_may_be(rt: HostRuntime) -> Result<(), Fail> {
-    let mut bytes = Vec::new(rt.alloc());
-    for _ in 0..MOST_PAIRS {
-        bytes.extend_from_slice(PAIR)?;
-        bytes.push(b'\n')?;
-    }
-    assert_eq!(rt; read_behind_header(rt.alloc(), &bytes)?, (0, 20_000));
-    bytes.extend_from_slice(PAIR)?;
-    assert_eq!(rt; read_behind_header(rt.alloc(), &bytes)?, (20_002, 0));
-    Ok(())
+    let most = many_pairs(rt.alloc(), b"")?;
+    is_told(count_told(rt.alloc(), &most), "20000\n")?;
+    let more = many_pairs(rt.alloc(), PAIR)?;
+    is_told(count_told(rt.alloc(), &more), "bad line 20002\n")
 }

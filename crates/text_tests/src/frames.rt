@@ -98,6 +98,10 @@ fn fed(gather: &mut Gather, piece: &[u8]) -> Result<usize, FrameFault> {
     gather.feed(piece)
 }
 
+fn is_fed(gather: &mut Gather, piece: &[u8], wanted: Result<usize, FrameFault>) -> bool {
+    fed(gather, piece) == wanted
+}
+
 /// How many bytes are held, and how many are missing.
 fn held_and_missing(gather: &Gather) -> (usize, usize) {
     (gather.held().len(), gather.want())
@@ -109,7 +113,7 @@ fn frame_in(gather: &Gather) -> Option<&[u8]> {
 
 fn is_taken_in_pieces(gather: &mut Gather, bytes: &[u8], size: usize) -> bool {
     for piece in bytes.chunks(size.max(1)) {
-        if fed(gather, piece) != Ok(piece.len()) {
+        if !is_fed(gather, piece, Ok(piece.len())) {
             return false;
         }
     }
@@ -121,7 +125,7 @@ fn is_gathered(gather: &mut Gather, bytes: &[u8], size: usize) -> bool {
     gather.clear();
     is_taken_in_pieces(gather, bytes, size)
         && held_and_missing(gather) == (bytes.len(), 0)
-        && fed(gather, &[1, 2, 3]) == Ok(0)
+        && is_fed(gather, &[1, 2, 3], Ok(0))
         && frame_in(gather) == Some(bytes)
 }
 
@@ -151,43 +155,68 @@ fn frames_are_written_back(rt: HostRuntime) -> Result<(), Fail> {
     Ok(())
 }
 
+/// Whether the answer is this one where a byte of the frame is another.
+fn is_answer(frame: &[u8], place: usize, other: u8, wanted: FrameFault) -> bool {
+    let mut bytes = [0; 24];
+    let len = frame.len().min(24);
+    bytes[..len].copy_from_slice(&frame[..len]);
+    answer_with(&mut bytes[..len], place, other) == Answer::Fault(wanted)
+}
+
+const WRONG: [(&[u8], usize, u8, FrameFault); 5] = [
+    (&HELD, 4, 9, FrameFault::Version(9)),
+    (&HELD, 4, 2, FrameFault::Malformed(5)),
+    (&HELD, 3, 16, FrameFault::Malformed(0)),
+    (&HELD, 5, 16, FrameFault::Malformed(5)),
+    (&LINK_RETIRE, 4, 1, FrameFault::Malformed(5)),
+];
+
 #[test]
 fn worked_frames_with_a_wrong_byte(rt: HostRuntime) {
-    let mut held = HELD;
-    for (place, byte, fault) in [
-        (4, 9, FrameFault::Version(9)),
-        (4, 2, FrameFault::Malformed(5)),
-        (3, 16, FrameFault::Malformed(0)),
-        (5, 16, FrameFault::Malformed(5)),
-    ] {
-        assert_eq!(rt; answer_with(&mut held, place, byte), Answer::Fault(fault));
+    for (frame, place, other, fault) in &WRONG {
+        assert!(rt; is_answer(frame, *place, *other, *fault));
     }
-    let mut retire = LINK_RETIRE;
-    let answer = answer_with(&mut retire, 4, 1);
-    assert_eq!(rt; answer, Answer::Fault(FrameFault::Malformed(5)));
+}
+
+// Whether the bytes are gathered in pieces of each of these sizes.
+fn is_gathered_in(gather: &mut Gather, bytes: &[u8], sizes: &[usize]) -> bool {
+    for size in sizes {
+        if !is_gathered(gather, bytes, *size) {
+            return false;
+        }
+    }
+    true
 }
 
 #[test]
 fn gathered_in_any_pieces(rt: HostRuntime) -> Result<(), Fail> {
     let mut gather = opened(rt.alloc())?;
-    assert_eq!(rt; held_and_missing(&gather), (0, 4));
+    assert!(rt; held_and_missing(&gather) == (0, 4));
     for row in rows() {
         let bytes = bytes_of(rt.alloc(), row)?;
-        for size in [1usize, 7, 22, 9000] {
-            assert!(rt; is_gathered(&mut gather, &bytes, size));
-        }
+        assert!(rt; is_gathered_in(&mut gather, &bytes, &[1, 7, 22, 9000]));
     }
-    // The kind is wrong, so that its byte is the last that is taken, and the fault stays.
-    gather.clear();
+    Ok(())
+}
+
+// Whether a gatherer answers so to a piece, and holds and misses so many bytes then.
+fn is_after(
+    gather: &mut Gather,
+    piece: &[u8],
+    answer: Result<usize, FrameFault>,
+    after: (usize, usize),
+) -> bool {
+    is_fed(gather, piece, answer) && held_and_missing(gather) == after
+}
+
+// The kind is wrong, so that its byte is the last that is taken, and the fault stays.
+#[test]
+fn a_wrong_kind_ends_a_gatherer(rt: HostRuntime) -> Result<(), Fail> {
+    let mut gather = opened(rt.alloc())?;
     let wrong = Err(FrameFault::Malformed(5));
-    for (piece, answer, after) in [
-        (&HELD[..5], Ok(5), (5, 16)),
-        (&[99, 0, 0], wrong, (6, 0)),
-        (&HELD, wrong, (6, 0)),
-    ] {
-        assert_eq!(rt; fed(&mut gather, piece), answer);
-        assert_eq!(rt; held_and_missing(&gather), after);
-    }
+    assert!(rt; is_after(&mut gather, &HELD[..5], Ok(5), (5, 16)));
+    assert!(rt; is_after(&mut gather, &[99, 0, 0], wrong, (6, 0)));
+    assert!(rt; is_after(&mut gather, &HELD, wrong, (6, 0)));
     assert!(rt; frame_in(&gather).is_none());
     Ok(())
 }

@@ -23,4 +23,6 @@ mod schedules;
 #[cfg(test)]
 mod settings;
 #[cfg(test)]
+mod told;
+#[cfg(test)]
 mod words;

@@ -1,10 +1,11 @@
 //! Each form of the outside in memory through a few calls, among them one that is listed to fail, and one that
 //! finds no room.
+use crate::told::is_told;
 use express_words::NoMemory;
 use express_words::outside::{
     Counted, Failed, MemoryConn, MemoryNet, MemorySink, MemorySource, Net, Sink, Source,
 };
-use std::alloc::Global;
+use std::alloc::{AllocError, Global};
 use std::test::Fail;
 
 // The answers of calls. Their callers learn nothing of what the calls do, which keeps their proofs small.
@@ -20,6 +21,20 @@ fn faults(object: &impl Counted) -> u64 {
     object.faults()
 }
 
+// Each tells the answer, and the count of faults by then; a take also what is in the buffer.
+fn take(source: &mut impl Source, buf: &mut [u8; 2], told: &mut String) -> Result<(), AllocError> {
+    let answer = taken(source, buf);
+    write!(told, "{answer:?} {buf:?} {}\n", faults(source))
+}
+
+fn put_all(sink: &mut impl Sink, texts: &[&[u8]], told: &mut String) -> Result<(), AllocError> {
+    for text in texts {
+        let answer = put(sink, text);
+        write!(told, "{answer:?} {}\n", faults(sink))?;
+    }
+    Ok(())
+}
+
 fn source(alloc: Global) -> Result<MemorySource, Fail> {
     Ok(MemorySource::new(alloc, b"abc", &[2])?)
 }
@@ -32,32 +47,30 @@ fn conn(alloc: Global, given: &[u8], room: usize, failing: &[u64]) -> Result<Mem
     MemoryConn::new(alloc, given, room, failing)
 }
 
+fn source_told(alloc: Global) -> Result<String, Fail> {
+    let mut source = source(alloc)?;
+    let mut buf = [0u8; 2];
+    let mut told = String::new(alloc);
+    for _ in 0..4u8 {
+        take(&mut source, &mut buf, &mut told)?;
+    }
+    Ok(told)
+}
+
+fn sink_told(alloc: Global, texts: &[&[u8]]) -> Result<String, Fail> {
+    let mut sink = sink(alloc)?;
+    let mut told = String::new(alloc);
+    put_all(&mut sink, texts, &mut told)?;
+    write!(told, "{:?}\n", sink.written())?;
+    Ok(told)
+}
+
 #[test]
 fn source_and_sink_in_memory(rt: HostRuntime) -> Result<(), Fail> {
-    let mut source = source(rt.alloc())?;
-    let mut buf = [0u8; 2];
-    for (answer, bytes, count) in [
-        (Ok(2), *b"ab", 0),
-        (Err(Failed), *b"ab", 1),
-        (Ok(1), *b"cb", 1),
-        (Ok(0), *b"cb", 1),
-    ] {
-        assert!(rt; taken(&mut source, &mut buf) == answer);
-        assert!(rt; buf == bytes);
-        assert!(rt; faults(&source) == count);
-    }
-    let mut sink = sink(rt.alloc())?;
-    for (bytes, answer, count) in [
-        (b"ab".as_slice(), Ok(()), 0),
-        (b"cd", Err(Failed), 1),
-        (b"cd", Err(Failed), 2),
-        (b"c", Ok(()), 2),
-    ] {
-        assert!(rt; put(&mut sink, bytes) == answer);
-        assert!(rt; faults(&sink) == count);
-    }
-    assert!(rt; sink.written() == b"abc".as_slice());
-    Ok(())
+    let takes = "Ok(2) [97, 98] 0\nErr(Failed) [97, 98] 1\nOk(1) [99, 98] 1\nOk(0) [99, 98] 1\n";
+    is_told(source_told(rt.alloc()), takes)?;
+    let puts = "Ok(()) 0\nErr(Failed) 1\nErr(Failed) 2\nOk(()) 2\n[97, 98, 99]\n";
+    is_told(sink_told(rt.alloc(), &[b"ab", b"cd", b"cd", b"c"]), puts)
 }
 
 // Whether the connection gave and took these bytes.
@@ -65,18 +78,23 @@ fn has_passed(conn: &MemoryConn, given: &[u8], written: &[u8]) -> bool {
     conn.given() == given && conn.written() == written
 }
 
+fn conn_told(alloc: Global) -> Result<String, Fail> {
+    let mut conn = conn(alloc, b"abc", 2, &[1, 3])?;
+    let mut buf = [0u8; 2];
+    let mut told = String::new(alloc);
+    put_all(&mut conn, &[b"x", b"x"], &mut told)?;
+    take(&mut conn, &mut buf, &mut told)?;
+    take(&mut conn, &mut buf, &mut told)?;
+    put_all(&mut conn, &[b"yz"], &mut told)?;
+    write!(told, "{}\n", has_passed(&conn, b"ab", b"x"))?;
+    Ok(told)
+}
+
 #[test]
 fn connection_in_memory(rt: HostRuntime) -> Result<(), Fail> {
-    let mut conn = conn(rt.alloc(), b"abc", 2, &[1, 3])?;
-    let mut buf = [0u8; 2];
-    let puts = [put(&mut conn, b"x"), put(&mut conn, b"x")];
-    assert!(rt; puts == [Err(Failed), Ok(())]);
-    let takes = [taken(&mut conn, &mut buf), taken(&mut conn, &mut buf)];
-    assert!(rt; takes == [Err(Failed), Ok(2)]);
-    assert!(rt; put(&mut conn, b"yz") == Err(Failed));
-    assert!(rt; has_passed(&conn, b"ab", b"x"));
-    assert!(rt; faults(&conn) == 3);
-    Ok(())
+    let calls =
+        "Err(Failed) 1\nOk(()) 1\nErr(Failed) [0, 0] 2\nOk(2) [97, 98] 2\nErr(Failed) 3\ntrue\n";
+    is_told(conn_told(rt.alloc()), calls)
 }
 
 fn listen(net: &mut MemoryNet, at: &str) -> Result<(), Failed> {
@@ -137,21 +155,24 @@ fn calls(alloc: Global, failing: &[u64]) -> Result<([bool; 4], u64, usize), Fail
     ))
 }
 
+fn calls_told(alloc: Global, lists: &[&[u64]]) -> Result<String, Fail> {
+    let mut told = String::new(alloc);
+    for failing in lists {
+        let (failed, faults, closed) = calls(alloc, failing)?;
+        write!(told, "{failed:?} {faults} {closed}\n")?;
+    }
+    Ok(told)
+}
+
+const CALLS: &str = "[false, false, false, true] 1 2\n[true, false, false, true] 2 2\n\
+    [false, true, false, false] 1 1\n[false, false, true, false] 1 1\n[false, false, false, true] 1 2\n";
+
 #[test]
 fn net_in_memory(rt: HostRuntime) -> Result<(), Fail> {
-    let none: [u64; 0] = [];
-    let ample = calls(rt.alloc(), &none)?;
-    assert!(rt; ample == ([false, false, false, true], 1, 2));
-    for (number, wanted) in [
-        (1, ([true, false, false, true], 2, 2)),
-        (2, ([false, true, false, false], 1, 1)),
-        (3, ([false, false, true, false], 1, 1)),
-        (4, ([false, false, false, true], 1, 2)),
-    ] {
-        let answers = calls(rt.alloc(), &[number])?;
-        assert!(rt; answers == wanted);
-    }
-    Ok(())
+    is_told(
+        calls_told(rt.alloc(), &[&[], &[1], &[2], &[3], &[4]]),
+        CALLS,
+    )
 }
 
 // A net with room for 4 calls.

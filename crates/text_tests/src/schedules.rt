@@ -1,6 +1,7 @@
 //! Worked rows read and printed again, lines that are bad, and a mill.
 use crate::joined::joined;
-use schedule_text::{Asked, Event, ReadFault, mill, print, read};
+use crate::told::is_told;
+use schedule_text::{Asked, Event, ReadFault, Schedule, mill, print, read};
 use std::alloc::Global;
 use std::test::Fail;
 
@@ -55,20 +56,16 @@ const SHOWN_FRAMES: &[u8] = b"express 1 16 4 1 1 0000000000000000000000000000000
     show 3\n\
     show 6\n";
 
-// A foreign register that no deposit waits for.
-const NO_DEPOSIT: &[u8] = b"express 1 16 4 2 1 00000000000000000000000000000000\
-    00000000000000000000000000000000\n\
-    inject A 0000004001020001000000010000000000000000ffffffffffffffffffffffffffffffff00000000000000\
-    00000000000000000000000000000000000000000000000000\n\
-    deliver 0\n\
-    deliver 1\n\
-    deliver 2\n";
-
-// The bytes of the line that injects it.
-const FOREIGN_LEN: usize = 146;
-
 const HEADER: &[u8] = b"express 1 16 4 2 1 00000000000000000000000000000000\
     00000000000000000000000000000000\n";
+
+// A foreign register.
+const FOREIGN: &[u8] =
+    b"inject A 0000004001020001000000010000000000000000ffffffffffffffffffffffffffffffff00000000000000\
+    00000000000000000000000000000000000000000000000000\n";
+
+// What stands behind it where no deposit waits for it.
+const DELIVERED: &[u8] = b"deliver 0\ndeliver 1\ndeliver 2\n";
 
 // What is printed of the schedule that a text is read as. Its callers learn nothing of how schedules are spelled,
 // which keeps their proofs small.
@@ -77,52 +74,75 @@ fn reprinted(alloc: Global, text: &[u8]) -> Result<Vec<u8>, Fail> {
     Ok(print(alloc, &schedule)?)
 }
 
+fn is_printed_again(alloc: Global, parts: &[&[u8]]) -> Result<bool, Fail> {
+    let text = joined(alloc, parts)?;
+    let printed = reprinted(alloc, &text)?;
+    Ok(printed.as_slice() == text.as_slice())
+}
+
+const ROWS: [&[&[u8]]; 5] = [
+    &[TWO_WRITERS],
+    &[RETIRE],
+    &[SHOWN_FRAMES],
+    &[HEADER, FOREIGN, DELIVERED],
+    &[HEADER],
+];
+
 #[test]
 fn rows_are_printed_again(rt: HostRuntime) -> Result<(), Fail> {
-    for row in [TWO_WRITERS, RETIRE, SHOWN_FRAMES, NO_DEPOSIT, HEADER] {
-        let printed = reprinted(rt.alloc(), row)?;
-        assert!(rt; printed.as_slice() == row);
+    for row in &ROWS {
+        assert!(rt; is_printed_again(rt.alloc(), row)?);
     }
     Ok(())
 }
 
-// The first bad line of a text, or 0.
-fn bad_line(alloc: Global, text: &[u8]) -> Result<u32, Fail> {
-    match read(alloc, text) {
-        Ok(_) => Ok(0),
-        Err(ReadFault::BadLine(line)) => Ok(line),
-        Err(fault) => Err(fault)?,
-    }
+// Its callers learn nothing of how schedules are spelled, which keeps their proofs small.
+fn schedule_in(alloc: Global, text: &[u8]) -> Result<Schedule, ReadFault> {
+    read(alloc, text)
 }
 
-fn printed_fault(alloc: Global, text: &[u8]) -> Result<String, Fail> {
-    let Err(fault) = read(alloc, text) else {
-        return Err("the text was read")?;
-    };
-    Ok(format!(in alloc; "{fault}")?)
+// Whether a text of these parts is read, or else its fault.
+fn row_told(alloc: Global, parts: &[&[u8]], told: &mut String) -> Result<(), Fail> {
+    let text = joined(alloc, parts)?;
+    match schedule_in(alloc, &text) {
+        Ok(_) => told.push_str("read\n")?,
+        Err(fault) => write!(told, "{fault}\n")?,
+    }
+    Ok(())
+}
+
+fn rows_told(alloc: Global, rows: &[&[&[u8]]]) -> Result<String, Fail> {
+    let mut told = String::new(alloc);
+    for parts in rows {
+        row_told(alloc, parts, &mut told)?;
+    }
+    Ok(told)
+}
+
+const JUDGED: [&[&[u8]]; 8] = [
+    &[HEADER],
+    &[HEADER, b"\n"],
+    &[HEADER, b"finish 0\nask 0 read 00\n"],
+    &[HEADER, b"show 0\n", b"deliver 4294967296\n"],
+    &[HEADER, b"send 1\n", FOREIGN],
+    &[HEADER, FOREIGN, b"finish 1\n"],
+    &[HEADER, FOREIGN, b"finish 0\n"],
+    &[],
+];
+
+#[test]
+fn bad_lines(rt: HostRuntime) -> Result<(), Fail> {
+    let judged =
+        "read\nbad line 2\nbad line 3\nbad line 3\nbad line 3\nbad line 3\nread\nbad line 1\n";
+    is_told(rows_told(rt.alloc(), &JUDGED), judged)
 }
 
 #[test]
-fn either_case_and_bad_lines(rt: HostRuntime) -> Result<(), Fail> {
+fn either_case(rt: HostRuntime) -> Result<(), Fail> {
     let text = joined(rt.alloc(), &[HEADER, b"tick\ninject B 0aBF"])?;
     let wanted = joined(rt.alloc(), &[HEADER, b"tick\ninject B 0abf\n"])?;
     let printed = reprinted(rt.alloc(), &text)?;
     assert!(rt; printed.as_slice() == wanted.as_slice());
-    let foreign = &NO_DEPOSIT[HEADER.len()..HEADER.len() + FOREIGN_LEN];
-    for (first, second, wanted) in [
-        (b"".as_slice(), b"".as_slice(), 0),
-        (b"\n", b"", 2),
-        (b"finish 0\nask 0 read 00\n", b"", 3),
-        (b"show 0\n", b"deliver 4294967296\n", 3),
-        (b"send 1\n", foreign, 3),
-        (foreign, b"finish 1\n", 3),
-        (foreign, b"finish 0\n", 0),
-    ] {
-        let text = joined(rt.alloc(), &[HEADER, first, second])?;
-        assert_eq!(rt; bad_line(rt.alloc(), &text)?, wanted);
-    }
-    let printed = printed_fault(rt.alloc(), b"")?;
-    assert!(rt; printed.as_str() == "bad line 1");
     Ok(())
 }
 
@@ -145,10 +165,14 @@ fn printed_mill(alloc: Global) -> Result<Vec<u8>, Fail> {
     Ok(print(alloc, &schedule)?)
 }
 
+fn is_mill_read(alloc: Global) -> Result<bool, Fail> {
+    let text = printed_mill(alloc)?;
+    let again = reprinted(alloc, &text)?;
+    Ok(again.as_slice() == text.as_slice())
+}
+
 #[test]
 fn a_mill_is_printed_and_read(rt: HostRuntime) -> Result<(), Fail> {
-    let text = printed_mill(rt.alloc())?;
-    let again = reprinted(rt.alloc(), &text)?;
-    assert!(rt; again.as_slice() == text.as_slice());
+    assert!(rt; is_mill_read(rt.alloc())?);
     Ok(())
 }

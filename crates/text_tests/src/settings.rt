@@ -1,9 +1,9 @@
 //! One server's settings, one client's and one carrier's, the first wrong key of each, and texts that aren't
 //! TOML.
-use express_words::{Settings, Text};
+use crate::told::is_told;
 use settings_text::{
-    Asking, CarryJob, CarrySettings, ClientSettings, LEADER, OwnedBox, ServeSettings, TextFault,
-    read_carry, read_client, read_serve,
+    Asking, CarryJob, CarrySettings, ClientSettings, LEADER, ServeSettings, TextFault, read_carry,
+    read_client, read_serve,
 };
 use std::alloc::{AllocError, Global};
 use std::test::Fail;
@@ -64,29 +64,21 @@ const CARRY: [Key; 7] = [
     ),
 ];
 
+fn put_key(text: &mut String, key: &str, value: &str) -> Result<(), AllocError> {
+    write!(text, "{key} = {value}\n")
+}
+
 // The keys, with right values before this place and wrong ones from it on.
 fn text_of(alloc: Global, keys: &[Key], wrong_from: usize) -> Result<String, AllocError> {
     let mut text = String::new(alloc);
-    for (i, (name, right, wrong)) in keys.iter().enumerate() {
-        text.push_str(name)?;
-        text.push_str(" = ")?;
-        text.push_str(if i < wrong_from { right } else { wrong })?;
-        text.push_str("\n")?;
+    let (good, bad) = keys.split_at(wrong_from.min(keys.len()));
+    for (key, right, _) in good {
+        put_key(&mut text, key, right)?;
+    }
+    for (key, _, wrong) in bad {
+        put_key(&mut text, key, wrong)?;
     }
     Ok(text)
-}
-
-// Whether a text isn't read, and its fault is printed as one at the key.
-fn is_bad<T: Drop>(
-    alloc: Global,
-    read: Result<T, TextFault>,
-    key: &str,
-) -> Result<bool, AllocError> {
-    let Err(fault) = read else {
-        return Ok(false);
-    };
-    let printed = format!(in alloc; "{fault}")?;
-    Ok(printed.strip_prefix("bad settings ") == Some(key))
 }
 
 // Its callers learn nothing of how settings are spelled, which keeps their proofs small.
@@ -94,143 +86,175 @@ fn server_in(alloc: Global, text: &[u8]) -> Result<ServeSettings, TextFault> {
     read_serve(alloc, text)
 }
 
-fn is_at(place: &Text, wanted: &str) -> bool {
-    place.as_str() == wanted
+fn server_told(server: &ServeSettings, told: &mut String) -> Result<(), AllocError> {
+    let role = if server.role == LEADER {
+        "leader"
+    } else {
+        "helper"
+    };
+    write!(
+        told,
+        "{role} {} {}\n",
+        server.listen.as_str(),
+        server.peer.as_str()
+    )?;
+    write!(told, "{:?} {}\n", server.settings, server.connections)
+}
+
+// The settings that a text is read as, or its fault.
+fn server_text_told(alloc: Global, text: &[u8], told: &mut String) -> Result<(), AllocError> {
+    match server_in(alloc, text) {
+        Ok(server) => server_told(&server, told),
+        Err(fault) => write!(told, "{fault}\n"),
+    }
+}
+
+// With the first key wrong, the second, and so on; and with none.
+fn servers_told(alloc: Global) -> Result<String, Fail> {
+    let mut told = String::new(alloc);
+    for wrong_from in 0..SERVE.len() + 1 {
+        let text = text_of(alloc, &SERVE, wrong_from)?;
+        server_text_told(alloc, text.as_bytes(), &mut told)?;
+    }
+    Ok(told)
+}
+
+const SERVERS: &str =
+    "bad settings role\nbad settings listen\nbad settings peer\nbad settings width\n\
+    bad settings boxes\nbad settings lanes\nbad settings window\nbad settings connections\n\
+    leader 127.0.0.1:7001 127.0.0.1:7000\n\
+    Settings { width: 4096, boxes: 4096, lanes: 256, window: 32 } 1000000\n";
+
+fn other_texts_told(alloc: Global, texts: &[&[u8]]) -> Result<String, Fail> {
+    let mut told = String::new(alloc);
+    for text in texts {
+        server_text_told(alloc, text, &mut told)?;
+    }
+    Ok(told)
 }
 
 // A leader's, the first wrong key, and texts that aren't TOML.
 #[test]
 fn a_servers_settings(rt: HostRuntime) -> Result<(), Fail> {
-    let text = text_of(rt.alloc(), &SERVE, SERVE.len())?;
-    let leader = server_in(rt.alloc(), text.as_bytes())?;
-    assert!(rt; leader.role == LEADER);
-    assert!(rt; is_at(&leader.listen, "127.0.0.1:7001"));
-    assert!(rt; is_at(&leader.peer, "127.0.0.1:7000"));
-    let settings = Settings {
-        width: 4096,
-        boxes: 4096,
-        lanes: 256,
-        window: 32,
-    };
-    assert!(rt; leader.settings == settings);
-    assert!(rt; leader.connections == 1_000_000);
-    for (i, (name, _, _)) in SERVE.iter().enumerate() {
-        let text = text_of(rt.alloc(), &SERVE, i)?;
-        let read = server_in(rt.alloc(), text.as_bytes());
-        assert!(rt; is_bad(rt.alloc(), read, name)?, "{name}");
-    }
-    for (text, wanted) in [
-        (b"role = ".as_slice(), "toml"),
-        (b"# \xff\n", "toml"),
-        (b"", "role"),
-    ] {
-        let read = server_in(rt.alloc(), text);
-        assert!(rt; is_bad(rt.alloc(), read, wanted)?, "{wanted}");
-    }
-    Ok(())
+    is_told(servers_told(rt.alloc()), SERVERS)?;
+    let others = "bad settings toml\nbad settings toml\nbad settings role\n";
+    is_told(
+        other_texts_told(rt.alloc(), &[b"role = ", b"# \xff\n", b""]),
+        others,
+    )
 }
 
 fn client_in(alloc: Global, text: &[u8]) -> Result<ClientSettings, TextFault> {
     read_client(alloc, text)
 }
 
-// Whether the requests are the four of the text, with this message.
-fn are_asked(requests: &[Asking], message: &[u8]) -> bool {
-    match requests {
-        [
-            Asking::Register(0x00112233445566778899aabbccddeeff),
-            Asking::Write(1, written),
-            Asking::Read(0),
-            Asking::Retire(4095),
-        ] => written.as_slice() == message,
-        _ => false,
-    }
+fn asking_told(asking: &Asking, told: &mut String) -> Result<(), AllocError> {
+    let (kind, number, message): (&str, u128, &[u8]) = match asking {
+        Asking::Register(address) => ("register", *address, &[]),
+        Asking::Write(address, message) => ("write", *address, message.as_slice()),
+        Asking::Read(own) => ("read", u128::from(*own), &[]),
+        Asking::Retire(own) => ("retire", u128::from(*own), &[]),
+    };
+    write!(told, "{kind} {number:x} {message:?}\n")
 }
 
-// Whether the only box is this one.
-fn is_owned(boxes: &[OwnedBox], number: u32, serial: u32) -> bool {
-    match boxes {
-        [only] => only.box_number == number && only.serial == serial,
-        _ => false,
-    }
-}
-
-fn is_seed(found: &Option<[u8; 32]>, wanted: &[u8; 32]) -> bool {
-    match found {
-        Some(seed) => seed == wanted,
-        None => false,
-    }
-}
-
-// A client's, and the first wrong key.
-#[test]
-fn a_clients_settings(rt: HostRuntime) -> Result<(), Fail> {
-    let text = text_of(rt.alloc(), &CLIENT, CLIENT.len())?;
-    let client = client_in(rt.alloc(), text.as_bytes())?;
-    assert!(rt; client.lane == 255 && client.serial == u32::MAX);
-    assert!(rt; is_at(&client.leader, "127.0.0.1:7001"));
-    assert!(rt; is_at(&client.helper, "127.0.0.1:7000"));
-    assert!(rt; client.width == 16 && client.boxes == 1);
-    let mut seed = [0; 32];
-    seed[31] = 255;
-    assert!(rt; is_seed(&client.seed, &seed));
-    assert!(rt; is_owned(client.owned.as_slice(), 4095, 1));
-    let message = [0, 1, 2, 3, 4, 5, 6, 7, 8, 9, 10, 11, 12, 13, 14, 15];
-    assert!(rt; are_asked(client.requests.as_slice(), &message));
-    for (i, (name, _, _)) in CLIENT.iter().enumerate() {
-        let text = text_of(rt.alloc(), &CLIENT, i)?;
-        let read = client_in(rt.alloc(), text.as_bytes());
-        assert!(rt; is_bad(rt.alloc(), read, name)?, "{name}");
+fn requests_told(requests: &[Asking], told: &mut String) -> Result<(), AllocError> {
+    for asking in requests {
+        asking_told(asking, told)?;
     }
     Ok(())
 }
 
-fn carrier(alloc: Global, wrong_from: usize) -> Result<String, AllocError> {
-    let mut text = text_of(alloc, &CLIENT[..3], 3)?;
-    let rest = text_of(alloc, &CARRY, wrong_from)?;
-    text.push_str(rest.as_str())?;
-    Ok(text)
+fn client_told(client: &ClientSettings, told: &mut String) -> Result<(), AllocError> {
+    let (leader, helper) = (client.leader.as_str(), client.helper.as_str());
+    write!(told, "{} {leader} {helper}\n", client.lane)?;
+    write!(
+        told,
+        "{} {} {}\n",
+        client.width, client.boxes, client.serial
+    )?;
+    write!(told, "{:?}\n{:?}\n", client.seed, client.owned.as_slice())?;
+    requests_told(client.requests.as_slice(), told)
+}
+
+fn client_text_told(alloc: Global, text: &[u8], told: &mut String) -> Result<(), AllocError> {
+    match client_in(alloc, text) {
+        Ok(client) => client_told(&client, told),
+        Err(fault) => write!(told, "{fault}\n"),
+    }
+}
+
+fn clients_told(alloc: Global) -> Result<String, Fail> {
+    let mut told = String::new(alloc);
+    for wrong_from in 0..CLIENT.len() + 1 {
+        let text = text_of(alloc, &CLIENT, wrong_from)?;
+        client_text_told(alloc, text.as_bytes(), &mut told)?;
+    }
+    Ok(told)
+}
+
+const CLIENTS: &str =
+    "bad settings lane\nbad settings leader\nbad settings helper\nbad settings width\n\
+    bad settings boxes\nbad settings serial\nbad settings seed\nbad settings owned\n\
+    bad settings request\n255 127.0.0.1:7001 127.0.0.1:7000\n16 1 4294967295\n\
+    Some([0, 0, 0, 0, 0, 0, 0, 0, 0, 0, 0, 0, 0, 0, 0, 0, 0, 0, 0, 0, 0, 0, 0, 0, 0, 0, 0, 0, 0, 0, 0, 255])\n\
+    [OwnedBox { box_number: 4095, serial: 1 }]\n\
+    register 112233445566778899aabbccddeeff []\n\
+    write 1 [0, 1, 2, 3, 4, 5, 6, 7, 8, 9, 10, 11, 12, 13, 14, 15]\nread 0 []\nretire fff []\n";
+
+// A client's, and the first wrong key.
+#[test]
+fn a_clients_settings(rt: HostRuntime) -> Result<(), Fail> {
+    is_told(clients_told(rt.alloc()), CLIENTS)
 }
 
 fn carrier_in(alloc: Global, text: &[u8]) -> Result<CarrySettings, TextFault> {
     read_carry(alloc, text)
 }
 
-// Whether a file of 17 bytes is to be sent to addresses 1 and 2.
-fn is_sent(job: &CarryJob) -> bool {
-    match job {
+fn carrier_told(carrier: &CarrySettings, told: &mut String) -> Result<(), AllocError> {
+    write!(told, "{} {:?}\n", carrier.width, carrier.seed)?;
+    match &carrier.job {
         CarryJob::Send {
             id,
             file,
             addresses,
-        } => {
-            *id == 9_223_372_036_854_775_807
-                && file.as_slice().len() == 17
-                && addresses.as_slice() == [1, 2].as_slice()
-        }
-        CarryJob::Fetch => false,
+        } => write!(
+            told,
+            "send {id} {:?} {:?}\n",
+            file.as_slice(),
+            addresses.as_slice()
+        ),
+        CarryJob::Fetch => told.push_str("fetch\n"),
     }
 }
 
-// A carrier's, and the first wrong key. A fetch without owned boxes is a wrong `owned`, which the last row shows.
+fn carrier_text_told(alloc: Global, text: &[u8], told: &mut String) -> Result<(), AllocError> {
+    match carrier_in(alloc, text) {
+        Ok(carrier) => carrier_told(&carrier, told),
+        Err(fault) => write!(told, "{fault}\n"),
+    }
+}
+
+fn carriers_told(alloc: Global) -> Result<String, Fail> {
+    let mut told = String::new(alloc);
+    for wrong_from in 0..CARRY.len() + 1 {
+        let mut text = text_of(alloc, &CLIENT[..3], 3)?;
+        let rest = text_of(alloc, &CARRY, wrong_from)?;
+        text.push_str(rest.as_str())?;
+        carrier_text_told(alloc, text.as_bytes(), &mut told)?;
+    }
+    Ok(told)
+}
+
+// A fetch without owned boxes is a wrong `owned`.
+const CARRIERS: &str =
+    "bad settings width\nbad settings boxes\nbad settings serial\nbad settings owned\n\
+    bad settings id\nbad settings file\nbad settings addresses\n32 None\n\
+    send 9223372036854775807 [0, 1, 2, 3, 4, 5, 6, 7, 8, 9, 10, 11, 12, 13, 14, 15, 16] [1, 2]\n";
+
+// A carrier's, and the first wrong key.
 #[test]
 fn a_carriers_settings(rt: HostRuntime) -> Result<(), Fail> {
-    let text = carrier(rt.alloc(), CARRY.len())?;
-    let settings = carrier_in(rt.alloc(), text.as_bytes())?;
-    assert!(rt; settings.width == 32 && settings.seed.is_none());
-    assert!(rt; is_sent(&settings.job));
-    for (i, wanted) in [
-        (0, "width"),
-        (1, "boxes"),
-        (2, "serial"),
-        (4, "id"),
-        (5, "file"),
-        (6, "addresses"),
-        (3, "owned"),
-    ] {
-        let text = carrier(rt.alloc(), i)?;
-        let read = carrier_in(rt.alloc(), text.as_bytes());
-        assert!(rt; is_bad(rt.alloc(), read, wanted)?, "{wanted}");
-    }
-    Ok(())
+    is_told(carriers_told(rt.alloc()), CARRIERS)
 }
