@@ -5,6 +5,10 @@ use Rattle.desk_words.specs.CommandLine.{AskSome, IsAsked}
 use Rattle.desk_words.specs.declared.task.DeskTask.{DeskTask}
 use Rattle.desk_run.specs.Quiet.{AskServers, is_quiet}
 use Rattle.desk_run.specs.Statuses.{EndsAsAsked, IsInUse, MayEnd}
+use Rattle.express_words.specs.Seen.{Seen}
+use Rattle.node_journal.specs.Disk.{DiskSeen}
+use Rattle.desk_run.specs.Scenes.{Scene}
+use Rattle.desk_run.specs.Words.{DoneAsAsked, DoneBy}
 use Rattle.desk_run.proofs.StatusLaws.{may_undone}
 
 pub asked_none : (words : List Text) → IsAsked words None → AskSome words → ⊥
@@ -27,3 +31,16 @@ ends words t n is among = record { task = t; asked = is; among = among }
 
 pub ends_undone : (words : List Text) (n : ℕ) → AskSome words → n ≡ 1 → EndsAsAsked words n
 ends_undone words n (t, is) undone = record { task = t; asked = is; among = inl (may_undone t n undone) }
+
+pub done : {D : Type 0} (shows : D → DiskSeen) (counts : D → Seen) (words : List Text) (t : DeskTask) (n : ℕ) (old new : Scene D)
+    → IsAsked words (Some t) → DoneBy shows counts t n old new → DoneAsAsked shows counts words n old new
+done shows counts words t n old new is does = record { task = t; asked = is; done = does }
+
+-- a word that isn't done says nothing of it
+pub done_undone : {D : Type 0} (shows : D → DiskSeen) (counts : D → Seen) (words : List Text) (n : ℕ) (old new : Scene D)
+    → AskSome words → n ≡ 1 → DoneAsAsked shows counts words n old new
+done_undone shows counts words n old new (t, is) undone = record {
+  task = t;
+  asked = is;
+  done = record { done = λ zero. cc; met = λ five. cc };
+}

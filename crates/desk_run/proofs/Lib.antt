@@ -1,8 +1,12 @@
 pub mod Asked
 pub mod CardSheets
+pub mod NameLaws
 pub mod OpenLaws
 pub mod PrintLaws
+pub mod RenewLaws
 pub mod SendLaws
 pub mod ShowLaws
+pub mod StandLaws
 pub mod StatusLaws
+pub mod WordLaws
 pub mod WorkLaws

@@ -1,14 +1,18 @@
 -- Letters, printed one behind another.
-use Rattle.std.proofs.Common.{◌≡◌, ◌∙◌, ◌⊎◌, inl, inr, ℕ, Bool, true, false, ◌||◌, List, [], ◌∷◌, ◌++◌, Option, append_assoc, ap, refl, sym, subst, map, drop, take, min, length, get_or, arith, ◌-◌, ◌≤◌, ◌<◌}
+use Rattle.std.proofs.Common.{◌≡◌, ◌∙◌, ◌⊎◌, inl, inr, ℕ, Bool, true, false, ◌||◌, List, [], ◌∷◌, ◌++◌, Option, Result, Ok, Err, append_assoc, ap, refl, sym, subst, map, drop, take, min, length, get_or, arith, ◌-◌, ◌≤◌, ◌<◌}
 use Rattle.std.proofs.lemmas.List.{append-nil, length-drop, drop-map, drop_min, length-map, take_all}
+use Rattle.std.specs.Prelude.{OnOk}
 use Rattle.std.specs.List.{list_any}
 use Rattle.express_words.specs.Streams.{Took}
 use Rattle.desk_entries.specs.declared.entry.Entry.{Entry}
+use Rattle.desk_entries.specs.declared.entry.Entry.TheVariants as entry
 use Rattle.desk_entries.specs.declared.entry.Held.{Held}
 use Rattle.desk_entries.specs.declared.entry.Held.TheVariants as held
 use Rattle.desk_entries.specs.declared.entry.Reading.{Reading}
 use Rattle.desk_entries.specs.Desks.{name_of}
 use Rattle.desk_entries.specs.Letters.{letters_of, shown_of}
+use Rattle.desk_ledger.specs.Ledgers.{EntriesOnly, LedgerState}
+use Rattle.desk_run.specs.Changes.{NotesShown}
 use Rattle.desk_run.specs.Printing.{Prints, TellsMet, met_line}
 use Rattle.desk_run.specs.Shown.{Each, Shows, ShowsEach, ShowsReading, none, then, holds_met, is_met, new_letters}
 use Rattle.desk_run.specs.Told.{TellsFile, TellsReading}
@@ -90,6 +94,25 @@ new_of f xs entries n are is =
     sym (drop-map f n xs) ∙ ap (λ (l : List Reading). drop n l) are
     ∙ ap (λ (k : ℕ). drop k (letters_of entries)) (is ∙ ap (λ (k : ℕ). min (shown_of entries) k) (sym (length-map xs f) ∙ ap length are))
     ∙ drop_min (shown_of entries) (letters_of entries)
+
+-- where some weren't shown they are noted now
+pub notes_more : {T E D : Type 0} (r : Result T E) (old new : LedgerState D) (count : ℕ) → count ≡ length (letters_of old.entries)
+    → OnOk r (shown_of new.entries ≡ count) → OnOk r (new.entries ≡ old.entries ++ entry.Shown count ∷ [])
+    → EntriesOnly old new → OnOk r (NotesShown old new)
+notes_more (Err e) old new count is shown added only = tt
+notes_more (Ok x) old new count is shown added only = record {
+  shown = omega (arith, is, shown);
+  noted = inr (added ∙ ap (λ (n : ℕ). old.entries ++ entry.Shown n ∷ []) is);
+  only = only;
+}
+
+-- where all were nothing is noted
+pub notes_none : {D : Type 0} (l : LedgerState D) → length (letters_of l.entries) ≤ shown_of l.entries → NotesShown l l
+notes_none l few = record {
+  shown = few;
+  noted = inl refl;
+  only = record { pair = refl; opening = refl; boxes = refl; client = refl; untold = refl };
+}
 
 no_length : (xs : List Reading) → length xs ≡ 0 → xs ≡ []
 no_length [] is = refl

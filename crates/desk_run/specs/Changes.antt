@@ -1,7 +1,64 @@
--- A file that is made anew.
-use Rattle.std.specs.Prelude.{List, Option, Some, false}
-use Rattle.desk_outside.specs.Calls.{Adds, FolderCall, Opened, Removed}
+-- How the words of an owner change the ledger.
+use Rattle.std.specs.Prelude.{◌≡◌, ◌⊎◌, ◌≤◌, ℕ, List, [], ◌∷◌, ◌++◌, Option, Some, None, length, is_some, true, false, codes}
+use Rattle.std.specs.List.{filter}
+use Rattle.node_journal.specs.Disk.{DiskSeen}
+use Rattle.desk_entries.specs.declared.entry.Entry.{Entry}
+use Rattle.desk_entries.specs.declared.entry.Entry.TheVariants as entry
+use Rattle.desk_entries.specs.Desks.{is_retiring, named}
+use Rattle.desk_entries.specs.Forgetting.{kept}
+use Rattle.desk_entries.specs.Letters.{letters_of, shown_of}
+use Rattle.desk_ledger.specs.Cards.{card_addresses}
+use Rattle.desk_ledger.specs.Forgetting.{next_opening}
+use Rattle.desk_ledger.specs.Ledgers.{EntriesOnly, LedgerState}
+use Rattle.desk_ledger.specs.Tasks.{is_live, name_fault}
+use Rattle.desk_outside.specs.Calls.{Adds, FolderCall, Opened, Placed, Removed}
 use Rattle.desk_outside.specs.declared.folder.DeskFile.{DeskFile}
+use Rattle.desk_outside.specs.declared.folder.DeskFile.TheVariants.{Ledger, NextLedger}
+use Rattle.desk_run.specs.Shown.{IsCardText, ShowsEach, new_letters}
+
+-- ---- names
+
+-- Nothing speaks against the name, and so many addresses have it now, and wait for their boxes.
+pub record Names {D : Type 0} (name : List ℕ) (count : ℕ) (old new : LedgerState D) : Type 0 where
+  pub addresses : List ℕ
+  pub many : length addresses ≡ count
+  pub free : name_fault old.client.opening.capacity old.client.core.boxes old.entries name addresses ≡ None
+  pub noted : new.entries ≡ old.entries ++ entry.Named (record { name = name; addresses = addresses }) ∷ []
+  pub only : EntriesOnly old new
+
+-- The name is used already, and nothing changes.
+pub record IsUsed {D : Type 0} (name : List ℕ) (old new : LedgerState D) : Type 0 where
+  pub used : is_some (named old.entries name) ≡ true
+  pub same : new ≡ old
+
+abbrev pub WantsBoxes : {D : Type 0} → List ℕ → ℕ → (old new : LedgerState D) → Type 0
+WantsBoxes name count old new = IsUsed name old new ⊎ Names name count old new
+
+-- The boxes of the name are to be retired now, where they weren't before.
+pub record WantsRetired {D : Type 0} (name : List ℕ) (old new : LedgerState D) : Type 0 where
+  pub retiring : is_retiring new.entries name ≡ true
+  pub noted : (new.entries ≡ old.entries) ⊎ (new.entries ≡ old.entries ++ entry.Retiring name ∷ [])
+  pub only : EntriesOnly old new
+
+-- ---- letters
+
+-- All letters are noted as shown, where some weren't yet, and nothing else changes.
+pub record NotesShown {D : Type 0} (old new : LedgerState D) : Type 0 where
+  pub shown : length (letters_of old.entries) ≤ shown_of new.entries
+  pub noted : (new.entries ≡ old.entries)
+      ⊎ (new.entries ≡ old.entries ++ entry.Shown (length (letters_of old.entries)) ∷ [])
+  pub only : EntriesOnly old new
+
+-- ---- a ledger in the place of another
+
+-- lane, seed, next serial, pair, live boxes and names are those of the old one, and nothing is under way
+pub record Follows {D E : Type 0} (old : LedgerState D) (next : LedgerState E) : Type 0 where
+  pub opening : next.client.opening ≡ next_opening old.client
+  pub serial : next.client.core.client.serial ≡ old.client.core.client.serial
+  pub boxes : next.client.core.boxes ≡ filter (is_live old.entries) old.client.core.boxes
+  pub entries : next.entries ≡ kept old.entries
+  pub pair : next.pair ≡ old.pair
+  pub idle : (next.client.core.client.current ≡ None) × (next.client.core.untold ≡ [])
 
 -- What was left in this file is removed, and the file is made anew.
 pub record MakesFile {D : Type 0} (file : DeskFile) (disk : D) (old new : Option (List (FolderCall D)))
@@ -9,3 +66,37 @@ pub record MakesFile {D : Type 0} (file : DeskFile) (disk : D) (old new : Option
   pub mid : Option (List (FolderCall D))
   pub removed : Adds old mid (Removed file false)
   pub opened : Adds mid new (Opened file (Some disk))
+
+-- A ledger that follows is made on a new file, which is put in the place of the old one.
+pub record Renews {D : Type 0} (shows : D → DiskSeen) (ledger : LedgerState D)
+    (old new : Option (List (FolderCall D))) : Type 0 where
+  pub disk : D
+  pub mid : Option (List (FolderCall D))
+  pub made : MakesFile NextLedger disk old mid
+  pub empty : (c : List ℕ) → (shows disk).reads c → c ≡ []
+  pub next : LedgerState D
+  pub follows : Follows ledger next
+  pub placed : Adds mid new (Placed NextLedger Ledger false)
+
+-- ---- what is printed
+
+abbrev pub advice : List ℕ
+advice = codes "\nThis is the card of these boxes: hand out its lines as they stand.\n"
+
+-- the card of the name's live boxes, and what it is for
+pub record TellsCard {D : Type 0} (l : LedgerState D) (name text : List ℕ) : Type 0 where
+  pub card : List ℕ
+  pub is_card : IsCardText l.pair (card_addresses l.entries name) card
+  pub is : text ≡ card ++ advice
+
+unfoldable pub retired_line : List ℕ → List ℕ
+retired_line name = codes "the boxes of " ++ name ++ codes " are retired: its cards are of no use any more\n"
+
+abbrev pub forgotten_line : List ℕ
+forgotten_line = codes "the letters are forgotten; boxes and cards stay as they are\n"
+
+-- the new letters, and a line behind them
+pub record TellsNewAnd (line : List ℕ) (entries : List Entry) (text : List ℕ) : Type 0 where
+  pub letters : List ℕ
+  pub shown : ShowsEach entries (new_letters entries) letters
+  pub is : text ≡ letters ++ line

@@ -9,7 +9,9 @@ pub mod Rests
 pub mod Scenes
 pub mod Sends
 pub mod Shown
+pub mod Standings
 pub mod Statuses
 pub mod Told
 pub mod Tries
+pub mod Words
 pub mod Works

@@ -1,7 +1,11 @@
 //! The word `box`.
-ghost use Rattle.std.specs.Prelude.{◌≡◌, ◌≢◌, IfErr, IfOk, length, Ok};
-ghost use Rattle.desk_run.specs.Ends.{IsOfName, Unfailed};
+ghost use Rattle.std.specs.Prelude.{◌≡◌, ◌≢◌, IfErr, IfOk, OnOk, length, Ok};
+ghost use Rattle.desk_run.specs.Changes.{TellsCard, WantsBoxes};
+ghost use Rattle.desk_run.specs.Ends.{IsOfName, IsUndone, Unfailed};
+ghost use Rattle.desk_run.specs.Printing.{Prints};
+ghost use Rattle.desk_run.specs.Scenes.{scene};
 ghost use Rattle.desk_run.specs.Sends.{SendsOn};
+ghost use Rattle.desk_run.specs.Words.{OpensBoxes};
 
 use crate::around::Around;
 use crate::cards::show_card;
@@ -37,7 +41,8 @@ fn want<'a, D: Disk>(
     count: u32,
     draws: &mut Draws,
 ) -> Result<bool, Trouble<'a>>
-    ensures { IfErr result IsOfName }
+    ensures wants { OnOk result (WantsBoxes name.now count ledger.old ledger.new) }
+    ensures trouble { IfErr result IsOfName }
 {
     let addresses = drawn(alloc, draws, count)?;
     match ledger.add_name(name, &addresses)? {
@@ -58,6 +63,25 @@ fn no_card<'a>(used: bool) -> Trouble<'a>
     }
 }
 
+// Prints the card of a name, and what it is for.
+fn tell_card<'a, D: Disk, K: Sink>(
+    alloc: Global,
+    ledger: &Ledger<D>,
+    name: &'a str,
+    out: &mut K,
+) -> Result<(), Trouble<'a>>
+    ensures told { OnOk result (Prints (TellsCard ledger.now name.entry.now) (K.seen out.old).written
+        (K.seen out.new).written) }
+    ensures undone { IfErr result IsUndone }
+    ensures sink { Unfailed (K.seen out.old).faults (K.seen out.new).faults result }
+{
+    show_card(alloc, ledger, name, out)?;
+    say(
+        out,
+        "\nThis is the card of these boxes: hand out its lines as they stand.\n",
+    )
+}
+
 /// The word `box`: registers boxes under a name, so many as are wanted, and prints their card. Boxes of that name that
 /// are there stay.
 pub(crate) fn open_boxes<'a, S: Source, K: Sink, N: Net, F: Folder, P: Papers, C: Clock>(
@@ -67,6 +91,8 @@ pub(crate) fn open_boxes<'a, S: Source, K: Sink, N: Net, F: Folder, P: Papers, C
     draws: &mut Draws,
     around: &mut Around<S, K, N, F, P, C>,
 ) -> Result<End, Trouble<'a>>
+    ensures done { OnOk result (OpensBoxes F.File.disk name.entry.now count
+        (scene K.seen N.seen F.calls around.old) (scene K.seen N.seen F.calls around.new)) }
     ensures trouble { IfErr result IsOfName }
     ensures not_met { result ≢ Ok End.Met }
     ensures sink { Unfailed (K.seen around.old.out).faults (K.seen around.new.out).faults result }
@@ -80,10 +106,6 @@ pub(crate) fn open_boxes<'a, S: Source, K: Sink, N: Net, F: Folder, P: Papers, C
     if ledger.card(name)?.is_none() {
         return Err(no_card(used));
     }
-    show_card(alloc, &ledger, name, &mut around.out)?;
-    say(
-        &mut around.out,
-        "\nThis is the card of these boxes: hand out its lines as they stand.\n",
-    )?;
+    tell_card(alloc, &ledger, name, &mut around.out)?;
     Ok(End::Done)
 }

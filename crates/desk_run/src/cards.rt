@@ -6,6 +6,7 @@ ghost use Rattle.desk_ledger.specs.Cards.{card_addresses};
 ghost use Rattle.desk_run.specs.Printing.{Prints};
 ghost use Rattle.desk_run.specs.Shown.{IsCardText};
 ghost use Rattle.desk_run.specs.Ends.{IsUndone, Unfailed};
+ghost use Rattle.desk_run.specs.Words.{ShowsCard};
 
 use crate::ending::End;
 use crate::ledgers::desk_in;
@@ -60,6 +61,8 @@ pub(crate) fn card<'a, F: Folder, K: Sink>(
     folder: &mut F,
     out: &mut K,
 ) -> Result<End, Trouble<'a>>
+    ensures done { OnOk result (ShowsCard F.File.disk name.entry.now (F.calls folder.old) (F.calls folder.new)
+        (K.seen out.old).written (K.seen out.new).written) }
     ensures undone { IfErr result IsUndone }
     ensures not_met { result ≢ Ok End.Met }
     ensures sink { Unfailed (K.seen out.old).faults (K.seen out.new).faults result }

@@ -1,9 +1,10 @@
 //! The word `forget`.
-ghost use Rattle.std.specs.Prelude.{◌≡◌, IfErr, Ok, is_err};
-ghost use Rattle.std.specs.List.{filter};
-ghost use Rattle.desk_ledger.specs.Tasks.{is_live};
+ghost use Rattle.std.specs.Prelude.{◌≡◌, IfErr, IfOk, Ok, OnOk, is_err};
 ghost use Rattle.desk_outside.specs.Calls.{Adds, Placed};
+ghost use Rattle.desk_run.specs.Changes.{Follows, Renews};
 ghost use Rattle.desk_run.specs.Ends.{IsUndone, Unfailed};
+ghost use Rattle.desk_run.specs.Scenes.{scene};
+ghost use Rattle.desk_run.specs.Words.{ForgetsLetters};
 ghost use Rattle.desk_run.specs.Sends.{SendsOn};
 ghost use Rattle.desk_run.specs.Printing.{Prints, TellsMet};
 
@@ -36,9 +37,7 @@ fn replace<'a, F: Folder>(
     next: &Ledger<F::File>,
     folder: &mut F,
 ) -> Result<(), Trouble<'a>>
-    requires serial { next.now.client.core.client.serial ≡ old.now.client.core.client.serial }
-    requires boxes { next.now.client.core.boxes
-        ≡ filter (is_live old.now.entries) old.now.client.core.boxes }
+    requires follows { Follows old.now next.now }
     ensures undone { IfErr result IsUndone }
     ensures placed { Adds (F.calls folder.old) (F.calls folder.new)
         (Placed DeskFile.NextLedger DeskFile.Ledger (is_err result)) }
@@ -50,8 +49,10 @@ fn replace<'a, F: Folder>(
 }
 
 // Puts a ledger without letters in the place of this one.
+#[tactic(auto, using(crate::proofs::RenewLaws::follows))]
 fn renew<'a, F: Folder>(ledger: &Ledger<F::File>, folder: &mut F) -> Result<(), Trouble<'a>>
-    ensures { IfErr result IsUndone }
+    ensures renews { OnOk result (Renews F.File.disk ledger.now (F.calls folder.old) (F.calls folder.new)) }
+    ensures undone { IfErr result IsUndone }
 {
     let disk = empty_file(folder, DeskFile::NextLedger)?;
     match ledger.forget(disk, LIMIT) {
@@ -65,6 +66,8 @@ pub(crate) fn forget<'a, S: Source, K: Sink, N: Net, F: Folder, P: Papers, C: Cl
     alloc: Global,
     around: &mut Around<S, K, N, F, P, C>,
 ) -> Result<End, Trouble<'a>>
+    ensures done { IfOk result (λ end. ForgetsLetters F.File.disk end
+        (scene K.seen N.seen F.calls around.old) (scene K.seen N.seen F.calls around.new)) }
     ensures undone { IfErr result IsUndone }
     ensures met { result ≡ Ok End.Met
         → Prints TellsMet (K.seen around.old.out).written (K.seen around.new.out).written }

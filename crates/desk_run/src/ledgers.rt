@@ -1,8 +1,9 @@
 //! The ledger of a desk's folder.
-ghost use Rattle.std.specs.Prelude.{IfErr, IfOk};
+ghost use Rattle.std.specs.Prelude.{◌≡◌, IfErr, IfOk};
 ghost use Rattle.desk_run.specs.Changes.{MakesFile};
 ghost use Rattle.desk_run.specs.Ends.{IsUndone};
 ghost use Rattle.desk_run.specs.Opens.{Finds, Opens};
+ghost use Rattle.desk_run.specs.Standings.{hundredths};
 
 use crate::trouble::Trouble;
 use desk_ledger::{Ledger, OpenFault};
@@ -21,7 +22,9 @@ pub(crate) fn is_full(used: u64) -> bool {
 }
 
 /// How many hundredths of its room a ledger takes.
-pub(crate) fn hundredths(used: u64) -> u64 {
+pub(crate) fn hundredths(used: u64) -> u64
+    ensures { result ≡ hundredths used }
+{
     used.min(LIMIT) * 100 / LIMIT
 }
 

@@ -1,8 +1,14 @@
 //! The word `letters`.
-ghost use Rattle.std.specs.Prelude.{◌≡◌, IfErr, IfOk, Ok, true};
+ghost use Rattle.std.specs.Prelude.{◌≡◌, ◌≢◌, [], IfErr, IfOk, Ok, OnOk, false, true};
+ghost use Rattle.std.specs.List.{list_any};
 ghost use Rattle.desk_run.specs.Ends.{IsUndone, Unfailed};
 ghost use Rattle.desk_run.specs.Sends.{SendsOn};
 ghost use Rattle.desk_run.specs.Printing.{Prints, TellsMet};
+ghost use Rattle.desk_run.specs.Scenes.{scene};
+ghost use Rattle.desk_run.specs.Shown.{is_met};
+ghost use Rattle.desk_run.specs.Told.{TellsEach, told_of};
+ghost use Rattle.desk_run.specs.Words.{FetchesLetters};
+ghost use Rattle.desk_run.specs.Works.{Does, ReadsLive};
 
 use crate::around::Around;
 use crate::carrying::do_task;
@@ -14,9 +20,30 @@ use crate::trouble::Trouble;
 use crate::writing::write_letters;
 use desk_ledger::{Ledger, Task};
 use desk_outside::{Clock, Folder, Papers};
+use express_words::Refusal;
 use express_words::outside::{Net, Sink, Source};
 use node_journal::Disk;
 use std::alloc::Global;
+
+// Reads a box. A refusal of the servers is given.
+fn read_one<'a, D: Disk, N: Net, C: Clock>(
+    ledger: &mut Ledger<D>,
+    own: u32,
+    net: &mut N,
+    clock: &mut C,
+) -> Result<Option<Refusal>, Trouble<'a>>
+    ensures reads { OnOk result
+        (Does (Task.Read own) ledger.old ledger.new (N.seen net.old).calls (N.seen net.new).calls) }
+    ensures undone { IfErr result IsUndone }
+    ensures net { Unfailed (N.seen net.old).faults (N.seen net.new).faults result }
+    ensures sends { SendsOn D.disk D.Counted.seen (N.seen net.old).calls (N.seen net.new).calls }
+{
+    match do_task(ledger, Task::Read(own), net, clock) {
+        Ok(()) => Ok(None),
+        Err(Trouble::Refused(refusal)) => Ok(Some(refusal)),
+        Err(trouble) => Err(trouble),
+    }
+}
 
 // Reads each live box once, also behind one whose read was refused.
 fn fetch<'a, D: Disk, N: Net, C: Clock>(
@@ -24,6 +51,7 @@ fn fetch<'a, D: Disk, N: Net, C: Clock>(
     net: &mut N,
     clock: &mut C,
 ) -> Result<(), Trouble<'a>>
+    ensures reads { OnOk result (ReadsLive ledger.old ledger.new (N.seen net.old).calls (N.seen net.new).calls) }
     ensures undone { IfErr result IsUndone }
     ensures net { Unfailed (N.seen net.old).faults (N.seen net.new).faults result }
     ensures sends { SendsOn D.disk D.Counted.seen (N.seen net.old).calls (N.seen net.new).calls }
@@ -31,11 +59,8 @@ fn fetch<'a, D: Disk, N: Net, C: Clock>(
     let live = ledger.live()?;
     let mut refused = None;
     'boxes: for own in live.iter() {
-        match do_task(ledger, Task::Read(*own), net, clock) {
-            Ok(()) => {}
-            Err(Trouble::Refused(refusal)) => refused = Some(refusal),
-            Err(trouble) => return Err(trouble),
-        }
+        let answer = read_one(ledger, *own, net, clock)?;
+        refused = answer.or(refused);
     }
     match refused {
         Some(refusal) => Err(Trouble::Refused(refusal)),
@@ -50,11 +75,17 @@ fn show<'a, S: Source, K: Sink, N: Net, F: Folder, P: Papers, C: Clock>(
     ledger: &mut Ledger<F::File>,
     around: &mut Around<S, K, N, F, P, C>,
 ) -> Result<Shown, Trouble<'a>>
-    ensures met { IfOk result (λ shown. shown.met ≡ true
+    ensures told { OnOk result (Prints (TellsEach folder.entry ledger.old.entries)
+        (K.seen around.old.out).written (K.seen around.new.out).written) }
+    ensures none { IfOk result (λ shown. shown.any ≡ false → told_of folder.entry ledger.old.entries ≡ []) }
+    ensures some { IfOk result (λ shown. shown.any ≡ true → told_of folder.entry ledger.old.entries ≢ []) }
+    ensures met { IfOk result (λ shown. shown.met ≡ list_any is_met (told_of folder.entry ledger.old.entries)) }
+    ensures tells { IfOk result (λ shown. shown.met ≡ true
         → Prints TellsMet (K.seen around.old.out).written (K.seen around.new.out).written) }
     ensures undone { IfErr result IsUndone }
     ensures sink { Unfailed (K.seen around.old.out).faults (K.seen around.new.out).faults result }
     ensures net { around.new.net ≡ around.old.net }
+    ensures folder { around.new.folder ≡ around.old.folder }
 {
     match folder {
         None => show_new(alloc, ledger, &mut around.out),
@@ -68,6 +99,8 @@ pub(crate) fn letters<'a, S: Source, K: Sink, N: Net, F: Folder, P: Papers, C: C
     folder: Option<&'a str>,
     around: &mut Around<S, K, N, F, P, C>,
 ) -> Result<End, Trouble<'a>>
+    ensures done { IfOk result (λ end. FetchesLetters F.File.disk folder.entry end
+        (scene K.seen N.seen F.calls around.old) (scene K.seen N.seen F.calls around.new)) }
     ensures undone { IfErr result IsUndone }
     ensures met { result ≡ Ok End.Met
         → Prints TellsMet (K.seen around.old.out).written (K.seen around.new.out).written }

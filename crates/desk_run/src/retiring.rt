@@ -1,5 +1,8 @@
 //! The word `retire`.
-ghost use Rattle.std.specs.Prelude.{◌≡◌, ◌++◌, IfErr, IfOk, Ok, codes, string_bytes};
+ghost use Rattle.std.specs.Prelude.{◌≡◌, IfErr, IfOk, Ok, string_bytes};
+ghost use Rattle.desk_run.specs.Changes.{retired_line};
+ghost use Rattle.desk_run.specs.Scenes.{scene};
+ghost use Rattle.desk_run.specs.Words.{RetiresBoxes};
 ghost use Rattle.desk_run.specs.Ends.{IsUndone, Unfailed};
 ghost use Rattle.desk_run.specs.Sends.{SendsOn};
 ghost use Rattle.desk_run.specs.Printing.{Prints, TellsMet};
@@ -16,9 +19,9 @@ use express_words::NoMemory;
 use express_words::outside::{Net, Sink, Source};
 use std::alloc::Global;
 
+#[tactic(auto, unfolding(crate::specs::Changes::retired_line))]
 fn retired_text(alloc: Global, name: &str) -> Result<String, NoMemory>
-    ensures { IfOk result (λ text. string_bytes text
-        ≡ codes "the boxes of " ++ name.now ++ codes " are retired: its cards are of no use any more\n") }
+    ensures { IfOk result (λ text. string_bytes text ≡ retired_line name.now) }
 {
     let text = format!(in alloc;
         "the boxes of {name} are retired: its cards are of no use any more\n"
@@ -32,6 +35,8 @@ pub(crate) fn retire<'a, S: Source, K: Sink, N: Net, F: Folder, P: Papers, C: Cl
     name: &'a str,
     around: &mut Around<S, K, N, F, P, C>,
 ) -> Result<End, Trouble<'a>>
+    ensures done { IfOk result (λ end. RetiresBoxes F.File.disk name.entry.now end
+        (scene K.seen N.seen F.calls around.old) (scene K.seen N.seen F.calls around.new)) }
     ensures undone { IfErr result IsUndone }
     ensures met { result ≡ Ok End.Met
         → Prints TellsMet (K.seen around.old.out).written (K.seen around.new.out).written }

@@ -1,8 +1,12 @@
 //! The word `send`.
-ghost use Rattle.std.specs.Prelude.{◌≡◌, ◌≢◌, IfErr, IfOk, Ok};
+ghost use Rattle.std.specs.Prelude.{◌≡◌, ◌≢◌, IfErr, IfOk, Ok, OnOk};
 ghost use Rattle.desk_outbox.specs.Outboxes.{IsCardSheet};
 ghost use Rattle.desk_run.specs.Ends.{IsOfPaper, IsUndone, Unfailed};
+ghost use Rattle.desk_run.specs.Scenes.{scene};
 ghost use Rattle.desk_run.specs.Sends.{SendsOn};
+ghost use Rattle.desk_run.specs.Tries.{IsFirst, IsOfLetter};
+ghost use Rattle.desk_run.specs.Words.{LeavesLetter};
+ghost use Rattle.desk_run.specs.Printing.{PrintsSome};
 ghost use Rattle.desk_run.specs.LetterEnds.{word_end};
 
 use crate::around::Around;
@@ -85,6 +89,7 @@ fn start<'a, F: Folder>(
     folder: &mut F,
 ) -> Result<Outbox<F::File>, Trouble<'a>>
     requires card { IsCardSheet card.now }
+    ensures first { IfOk result (λ o. IsFirst F.File.disk card.now text.now o) }
     ensures trouble { IfErr result IsOfPaper }
 {
     let disk = empty_file(folder, DeskFile::NextOutbox)?;
@@ -97,6 +102,29 @@ fn start<'a, F: Folder>(
     }
 }
 
+// Works another letter off that is on its way, and tells what became of it.
+fn make_way<'a, S: Source, K: Sink, N: Net, F: Folder, P: Papers, C: Clock>(
+    alloc: Global,
+    outbox: Outbox<F::File>,
+    draws: &mut Draws,
+    around: &mut Around<S, K, N, F, P, C>,
+) -> Result<(), Trouble<'a>>
+    ensures printed { OnOk result (PrintsSome (K.seen around.old.out).written (K.seen around.new.out).written) }
+    ensures undone { IfErr result IsUndone }
+    ensures sink { Unfailed (K.seen around.old.out).faults (K.seen around.new.out).faults result }
+    ensures net { Unfailed (N.seen around.old.net).faults (N.seen around.new.net).faults result }
+    ensures sends { SendsOn F.File.disk F.File.Counted.seen
+        (N.seen around.old.net).calls (N.seen around.new.net).calls }
+{
+    let end = work_off(alloc, outbox, draws, &mut around.folder, &mut around.net)?;
+    tell_end(
+        "your earlier letter: ",
+        end,
+        &mut around.folder,
+        &mut around.out,
+    )
+}
+
 // The letter itself, where it is on its way already, or else a first try of it. Another letter that is on its way is
 // worked off before.
 fn begin<'a, S: Source, K: Sink, N: Net, F: Folder, P: Papers, C: Clock>(
@@ -107,6 +135,8 @@ fn begin<'a, S: Source, K: Sink, N: Net, F: Folder, P: Papers, C: Clock>(
     around: &mut Around<S, K, N, F, P, C>,
 ) -> Result<Outbox<F::File>, Trouble<'a>>
     requires card { IsCardSheet card.now }
+    ensures letter { IfOk result (λ o. IsOfLetter F.File.disk card.now text.now o) }
+    ensures printed { OnOk result (PrintsSome (K.seen around.old.out).written (K.seen around.new.out).written) }
     ensures trouble { IfErr result IsOfPaper }
     ensures sink { Unfailed (K.seen around.old.out).faults (K.seen around.new.out).faults result }
     ensures net { Unfailed (N.seen around.old.net).faults (N.seen around.new.net).faults result }
@@ -114,19 +144,13 @@ fn begin<'a, S: Source, K: Sink, N: Net, F: Folder, P: Papers, C: Clock>(
         (N.seen around.old.net).calls (N.seen around.new.net).calls }
 {
     match outbox_in(alloc, &mut around.folder)? {
-        Some(outbox) if is_of(&outbox, card, text) => return Ok(outbox),
+        Some(outbox) if is_of(&outbox, card, text) => Ok(outbox),
         Some(outbox) => {
-            let end = work_off(alloc, outbox, draws, &mut around.folder, &mut around.net)?;
-            tell_end(
-                "your earlier letter: ",
-                end,
-                &mut around.folder,
-                &mut around.out,
-            )?;
+            make_way(alloc, outbox, draws, around)?;
+            start(alloc, card, text, draws, &mut around.folder)
         }
-        None => {}
+        None => start(alloc, card, text, draws, &mut around.folder),
     }
-    start(alloc, card, text, draws, &mut around.folder)
 }
 
 // How the word ends, by what became of the letter.
@@ -148,6 +172,8 @@ pub(crate) fn send<'a, S: Source, K: Sink, N: Net, F: Folder, P: Papers, C: Cloc
     draws: &mut Draws,
     around: &mut Around<S, K, N, F, P, C>,
 ) -> Result<End, Trouble<'a>>
+    ensures done { IfOk result (λ end. LeavesLetter F.File.disk F.File.Counted.seen end
+        (scene K.seen N.seen F.calls around.old) (scene K.seen N.seen F.calls around.new)) }
     ensures trouble { IfErr result IsOfPaper }
     ensures not_met { result ≢ Ok End.Met }
     ensures sink { Unfailed (K.seen around.old.out).faults (K.seen around.new.out).faults result }

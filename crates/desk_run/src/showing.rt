@@ -1,8 +1,9 @@
 //! Letters, shown.
-ghost use Rattle.std.specs.Prelude.{◌≡◌, ◌≢◌, ◌≤◌, ◌<◌, ◌++◌, ◌||◌, [], codes, Err, IfErr, IfOk, OnOk, false, length, map, string_bytes, true};
+ghost use Rattle.std.specs.Prelude.{◌≡◌, ◌≢◌, ◌≤◌, ◌<◌, ◌++◌, ◌||◌, [], ◌∷◌, codes, Err, IfErr, IfOk, OnOk, false, length, map, string_bytes, true};
 ghost use Rattle.std.specs.List.{list_any};
 ghost use Rattle.desk_entries.specs.Letters.{letters_of, shown_of};
 ghost use Rattle.desk_ledger.specs.Ledgers.{EntriesOnly};
+ghost use Rattle.desk_run.specs.Changes.{NotesShown};
 ghost use Rattle.desk_run.specs.Ends.{IsCause, IsUndone, Unfailed};
 ghost use Rattle.desk_run.specs.Printing.{Prints, TellsMet, met_line};
 ghost use Rattle.desk_run.specs.Shown.{Shows, ShowsEach, ShowsLetter, ShowsReading, ShowsText, head_line, is_met, new_letters, no_text};
@@ -10,7 +11,7 @@ ghost use Rattle.desk_run.specs.Shown.{Shows, ShowsEach, ShowsLetter, ShowsReadi
 use crate::moment::moment_text;
 use crate::saying::say;
 use crate::trouble::Trouble;
-use desk_entries::{Held, Reading};
+use desk_entries::{Entry, Held, Reading};
 use desk_ledger::Ledger;
 use desk_letters::screen_text;
 use express_words::NoMemory;
@@ -208,7 +209,7 @@ pub(crate) fn show_new<'a, D: Disk, K: Sink>(
     ensures met { IfOk result (λ shown. shown.met ≡ list_any is_met (new_letters ledger.old.entries)) }
     ensures told { IfOk result (λ shown. shown.met ≡ true
         → Prints TellsMet (K.seen out.old).written (K.seen out.new).written) }
-    ensures noted { OnOk result (length (letters_of ledger.old.entries) ≤ shown_of ledger.new.entries) }
+    ensures notes { OnOk result (NotesShown ledger.old ledger.new) }
     ensures only { EntriesOnly ledger.old ledger.new }
     // Where they couldn't be printed they weren't noted.
     ensures unshown { result ≡ Err Trouble.Out → ledger.new ≡ ledger.old }
@@ -216,10 +217,23 @@ pub(crate) fn show_new<'a, D: Disk, K: Sink>(
     ensures sink { Unfailed (K.seen out.old).faults (K.seen out.new).faults result }
 {
     let shown = show_those(alloc, ledger, out)?;
-    if shown.any {
-        note_shown(ledger, shown.count)?;
-    }
+    note_new(ledger, shown)?;
     Ok(shown)
+}
+
+// Notes new letters as shown, where there are any.
+fn note_new<'a, D: Disk>(ledger: &mut Ledger<D>, shown: Shown) -> Result<(), Trouble<'a>>
+    requires count { shown.count ≡ length (letters_of ledger.old.entries) }
+    requires none { shown.any ≡ false → length (letters_of ledger.old.entries) ≤ shown_of ledger.old.entries }
+    ensures notes { OnOk result (NotesShown ledger.old ledger.new) }
+    ensures only { EntriesOnly ledger.old ledger.new }
+    ensures cause { IfErr result IsCause }
+{
+    if shown.any {
+        note_shown(ledger, shown.count)
+    } else {
+        Ok(())
+    }
 }
 
 /// Notes that so many letters were shown.
@@ -228,6 +242,7 @@ pub(crate) fn note_shown<'a, D: Disk>(
     count: usize,
 ) -> Result<(), Trouble<'a>>
     ensures noted { OnOk result (shown_of ledger.new.entries ≡ count) }
+    ensures added { OnOk result (ledger.new.entries ≡ ledger.old.entries ++ Entry.Shown count ∷ []) }
     ensures only { EntriesOnly ledger.old ledger.new }
     ensures cause { IfErr result IsCause }
 {

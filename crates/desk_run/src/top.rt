@@ -1,5 +1,5 @@
 //! The top call.
-ghost use Rattle.std.specs.Prelude.{◌≡◌, ◌≢◌, ◌⊎◌, ◌∷◌, [], Contains, IfErr, IfOk, Ok, false, map, string_bytes, true};
+ghost use Rattle.std.specs.Prelude.{◌≡◌, ◌≢◌, ◌⊎◌, ◌∷◌, [], Contains, IfErr, IfOk, OnOk, Ok, false, map, string_bytes, true};
 ghost use Rattle.desk_outside.specs.Calls.{Adds, Held};
 ghost use Rattle.desk_words.specs.CommandLine.{AskSome};
 ghost use Rattle.desk_run.specs.Ends.{IsUndone, Unfailed, status_by, status_of};
@@ -7,7 +7,9 @@ ghost use Rattle.desk_run.specs.Sends.{Sends, SendsOn};
 ghost use Rattle.desk_run.specs.Printing.{Prints, TellsMet};
 ghost use Rattle.desk_run.specs.Quiet.{AskServers, is_quiet};
 ghost use Rattle.desk_run.specs.Rests.{IsAtHome};
+ghost use Rattle.desk_run.specs.Scenes.{scene};
 ghost use Rattle.desk_run.specs.Statuses.{EndsAsAsked, IsInUse, MayEnd};
+ghost use Rattle.desk_run.specs.Words.{Does, DoesAlone, DoesWord, DoneAsAsked, DoneBy};
 
 use crate::around::Around;
 use crate::boxes::open_boxes;
@@ -35,6 +37,7 @@ const USAGE: &str = "these are no words of express-desk; express-desk --help sho
 fn hold<'a, F: Folder>(folder: &mut F) -> Result<(), Trouble<'a>>
     ensures call { IfErr result (λ t. status_by t ≡ 4
         → Adds (F.calls folder.old) (F.calls folder.new) (Held false)) }
+    ensures held { OnOk result (Adds (F.calls folder.old) (F.calls folder.new) (Held false)) }
     ensures trouble { IfErr result (λ t. (status_by t ≡ 1) ⊎ (status_by t ≡ 4)) }
 {
     match folder.hold() {
@@ -63,6 +66,8 @@ fn in_folder<'a, S: Source, K: Sink, N: Net, F: Folder, P: Papers, C: Clock>(
     around: &mut Around<S, K, N, F, P, C>,
 ) -> Result<End, Trouble<'a>>
     ensures ends { MayEnd task.entry (status_of result) }
+    ensures done { IfOk result (λ end. Does F.File.disk F.File.Counted.seen task.entry end
+        (scene K.seen N.seen F.calls around.old) (scene K.seen N.seen F.calls around.new)) }
     ensures met { result ≡ Ok End.Met
         → Prints TellsMet (K.seen around.old.out).written (K.seen around.new.out).written }
     ensures sink { Unfailed (K.seen around.old.out).faults (K.seen around.new.out).faults result }
@@ -97,6 +102,8 @@ fn with_folder<'a, S: Source, K: Sink, N: Net, F: Folder, P: Papers, C: Clock>(
     ensures in_use { status_of result ≡ 4 → IsAtHome around.old around.new }
     ensures held { status_of result ≡ 4
         → Adds (F.calls around.old.folder) (F.calls around.new.folder) (Held false) }
+    ensures done { IfOk result (λ end. DoesAlone F.File.disk F.File.Counted.seen task.entry end
+        (scene K.seen N.seen F.calls around.old) (scene K.seen N.seen F.calls around.new)) }
     ensures met { result ≡ Ok End.Met
         → Prints TellsMet (K.seen around.old.out).written (K.seen around.new.out).written }
     ensures sink { Unfailed (K.seen around.old.out).faults (K.seen around.new.out).faults result }
@@ -122,6 +129,8 @@ fn do_task<'a, S: Source, K: Sink, N: Net, F: Folder, P: Papers, C: Clock>(
     ensures in_use { status_of result ≡ 4 → IsAtHome around.old around.new }
     ensures held { status_of result ≡ 4
         → Adds (F.calls around.old.folder) (F.calls around.new.folder) (Held false) }
+    ensures does { IfOk result (λ end. DoesWord F.File.disk F.File.Counted.seen task.entry end
+        (scene K.seen N.seen F.calls around.old) (scene K.seen N.seen F.calls around.new)) }
     ensures met { result ≡ Ok End.Met
         → Prints TellsMet (K.seen around.old.out).written (K.seen around.new.out).written }
     ensures sink { Unfailed (K.seen around.old.out).faults (K.seen around.new.out).faults result }
@@ -162,6 +171,8 @@ fn run_task<'a, S: Source, K: Sink, N: Net, F: Folder, P: Papers, C: Clock>(
     ensures in_use { result ≡ 4 → IsAtHome around.old around.new }
     ensures held { result ≡ 4
         → Adds (F.calls around.old.folder) (F.calls around.new.folder) (Held false) }
+    ensures done { DoneBy F.File.disk F.File.Counted.seen task.entry result
+        (scene K.seen N.seen F.calls around.old) (scene K.seen N.seen F.calls around.new) }
     ensures met { result ≡ 5
         → Prints TellsMet (K.seen around.old.out).written (K.seen around.new.out).written }
     ensures sink { result ≢ 1 → (K.seen around.new.out).faults ≡ (K.seen around.old.out).faults }
@@ -191,7 +202,7 @@ fn refuse<K: Sink>(out: &mut K) -> u8
 /// what a person can do.
 ///
 /// All that is drawn by lot is drawn out of `seed`, of which no other run may know.
-#[tactic(auto, using(crate::proofs::Asked::asked_none, crate::proofs::Asked::asked_some, crate::proofs::Asked::quiet, crate::proofs::Asked::ends, crate::proofs::Asked::ends_undone))]
+#[tactic(auto, using(crate::proofs::Asked::asked_none, crate::proofs::Asked::asked_some, crate::proofs::Asked::quiet, crate::proofs::Asked::ends, crate::proofs::Asked::ends_undone, crate::proofs::Asked::done, crate::proofs::Asked::done_undone))]
 pub fn run_desk<S: Source, K: Sink, N: Net, F: Folder, P: Papers, C: Clock>(
     alloc: Global,
     words: &Vec<String>,
@@ -212,6 +223,10 @@ pub fn run_desk<S: Source, K: Sink, N: Net, F: Folder, P: Papers, C: Clock>(
         → Adds (F.calls around.old.folder) (F.calls around.new.folder) (Held false) }
     // A word that needs no server makes no call on the net.
     ensures quiet { (AskServers (map string_bytes words.now.items) → ⊥) → around.new.net ≡ around.old.net }
+    // With status 0 or 5 the word has done what it is to do, row by row.
+    ensures done { AskSome (map string_bytes words.now.items)
+        → DoneAsAsked F.File.disk F.File.Counted.seen (map string_bytes words.now.items) result
+        (scene K.seen N.seen F.calls around.old) (scene K.seen N.seen F.calls around.new) }
     // Where letters met that is printed, with the name of the box.
     ensures met { result ≡ 5
         → Prints TellsMet (K.seen around.old.out).written (K.seen around.new.out).written }

@@ -1,0 +1,11 @@
+use Rattle.desk_run.proofs.standing.status.Goals as goal
+
+pub returns-clause-done : goal.returns-clause-done
+returns-clause-done g c = record {
+  ledger = c.in_ok-ledger.ledger;
+  files = _;
+  finds = c.in_ok-ledger.ensures.told;
+  mid = _;
+  tells = c.in_ok-say_desk.ensures.told;
+  outbox = c.in_ok-say_outbox.ensures.said;
+}
