@@ -6,7 +6,8 @@ use Rattle.express_words.specs.Causes.{Rose}
 use Rattle.settings_text.specs.declared.serve.ServeSettings.{ServeSettings}
 use Rattle.express_cli.specs.Around.{Around}
 use Rattle.express_cli.specs.Ends.{PrintsBy}
-use Rattle.express_cli.specs.Talking.{BreaksOff, IsOut, IsStill, ServeBreaks, SpellsServe, listening}
+use Rattle.express_cli.specs.Talking.{BreaksOff, IsOut, IsStill, ServeBreaks, SpellsServe}
+use Rattle.express_cli.specs.Door.{listening}
 use Rattle.express_cli.specs.declared.words.NetCommand.TheVariants.{Serve}
 use Rattle.express_cli.specs.declared.ends.End.{End}
 use Rattle.express_cli.specs.declared.ends.End.TheVariants.{WriteFault}

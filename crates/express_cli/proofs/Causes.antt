@@ -18,16 +18,18 @@ use Rattle.express_cli.proofs.Told.{not_more, not_moved}
 pub took_as : (old new : Option (List ℕ)) (text other : List ℕ) → text ≡ other → Took old new text → Took old new other
 took_as old new text other same took = let P : List ℕ → Type 0 = λ t. Took old new t in subst P same took
 
-pub statuses : (end : End) → Contains (0 ∷ 2 ∷ 3 ∷ 4 ∷ 5 ∷ 6 ∷ 7 ∷ 8 ∷ []) (status_of end)
-statuses ends.Done = (0, lit< tt, refl)
-statuses ends.Usage = (1, lit< tt, refl)
-statuses (ends.BadLine n) = (2, lit< tt, refl)
-statuses ends.BadKey = (2, lit< tt, refl)
-statuses ends.ReadFault = (3, lit< tt, refl)
-statuses ends.WriteFault = (4, lit< tt, refl)
-statuses ends.NetFault = (5, lit< tt, refl)
-statuses ends.OutOfMemory = (6, lit< tt, refl)
-statuses ends.TooLong = (7, lit< tt, refl)
+pub statuses : (words : List Text) (from to : Option Stream) (c d : ℕ) (net : Around) (old new : Option (List ℕ)) (before now : ℕ) (end : End)
+    → PrintsBy (RunMay words from to c d net) old new before now end → Contains (0 ∷ 2 ∷ 3 ∷ 4 ∷ 5 ∷ 6 ∷ 7 ∷ 8 ∷ []) (status_of end)
+statuses words from to c d net old new before now ends.Done h = (0, lit< tt, refl)
+statuses words from to c d net old new before now ends.Usage h = (1, lit< tt, refl)
+statuses words from to c d net old new before now (ends.BadLine n) h = (2, lit< tt, refl)
+statuses words from to c d net old new before now ends.BadKey h = (2, lit< tt, refl)
+statuses words from to c d net old new before now ends.ReadFault h = (3, lit< tt, refl)
+statuses words from to c d net old new before now ends.WriteFault h = (4, lit< tt, refl)
+statuses words from to c d net old new before now ends.NetFault h = (5, lit< tt, refl)
+statuses words from to c d net old new before now ends.OutOfMemory h = (6, lit< tt, refl)
+statuses words from to c d net old new before now ends.TooLong h = (7, lit< tt, refl)
+statuses words from to c d net old new before now _ h = absurd h.1
 
 pub usage : (words : List Text) (from to : Option Stream) (c d : ℕ) (net : Around) (old new : Option (List ℕ)) (before now : ℕ) (end : End)
     → PrintsBy (RunMay words from to c d net) old new before now end → status_of end ≡ 2 → AskNothing words × (to ≡ from) × Took old new usage_text
@@ -51,6 +53,7 @@ usage_only words from to c d net old new before now ends.WriteFault h none = (1,
 usage_only words from to c d net old new before now ends.NetFault h none = absurd (none.net h.1.0 h.1.1)
 usage_only words from to c d net old new before now ends.OutOfMemory h none = (2, lit< tt, refl)
 usage_only words from to c d net old new before now ends.TooLong h none = absurd (nothing_of_some words none h.1.0)
+usage_only words from to c d net old new before now _ h none = absurd h.1
 
 done : (words : List Text) (from to : Option Stream) (net : Around) (old new : Option (List ℕ)) (text : List ℕ)
     → MayDo words from to net text → Took old new text → Worked words from to net old new
@@ -120,6 +123,7 @@ too_long_only words from to c d net old new before now ends.ReadFault h more = a
 too_long_only words from to c d net old new before now ends.WriteFault h more = (1, lit< tt, refl)
 too_long_only words from to c d net old new before now ends.OutOfMemory h more = (2, lit< tt, refl)
 too_long_only words from to c d net old new before now ends.TooLong h more = (0, lit< tt, refl)
+too_long_only words from to c d net old new before now _ h more = absurd h.1
 
 pub failed : (end : End) → status_of end ≡ 5 → end ≡ ends.WriteFault
 failed ends.WriteFault e = refl

@@ -68,6 +68,7 @@ mills words from to c d net old new before now ends.OutOfMemory n h asks sink me
 mills words from to c d net old new before now ends.BadKey n h asks sink memory = absurd (no_net_mill words h.1.0 n h.1.1 asks)
 mills words from to c d net old new before now ends.NetFault n h asks sink memory = absurd (no_net_mill words h.1.0 n h.1.1 asks)
 mills words from to c d net old new before now ends.TooLong n h asks sink memory = absurd (some_no_mill words n h.1.0 asks)
+mills words from to c d net old new before now _ n h asks sink memory = absurd h.1
 
 -- what a command that ran well wrote of bytes that aren't bad
 writes : Reads → (words : List Text) (s : Stream) (to : Option Stream) (c d : ℕ) (net : Around) (old new : Option (List ℕ)) (before now : ℕ) (end : End) (command : Command)
@@ -87,6 +88,7 @@ writes law words s to c d net old new before now ends.WriteFault command h asks 
 writes law words s to c d net old new before now ends.OutOfMemory command h asks well good short = absurd (well.memory refl)
 writes law words s to c d net old new before now ends.TooLong command h asks well good short =
     absurd (omega (arith, gave_within s to h.1.1.0 h.1.1.1, h.1.1.2, short))
+writes law words s to c d net old new before now _ command h asks well good short = absurd h.1
 
 replays : Reads → (words : List Text) (s : Stream) (to : Option Stream) (c d : ℕ) (net : Around) (old new : Option (List ℕ)) (before now : ℕ) (end : End)
     → PrintsBy (RunMay words (Some s) to c d net) old new before now end → Asks words Replay → RanWell c d before now (status_of end)
@@ -132,6 +134,7 @@ names_bad law words s to c d net old new before now ends.WriteFault command h as
 names_bad law words s to c d net old new before now ends.OutOfMemory command h asks well n bad short = absurd (well.memory refl)
 names_bad law words s to c d net old new before now ends.TooLong command h asks well n bad short =
     absurd (omega (arith, gave_within s to h.1.1.0 h.1.1.1, h.1.1.2, short))
+names_bad law words s to c d net old new before now _ command h asks well n bad short = absurd h.1
 
 -- what was given to the end isn't too long
 not_long : (s : Stream) (bytes : List ℕ) → bytes ≡ s.left → length bytes ≤ most_bytes → most_bytes < length s.left → ⊥
@@ -159,6 +162,7 @@ refuses words s to c d net old new before now ends.ReadFault h asks well long = 
 refuses words s to c d net old new before now ends.WriteFault h asks well long = absurd (well.sink h.0)
 refuses words s to c d net old new before now ends.OutOfMemory h asks well long = absurd (well.memory refl)
 refuses words s to c d net old new before now ends.TooLong h asks well long = (refl, took_as old new _ _ h.1.2 h.2)
+refuses words s to c d net old new before now _ h asks well long = absurd h.1
 
 -- each where the source tells its bytes
 pub headline : Reads → (words : List Text) (from to : Option Stream) (c d : ℕ) (net : Around) (old new : Option (List ℕ)) (before now : ℕ) (end : End)

@@ -17,23 +17,12 @@ pub took_prefix_both : (old mid new : Option (List ℕ)) (front text : List ℕ)
 took_prefix_both old mid new front text one two =
     (front ++ two.0, two.1, ap (λ bytes. front ++ bytes) two.2 ∙ sym (append_assoc front two.0 two.1), took_both old mid new front two.0 one two.3)
 
--- a prefix of a text is one of a longer text
-pub prefix_more : (old new : Option (List ℕ)) (text more : List ℕ) → TookPrefix old new text → TookPrefix old new (text ++ more)
-prefix_more old new text more h =
-    (h.0, h.1 ++ more, ap (λ bytes. bytes ++ more) h.2 ∙ append_assoc h.0 h.1 more, h.3)
-
 -- What comes after a text that was taken is written behind it.
 pub follows : (Then May : End → List ℕ → Type 0) (old mid new : Option (List ℕ)) (before between now : ℕ) (end : End) (front : List ℕ)
     → Took old mid front → between ≡ before → ((e : End) (text : List ℕ) → Then e text → May e (front ++ text))
     → PrintsBy Then mid new between now end → PrintsBy May old new before now end
-follows Then May old mid new before between now ends.Done front took same f h = (front ++ h.0, f _ _ h.1, took_both old mid new front h.0 took h.2)
-follows Then May old mid new before between now ends.Usage front took same f h = (front ++ h.0, f _ _ h.1, took_both old mid new front h.0 took h.2)
-follows Then May old mid new before between now (ends.BadLine n) front took same f h = (front ++ h.0, f _ _ h.1, took_both old mid new front h.0 took h.2)
-follows Then May old mid new before between now ends.BadKey front took same f h = (front ++ h.0, f _ _ h.1, took_both old mid new front h.0 took h.2)
-follows Then May old mid new before between now ends.ReadFault front took same f h = (front ++ h.0, f _ _ h.1, took_both old mid new front h.0 took h.2)
 follows Then May old mid new before between now ends.WriteFault front took same f h =
     let Rises : ℕ → Type 0 = λ n. Rose n now in
     (subst Rises same h.0, (h.1.0, front ++ h.1.1, f _ _ h.1.2, took_prefix_both old mid new front h.1.1 took h.1.3))
-follows Then May old mid new before between now ends.NetFault front took same f h = (front ++ h.0, f _ _ h.1, took_both old mid new front h.0 took h.2)
-follows Then May old mid new before between now ends.OutOfMemory front took same f h = (front ++ h.0, f _ _ h.1, took_both old mid new front h.0 took h.2)
-follows Then May old mid new before between now ends.TooLong front took same f h = (front ++ h.0, f _ _ h.1, took_both old mid new front h.0 took h.2)
+follows Then May old mid new before between now _ front took same f h =
+    (front ++ h.0, f _ _ h.1, took_both old mid new front h.0 took h.2, h.3 ∙ same)

@@ -7,9 +7,7 @@ use Rattle.settings_text.specs.Judging.{Gives}
 use Rattle.settings_text.specs.Serve.{serve_of}
 use Rattle.settings_text.specs.Tables.{judged}
 use Rattle.express_cli.specs.Around.{Around}
-use Rattle.express_cli.specs.Ends.{BadKeyMay, FaultMay, Said, out_of_memory_text}
-use Rattle.express_cli.specs.Talking.{IsBadKey}
-use Rattle.express_cli.specs.declared.words.NetCommand.TheVariants.{Serve}
+use Rattle.express_cli.specs.Ends.{BadKeyMay, DiskCounts, FaultMay}
 use Rattle.express_cli.specs.declared.ends.End.{End}
 use Rattle.express_cli.specs.declared.ends.End.TheVariants as ends
 use Rattle.node_journal.specs.Journal.{JournalState}
@@ -21,66 +19,34 @@ use Rattle.node_serve.specs.KeptOpening.{CountsOpen, IsCreated, IsReopened, key_
 use Rattle.node_serve.specs.declared.open_fault.OpenFault.{OpenFault}
 use Rattle.node_serve.specs.declared.key.SettingsKey.{SettingsKey}
 use Rattle.node_serve.specs.declared.open_fault.OpenFault.TheVariants as opening
-use Rattle.express_cli.specs.declared.ending.Ending.{Ending}
-use Rattle.express_cli.specs.declared.ending.Ending.TheVariants.{Plain}
-use Rattle.express_cli.specs.KeptEndings.{DiskCounts}
-use Rattle.express_cli.specs.KeptTelling as told
+use Rattle.express_cli.specs.KeepFaults.{KeepFaultMay}
 use Rattle.express_cli.specs.Keeping.{OpenFaultMay, TextMay}
-
-wanting : {D : Type 0} (shows : D → DiskSeen) (bytes : List ℕ) (net : Around) (disk : D) → net.now ≡ net.before
-    → (text : List ℕ) → text ≡ out_of_memory_text
-    → TextMay shows bytes net disk disk (Plain ends.OutOfMemory) text
-wanting shows bytes net disk quiet text is =
-    inr (inr (record { stays = refl; quiet = quiet; says = (refl, is) }))
-
-misspelt : {D : Type 0} (shows : D → DiskSeen) (bytes : List ℕ) (net : Around) (disk : D) → net.now ≡ net.before
-    → (key : List ℕ) → IsBadKey Serve key bytes → (end : End) (text : List ℕ) → BadKeyMay key end text
-    → TextMay shows bytes net disk disk (Plain end) text
-misspelt shows bytes net disk quiet key bad ends.Done text may = absurd may
-misspelt shows bytes net disk quiet key bad ends.Usage text may = absurd may
-misspelt shows bytes net disk quiet key bad (ends.BadLine n) text may = absurd may
-misspelt shows bytes net disk quiet key bad ends.BadKey text may =
-    inr (inl (record { key = key; bad = bad; stays = refl; quiet = quiet; says = (refl, may) }))
-misspelt shows bytes net disk quiet key bad ends.ReadFault text may = absurd may
-misspelt shows bytes net disk quiet key bad ends.WriteFault text may = absurd may
-misspelt shows bytes net disk quiet key bad ends.NetFault text may = absurd may
-misspelt shows bytes net disk quiet key bad ends.OutOfMemory text may =
-    wanting shows bytes net disk quiet text may
-misspelt shows bytes net disk quiet key bad ends.TooLong text may = absurd may
 
 pub bad_text : {D : Type 0} (shows : D → DiskSeen) (bytes : List ℕ) (net : Around) (disk : D) → net.now ≡ net.before
     → (f : TextFault) → Gives (λ s. s) (Err f) (judged serve_of bytes) → (end : End) (text : List ℕ)
-    → FaultMay f end text → TextMay shows bytes net disk disk (Plain end) text
+    → FaultMay f end text → TextMay shows bytes net disk disk end text
 bad_text shows bytes net disk quiet (fault.Wrong n) gives end text may = absurd gives
 bad_text shows bytes net disk quiet (fault.WrongKey key) gives end text may =
-    misspelt shows bytes net disk quiet key gives end text may
-bad_text {D} shows bytes net disk quiet fault.NoMemory gives end text may =
-    let Of : End → Type 0 = λ e. TextMay shows bytes net disk disk (Plain e) text in
-    subst Of (sym may.0) (wanting shows bytes net disk quiet text may.1)
+    inr (inl (record { key = key; bad = gives; stays = refl; quiet = quiet; says = may }))
+bad_text shows bytes net disk quiet fault.NoMemory gives end text may =
+    inr (inr (record { stays = refl; quiet = quiet; says = may }))
 
 -- a setting that differs is told as a bad key
-pub differs_may : (key : SettingsKey) (end : End) (text : List ℕ) → BadKeyMay (key_text key) end text
-    → OpenFaultMay (opening.Differs key) (Plain end) text
-differs_may key ends.Done text may = absurd may
-differs_may key ends.Usage text may = absurd may
-differs_may key (ends.BadLine n) text may = absurd may
-differs_may key ends.BadKey text may = inl (refl, may)
-differs_may key ends.ReadFault text may = absurd may
-differs_may key ends.WriteFault text may = absurd may
-differs_may key ends.NetFault text may = absurd may
-differs_may key ends.OutOfMemory text may = inr (refl, may)
-differs_may key ends.TooLong text may = absurd may
-
 pub differs_of : (fault : OpenFault) (key : SettingsKey) (name : List ℕ) → fault ≡ opening.Differs key
     → name ≡ key_text key → (end : End) (text : List ℕ) → BadKeyMay name end text
-    → OpenFaultMay fault (Plain end) text
+    → OpenFaultMay fault end text
 differs_of fault key name is same end text may =
-    let Of : OpenFault → Type 0 = λ x. OpenFaultMay x (Plain end) text in
+    let Of : OpenFault → Type 0 = λ x. OpenFaultMay x end text in
     let Named : List ℕ → Type 0 = λ n. BadKeyMay n end text in
-    subst Of (sym is) (differs_may key end text (subst Named same may))
+    subst Of (sym is) (subst Named same may)
 
-pub keep_of : (fault : OpenFault) (why : KeepFault) → fault ≡ opening.Keep why → (end : Ending) (text : List ℕ)
-    → told.FaultMay why end text → OpenFaultMay fault end text
+-- and is no fault of the disk
+pub differs_quietly : (name text : List ℕ) → BadKeyMay name ends.DiskFault text → ⊥
+differs_quietly name text (inl said) = cc
+differs_quietly name text (inr wants) = cc
+
+pub keep_of : (fault : OpenFault) (why : KeepFault) → fault ≡ opening.Keep why → (end : End) (text : List ℕ)
+    → KeepFaultMay why end text → OpenFaultMay fault end text
 keep_of fault why is end text may =
     let Of : OpenFault → Type 0 = λ x. OpenFaultMay x end text in subst Of (sym is) may
 
@@ -103,7 +69,7 @@ opened_unclosed shows limit o disk k (inl created) =
 opened_unclosed shows limit o disk k (inr reopened) = reopened.unclosed
 
 -- the counts of the disk that was opened, and of the one that is handed back
-pub counts_between : {D : Type 0} (count : D → ℕ) (end : Ending) (disk opened left after : D)
+pub counts_between : {D : Type 0} (count : D → ℕ) (end : End) (disk opened left after : D)
     → count opened ≡ count disk → after ≡ left → DiskCounts end (count opened) (count left)
     → DiskCounts end (count disk) (count after)
 counts_between {D} count end disk opened left after same handed h =

@@ -4,24 +4,22 @@ use Rattle.clap.specs.Words.{Text}
 use Rattle.express_cli.specs.Around.{Around, Outside}
 use Rattle.express_cli.specs.Ends.{status_of}
 use Rattle.express_cli.specs.Ran.{Ran}
-use Rattle.express_cli.specs.Runs.{ComesTo, MayLeave, ToldInTime}
+use Rattle.express_cli.specs.Runs.{ComesTo, MayCome, MayLeave, ToldInTime}
 use Rattle.express_cli.specs.declared.ends.End.{End}
 use Rattle.express_cli.specs.declared.ends.End.TheVariants.{ReadFault, WriteFault}
 use Rattle.express_cli.proofs.OneReading.{Reads}
 use Rattle.express_cli.proofs.Causes as causes
 use Rattle.express_cli.proofs.Exact as exact
 use Rattle.express_cli.proofs.Talked as talked
+use Rattle.express_cli.proofs.Writing.{sink_stays}
 
--- its input failed only where it says so, and so did its sink
+-- its input failed only where it says so
 abbrev pub SourceTold : Outside → Outside → End → Type 0
 SourceTold old new end = end ≢ ReadFault → end ≢ WriteFault → new.input_faults ≡ old.input_faults
 
-abbrev pub SinkTold : Outside → Outside → End → Type 0
-SinkTold old new end = end ≢ WriteFault → new.output_faults ≡ old.output_faults
-
 came : Reads → (words : List Text) (old new : Outside) (net : Around) (end : End) → ComesTo words old new net end
-    → SourceTold old new end → SinkTold old new end → ToldInTime words old new net end → MayLeave words net → Ran words old new net (status_of end)
-came law words old new net end h source sink failure early = record {
+    → SourceTold old new end → ToldInTime words old new net end → MayLeave words net → Ran words old new net (status_of end)
+came law words old new net end h source failure early = record {
   headline = exact.headline law _ _ _ _ _ _ _ _ _ _ _ h;
   batch = exact.batch law _ _ _ _ _ _ _ _ _ _ _ h;
   cloak = exact.cloak law _ _ _ _ _ _ _ _ _ _ _ h;
@@ -32,7 +30,7 @@ came law words old new net end h source sink failure early = record {
   client = talked.client _ _ _ _ _ _ _ _ _ _ _ h;
   carry = talked.carry _ _ _ _ _ _ _ _ _ _ _ h;
   names_bad_key = λ command. talked.names_bad_key _ _ _ _ _ _ _ _ _ _ _ command h;
-  statuses = causes.statuses end;
+  statuses = causes.statuses _ _ _ _ _ _ _ _ _ _ _ h;
   usage = causes.usage _ _ _ _ _ _ _ _ _ _ _ h;
   usage_only = causes.usage_only _ _ _ _ _ _ _ _ _ _ _ h;
   worked = causes.worked _ _ _ _ _ _ _ _ _ _ _ h;
@@ -46,11 +44,11 @@ came law words old new net end h source sink failure early = record {
   too_long = causes.too_long _ _ _ _ _ _ _ _ _ _ _ h;
   too_long_only = causes.too_long_only _ _ _ _ _ _ _ _ _ _ _ h;
   source_unfailed = λ read write. source (λ e. read (ap status_of e)) (λ e. write (ap status_of e));
-  sink_unfailed = λ write. sink (λ e. write (ap status_of e));
+  sink_unfailed = λ write. sink_stays (MayCome words old new net) old.written new.written _ _ end h (λ e. write (ap status_of e));
 }
 
 pub ran : Reads → (words : List Text) (old new : Outside) (net : Around) (end : End) (status : ℕ)
-    → ComesTo words old new net end → SourceTold old new end → SinkTold old new end → ToldInTime words old new net end → MayLeave words net
+    → ComesTo words old new net end → SourceTold old new end → ToldInTime words old new net end → MayLeave words net
     → status ≡ status_of end → Ran words old new net status
-ran law words old new net end status h source sink failure early is =
-    subst (Ran words old new net) (sym is) (came law words old new net end h source sink failure early)
+ran law words old new net end status h source failure early is =
+    subst (Ran words old new net) (sym is) (came law words old new net end h source failure early)

@@ -56,6 +56,7 @@ talks words s to c d net old new before now ends.NetFault command h asks well sh
 talks words s to c d net old new before now ends.OutOfMemory command h asks well short good = absurd (well.memory refl)
 talks words s to c d net old new before now ends.TooLong command h asks well short good =
     absurd (omega (arith, gave_within s to h.1.1.0 h.1.1.1, h.1.1.2, short))
+talks words s to c d net old new before now _ command h asks well short good = absurd h.1
 
 -- ---- by their settings
 
@@ -148,6 +149,7 @@ names_key words s to c d net old new before now ends.NetFault command h asks wel
 names_key words s to c d net old new before now ends.OutOfMemory command h asks well key bad short = absurd (well.memory refl)
 names_key words s to c d net old new before now ends.TooLong command h asks well key bad short =
     absurd (omega (arith, gave_within s to h.1.1.0 h.1.1.1, h.1.1.2, short))
+names_key words s to c d net old new before now _ command h asks well key bad short = absurd h.1
 
 pub names_bad_key : (words : List Text) (from to : Option Stream) (c d : ℕ) (net : Around) (old new : Option (List ℕ)) (before now : ℕ) (end : End) (command : NetCommand)
     → PrintsBy (RunMay words from to c d net) old new before now end → AsksNet words command → RanWell c d before now (status_of end)

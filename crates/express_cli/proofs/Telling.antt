@@ -75,14 +75,7 @@ said_part : (said : End) (text sure : List ℕ) (old mid new : Option (List ℕ)
     → Took old mid sure → PrintsBy (Said said text) mid new before now end → end ≡ ends.WriteFault → TookPart sure text old new
 said_part said text sure old mid new before now ends.WriteFault took (rose, (e, t, (is, same), prefix)) failed =
     part_behind old mid new sure text took (subst (λ (x : List ℕ). TookPart [] x mid new) same (took_part mid new t prefix))
-said_part said text sure old mid new before now ends.Done took h failed = absurd (cc failed)
-said_part said text sure old mid new before now ends.Usage took h failed = absurd (cc failed)
-said_part said text sure old mid new before now (ends.BadLine n) took h failed = absurd (cc failed)
-said_part said text sure old mid new before now ends.BadKey took h failed = absurd (cc failed)
-said_part said text sure old mid new before now ends.ReadFault took h failed = absurd (cc failed)
-said_part said text sure old mid new before now ends.NetFault took h failed = absurd (cc failed)
-said_part said text sure old mid new before now ends.OutOfMemory took h failed = absurd (cc failed)
-said_part said text sure old mid new before now ends.TooLong took h failed = absurd (cc failed)
+said_part said text sure old mid new before now _ took h failed = absurd (cc failed)
 
 -- what is said of the end, behind what was told
 says : (May : End → List ℕ → Type 0) (end_is : End) (text told : List ℕ) (old mid new : Option (List ℕ)) (before middle now : ℕ) (end : End)

@@ -1,6 +1,7 @@
 -- What is around a run.
 use Rattle.std.specs.Prelude.{ℕ, List, Option}
 use Rattle.express_words.specs.Streams.{Stream}
+use Rattle.input_reading.specs.Reading.{LastFailed}
 pub use Rattle.express_words.specs.Seen.{Seen}
 pub use Rattle.node_serve.specs.Visits.{Shown}
 
@@ -30,3 +31,8 @@ outside input out = record {
   written = out.written;
   output_faults = out.faults;
 }
+
+-- A call of an input was the last and failed, and none had failed before it.
+abbrev pub FailedLast : {S : Type 0} → (S → Seen) → (old new : S) → Type 0
+FailedLast {S} seen old new = (last : S)
+    × LastFailed (seen old).faults (seen last).faults (seen new).faults (seen last).content (seen new).content

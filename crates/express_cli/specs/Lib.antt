@@ -12,7 +12,6 @@ pub mod Headline
 pub mod Ran
 pub mod Laws
 pub mod KeepWord
-pub mod KeptEndings
-pub mod KeptTelling
-pub mod KeptDoor
+pub mod KeepFaults
+pub mod Door
 pub mod Keeping

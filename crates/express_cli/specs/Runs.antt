@@ -70,7 +70,8 @@ RunMay words from to before now net Done text = MayDo words from to net text
 RunMay words from to before now net NetFault text = MayTalk words from to net NetFault text
 RunMay words from to before now net OutOfMemory text =
     WantsFirst net text ⊎ MayTalk words from to net OutOfMemory text
-RunMay words from to before now net WriteFault text = ⊥
+RunMay words from to before now net WriteFault text = MayTalk words from to net WriteFault text
+RunMay words from to before now net other text = ⊥
 
 -- what a command over a net that the words ask for leaves on the connection that it closed last
 abbrev pub MayLeave : List Text → Around → Type 0

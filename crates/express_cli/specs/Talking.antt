@@ -1,7 +1,6 @@
 -- What comes of a command over a net, by the settings that are its input.
-use Rattle.std.specs.Prelude.{◌≡◌, ◌≤◌, ◌⊎◌, ℕ, Bool, true, false, List, ◌++◌, length, codes}
-use Rattle.std.specs.Prelude.{Option, Result, Ok, Err}
-use Rattle.express_words.specs.Causes.{Rose}
+use Rattle.std.specs.Prelude.{◌≡◌, ◌⊎◌, ℕ, Bool, List, ◌++◌, length}
+use Rattle.std.specs.Prelude.{Option, Ok, Err}
 use Rattle.express_words.specs.Calls.{Listened, Adds}
 use Rattle.express_words.specs.Streams.{Took}
 use Rattle.settings_text.specs.Tables.{judged}
@@ -13,17 +12,10 @@ use Rattle.settings_text.specs.declared.client.ClientSettings.{ClientSettings}
 use Rattle.settings_text.specs.declared.carry.CarryJob.{CarryJob}
 use Rattle.settings_text.specs.declared.carry.CarryJob.TheVariants.{Send, Fetch}
 use Rattle.settings_text.specs.declared.carry.CarrySettings.{CarrySettings}
-use Rattle.node_serve.specs.NoLog.{node_log}
-use Rattle.node_serve.specs.declared.never.Never.{Never}
 use Rattle.node_serve.specs.declared.node.Node.{Node}
 use Rattle.node_serve.specs.Opening.{IsOpened}
 use Rattle.node_exchange.specs.Exchanging.{ClosedAtEnd, EndsShort}
 use Rattle.node_serve.specs.Visits.{standing}
-use Rattle.node_serve.specs.Hosting.{Hosts, Visited}
-use Rattle.node_serve.specs.Tallies.{tally_text}
-use Rattle.node_serve.specs.declared.stop.Halt.TheVariants.{Door}
-use Rattle.node_serve.specs.declared.stop.Stop.{Stop}
-use Rattle.node_serve.specs.declared.tally.Tally.{Tally}
 use Rattle.node_client.specs.declared.finished.Finished.{Finished}
 use Rattle.node_client.specs.Work.{Stand}
 use Rattle.client_run.specs.Runs.{ClientRuns, RunFault, Plan, CameTo, ClientEnded, client_plan}
@@ -34,7 +26,8 @@ use Rattle.client_run.specs.declared.cut.Untold.TheVariants as untold
 use Rattle.client_run.specs.declared.ran.RunEnd.{RunEnd}
 use Rattle.client_run.specs.declared.ran.RunEnd.TheVariants as run
 use Rattle.express_cli.specs.Around.{Around, Seen}
-use Rattle.express_cli.specs.Ends.{PrintsBy, Said, bad_settings, net_fault_text, out_of_memory_text}
+use Rattle.express_cli.specs.Door.{DoorMay, listening, no_keeper}
+use Rattle.express_cli.specs.Ends.{PrintsBy, Said, bad_settings, out_of_memory_text}
 use Rattle.express_cli.specs.declared.words.NetCommand.{NetCommand}
 use Rattle.express_cli.specs.declared.words.NetCommand.TheVariants.{Serve, Client, Carry}
 use Rattle.express_cli.specs.declared.ends.End.{End}
@@ -59,77 +52,10 @@ IsBadKey Carry key bytes = judged carry_of bytes ≡ Err key
 
 -- ---- a server
 
-abbrev pub listening : List ℕ
-listening = codes "listening\n"
-
--- A server was served so many connections as its settings say at the open door, or as many as came before an
--- accept failed.
-abbrev pub ServesDoor : (Seen → Type 0) → ServeSettings → Node → (before now : Seen)
-    → Result Tally (Stop Never) → Type 0
-ServesDoor shown settings node before now result = (end : Node)
-    × Hosts node_log settings.peer shown settings.connections (standing node before) (standing end now) result
-
--- all were served
-abbrev pub ServesAll : (Seen → Type 0) → ServeSettings → Node → (before now : Seen) → Tally → Type 0
-ServesAll shown settings node before now tally = ServesDoor shown settings node before now (Ok tally)
-
--- fewer were, and then an accept failed
-abbrev pub ServesFewer : (Seen → Type 0) → ServeSettings → Node → (before now : Seen) → Tally → Type 0
-ServesFewer shown settings node before now tally =
-    ServesDoor shown settings node before now (Err (record { halt = Door; tally = tally }))
-
--- By these visits, and no other call, some of the settings' connections were served.
-pub record ServesSome (shown : Seen → Type 0) (settings : ServeSettings) (node : Node) (before now : Seen)
-    : Type 0 where
-  pub end : Node
-  pub done : Visited node_log settings.peer shown (standing node before) (standing end now)
-  pub few : length done.visits ≤ settings.connections
-
--- What may come of serving the settings' connections at the open door, by what a net tells before and now.
-abbrev pub HostMay : (Seen → Type 0) → ServeSettings → Node → Seen → Seen → End → List ℕ → Type 0
-HostMay shown settings node before now ends.Done text =
-    (tally : Tally) × ServesAll shown settings node before now tally
-    × (now.doors ≡ before.doors) × (text ≡ tally_text tally ++ codes "\n")
-HostMay shown settings node before now ends.NetFault text =
-    (tally : Tally) × ServesFewer shown settings node before now tally
-    × Rose before.doors now.doors × (text ≡ net_fault_text)
-HostMay shown settings node before now ends.OutOfMemory text =
-    ServesSome shown settings node before now × (text ≡ out_of_memory_text)
-HostMay shown settings node before now other text = ⊥
-
--- It told that it listens, and then serving came to this.
-abbrev pub ListeningMay : (Seen → Type 0) → ServeSettings → Node → Seen → Seen → End → List ℕ → Type 0
-ListeningMay shown settings node before now end text =
-    (said : List ℕ) × HostMay shown settings node before now end said × (text ≡ listening ++ said)
-
--- A server listened where its settings say, told so, and serving came to this.
-pub record Hosted (shown : Seen → Type 0) (settings : ServeSettings) (node : Node) (before now : Seen)
-    (end : End) (text : List ℕ) : Type 0 where
-  pub at_door : Seen
-  pub listens : Adds before.calls at_door.calls (Listened settings.listen false)
-  pub faults : at_door.faults ≡ before.faults
-  pub doors : at_door.doors ≡ before.doors
-  pub served : ListeningMay shown settings node at_door now end text
-
--- Its listen failed, and no other call was made.
-pub record ListenFailed (settings : ServeSettings) (before now : Seen) (text : List ℕ) : Type 0 where
-  pub call : Adds before.calls now.calls (Listened settings.listen true)
-  pub doors : Rose before.doors now.doors
-  pub text_is : text ≡ net_fault_text
-
--- what may come of a server at its door
-abbrev pub DoorMay : (Seen → Type 0) → ServeSettings → Node → Seen → Seen → End → List ℕ → Type 0
-DoorMay shown settings node before now ends.Done text = Hosted shown settings node before now ends.Done text
-DoorMay shown settings node before now ends.NetFault text =
-    ListenFailed settings before now text ⊎ Hosted shown settings node before now ends.NetFault text
-DoorMay shown settings node before now ends.OutOfMemory text =
-    Hosted shown settings node before now ends.OutOfMemory text
-DoorMay shown settings node before now other text = ⊥
-
--- so of the server that is opened from its settings and the seed
+-- what may come at its door of the server that is opened from its settings and the seed
 abbrev pub AtDoor : ServeSettings → Around → End → List ℕ → Type 0
-AtDoor settings net end text = (node : Node) × IsOpened settings net.seed node
-    × DoorMay net.shown settings node net.before net.now end text
+AtDoor settings net end text = (node left : Node) × IsOpened settings net.seed node
+    × DoorMay no_keeper net.shown settings (standing node net.before) (standing left net.now) end text
 
 -- nothing was done with the net
 abbrev pub IsStill : Around → Type 0
@@ -153,10 +79,8 @@ WantsFirst net text = (text ≡ out_of_memory_text) × IsStill net
 
 -- what may come of a server of these settings
 abbrev pub ServeMay : ServeSettings → Around → End → List ℕ → Type 0
-ServeMay settings net ends.Done text = AtDoor settings net ends.Done text
-ServeMay settings net ends.NetFault text = AtDoor settings net ends.NetFault text
 ServeMay settings net ends.OutOfMemory text = WantsFirst net text ⊎ AtDoor settings net ends.OutOfMemory text
-ServeMay settings net other text = ⊥
+ServeMay settings net end text = AtDoor settings net end text
 
 -- ---- work that is told as it goes
 
@@ -240,40 +164,25 @@ CarryMay settings net other text = ⊥
 
 -- ---- what may come
 
--- the command was done, with this text
-abbrev pub IsDone : NetCommand → List ℕ → Around → List ℕ → Type 0
-IsDone Serve bytes net text =
-    (settings : ServeSettings) × SpellsServe settings bytes × ServeMay settings net ends.Done text
-IsDone Client bytes net text =
-    (settings : ClientSettings) × SpellsClient settings bytes × ClientRan settings net run.Done text
-IsDone Carry bytes net text =
-    (settings : CarrySettings) × SpellsCarry settings bytes × CarryRan settings net run.Done text
+-- by the settings that these bytes spell
+abbrev pub CommandMay : NetCommand → List ℕ → Around → End → List ℕ → Type 0
+CommandMay Serve bytes net end text =
+    (settings : ServeSettings) × SpellsServe settings bytes × AtDoor settings net end text
+CommandMay Client bytes net end text =
+    (settings : ClientSettings) × SpellsClient settings bytes × ClientMay settings net end text
+CommandMay Carry bytes net end text =
+    (settings : CarrySettings) × SpellsCarry settings bytes × CarryMay settings net end text
 
--- a fault of the net broke it off, with this text
-abbrev pub IsBroken : NetCommand → List ℕ → Around → List ℕ → Type 0
-IsBroken Serve bytes net text =
-    (settings : ServeSettings) × SpellsServe settings bytes × ServeMay settings net ends.NetFault text
-IsBroken Client bytes net text =
-    (settings : ClientSettings) × SpellsClient settings bytes × ClientRan settings net run.NetFault text
-IsBroken Carry bytes net text =
-    (settings : CarrySettings) × SpellsCarry settings bytes × CarryRan settings net run.NetFault text
-
--- memory was wanting; a server may have told before that it listens
-abbrev pub IsWanting : NetCommand → List ℕ → Around → List ℕ → Type 0
-IsWanting Serve bytes net text = WantsFirst net text
-    ⊎ ((settings : ServeSettings) × SpellsServe settings bytes × AtDoor settings net ends.OutOfMemory text)
-IsWanting Client bytes net text = WantsFirst net text
-    ⊎ ((settings : ClientSettings) × SpellsClient settings bytes × ClientWants settings net text)
-IsWanting Carry bytes net text = WantsFirst net text
-    ⊎ ((settings : CarrySettings) × SpellsCarry settings bytes × CarryWants settings.job settings net text)
-
--- what the command's work on these bytes may come to
+-- What the command's work on these bytes may come to: it is done, a fault of the net broke it off, memory was
+-- wanting, or the sink failed before a server told that it listens.
 abbrev pub TalkMay : NetCommand → List ℕ → Around → End → List ℕ → Type 0
-TalkMay command bytes net ends.Done text = IsDone command bytes net text
-TalkMay command bytes net ends.NetFault text = IsBroken command bytes net text
+TalkMay command bytes net ends.Done text = CommandMay command bytes net ends.Done text
+TalkMay command bytes net ends.NetFault text = CommandMay command bytes net ends.NetFault text
+TalkMay command bytes net ends.WriteFault text = CommandMay command bytes net ends.WriteFault text
 TalkMay command bytes net ends.BadKey text =
     (key : List ℕ) × IsBadKey command key bytes × (text ≡ bad_settings key) × IsStill net
-TalkMay command bytes net ends.OutOfMemory text = IsWanting command bytes net text
+TalkMay command bytes net ends.OutOfMemory text =
+    WantsFirst net text ⊎ CommandMay command bytes net ends.OutOfMemory text
 TalkMay command bytes net other text = ⊥
 
 -- a sink took these bytes, and maybe more behind them
@@ -287,6 +196,11 @@ ServeBreaks settings net old new =
     ((failed : Bool) × Adds net.before.calls net.now.calls (Listened settings.listen failed))
     ⊎ IsOut listening old new
 
+-- where the sink failed, that had been so, or nothing was done with the net
+abbrev pub ServeAnnounces : End → ServeSettings → Around → (old new : Seen) → Type 0
+ServeAnnounces end settings net old new =
+    end ≡ ends.WriteFault → IsStill net ⊎ ServeBreaks settings net old.written new.written
+
 -- What the sink has where it failed: it failed before any call on the net, or while the command's work was
 -- told.
 abbrev pub BreaksOff : NetCommand → List ℕ → Around → (old new : Option (List ℕ)) → Type 0
@@ -297,3 +211,8 @@ BreaksOff Client bytes net old new = IsStill net
 BreaksOff Carry bytes net old new = IsStill net
     ⊎ ((settings : CarrySettings) × SpellsCarry settings bytes
     × CarryBreaks settings.job settings net old new)
+
+-- so much was told where it ended because the sink failed
+abbrev pub ToldFirst : End → NetCommand → List ℕ → Around → (old new : Seen) → Type 0
+ToldFirst end command bytes net old new =
+    end ≡ ends.WriteFault → BreaksOff command bytes net old.written new.written

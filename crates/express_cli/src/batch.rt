@@ -67,8 +67,6 @@ fn batch_text(alloc: Global, pairs: &BatchPairs) -> Result<String, NoMemory>
 pub fn batch<K: Sink>(alloc: Global, text: &[u8], out: &mut K) -> End
     ensures ends { Prints (WorkMay Batch text.now)
         (K.seen out.old) (K.seen out.new) result }
-    ensures later { (K.seen out.old).faults ≤ (K.seen out.new).faults }
-    ensures told { result ≢ End.WriteFault → (K.seen out.new).faults ≡ (K.seen out.old).faults }
 {
     let pairs = match read_batch(alloc, text) {
         Ok(pairs) => pairs,

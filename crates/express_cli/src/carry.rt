@@ -2,7 +2,7 @@
 ghost use Rattle.std.specs.Prelude.{◌≡◌, ◌≢◌, ◌≤◌};
 ghost use Rattle.express_cli.specs.Around.{around};
 ghost use Rattle.express_cli.specs.Ends.{Prints};
-ghost use Rattle.express_cli.specs.Talking.{BreaksOff, LeftNothing, TalkMay};
+ghost use Rattle.express_cli.specs.Talking.{LeftNothing, TalkMay, ToldFirst};
 ghost use Rattle.express_cli.specs.declared.words.NetCommand.TheVariants.{Carry};
 
 use crate::End;
@@ -25,10 +25,8 @@ pub fn carry<K: Sink, N: Net>(
     ensures ends { Prints (TalkMay Carry text.now
         (around seed.now (N.seen net.old) (N.seen net.new) N.Conn.seen))
         (K.seen out.old) (K.seen out.new) result }
-    ensures breaks { result ≡ End.WriteFault → BreaksOff Carry text.now
-        (around seed.now (N.seen net.old) (N.seen net.new) N.Conn.seen)
-        (K.seen out.old).written (K.seen out.new).written }
-    ensures told { result ≢ End.WriteFault → (K.seen out.new).faults ≡ (K.seen out.old).faults }
+    ensures breaks { ToldFirst result Carry text.now
+        (around seed.now (N.seen net.old) (N.seen net.new) N.Conn.seen) (K.seen out.old) (K.seen out.new) }
     ensures waits { result ≡ End.BadKey → net.new ≡ net.old }
     ensures early { LeftNothing (around seed.now (N.seen net.old) (N.seen net.new) N.Conn.seen) }
 {

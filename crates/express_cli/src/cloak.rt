@@ -77,8 +77,6 @@ fn cloak_text(alloc: Global, game: &CloakGame) -> Result<String, NoMemory>
 pub fn cloak<K: Sink>(alloc: Global, text: &[u8], out: &mut K) -> End
     ensures ends { Prints (WorkMay Cloak text.now)
         (K.seen out.old) (K.seen out.new) result }
-    ensures later { (K.seen out.old).faults ≤ (K.seen out.new).faults }
-    ensures told { result ≢ End.WriteFault → (K.seen out.new).faults ≡ (K.seen out.old).faults }
 {
     let game = match read_cloak(alloc, text) {
         Ok(game) => game,

@@ -22,6 +22,14 @@ pub enum End {
     OutOfMemory,
     /// The input has more than 67,108,864 bytes.
     TooLong,
+    /// A call on a journal's disk failed.
+    DiskFault,
+    /// The journal has no room for the next frame.
+    JournalFull,
+    /// The journal's record at this offset, in bytes, is damaged.
+    JournalDamaged(u64),
+    /// The journal's record of this number, counted from 0, isn't one that a server writes.
+    JournalForeign(u64),
 }
 
 impl fmt::Display for End {
@@ -38,6 +46,10 @@ impl fmt::Display for End {
             End::NetFault => f.write_str("net fault"),
             End::OutOfMemory => f.write_str("out of memory"),
             End::TooLong => f.write_str("input too long"),
+            End::DiskFault => f.write_str("disk fault"),
+            End::JournalFull => f.write_str("journal full"),
+            End::JournalDamaged(at) => write!(f, "journal damaged {at}"),
+            End::JournalForeign(number) => write!(f, "journal foreign {number}"),
         }
     }
 }
@@ -56,5 +68,9 @@ pub fn status_of(end: End) -> u8
         End::NetFault => 6,
         End::OutOfMemory => 7,
         End::TooLong => 8,
+        End::DiskFault => 10,
+        End::JournalFull => 11,
+        End::JournalDamaged(_) => 12,
+        End::JournalForeign(_) => 13,
     }
 }

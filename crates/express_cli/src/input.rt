@@ -1,6 +1,7 @@
 //! The whole input, or how a run ends without it.
 ghost use Rattle.std.specs.Prelude.{◌≡◌, ◌≢◌, ◌≤◌, IfOk, IfErr, OnOk, Err};
-ghost use Rattle.input_reading.specs.Reading.{GaveAll, LastFailed};
+ghost use Rattle.input_reading.specs.Reading.{GaveAll};
+ghost use Rattle.express_cli.specs.Around.{FailedLast};
 ghost use Rattle.express_cli.specs.Ends.{Prints};
 ghost use Rattle.express_cli.specs.Runs.{UnreadMay};
 
@@ -24,13 +25,9 @@ pub fn input_of<S: Source, K: Sink>(
     ensures rests { OnOk result (out.new ≡ out.old) }
     ensures source { OnOk result ((S.seen input.new).faults ≡ (S.seen input.old).faults) }
     // Nothing is taken after a fault.
-    ensures last_take { result ≡ Err End.ReadFault → (last : S)
-        × LastFailed (S.seen input.old).faults (S.seen last).faults (S.seen input.new).faults
-        (S.seen last).content (S.seen input.new).content }
+    ensures last_take { result ≡ Err End.ReadFault → FailedLast S.seen input.old input.new }
     ensures told { IfErr result (λ end. end ≢ End.ReadFault → end ≢ End.WriteFault
         → (S.seen input.new).faults ≡ (S.seen input.old).faults) }
-    ensures sink { IfErr result (λ end. end ≢ End.WriteFault
-        → (K.seen out.new).faults ≡ (K.seen out.old).faults) }
 {
     match read_all(alloc, input) {
         Ok(text) => Ok(text),

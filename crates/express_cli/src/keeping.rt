@@ -1,20 +1,17 @@
 //! Is a server with a journal.
 ghost use Rattle.std.specs.Prelude.{◌≡◌, ◌≢◌, ◌≤◌, ◌⊎◌};
 ghost use Rattle.express_words.specs.Limits.{KeepsLimits};
-ghost use Rattle.express_cli.specs.Around.{around, outside};
-ghost use Rattle.input_reading.specs.Reading.{LastFailed};
-ghost use Rattle.express_cli.specs.Talking.{BreaksOff, ServeBreaks};
+ghost use Rattle.express_cli.specs.Around.{FailedLast, around, outside};
+ghost use Rattle.express_cli.specs.Ends.{DiskCounts, Prints};
+ghost use Rattle.express_cli.specs.Keeping.{Announces, ComesTo, InputCounts, SettingsMay, TextMay};
+ghost use Rattle.express_cli.specs.Talking.{ServeAnnounces, ToldFirst};
 ghost use Rattle.express_cli.specs.declared.words.NetCommand.TheVariants.{Serve};
-ghost use Rattle.express_cli.specs.KeptEndings.{DiskCounts};
-ghost use Rattle.express_cli.specs.Keeping.{Announces, ComesTo, InputCounts, OutputCounts, SettingsMay, TextMay};
-ghost use Rattle.express_cli.specs.KeptTelling.{Tells};
 
-use crate::ending::Ending;
+use crate::door::listen_and_serve;
 use crate::ends::End;
 use crate::input::input_of;
-use crate::kept_door::{Server, listen_and_serve};
-use crate::kept_telling::{tell, tell_unopened};
-use crate::texts::{OUT_OF_MEMORY, say_fault};
+use crate::keep_faults::tell_unopened;
+use crate::texts::{OUT_OF_MEMORY, say, say_fault};
 use express_words::outside::{Net, Sink, Source};
 use node_journal::Disk;
 use node_serve::open_kept;
@@ -30,30 +27,24 @@ fn keep_by<K: Sink, N: Net, D: Disk>(
     out: &mut K,
     net: &mut N,
     disk: D,
-) -> (Ending, D)
+) -> (End, D)
     requires role { settings.now.role ≤ HELPER }
     requires limits { KeepsLimits settings.now.settings.width settings.now.settings.boxes
         settings.now.settings.lanes settings.now.settings.window }
-    ensures tells { Tells (SettingsMay D.disk settings.now
+    ensures tells { Prints (SettingsMay D.disk settings.now
         (around seed.now (N.seen net.old) (N.seen net.new) N.Conn.seen)
         disk result.1) (K.seen out.old) (K.seen out.new) result.0 }
-    ensures announces { result.0 ≡ Ending.Plain End.WriteFault → (net.new ≡ net.old)
-        ⊎ ServeBreaks settings.now
-        (around seed.now (N.seen net.old) (N.seen net.new) N.Conn.seen)
-        (K.seen out.old).written (K.seen out.new).written }
-    ensures told { result.0 ≢ Ending.Plain End.WriteFault
-        → (K.seen out.new).faults ≡ (K.seen out.old).faults }
+    ensures announces { ServeAnnounces result.0 settings.now
+        (around seed.now (N.seen net.old) (N.seen net.new) N.Conn.seen) (K.seen out.old) (K.seen out.new) }
     ensures disk { DiskCounts result.0 (D.Counted.seen disk).faults (D.Counted.seen result.1).faults }
 {
-    let Ok(gather) = Gather::open(alloc) else {
-        let ending = tell(out, OUT_OF_MEMORY, Ending::Plain(End::OutOfMemory));
-        return (ending, disk);
+    let Ok(mut gather) = Gather::open(alloc) else {
+        return (say(out, OUT_OF_MEMORY, End::OutOfMemory), disk);
     };
     match open_kept(alloc, settings, seed, disk) {
-        Ok(kept) => {
-            let mut server = Server { kept, gather };
-            let ending = listen_and_serve(alloc, settings, &mut server, out, net);
-            (ending, server.kept.into_disk())
+        Ok(mut kept) => {
+            let end = listen_and_serve(alloc, settings, &mut kept, &mut gather, out, net);
+            (end, kept.into_disk())
         }
         Err((fault, disk)) => (tell_unopened(alloc, out, fault), disk),
     }
@@ -67,20 +58,17 @@ fn keep_text<K: Sink, N: Net, D: Disk>(
     out: &mut K,
     net: &mut N,
     disk: D,
-) -> (Ending, D)
-    ensures tells { Tells (TextMay D.disk text.now
+) -> (End, D)
+    ensures tells { Prints (TextMay D.disk text.now
         (around seed.now (N.seen net.old) (N.seen net.new) N.Conn.seen)
         disk result.1) (K.seen out.old) (K.seen out.new) result.0 }
-    ensures announces { result.0 ≡ Ending.Plain End.WriteFault → BreaksOff Serve text.now
-        (around seed.now (N.seen net.old) (N.seen net.new) N.Conn.seen)
-        (K.seen out.old).written (K.seen out.new).written }
-    ensures told { result.0 ≢ Ending.Plain End.WriteFault
-        → (K.seen out.new).faults ≡ (K.seen out.old).faults }
+    ensures announces { ToldFirst result.0 Serve text.now
+        (around seed.now (N.seen net.old) (N.seen net.new) N.Conn.seen) (K.seen out.old) (K.seen out.new) }
     ensures disk { DiskCounts result.0 (D.Counted.seen disk).faults (D.Counted.seen result.1).faults }
 {
     match read_serve(alloc, text) {
         Ok(settings) => keep_by(alloc, &settings, seed, out, net, disk),
-        Err(fault) => (Ending::Plain(say_fault(alloc, out, fault)), disk),
+        Err(fault) => (say_fault(alloc, out, fault), disk),
     }
 }
 
@@ -93,25 +81,21 @@ pub(crate) fn keep<S: Source, K: Sink, N: Net, D: Disk>(
     out: &mut K,
     net: &mut N,
     disk: D,
-) -> (Ending, D)
+) -> (End, D)
     ensures tells { ComesTo D.disk (outside (S.seen input.old) (K.seen out.old))
         (outside (S.seen input.new) (K.seen out.new))
         (around seed.now (N.seen net.old) (N.seen net.new) N.Conn.seen)
         disk result.1 result.0 }
     ensures disk { DiskCounts result.0 (D.Counted.seen disk).faults (D.Counted.seen result.1).faults }
-    ensures input { result.0 ≢ Ending.Plain End.ReadFault → result.0 ≢ Ending.Plain End.WriteFault
-        → (S.seen input.new).faults ≡ (S.seen input.old).faults }
+    ensures input { InputCounts result.0 (outside (S.seen input.old) (K.seen out.old))
+        (outside (S.seen input.new) (K.seen out.new)) }
     ensures announces { Announces result.0 (outside (S.seen input.old) (K.seen out.old))
         (outside (S.seen input.new) (K.seen out.new))
         (around seed.now (N.seen net.old) (N.seen net.new) N.Conn.seen) }
-    ensures last_take { result.0 ≡ Ending.Plain End.ReadFault → (last : S)
-        × LastFailed (S.seen input.old).faults (S.seen last).faults (S.seen input.new).faults
-        (S.seen last).content (S.seen input.new).content }
-    ensures told { result.0 ≢ Ending.Plain End.WriteFault
-        → (K.seen out.new).faults ≡ (K.seen out.old).faults }
+    ensures last_take { result.0 ≡ End.ReadFault → FailedLast S.seen input.old input.new }
 {
     match input_of(alloc, input, out) {
         Ok(text) => keep_text(alloc, text.as_slice(), seed, out, net, disk),
-        Err(end) => (Ending::Plain(end), disk),
+        Err(end) => (end, disk),
     }
 }

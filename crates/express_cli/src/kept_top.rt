@@ -1,14 +1,14 @@
 //! The top call with a journal.
 ghost use Rattle.std.specs.Prelude.{◌≡◌, ◌≢◌, ◌≤◌, [], ◌∷◌, Contains, map, string_bytes};
 ghost use Rattle.express_words.specs.Causes.{Rose};
-ghost use Rattle.express_cli.specs.Around.{around, outside};
+ghost use Rattle.express_cli.specs.Around.{FailedLast, around, outside};
 ghost use Rattle.express_cli.specs.CommandLine.{AskSome, AskTalk};
 ghost use Rattle.express_cli.specs.Laws.{Laws};
-ghost use Rattle.input_reading.specs.Reading.{LastFailed};
 ghost use Rattle.express_cli.specs.Keeping.{Keeps, OtherRan};
 ghost use Rattle.express_cli.specs.KeepWord.{AsksKeep};
 
 use crate::asking::asks_keep;
+use crate::ends::status_of;
 use crate::keeping::keep;
 use crate::promises::laws;
 use crate::top::run;
@@ -49,17 +49,15 @@ pub fn run_kept<S: Source, K: Sink, N: Net, D: Disk>(
         (outside (S.seen input.new) (K.seen out.new))
         (around seed.now (N.seen net.old) (N.seen net.new) N.Conn.seen) disk result.1 result.0 }
     // Nothing is taken from the input after a fault of it.
-    ensures last_take { result.0 ≡ 4 → (last : S)
-        × LastFailed (S.seen input.old).faults (S.seen last).faults (S.seen input.new).faults
-        (S.seen last).content (S.seen input.new).content }
+    ensures last_take { result.0 ≡ 4 → FailedLast S.seen input.old input.new }
     // The disk failed only where its count rose.
     ensures disk_fault { result.0 ≡ 10 → Rose (D.Counted.seen disk).faults (D.Counted.seen result.1).faults }
     ensures statuses { Contains (0 ∷ 2 ∷ 3 ∷ 4 ∷ 5 ∷ 6 ∷ 7 ∷ 8 ∷ 10 ∷ 11 ∷ 12 ∷ 13 ∷ []) result.0 }
 {
     laws();
     if asks_keep(words) {
-        let (ending, disk) = keep(alloc, seed, input, out, net, disk);
-        (ending.status(), disk)
+        let (end, disk) = keep(alloc, seed, input, out, net, disk);
+        (status_of(end), disk)
     } else {
         (run(alloc, words, seed, input, out, net), disk)
     }

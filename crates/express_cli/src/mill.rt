@@ -132,8 +132,6 @@ pub fn mill<K: Sink>(alloc: Global, number: u16, out: &mut K) -> End
     requires { number ≤ 5000 }
     ensures ends { Prints (MillMay number)
         (K.seen out.old) (K.seen out.new) result }
-    ensures later { (K.seen out.old).faults ≤ (K.seen out.new).faults }
-    ensures told { result ≢ End.WriteFault → (K.seen out.new).faults ≡ (K.seen out.old).faults }
 {
     match mill_text(alloc, number) {
         Err(_) => say(out, OUT_OF_MEMORY, End::OutOfMemory),

@@ -11,7 +11,6 @@ use express_words::outside::Sink;
 /// Prints the text of a run, and comes to its end, or to a fault of the sink.
 pub fn say_ran<K: Sink>(out: &mut K, ran: &Ran) -> End
     ensures says { Prints (Said (end_by ran.now.end) ran.now.text) (K.seen out.old) (K.seen out.new) result }
-    ensures told { result ≢ End.WriteFault → (K.seen out.new).faults ≡ (K.seen out.old).faults }
     ensures settings { result ≢ End.BadKey }
 {
     match ran.end {
@@ -24,7 +23,6 @@ pub fn say_ran<K: Sink>(out: &mut K, ran: &Ran) -> End
 pub fn say_untold<K: Sink>(out: &mut K, why: Untold) -> End
     ensures says { SaysUntold why result (K.seen out.old).written (K.seen out.new).written
         (K.seen out.old).faults (K.seen out.new).faults }
-    ensures told { result ≢ End.WriteFault → (K.seen out.new).faults ≡ (K.seen out.old).faults }
     ensures settings { result ≢ End.BadKey }
 {
     match why {

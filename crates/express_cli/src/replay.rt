@@ -32,8 +32,6 @@ fn put_world<K: Sink>(alloc: Global, world: &World, out: &mut K) -> End
     requires { IsWhole world.now }
     ensures ends { (text : List ℕ) → SpellsSchedule (played world.now) text
         → Prints (WorkMay Replay text) (K.seen out.old) (K.seen out.new) result }
-    ensures later { (K.seen out.old).faults ≤ (K.seen out.new).faults }
-    ensures told { result ≢ End.WriteFault → (K.seen out.new).faults ≡ (K.seen out.old).faults }
 {
     match world.put(alloc, out) {
         Ok(()) => End::Done,
@@ -47,8 +45,6 @@ fn replay_schedule<K: Sink>(alloc: Global, schedule: &Schedule, out: &mut K) -> 
     requires { KeepsRules schedule.now }
     ensures ends { (text : List ℕ) → SpellsSchedule schedule.now text
         → Prints (WorkMay Replay text) (K.seen out.old) (K.seen out.new) result }
-    ensures later { (K.seen out.old).faults ≤ (K.seen out.new).faults }
-    ensures told { result ≢ End.WriteFault → (K.seen out.new).faults ≡ (K.seen out.old).faults }
 {
     match world_after(alloc, schedule) {
         Ok(world) => put_world(alloc, &world, out),
@@ -59,8 +55,6 @@ fn replay_schedule<K: Sink>(alloc: Global, schedule: &Schedule, out: &mut K) -> 
 /// Replays the schedule that the text spells.
 pub fn replay<K: Sink>(alloc: Global, text: &[u8], out: &mut K) -> End
     ensures ends { Prints (WorkMay Replay text.now) (K.seen out.old) (K.seen out.new) result }
-    ensures later { (K.seen out.old).faults ≤ (K.seen out.new).faults }
-    ensures told { result ≢ End.WriteFault → (K.seen out.new).faults ≡ (K.seen out.old).faults }
 {
     match read(alloc, text) {
         Ok(schedule) => replay_schedule(alloc, &schedule, out),

@@ -1,21 +1,36 @@
 //! Is one of the two servers.
-ghost use Rattle.std.specs.Prelude.{◌≡◌, ◌≢◌, ◌≤◌, ◌⊎◌, [], ◌++◌, IfOk, codes, string_bytes};
+ghost use Rattle.std.specs.Prelude.{◌≡◌, ◌≢◌, ◌≤◌, ◌⊎◌, List, ℕ, IfOk};
 ghost use Rattle.express_words.specs.Limits.{KeepsLimits};
 ghost use Rattle.node_serve.specs.Opening.{IsOpened};
-ghost use Rattle.node_serve.specs.Tallies.{tally_text};
-ghost use Rattle.express_cli.specs.Around.{around, Shown};
+ghost use Rattle.express_cli.specs.Around.{around};
 ghost use Rattle.express_cli.specs.Ends.{Prints};
-ghost use Rattle.express_cli.specs.Talking.{BreaksOff, DoorMay, HostMay, IsOut, ListeningMay, ServeBreaks, ServeMay, TalkMay, listening};
+ghost use Rattle.express_cli.specs.Talking.{ServeAnnounces, ServeMay, TalkMay, ToldFirst};
 ghost use Rattle.express_cli.specs.declared.words.NetCommand.TheVariants.{Serve};
 
-use crate::End;
-use crate::texts::{LISTENING, NET_FAULT, OUT_OF_MEMORY, say, say_fault};
+use crate::door::{Told, listen_and_serve};
+use crate::ends::End;
+use crate::texts::{OUT_OF_MEMORY, say, say_fault};
 use express_words::NoMemory;
 use express_words::outside::{Net, Sink};
-use node_serve::{Halt, Node, Tally, host, open_node};
+use node_serve::{Never, Node, open_node};
 use settings_text::{HELPER, ServeSettings, read_serve};
-use std::alloc::{AllocError, Global};
+use std::alloc::Global;
 use wire_frames::Gather;
+
+// A node has no log that could refuse a frame.
+impl Told for Node {
+    ghost whole = { λ node. Unit {0} };
+
+    ghost first = { λ why. ⊥ };
+
+    ghost tells = { λ why end text. ⊥ };
+
+    fn tell<K: Sink>(_alloc: Global, _out: &mut K, fault: Never) -> End {
+        match fault {}
+    }
+
+    ghost stops_first = { λ a b taken refused why whole stops. stops };
+}
 
 // The server of the settings, and what takes its frames.
 fn opened(
@@ -32,93 +47,6 @@ fn opened(
     Ok((open_node(alloc, settings, seed)?, gather))
 }
 
-/// The line that tells how many connections had each answer.
-pub fn tally_line(alloc: Global, tally: Tally) -> Result<String, AllocError>
-    ensures { IfOk result (λ text. string_bytes text ≡ tally_text tally ++ codes "\n") }
-{
-    format!(in alloc; "{tally}\n")
-}
-
-// Serves the settings' connections at the open door, and tells how many had each answer.
-fn serve_all<K: Sink, N: Net>(
-    alloc: Global,
-    settings: &ServeSettings,
-    node: &mut Node,
-    gather: &mut Gather,
-    out: &mut K,
-    net: &mut N,
-) -> End
-    ensures ends { Prints (HostMay (Shown N.Conn.seen) settings.now node.old
-        (N.seen net.old) (N.seen net.new))
-        (K.seen out.old) (K.seen out.new) result }
-    ensures told { result ≢ End.WriteFault → (K.seen out.new).faults ≡ (K.seen out.old).faults }
-    ensures settings { result ≢ End.BadKey }
-{
-    match host(
-        node,
-        settings.peer.as_str(),
-        gather,
-        settings.connections,
-        net,
-    ) {
-        Ok(tally) => match tally_line(alloc, tally) {
-            Ok(line) => say(out, line.as_str(), End::Done),
-            Err(_) => say(out, OUT_OF_MEMORY, End::OutOfMemory),
-        },
-        Err(stop) => match stop.halt {
-            Halt::Door => say(out, NET_FAULT, End::NetFault),
-            Halt::Log(never) => match never {},
-        },
-    }
-}
-
-// Says that the server listens, and serves.
-fn tell_and_serve<K: Sink, N: Net>(
-    alloc: Global,
-    settings: &ServeSettings,
-    node: &mut Node,
-    gather: &mut Gather,
-    out: &mut K,
-    net: &mut N,
-) -> End
-    ensures ends { Prints (ListeningMay (Shown N.Conn.seen) settings.now node.old
-        (N.seen net.old) (N.seen net.new))
-        (K.seen out.old) (K.seen out.new) result }
-    ensures breaks { result ≡ End.WriteFault → (net.new ≡ net.old)
-        ⊎ IsOut listening (K.seen out.old).written (K.seen out.new).written }
-    ensures told { result ≢ End.WriteFault → (K.seen out.new).faults ≡ (K.seen out.old).faults }
-    ensures settings { result ≢ End.BadKey }
-{
-    match say(out, LISTENING, End::Done) {
-        End::Done => serve_all(alloc, settings, node, gather, out, net),
-        end => end,
-    }
-}
-
-// Opens the door of the settings, says that the server listens, and serves.
-fn listen_and_serve<K: Sink, N: Net>(
-    alloc: Global,
-    settings: &ServeSettings,
-    node: &mut Node,
-    gather: &mut Gather,
-    out: &mut K,
-    net: &mut N,
-) -> End
-    ensures ends { Prints (DoorMay (Shown N.Conn.seen) settings.now node.old
-        (N.seen net.old) (N.seen net.new))
-        (K.seen out.old) (K.seen out.new) result }
-    ensures breaks { result ≡ End.WriteFault → ServeBreaks settings.now
-        (around [] (N.seen net.old) (N.seen net.new) N.Conn.seen)
-        (K.seen out.old).written (K.seen out.new).written }
-    ensures told { result ≢ End.WriteFault → (K.seen out.new).faults ≡ (K.seen out.old).faults }
-    ensures settings { result ≢ End.BadKey }
-{
-    match net.listen(settings.listen.as_str()) {
-        Ok(()) => tell_and_serve(alloc, settings, node, gather, out, net),
-        Err(_) => say(out, NET_FAULT, End::NetFault),
-    }
-}
-
 // Opens the server of the settings, and serves.
 fn serve_by<K: Sink, N: Net>(
     alloc: Global,
@@ -133,11 +61,8 @@ fn serve_by<K: Sink, N: Net>(
     ensures ends { Prints (ServeMay settings.now
         (around seed.now (N.seen net.old) (N.seen net.new) N.Conn.seen))
         (K.seen out.old) (K.seen out.new) result }
-    ensures breaks { result ≡ End.WriteFault
-        → (net.new ≡ net.old) ⊎ ServeBreaks settings.now
-        (around seed.now (N.seen net.old) (N.seen net.new) N.Conn.seen)
-        (K.seen out.old).written (K.seen out.new).written }
-    ensures told { result ≢ End.WriteFault → (K.seen out.new).faults ≡ (K.seen out.old).faults }
+    ensures announces { ServeAnnounces result settings.now
+        (around seed.now (N.seen net.old) (N.seen net.new) N.Conn.seen) (K.seen out.old) (K.seen out.new) }
     ensures settings { result ≢ End.BadKey }
 {
     match opened(alloc, settings, seed) {
@@ -160,10 +85,8 @@ pub fn serve<K: Sink, N: Net>(
     ensures ends { Prints (TalkMay Serve text.now
         (around seed.now (N.seen net.old) (N.seen net.new) N.Conn.seen))
         (K.seen out.old) (K.seen out.new) result }
-    ensures breaks { result ≡ End.WriteFault → BreaksOff Serve text.now
-        (around seed.now (N.seen net.old) (N.seen net.new) N.Conn.seen)
-        (K.seen out.old).written (K.seen out.new).written }
-    ensures told { result ≢ End.WriteFault → (K.seen out.new).faults ≡ (K.seen out.old).faults }
+    ensures breaks { ToldFirst result Serve text.now
+        (around seed.now (N.seen net.old) (N.seen net.new) N.Conn.seen) (K.seen out.old) (K.seen out.new) }
     ensures waits { result ≡ End.BadKey → net.new ≡ net.old }
 {
     match read_serve(alloc, text) {

@@ -2,7 +2,7 @@
 ghost use Rattle.std.specs.Prelude.{◌≡◌, ◌≢◌, ◌≤◌};
 ghost use Rattle.express_cli.specs.Around.{around};
 ghost use Rattle.express_cli.specs.Ends.{Prints};
-ghost use Rattle.express_cli.specs.Talking.{BreaksOff, LeavesNothing, TalkMay};
+ghost use Rattle.express_cli.specs.Talking.{LeavesNothing, TalkMay, ToldFirst};
 
 use crate::End;
 use crate::carry::carry;
@@ -24,10 +24,8 @@ pub fn talk<K: Sink, N: Net>(
     ensures ends { Prints (TalkMay command text.now
         (around seed.now (N.seen net.old) (N.seen net.new) N.Conn.seen))
         (K.seen out.old) (K.seen out.new) result }
-    ensures breaks { result ≡ End.WriteFault → BreaksOff command text.now
-        (around seed.now (N.seen net.old) (N.seen net.new) N.Conn.seen)
-        (K.seen out.old).written (K.seen out.new).written }
-    ensures told { result ≢ End.WriteFault → (K.seen out.new).faults ≡ (K.seen out.old).faults }
+    ensures breaks { ToldFirst result command text.now
+        (around seed.now (N.seen net.old) (N.seen net.new) N.Conn.seen) (K.seen out.old) (K.seen out.new) }
     ensures waits { result ≡ End.BadKey → net.new ≡ net.old }
     ensures early { LeavesNothing command
         (around seed.now (N.seen net.old) (N.seen net.new) N.Conn.seen) }

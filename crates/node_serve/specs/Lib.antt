@@ -15,3 +15,4 @@ pub mod Visits
 pub mod Tallies
 pub mod Hosting
 pub mod Texts
+pub mod FirstFaults

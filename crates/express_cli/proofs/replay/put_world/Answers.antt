@@ -6,15 +6,19 @@ use Rattle.express_cli.specs.declared.ends.End.TheVariants.{Done, OutOfMemory}
 use Rattle.express_cli.proofs.Writing.{said, unmoved}
 use Rattle.express_cli.proofs.replay.put_world.Goals as goal
 
-pub returns-in-Err-Failed-clause-ends : goal.returns-in-Err-Failed-clause-ends
-returns-in-Err-Failed-clause-ends g c text spelled =
-    let failed = ap Err c.in-Err-Failed.field-0-is in
-    let world = c.args.world.now in
-    (c.in-Err-Failed.ensures.cause failed, (Done, output_of (played world), (played world, spelled, refl), c.in-Err-Failed.ensures.failed failed))
+pub returns-in-Err-Failed : goal.returns-in-Err-Failed
+returns-in-Err-Failed g c = record {
+  ends = λ text spelled.
+      let failed = ap Err c.in-Err-Failed.field-0-is in
+      let world = c.args.world.now in
+      (c.in-Err-Failed.ensures.cause failed, (Done, output_of (played world), (played world, spelled, refl), c.in-Err-Failed.ensures.failed failed));
+}
 
 -- want of memory leaves the sink as it was
-pub returns-in-Err-NoMemory-clause-ends : goal.returns-in-Err-NoMemory-clause-ends
-returns-in-Err-NoMemory-clause-ends g c text spelled =
-    let same = c.in-Err-NoMemory.ensures.memory (ap Err c.in-Err-NoMemory.field-0-is) in
-    unmoved (WorkMay Replay text) _ _ _ _ _ _ _ (ap (λ out. (g.K.Counted.seen out).written) same) (ap (λ out. (g.K.Counted.seen out).faults) same)
-    (said (WorkMay Replay text) _ _ _ _ OutOfMemory _ _ refl c.say.ensures.says)
+pub returns-in-Err-NoMemory : goal.returns-in-Err-NoMemory
+returns-in-Err-NoMemory g c = record {
+  ends = λ text spelled.
+      let same = c.in-Err-NoMemory.ensures.memory (ap Err c.in-Err-NoMemory.field-0-is) in
+      unmoved (WorkMay Replay text) _ _ _ _ _ _ _ (ap (λ out. (g.K.Counted.seen out).written) same) (ap (λ out. (g.K.Counted.seen out).faults) same)
+      (said (WorkMay Replay text) _ _ _ _ OutOfMemory _ _ refl c.say.ensures.says);
+}

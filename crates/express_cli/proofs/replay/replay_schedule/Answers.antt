@@ -7,10 +7,13 @@ use Rattle.express_cli.specs.declared.ends.End.TheVariants.{OutOfMemory}
 use Rattle.express_cli.proofs.Writing.{said}
 use Rattle.express_cli.proofs.replay.replay_schedule.Goals as goal
 
-pub returns-in-Ok-clause-ends : goal.returns-in-Ok-clause-ends
-returns-in-Ok-clause-ends g c text spelled =
-    let Spelled : Schedule → Type 0 = λ s. SpellsSchedule s text in
-    c.put_world.ensures.ends text (subst Spelled (sym c.in-Ok.ensures.played) spelled)
+pub returns-in-Ok : goal.returns-in-Ok
+returns-in-Ok g c = record {
+  ends = λ text spelled. let Spelled : Schedule → Type 0 = λ s. SpellsSchedule s text in
+      c.put_world.ensures.ends text (subst Spelled (sym c.in-Ok.ensures.played) spelled);
+}
 
-pub returns-in-Err-clause-ends : goal.returns-in-Err-clause-ends
-returns-in-Err-clause-ends g c text spelled = said (WorkMay Replay text) _ _ _ _ OutOfMemory _ _ refl c.say.ensures.says
+pub returns-in-Err : goal.returns-in-Err
+returns-in-Err g c = record {
+  ends = λ text spelled. said (WorkMay Replay text) _ _ _ _ OutOfMemory _ _ refl c.say.ensures.says;
+}

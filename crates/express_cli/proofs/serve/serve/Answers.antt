@@ -1,4 +1,4 @@
-use Rattle.std.proofs.Common.{refl, inl, inr, ap}
+use Rattle.std.proofs.Common.{refl, inl}
 use Rattle.express_cli.specs.Ends.{FaultMay}
 use Rattle.express_cli.specs.Around.{Around, around}
 use Rattle.express_cli.specs.Talking.{ServeMay, TalkMay}
@@ -20,11 +20,8 @@ returns-in-Err-clause-ends g c =
 
 pub returns-in-Ok-clause-breaks : goal.returns-in-Ok-clause-breaks
 returns-in-Ok-clause-breaks g c = λ failed.
-    let before = g.N.Counted.seen c.args.net.now in
-    let now = g.N.Counted.seen c.serve_by.new.net in
-    let net : Around = around c.args.seed.now before now g.N.Conn.Counted.seen in
-    serve_breaks c.in-Ok.settings c.args.text.now net _ _ c.in-Ok.ensures.judges
-    (elim (c.serve_by.ensures.breaks failed) [ inl same ↦ inl (ap (λ n. g.N.Counted.seen n) same) | inr breaks ↦ inr breaks ])
+    let net : Around = around c.args.seed.now (g.N.Counted.seen c.args.net.now) (g.N.Counted.seen c.serve_by.new.net) g.N.Conn.Counted.seen in
+    serve_breaks c.in-Ok.settings c.args.text.now net _ _ c.in-Ok.ensures.judges (c.serve_by.ensures.announces failed)
 
 pub returns-in-Err-clause-breaks : goal.returns-in-Err-clause-breaks
 returns-in-Err-clause-breaks g c = λ failed. inl refl

@@ -1,9 +1,11 @@
-use Rattle.std.proofs.Common.{◌∙◌}
+use Rattle.std.proofs.Common.{refl, inl, inr, ◌∙◌}
 use Rattle.express_cli.specs.Ends.{BadKeyMay}
-use Rattle.express_cli.specs.declared.ends.End.TheVariants.{BadKey}
+use Rattle.express_cli.specs.declared.ends.End.TheVariants.{BadKey, OutOfMemory}
 use Rattle.express_cli.proofs.Writing.{said}
 use Rattle.express_cli.proofs.texts.say_bad_key.Goals as goal
 
-pub returns-in-Ok-clause-says : goal.returns-in-Ok-clause-says
-returns-in-Ok-clause-says g c =
-    said (BadKeyMay c.args.key.now) _ _ _ _ BadKey _ _ (c.as_str.ensures.value ∙ c.in-Ok.ensures) c.say-in-Ok.ensures.says
+pub returns-in-Err : goal.returns-in-Err
+returns-in-Err g c = record { says = said (BadKeyMay c.args.key.now) _ _ _ _ OutOfMemory _ _ (inr (refl, refl)) c.say.ensures.says }
+
+pub returns-in-Ok : goal.returns-in-Ok
+returns-in-Ok g c = record { says = said (BadKeyMay c.args.key.now) _ _ _ _ BadKey _ _ (inl (refl, c.as_str.ensures.value ∙ c.in-Ok.ensures)) c.say-in-Ok.ensures.says }

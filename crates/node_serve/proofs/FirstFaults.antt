@@ -2,15 +2,15 @@
 use Rattle.std.proofs.Common.{◌≡◌, ℕ, ◌+◌, false, true, List, [], ◌∷◌, length, refl, sym, ◌∙◌, ap}
 use Rattle.node_journal.specs.Disk.{DiskSeen}
 use Rattle.node_journal.specs.Journal.{JournalState, longer}
-use Rattle.node_journal.specs.declared.fault.JournalFault.TheVariants.{Closed, NotEmpty, Full, Disk, Damaged}
+use Rattle.node_journal.specs.declared.fault.JournalFault.TheVariants.{Closed, NotEmpty}
 use Rattle.node_restart.specs.Frames.{Handed}
 use Rattle.node_restart.specs.Kept.{KeptState}
 use Rattle.node_restart.specs.declared.fault.KeepFault.{KeepFault}
-use Rattle.node_restart.specs.declared.fault.KeepFault.TheVariants.{Journal, NoMemory, Foreign}
+use Rattle.node_restart.specs.declared.fault.KeepFault.TheVariants.{Journal}
 use Rattle.node_restart.specs.Keeping.{IsCause, KeepsUpTo, journal_after, kept_of}
 use Rattle.node_serve.specs.KeptOpening.{IsOfOpening}
 use Rattle.node_serve.specs.declared.open_fault.OpenFault.TheVariants as opening
-use Rattle.express_cli.specs.KeptEndings.{IsToldOf}
+use Rattle.node_serve.specs.FirstFaults.{IsFirstFault}
 
 -- frames that were kept close no journal
 after_closed : (j : JournalState) (frames : List Handed) → (journal_after j frames).closed ≡ j.closed
@@ -18,28 +18,20 @@ after_closed j [] = refl
 after_closed j (h ∷ frames) = after_closed (longer (length h.frame + 1) j) frames
 
 first_of : {D : Type 0} (fault : KeepFault) (bytes : ℕ) (old new : KeptState D) → old.journal.closed ≡ false
-    → IsCause fault bytes old new → IsToldOf fault
+    → IsCause fault bytes old new → IsFirstFault fault
 first_of (Journal Closed) bytes old new unclosed cause = cc
 first_of (Journal NotEmpty) bytes old new unclosed cause = absurd cause
-first_of (Journal (Full end)) bytes old new unclosed cause = tt
-first_of (Journal (Disk faults)) bytes old new unclosed cause = tt
-first_of (Journal (Damaged at)) bytes old new unclosed cause = absurd cause
-first_of NoMemory bytes old new unclosed cause = absurd cause
-first_of (Foreign n) bytes old new unclosed cause = absurd cause
+first_of _ bytes old new unclosed cause = tt
 
 pub first_fault : {D : Type 0} (shows : D → DiskSeen) (old new : KeptState D) (frames : List Handed) (refused : Handed)
     (fault : KeepFault) → old.journal.closed ≡ false
-    → KeepsUpTo shows old new frames refused fault → IsToldOf fault
+    → KeepsUpTo shows old new frames refused fault → IsFirstFault fault
 first_fault shows old new frames refused fault unclosed upto =
     first_of fault _ upto.between new
     (ap (λ (j : JournalState). j.closed) upto.keeps.journal ∙ after_closed old.journal (kept_of frames) ∙ unclosed)
     upto.refuses.cause
 
-pub opening_fault : (fault : KeepFault) → IsOfOpening (opening.Keep fault) → IsToldOf fault
+pub opening_fault : (fault : KeepFault) → IsOfOpening (opening.Keep fault) → IsFirstFault fault
 opening_fault (Journal Closed) kind = absurd kind
 opening_fault (Journal NotEmpty) kind = absurd kind
-opening_fault (Journal (Full end)) kind = absurd kind
-opening_fault (Journal (Disk faults)) kind = tt
-opening_fault (Journal (Damaged at)) kind = tt
-opening_fault NoMemory kind = tt
-opening_fault (Foreign n) kind = tt
+opening_fault _ kind = tt

@@ -1,0 +1,134 @@
+//! A server at its door: it listens, tells so, serves, and tells what came of it.
+ghost use Rattle.std.specs.Prelude.{◌≡◌, ◌⊎◌, ◌≤◌, ◌++◌, ℕ, List, [], IfOk, codes, string_bytes};
+ghost use Rattle.node_restart.specs.Frames.{Handed};
+ghost use Rattle.node_serve.specs.Tallies.{tally_text};
+ghost use Rattle.node_serve.specs.Visits.{standing};
+ghost use Rattle.express_cli.specs.Around.{Shown, around};
+ghost use Rattle.express_cli.specs.Door.{DoorMay, ListeningMay, ServedMay, TallyMay, keeper, listening};
+ghost use Rattle.express_cli.specs.Ends.{DiskCounts, Prints};
+ghost use Rattle.express_cli.specs.Talking.{IsOut, ServeAnnounces};
+ghost use Rattle.express_cli.specs.declared.ends.End.{End as Ends};
+
+use crate::ends::End;
+use crate::texts::{LISTENING, NET_FAULT, OUT_OF_MEMORY, say};
+use express_words::outside::{Net, Sink};
+use node_serve::{Halt, Logged, Tally, host};
+use settings_text::ServeSettings;
+use std::alloc::{AllocError, Global};
+use wire_frames::Gather;
+
+/// A server that can tell why its log refused a frame, which ends it.
+pub(crate) trait Told: Logged {
+    /// Its log hasn't failed.
+    ghost whole: { Self → Type 0 };
+
+    /// What a log refuses a frame for that hadn't failed.
+    ghost first: { Self.Fault → Type 0 };
+
+    /// What is told of a fault, and the end of the run by it.
+    ghost tells: { Self.Fault → Ends → List ℕ → Type 0 };
+
+    /// Tells why the log refused a frame.
+    fn tell<K: Sink>(alloc: Global, out: &mut K, fault: Self::Fault) -> End
+        requires first { first fault }
+        ensures tells { Prints (tells fault) (K.seen out.old) (K.seen out.new) result }
+        ensures counts { (before now : ℕ) → Self.rises fault before now → DiskCounts result before now };
+
+    /// Where a log hadn't failed, its first fault is one of those.
+    ghost stops_first: { (a b : Self) (taken : List Handed) (refused : Handed) (why : Self.Fault) → whole a
+        → Self.log.stops a b taken refused why → first why };
+}
+
+// Tells how many connections had each answer.
+fn tell_tally<K: Sink>(alloc: Global, out: &mut K, tally: Tally) -> End
+    ensures tells { Prints (TallyMay tally) (K.seen out.old) (K.seen out.new) result }
+    ensures counts { (before now : ℕ) → now ≡ before → DiskCounts result before now }
+{
+    match tally_line(alloc, tally) {
+        Ok(line) => say(out, line.as_str(), End::Done),
+        Err(_) => say(out, OUT_OF_MEMORY, End::OutOfMemory),
+    }
+}
+
+// The line that tells how many connections had each answer.
+fn tally_line(alloc: Global, tally: Tally) -> Result<String, AllocError>
+    ensures { IfOk result (λ text. string_bytes text ≡ tally_text tally ++ codes "\n") }
+{
+    format!(in alloc; "{tally}\n")
+}
+
+// Serves the connections of the settings at the open door, and tells what came of it.
+fn serve_all<S: Told, K: Sink, N: Net>(
+    alloc: Global,
+    settings: &ServeSettings,
+    server: &mut S,
+    gather: &mut Gather,
+    out: &mut K,
+    net: &mut N,
+) -> End
+    requires whole { S.whole server.old }
+    ensures tells { Prints (ServedMay (keeper S.log S.tells) (Shown N.Conn.seen) settings.now
+        (standing server.old (N.seen net.old)) (standing server.new (N.seen net.new)))
+        (K.seen out.old) (K.seen out.new) result }
+    ensures counts { DiskCounts result (S.failures server.old) (S.failures server.new) }
+{
+    match host(
+        server,
+        settings.peer.as_str(),
+        gather,
+        settings.connections,
+        net,
+    ) {
+        Ok(tally) => tell_tally(alloc, out, tally),
+        Err(stop) => match stop.halt {
+            Halt::Door => say(out, NET_FAULT, End::NetFault),
+            Halt::Log(fault) => S::tell(alloc, out, fault),
+        },
+    }
+}
+
+// Says that the server listens, and serves.
+fn tell_and_serve<S: Told, K: Sink, N: Net>(
+    alloc: Global,
+    settings: &ServeSettings,
+    server: &mut S,
+    gather: &mut Gather,
+    out: &mut K,
+    net: &mut N,
+) -> End
+    requires whole { S.whole server.old }
+    ensures tells { Prints (ListeningMay (keeper S.log S.tells) (Shown N.Conn.seen) settings.now
+        (standing server.old (N.seen net.old)) (standing server.new (N.seen net.new)))
+        (K.seen out.old) (K.seen out.new) result }
+    ensures announces { result ≡ End.WriteFault → (net.new ≡ net.old)
+        ⊎ IsOut listening (K.seen out.old).written (K.seen out.new).written }
+    ensures counts { DiskCounts result (S.failures server.old) (S.failures server.new) }
+{
+    match out.put(LISTENING.as_bytes()) {
+        Ok(()) => serve_all(alloc, settings, server, gather, out, net),
+        Err(_) => End::WriteFault,
+    }
+}
+
+/// Opens the door of the settings, says that the server listens, and serves as many connections as they say.
+pub(crate) fn listen_and_serve<S: Told, K: Sink, N: Net>(
+    alloc: Global,
+    settings: &ServeSettings,
+    server: &mut S,
+    gather: &mut Gather,
+    out: &mut K,
+    net: &mut N,
+) -> End
+    requires whole { S.whole server.old }
+    ensures tells { Prints (DoorMay (keeper S.log S.tells) (Shown N.Conn.seen) settings.now
+        (standing server.old (N.seen net.old)) (standing server.new (N.seen net.new)))
+        (K.seen out.old) (K.seen out.new) result }
+    ensures announces { ServeAnnounces result settings.now
+        (around [] (N.seen net.old) (N.seen net.new) N.Conn.seen) (K.seen out.old) (K.seen out.new) }
+    ensures counts { DiskCounts result (S.failures server.old) (S.failures server.new) }
+{
+    match net.listen(settings.listen.as_str()) {
+        Ok(()) => tell_and_serve(alloc, settings, server, gather, out, net),
+        Err(_) => say(out, NET_FAULT, End::NetFault),
+    }
+}
