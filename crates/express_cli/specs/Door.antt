@@ -48,7 +48,7 @@ abbrev pub TallyMay : Tally → End → List ℕ → Type 0
 TallyMay tally end text = SaidOrWants Done (tally_text tally ++ codes "\n") end text
 
 -- All connections of the settings were served.
-pub record Served {S F : Type 0} (keeper : Keeper S F) (shown : Seen → Type 0) (settings : ServeSettings)
+pub record ServedAll {S F : Type 0} (keeper : Keeper S F) (shown : Seen → Type 0) (settings : ServeSettings)
     (old new : Standing S) (end : End) (text : List ℕ) : Type 0 where
   pub tally : Tally
   pub serves : Hosts keeper.log settings.peer shown settings.connections old new (Ok tally)
@@ -72,7 +72,7 @@ pub record Halted {S F : Type 0} (keeper : Keeper S F) (shown : Seen → Type 0)
 abbrev pub ServedMay : {S F : Type 0} → Keeper S F → (Seen → Type 0) → ServeSettings → (old new : Standing S)
     → End → List ℕ → Type 0
 ServedMay keeper shown settings old new end text =
-    Served keeper shown settings old new end text ⊎ Halted keeper shown settings old new end text
+    ServedAll keeper shown settings old new end text ⊎ Halted keeper shown settings old new end text
 
 -- The sink failed where it was to be told that it listens: nothing was served.
 pub record Unheard {S : Type 0} (old new : Standing S) (end : End) (text : List ℕ) : Type 0 where

@@ -111,9 +111,9 @@ KeepMay shows old new net disk after end text =
     ⊎ Unread old new net disk after end text
 
 -- What came of it was written, or a front of that where the sink failed.
-abbrev pub ComesTo : {D : Type 0} → (D → DiskSeen) → (old new : Outside) → Around → (disk after : D)
+abbrev pub KeepComesTo : {D : Type 0} → (D → DiskSeen) → (old new : Outside) → Around → (disk after : D)
     → End → Type 0
-ComesTo shows old new net disk after end =
+KeepComesTo shows old new net disk after end =
     PrintsBy (KeepMay shows old new net disk after) old.written new.written
     old.output_faults new.output_faults end
 
@@ -138,7 +138,7 @@ pub record KeepRan {D : Type 0} (shows : D → DiskSeen) (counted : D → Seen) 
     (disk after : D) (status : ℕ) : Type 0 where
   pub ending : End
   pub status_is : status ≡ status_of ending
-  pub came : ComesTo shows old new net disk after ending
+  pub came : KeepComesTo shows old new net disk after ending
   -- No fault is passed over.
   pub disk_counts : DiskCounts ending (counted disk).faults (counted after).faults
   pub input_counts : InputCounts ending old new

@@ -18,7 +18,7 @@ use std::alloc::{AllocError, Global};
 use wire_frames::Gather;
 
 /// A server that can tell why its log refused a frame, which ends it.
-pub(crate) trait Told: Logged {
+pub(crate) trait TellsFaults: Logged {
     /// Its log hasn't failed.
     ghost whole: { Self → Type 0 };
 
@@ -58,7 +58,7 @@ fn tally_line(alloc: Global, tally: Tally) -> Result<String, AllocError>
 }
 
 // Serves the connections of the settings at the open door, and tells what came of it.
-fn serve_all<S: Told, K: Sink, N: Net>(
+fn serve_all<S: TellsFaults, K: Sink, N: Net>(
     alloc: Global,
     settings: &ServeSettings,
     server: &mut S,
@@ -88,7 +88,7 @@ fn serve_all<S: Told, K: Sink, N: Net>(
 }
 
 // Says that the server listens, and serves.
-fn tell_and_serve<S: Told, K: Sink, N: Net>(
+fn tell_and_serve<S: TellsFaults, K: Sink, N: Net>(
     alloc: Global,
     settings: &ServeSettings,
     server: &mut S,
@@ -111,7 +111,7 @@ fn tell_and_serve<S: Told, K: Sink, N: Net>(
 }
 
 /// Opens the door of the settings, says that the server listens, and serves as many connections as they say.
-pub(crate) fn listen_and_serve<S: Told, K: Sink, N: Net>(
+pub(crate) fn listen_and_serve<S: TellsFaults, K: Sink, N: Net>(
     alloc: Global,
     settings: &ServeSettings,
     server: &mut S,

@@ -7,7 +7,7 @@ ghost use Rattle.express_cli.specs.Ends.{DiskCounts, Prints, SaidOrWants};
 ghost use Rattle.express_cli.specs.KeepFaults.{KeepFaultMay, fault_line};
 ghost use Rattle.express_cli.specs.Keeping.{OpenFaultMay};
 
-use crate::door::Told;
+use crate::door::TellsFaults;
 use crate::ends::End;
 use crate::texts::{OUT_OF_MEMORY, say, say_bad_key};
 use express_words::outside::Sink;
@@ -21,7 +21,7 @@ const DISK_FAULT: &str = "disk fault\n";
 const JOURNAL_FULL: &str = "journal full\n";
 
 // A server with a journal that isn't closed.
-impl<D: Disk> Told for Kept<D> {
+impl<D: Disk> TellsFaults for Kept<D> {
     ghost use Rattle.node_serve.proofs.FirstFaults.{first_fault};
 
     ghost whole = { λ kept. kept.journal.closed ≡ false };

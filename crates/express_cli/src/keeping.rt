@@ -3,7 +3,7 @@ ghost use Rattle.std.specs.Prelude.{◌≡◌, ◌≢◌, ◌≤◌, ◌⊎◌};
 ghost use Rattle.express_words.specs.Limits.{KeepsLimits};
 ghost use Rattle.express_cli.specs.Around.{FailedLast, around, outside};
 ghost use Rattle.express_cli.specs.Ends.{DiskCounts, Prints};
-ghost use Rattle.express_cli.specs.Keeping.{Announces, ComesTo, InputCounts, SettingsMay, TextMay};
+ghost use Rattle.express_cli.specs.Keeping.{Announces, KeepComesTo, InputCounts, SettingsMay, TextMay};
 ghost use Rattle.express_cli.specs.Talking.{ServeAnnounces, ToldFirst};
 ghost use Rattle.express_cli.specs.declared.words.NetCommand.TheVariants.{Serve};
 
@@ -82,7 +82,7 @@ pub(crate) fn keep<S: Source, K: Sink, N: Net, D: Disk>(
     net: &mut N,
     disk: D,
 ) -> (End, D)
-    ensures tells { ComesTo D.disk (outside (S.seen input.old) (K.seen out.old))
+    ensures tells { KeepComesTo D.disk (outside (S.seen input.old) (K.seen out.old))
         (outside (S.seen input.new) (K.seen out.new))
         (around seed.now (N.seen net.old) (N.seen net.new) N.Conn.seen)
         disk result.1 result.0 }

@@ -7,7 +7,7 @@ ghost use Rattle.express_cli.specs.Ends.{Prints};
 ghost use Rattle.express_cli.specs.Talking.{ServeAnnounces, ServeMay, TalkMay, ToldFirst};
 ghost use Rattle.express_cli.specs.declared.words.NetCommand.TheVariants.{Serve};
 
-use crate::door::{Told, listen_and_serve};
+use crate::door::{TellsFaults, listen_and_serve};
 use crate::ends::End;
 use crate::texts::{OUT_OF_MEMORY, say, say_fault};
 use express_words::NoMemory;
@@ -18,7 +18,7 @@ use std::alloc::Global;
 use wire_frames::Gather;
 
 // A node has no log that could refuse a frame.
-impl Told for Node {
+impl TellsFaults for Node {
     ghost whole = { λ node. Unit {0} };
 
     ghost first = { λ why. ⊥ };

@@ -12,7 +12,7 @@ use Rattle.express_cli.proofs.door.listen_and_serve.Goals as goal
 pub returns-in-Ok-clause-tells : goal.returns-in-Ok-clause-tells
 returns-in-Ok-clause-tells g c =
     let Listens : List ℕ → Type 0 = λ at. Adds (g.N.Counted.seen c.args.net.now).calls (g.N.Counted.seen c.listen.new.self).calls (Listened at false) in
-    let server = keeper g.S.Logged.log g.S.Told.tells in
+    let server = keeper g.S.Logged.log g.S.TellsFaults.tells in
     let shown : Seen → Type 0 = Shown g.N.Conn.Counted.seen in
     let old = standing c.args.server.now (g.N.Counted.seen c.args.net.now) in
     let at = standing c.args.server.now (g.N.Counted.seen c.listen.new.self) in
@@ -25,7 +25,7 @@ returns-in-Err-clause-tells g c =
     let Listens : List ℕ → Type 0 = λ at. Adds (g.N.Counted.seen c.args.net.now).calls (g.N.Counted.seen c.listen.new.self).calls (Listened at true) in
     let old = standing c.args.server.now (g.N.Counted.seen c.args.net.now) in
     let new = standing c.args.server.now (g.N.Counted.seen c.listen.new.self) in
-    said (DoorMay (keeper g.S.Logged.log g.S.Told.tells) (Shown g.N.Conn.Counted.seen) c.args.settings.now old new) _ _ _ _ NetFault _ _
+    said (DoorMay (keeper g.S.Logged.log g.S.TellsFaults.tells) (Shown g.N.Conn.Counted.seen) c.args.settings.now old new) _ _ _ _ NetFault _ _
     (inr (record { call = subst Listens c.as_str.ensures c.in-Err.ensures.call; doors = c.in-Err.ensures.door.failed; stays = refl; says = (refl, refl) })) c.say.ensures.says
 
 pub returns-in-Err-clause-counts : goal.returns-in-Err-clause-counts

@@ -10,7 +10,7 @@ use Rattle.express_cli.proofs.door.tell_and_serve.Goals as goal
 
 pub returns-in-Ok-clause-tells : goal.returns-in-Ok-clause-tells
 returns-in-Ok-clause-tells g c =
-    let server = keeper g.S.Logged.log g.S.Told.tells in
+    let server = keeper g.S.Logged.log g.S.TellsFaults.tells in
     let shown : Seen → Type 0 = Shown g.N.Conn.Counted.seen in
     let old = standing c.args.server.now (g.N.Counted.seen c.args.net.now) in
     let new = standing c.serve_all.new.server (g.N.Counted.seen c.serve_all.new.net) in
@@ -28,7 +28,7 @@ pub returns-in-Ok-clause-announces : goal.returns-in-Ok-clause-announces
 returns-in-Ok-clause-announces g c failed =
     let old = standing c.args.server.now (g.N.Counted.seen c.args.net.now) in
     let new = standing c.serve_all.new.server (g.N.Counted.seen c.serve_all.new.net) in
-    inr (out_behind (ServedMay (keeper g.S.Logged.log g.S.Told.tells) (Shown g.N.Conn.Counted.seen) c.args.settings.now old new) (g.K.Counted.seen c.args.out.now).written _ (g.K.Counted.seen c.serve_all.new.out).written _ _ _ listening (took_as _ _ _ listening c.as_bytes.ensures.value c.in-Ok.ensures.took) c.serve_all.ensures.tells failed)
+    inr (out_behind (ServedMay (keeper g.S.Logged.log g.S.TellsFaults.tells) (Shown g.N.Conn.Counted.seen) c.args.settings.now old new) (g.K.Counted.seen c.args.out.now).written _ (g.K.Counted.seen c.serve_all.new.out).written _ _ _ listening (took_as _ _ _ listening c.as_bytes.ensures.value c.in-Ok.ensures.took) c.serve_all.ensures.tells failed)
 
 pub returns-in-Err-clause-announces : goal.returns-in-Err-clause-announces
 returns-in-Err-clause-announces g c failed = inl refl
