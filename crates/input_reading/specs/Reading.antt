@@ -1,6 +1,7 @@
 -- Reading an input to its end.
 use Rattle.std.specs.Prelude.{◌≡◌, ℕ, ◌+◌, ◌≤◌, ◌<◌, List, [], length, Option, Some, None}
 use Rattle.express_words.specs.Causes.{Rose, next}
+use Rattle.express_words.specs.Seen.{Seen}
 use Rattle.express_words.specs.Streams.{Stream, Gave, IsAtEnd}
 use Rattle.input_reading.specs.declared.reading.InputFault.{InputFault}
 use Rattle.input_reading.specs.declared.reading.InputFault.TheVariants.{Failed, TooLong, NoMemory}
@@ -31,6 +32,11 @@ pub record LastFailed (start before now : ℕ) (from to : Option Stream) : Type 
   pub unfailed : before ≡ start
   pub one_more : now ≡ next before
   pub nothing : Gave from to []
+
+-- the same, of what the source shows at the start, before its last call and after it
+abbrev pub LastTakeFailed : Seen → Seen → Seen → Type 0
+LastTakeFailed start last now =
+    LastFailed start.faults last.faults now.faults last.content now.content
 
 -- Why reading stopped before the end, and what the source gave until then. Of want of memory nothing is said.
 abbrev pub Stopped : Option Stream → Option Stream → ℕ → ℕ → InputFault → Type 0

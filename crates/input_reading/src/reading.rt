@@ -1,6 +1,6 @@
 //! Reads an input to its end.
 ghost use Rattle.std.specs.Prelude.{◌≡◌, ◌≢◌, ◌≤◌, IfOk, OnOk, IfErr, Err, Some};
-ghost use Rattle.input_reading.specs.Reading.{GaveAll, LastFailed, Stopped};
+ghost use Rattle.input_reading.specs.Reading.{GaveAll, LastTakeFailed, Stopped};
 ghost use Rattle.input_reading.specs.Texts.{input_fault_text};
 
 use express_words::outside::Source;
@@ -35,14 +35,14 @@ impl fmt::Display for InputFault {
 pub fn read_all<S: Source>(alloc: Global, input: &mut S) -> Result<Vec<u8>, InputFault>
     ensures read { IfOk result (λ text. GaveAll (S.seen input.old).content
         (S.seen input.new).content text.items) }
-    ensures stopped { IfErr result (Stopped (S.seen input.old).content (S.seen input.new).content (S.seen input.old).faults (S.seen input.new).faults) }
+    ensures stopped { IfErr result (Stopped (S.seen input.old).content (S.seen input.new).content
+        (S.seen input.old).faults (S.seen input.new).faults) }
     ensures later { (S.seen input.old).faults ≤ (S.seen input.new).faults }
     // No fault of the input is passed over, or told as another cause.
     ensures unfailed { OnOk result ((S.seen input.new).faults ≡ (S.seen input.old).faults) }
     // Nothing is taken after a fault.
-    ensures last_take { result ≡ Err InputFault.Failed → (last : S)
-        × LastFailed (S.seen input.old).faults (S.seen last).faults (S.seen input.new).faults
-        (S.seen last).content (S.seen input.new).content }
+    ensures last_take { result ≡ Err InputFault.Failed
+        → (last : S) × LastTakeFailed (S.seen input.old) (S.seen last) (S.seen input.new) }
     ensures told { IfErr result (λ fault. fault ≢ InputFault.Failed
         → (S.seen input.new).faults ≡ (S.seen input.old).faults) }
 {

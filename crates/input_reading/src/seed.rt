@@ -1,8 +1,9 @@
 //! Takes a seed from a source of random bytes.
-ghost use Rattle.std.specs.Prelude.{◌≡◌, ◌+◌, ◌<◌, ◌≤◌, length, take, drop, [], Some, Err, IfOk, IsOk, OnOk, IfErr, OnErr, IfSome};
-ghost use Rattle.express_words.specs.Causes.{Rose, CountsFault};
+ghost use Rattle.std.specs.Prelude.{◌≡◌, ◌+◌, ◌<◌, ◌≤◌, length, take, drop, [], Some, Err};
+ghost use Rattle.std.specs.Prelude.{IfOk, IsOk, OnOk, IfErr, OnErr};
+ghost use Rattle.express_words.specs.Causes.{CountsFault};
 ghost use Rattle.express_words.specs.Streams.{Gave, IsAtEnd};
-ghost use Rattle.input_reading.specs.Seeds.{seed_bytes, GaveNoSeed, seed_fault_text};
+ghost use Rattle.input_reading.specs.Seeds.{GaveNoSeed, WithEnough, WithTooFew, seed_fault_text};
 
 use express_words::outside::{Failed, Source};
 use std::fmt;
@@ -40,8 +41,8 @@ fn take_behind<S: Source>(
     requires { length < 32 }
     ensures bound { IfOk result (λ n. length + n ≤ 32) }
     ensures stays { take length seed.new ≡ take length seed.old }
-    ensures gave { IfOk result (λ n. Gave (S.seen random.old).content (S.seen random.new).content (take n
-        (drop length seed.new))) }
+    ensures gave { IfOk result (λ n. Gave (S.seen random.old).content (S.seen random.new).content
+        (take n (drop length seed.new))) }
     ensures end { IfOk result (λ n. n ≡ 0 → IsAtEnd (S.seen random.new).content) }
     ensures failed { OnErr result (Gave (S.seen random.old).content (S.seen random.new).content []) }
     ensures counts { CountsFault (S.seen random.old).faults (S.seen random.new).faults result }
@@ -52,14 +53,12 @@ fn take_behind<S: Source>(
 /// The next 32 bytes of the source, of which no more are taken. It stops at the first fault and at the end.
 pub fn seed_of<S: Source>(random: &mut S) -> Result<[u8; 32], SeedFault>
     ensures seed { IfOk result (Gave (S.seen random.old).content (S.seen random.new).content) }
-    ensures refused { IfErr result (GaveNoSeed (S.seen random.old).content (S.seen random.new).content (S.seen random.old).faults (S.seen random.new).faults) }
+    ensures refused { IfErr result (GaveNoSeed (S.seen random.old).content (S.seen random.new).content
+        (S.seen random.old).faults (S.seen random.new).faults) }
     // Where the source tells its bytes and doesn't fail, there is a seed exactly where it has 32 bytes left.
-    ensures enough { IfSome (S.seen random.old).content (λ s. seed_bytes ≤ length s.left
-        → ¬ Rose (S.seen random.old).faults (S.seen random.new).faults
-        → IsOk result) }
-    ensures early { IfSome (S.seen random.old).content (λ s. length s.left < seed_bytes
-        → ¬ Rose (S.seen random.old).faults (S.seen random.new).faults
-        → result ≡ Err (SeedFault.Early (length s.left))) }
+    ensures enough { WithEnough (S.seen random.old) (S.seen random.new) (IsOk result) }
+    ensures early { WithTooFew (S.seen random.old) (S.seen random.new)
+        (λ left. result ≡ Err (SeedFault.Early left)) }
     ensures unfailed { OnOk result ((S.seen random.new).faults ≡ (S.seen random.old).faults) }
 {
     let mut seed = [0u8; 32];
