@@ -109,10 +109,6 @@ part_fits id count index box h =
     use_fits (length box - 16) index count (used_in box)
     (seventh (ltb index count) (eqb (id_in box) id) (eqb (index_in box) index) (eqb (count_in box) count) (is_use (length box - 16) index count (used_in box)) (is_zeros (take 2 (drop 14 box)) && is_zeros (drop (used_in box) (drop 16 box))) h)
 
-pub taken_more : (w most n : ℕ) (bytes more : List ℕ) (taken : List (List ℕ)) → length bytes ≡ n * w → length more ≡ w → rows w n bytes ≡ taken →
-    rows w (n + 1) (bytes ++ more) ≡ taken ++ more ∷ []
-taken_more w most n bytes more taken len wide is = rows_push w n bytes more len wide ∙ ap (λ (t : List (List ℕ)). t ++ more ∷ []) is
-
 pub join_first : (w n : ℕ) (bytes part : List ℕ) → 0 < n → part ≡ take w (drop (0 * w) bytes) → join (rows w n bytes) ≡ joined (id_in part) (count_in part) 0 (max 1 (count_in part)) (rows w n bytes)
 unfolding join
 join_first w zero bytes part h is = absurd (omega arith)

@@ -1,6 +1,6 @@
 -- What a box holds, and boxes joined to a file.
-use Rattle.std.specs.Prelude.{ℕ, zero, suc, ◌+◌, ◌-◌, max, Bool, ◌&&◌, ◌||◌, List, [], ◌∷◌, ◌++◌, length}
-use Rattle.std.specs.Prelude.{take, drop, Result, Ok, Err, nat_lt, nat_le, ◌==◌, if◌then◌else◌}
+use Rattle.std.specs.Prelude.{◌≡◌, ℕ, zero, suc, ◌+◌, ◌-◌, max, Bool, ◌&&◌, ◌||◌, List, [], ◌∷◌, ◌++◌, length}
+use Rattle.std.specs.Prelude.{take, drop, Result, Ok, Err, MatchResult, nat_lt, nat_le, ◌==◌, if◌then◌else◌}
 use Rattle.std.specs.Int.{Width, w16, w64, byte_len, from_be_bytes}
 use Rattle.std.specs.List.{list_all}
 
@@ -56,7 +56,15 @@ joined id count index (suc n) (box ∷ boxes) =
     then before (content_in box) (joined id count (index + 1) n boxes)
     else Err index
 
--- box 0 says the id and the count; a count of 0 is no part's
+-- all boxes of a file, which are to have this id and count; a count of 0 is no part's
+abbrev pub parts_joined : ℕ → ℕ → List (List ℕ) → Result (List ℕ) ℕ
+parts_joined id count boxes = joined id count 0 (max 1 count) boxes
+
+-- box 0 says the id and the count
 unfoldable pub join : List (List ℕ) → Result (List ℕ) ℕ
 join [] = Err 0
-join (box ∷ boxes) = joined (id_in box) (count_in box) 0 (max 1 (count_in box)) (box ∷ boxes)
+join (box ∷ boxes) = parts_joined (id_in box) (count_in box) (box ∷ boxes)
+
+-- a call that joined boxes left the file, or told the missing one
+abbrev pub Joins : Result (List ℕ) ℕ → Result (Unit {0}) ℕ → List ℕ → Type 0
+Joins answer result file = MatchResult result (λ _. answer ≡ Ok file) (λ i. answer ≡ Err i)

@@ -1,5 +1,5 @@
 //! Cutting a file into parts.
-ghost use Rattle.std.specs.Prelude.{◌≡◌, ◌+◌, ◌-◌, ◌<◌, ◌≤◌, ◌++◌, ◌↔◌, length, IsSome, IfSome};
+ghost use Rattle.std.specs.Prelude.{◌≡◌, ◌-◌, ◌<◌, ◌≤◌, ◌↔◌, length, IsSome, IfSome};
 ghost use Rattle.file_carry.specs.Parts.{IsPartWidth, count_of, header, filled, content_of, part_of};
 
 use express_words::limits::{MOST_BOXES, MOST_WIDTH};

@@ -1,5 +1,5 @@
 //! What a box holds.
-ghost use Rattle.std.specs.Prelude.{◌≡◌, ◌+◌, ◌-◌, ◌<◌, ◌≤◌, length, drop, IsTrue};
+ghost use Rattle.std.specs.Prelude.{◌≡◌, ◌-◌, ◌<◌, ◌≤◌, length, drop, IsTrue};
 ghost use Rattle.file_carry.specs.Boxes.{id_in, index_in, count_in, used_in, is_zeros, is_use, is_part};
 
 use crate::cutting::HEADER;

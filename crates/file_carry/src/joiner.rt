@@ -1,5 +1,6 @@
 //! Boxes that are taken one after the other, and then joined.
-ghost use Rattle.std.specs.Prelude.{◌≡◌, ◌<◌, ◌≤◌, ◌++◌, [], ◌∷◌, length, slice_index_or, Some, Ok, Err, IfOk, IfErr};
+ghost use Rattle.std.specs.Prelude.{◌≡◌, ◌<◌, ◌≤◌, ◌++◌, [], ◌∷◌, length, slice_index_or};
+ghost use Rattle.std.specs.Prelude.{Some, Ok, Err, IfOk, IfErr};
 ghost use Rattle.std.specs.Borrow.{sem};
 ghost use Rattle.file_carry.specs.Parts.{IsPartWidth};
 ghost use Rattle.file_carry.specs.Boxes.{join};

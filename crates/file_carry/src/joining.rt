@@ -1,6 +1,7 @@
 //! Joining boxes that lie one after the other.
-ghost use Rattle.std.specs.Prelude.{◌≡◌, ◌+◌, ◌-◌, ◌*◌, ◌<◌, ◌≤◌, ◌++◌, [], max, length, take, drop, Ok, Err, MatchResult, vec_len, vec_capacity};
-ghost use Rattle.file_carry.specs.Boxes.{used_in, content_in, joined, join};
+ghost use Rattle.std.specs.Prelude.{◌≡◌, ◌+◌, ◌-◌, ◌*◌, ◌<◌, ◌≤◌, ◌++◌, [], length, take, drop};
+ghost use Rattle.std.specs.Prelude.{vec_len, vec_capacity};
+ghost use Rattle.file_carry.specs.Boxes.{used_in, content_in, parts_joined, join, Joins};
 ghost use Rattle.file_carry.specs.Joining.{rows};
 
 use crate::cutting::HEADER;
@@ -13,9 +14,7 @@ pub fn join_into(bytes: &[u8], width: usize, taken: u32, file: &mut Vec<u8>) -> 
     requires boxes { taken ≤ 4096 }
     requires whole { length bytes.now ≡ taken * width }
     requires room { taken * width ≤ vec_capacity file.old }
-    ensures answer { MatchResult result
-        (λ _. join (rows width taken bytes.now) ≡ Ok file.new.items)
-        (λ i. join (rows width taken bytes.now) ≡ Err i) }
+    ensures answer { Joins (join (rows width taken bytes.now)) result file.new.items }
     ensures capacity { vec_capacity file.old ≤ vec_capacity file.new }
 {
     file.clear();
@@ -53,9 +52,7 @@ fn join_parts(
     requires whole { length bytes.now ≡ taken * width }
     requires room { taken * width ≤ vec_capacity file.old }
     requires empty { file.old.items ≡ [] }
-    ensures answer { MatchResult result
-        (λ _. joined id count 0 (max 1 count) (rows width taken bytes.now) ≡ Ok file.new.items)
-        (λ i. joined id count 0 (max 1 count) (rows width taken bytes.now) ≡ Err i) }
+    ensures answer { Joins (parts_joined id count (rows width taken bytes.now)) result file.new.items }
     ensures capacity { vec_capacity file.old ≤ vec_capacity file.new }
 {
     let total = u32::from(count).max(1);
