@@ -1,5 +1,5 @@
 -- Frames that stand in blocks used in turn.
-use Rattle.std.proofs.Common.{◌≡◌, ◌≢◌, ℕ, ◌+◌, ◌-◌, ◌*◌, ◌/◌, ◌%◌, ◌<◌, ◌≤◌, List, [], ◌∷◌, ◌++◌, length, take, drop, get_or, set, Some, suc, zero, refl, ap, ◌∙◌, inl, inr, add-zero, length-append, length-drop, arith}
+use Rattle.std.proofs.Common.{◌≡◌, ◌≢◌, ℕ, ◌+◌, ◌-◌, ◌*◌, ◌/◌, ◌%◌, ◌<◌, ◌≤◌, List, [], ◌∷◌, ◌++◌, length, take, get_or, set, Some, suc, zero, refl, ap, ◌∙◌, inl, inr, add-zero, length-append, length-drop, arith}
 use Rattle.std.specs.Prelude.{slice_get}
 use Rattle.std.proofs.lemmas.List.{get_or-set_same, get_or-set_other}
 use Rattle.std.proofs.lemmas.Nat.{div-add-mod', mod-mul-add, mod_below}
@@ -50,10 +50,6 @@ frames-pushed blocks w s (l ∷ ls) n bytes lt count =
     let other : s % w ≢ (s + suc (length ls)) % w = apart w s (suc (length ls)) (omega arith) (omega arith) in
     rw (get_or-set_other blocks ((s + suc (length ls)) % w) (s % w) bytes [] other)
     (ap (λ fs. take l (get_or blocks (s % w) []) ∷ fs) rest)
-
-pub frames-popped : (blocks : List (List ℕ)) (w s : ℕ) (ls : List ℕ) → drop 1 (frames_from blocks w s ls) ≡ frames_from blocks w (s + 1) (drop 1 ls)
-frames-popped blocks w s [] = refl
-frames-popped blocks w s (l ∷ ls) = refl
 
 pub keep_last-all : (n : ℕ) (xs : List ℕ) → length xs ≤ n → keep_last n xs ≡ xs
 keep_last-all n xs le = let none : length xs - n ≡ 0 = omega arith in rw none

@@ -1,7 +1,7 @@
 //! The last few of a sequence of numbered frames.
-ghost use Rattle.std.specs.Prelude.{◌≡◌, ◌+◌, ◌<◌, ◌≤◌, ◌^◌, ◌↔◌, IfOk, IsTrue, Some, [], ◌∷◌, ◌++◌, length, drop, slice_get, slice_index, slice_set, slice_index_or};
-ghost use Rattle.link_order.specs.Link.{last};
-ghost use Rattle.link_order.specs.Ring.{Held};
+ghost use Rattle.std.specs.Prelude.{◌≡◌, ◌+◌, ◌<◌, ◌≤◌, ◌^◌, ◌↔◌, IfOk, IsTrue, Some, [], length, slice_get};
+ghost use Rattle.std.specs.Prelude.{slice_index};
+ghost use Rattle.link_order.specs.Ring.{with_pushed, with_popped};
 
 use block_region::BlockArray;
 use circular_buffer::HeapCircularBuffer;
@@ -24,9 +24,16 @@ impl Model for FrameRing {
 
     ghost Value = { Held };
 
-    ghost view = { λ r. record { pushed = r.pushed; window = r.window; size = r.blocks.size; frames = frames_from r.blocks.blocks r.window (r.pushed + 1 - length r.lengths.items) r.lengths.items } };
+    ghost view = { λ r. record {
+      pushed = r.pushed;
+      window = r.window;
+      size = r.blocks.size;
+      frames = frames_from r.blocks.blocks r.window (r.pushed + 1 - length r.lengths.items) r.lengths.items;
+    } };
 
-    ghost invariant = { λ r. (1 ≤ r.window) × (r.lengths.capacity ≡ r.window) × (length r.blocks.blocks ≡ r.window) × (length r.lengths.items ≤ r.window) × (length r.lengths.items ≤ r.pushed) × All (λ n. n ≤ r.blocks.size) r.lengths.items };
+    ghost invariant = { λ r. (1 ≤ r.window) × (r.lengths.capacity ≡ r.window)
+        × (length r.blocks.blocks ≡ r.window) × (length r.lengths.items ≤ r.window)
+        × (length r.lengths.items ≤ r.pushed) × All (λ n. n ≤ r.blocks.size) r.lengths.items };
 }
 
 impl FrameRing {
@@ -75,7 +82,7 @@ impl FrameRing {
     pub fn push(&mut self, frame: &[u8])
         requires fits { length frame.now ≤ self.old.size }
         requires countable { self.old.pushed + 1 < 2 ^ 64 }
-        ensures { self.new ≡ record { pushed = self.old.pushed + 1; window = self.old.window; size = self.old.size; frames = last self.old.window (self.old.frames ++ frame.now ∷ []) } }
+        ensures { self.new ≡ with_pushed self.old frame.now }
     {
         self.pushed += 1;
         let index = (self.pushed % self.window) as usize;
@@ -85,7 +92,7 @@ impl FrameRing {
 
     /// Removes the oldest frame.
     pub fn pop(&mut self)
-        ensures { self.new ≡ record { pushed = self.old.pushed; window = self.old.window; size = self.old.size; frames = drop 1 self.old.frames } }
+        ensures { self.new ≡ with_popped self.old }
     {
         self.lengths.pop_front();
     }

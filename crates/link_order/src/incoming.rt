@@ -18,7 +18,8 @@ pub enum Arrival<'a> {
     Passed,
 }
 
-/// Commands that were carried out in the order of their numbers from 1 upwards, with the replies to the last ones.
+/// Commands that were carried out in the order of their numbers from 1 upwards, with the replies to the last
+/// ones.
 #[derive(Drop)]
 pub struct Incoming {
     ring: FrameRing,
@@ -49,7 +50,8 @@ impl Incoming {
         })
     }
 
-    /// Whether a command of this number is to be carried out now, was carried out and its reply is kept, or neither.
+    /// Whether a command of this number is to be carried out now, was carried out and its reply is kept, or
+    /// neither.
     pub fn arrival(&self, number: u64) -> Arrival<'_>
         ensures which { IsArrival self.now number result }
         ensures room { IfKept result (λ reply. length reply ≤ self.now.size) }
@@ -75,8 +77,10 @@ impl Incoming {
         requires fits { length reply.now ≤ self.old.size }
         requires countable { self.old.carried < 2 ^ 64 - 1 }
         ensures carried { self.new ≡ with_carried self.old reply.now }
-        ensures grows { length self.old.replies < self.old.window → self.new.replies ≡ self.old.replies ++ reply.now ∷ [] }
-        ensures turns { length self.old.replies ≡ self.old.window → self.new.replies ≡ drop 1 self.old.replies ++ reply.now ∷ [] }
+        ensures grows { length self.old.replies < self.old.window
+            → self.new.replies ≡ self.old.replies ++ reply.now ∷ [] }
+        ensures turns { length self.old.replies ≡ self.old.window
+            → self.new.replies ≡ drop 1 self.old.replies ++ reply.now ∷ [] }
         ensures link { IsCarried self.new }
     {
         self.ring.push(reply);

@@ -6,8 +6,8 @@ pub fn last_replies_are_kept()
     ensures { KeepsTheLast }
 {}
 
-/// After any list of `issue` and `acknowledge` the commands were acknowledged in the order in which they were issued,
-/// by their numbers from 1 on, and those that weren't are outstanding.
+/// After any list of `issue` and `acknowledge` the commands were acknowledged in the order in which they were
+/// issued, by their numbers from 1 on, and those that weren't are outstanding.
 pub fn commands_go_in_order()
     ensures { IssuesInOrder }
 {}

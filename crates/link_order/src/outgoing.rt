@@ -1,5 +1,6 @@
 //! The commands that wait for their replies.
-ghost use Rattle.std.specs.Prelude.{◌≡◌, ◌+◌, ◌-◌, ◌<◌, ◌≤◌, ◌^◌, ◌↔◌, IfOk, OnOk, OnErr, IfErr, IsErr, IsNone, IsSome, IsTrue, IfSome, Some, [], ◌∷◌, ◌++◌, length, drop, slice_get};
+ghost use Rattle.std.specs.Prelude.{◌≡◌, ◌+◌, ◌-◌, ◌<◌, ◌≤◌, ◌^◌, ◌↔◌, [], length, slice_get};
+ghost use Rattle.std.specs.Prelude.{IsTrue, IsErr, IsNone, IsSome, OnOk, OnErr, IfOk, IfErr, IfSome, Some};
 ghost use Rattle.std.specs.Bool.{OnTrue, OnFalse};
 ghost use Rattle.link_order.specs.Link.{IsOldest, IsOutstanding, none_issued, with_issued, with_removed};
 
@@ -27,7 +28,8 @@ impl Model for Outgoing {
 }
 
 impl Outgoing {
-    /// A link with no command issued, of which at most `window` may be outstanding, each of at most `size` bytes.
+    /// A link with no command issued, of which at most `window` may be outstanding, each of at most `size`
+    /// bytes.
     pub fn open(alloc: Global, window: u8, size: u32) -> Result<Outgoing, NoMemory>
         requires window { (1 ≤ window) × (window ≤ 32) }
         ensures opened { IfOk result (λ link. link ≡ none_issued window size) }
@@ -46,8 +48,8 @@ impl Outgoing {
         self.ring.pushed() + 1
     }
 
-    /// Issues a command and gives its number; or, exactly where `window` commands are outstanding, changes nothing
-    /// and gives the oldest one's number.
+    /// Issues a command and gives its number; or, exactly where `window` commands are outstanding, changes
+    /// nothing and gives the oldest one's number.
     pub fn issue(&mut self, frame: &[u8]) -> Result<u64, u64>
         requires fits { length frame.now ≤ self.old.size }
         requires countable { self.old.next < 2 ^ 64 - 1 }
