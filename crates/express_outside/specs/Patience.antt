@@ -17,6 +17,10 @@ pub data SocketCall : Type 0 where
 abbrev pub seconds : ℕ → ℕ
 seconds n = n * 1_000_000_000
 
+-- a limit of so many seconds, which began at this moment or hasn't begun
+abbrev pub IsLimit : Limit → Option Instant → ℕ → Type 0
+IsLimit limit began secs = (limit.began ≡ began) × (as_nanos limit.allowed ≡ seconds secs)
+
 -- a limit begins at this moment where it hasn't begun
 abbrev pub begin_at : Instant → Option Instant → Instant
 begin_at now None = now

@@ -1,10 +1,11 @@
 //! What gives bytes, takes them, or both, as sources, sinks and connections with a count of their faults.
-ghost use Rattle.std.specs.Prelude.{◌≡◌, ◌≤◌, length, Ok, Err, IfOk, OnOk, OnErr, MatchBool, MatchResult};
+ghost use Rattle.std.specs.Prelude.{◌≡◌, ◌≤◌, length, Ok, IfOk, MatchBool, MatchResult};
 ghost use Rattle.std.specs.Io.KnownBytes.{ReadConsumes, WriteAppends};
 ghost use Rattle.express_words.specs.Seen.{silent};
 ghost use Rattle.express_words.specs.Causes.{HasCause, CountsFault};
-ghost use Rattle.express_words.specs.Streams.{Took, TookPrefix};
-ghost use Rattle.express_outside.specs.Calls.{Flushed, Wrote, EndedBy, IsRefusal};
+ghost use Rattle.express_outside.specs.Calls.{Wrote, EndedBy};
+ghost use Rattle.express_outside.specs.Answers.{TookIfWhole, TookIfOk};
+ghost use Rattle.express_outside.specs.Answers.{EndedByFlush, EndedByRefusal, EndedByTrouble};
 
 use crate::calls::{Reads, Trouble, Writes};
 use express_words::outside::{Conn, Counted, Failed, Sink, Source};
@@ -12,12 +13,12 @@ use express_words::outside::{Conn, Counted, Failed, Sink, Source};
 /// So many times a call is made while each is interrupted.
 const MOST_TRIES: u32 = 1000;
 
-/// What gives bytes, takes them, or both. Each error is a fault but an interruption, after which the call is made
-/// again, and so is a write that takes nothing.
+/// What gives bytes, takes them, or both. Each error is a fault but an interruption, after which the call is
+/// made again, and so is a write that takes nothing.
 ///
-/// As a source and a sink it doesn't tell its bytes; over an object whose bytes are known the clauses `bytes` say
-/// what of them was given and taken, and over one that tells its calls the clauses `ended` which of them was the
-/// last, with its answer.
+/// As a source and a sink it doesn't tell its bytes; over an object whose bytes are known the clauses `bytes`
+/// say what of them was given and taken, and over one that tells its calls the clauses `ended` which of them
+/// was the last, with its answer.
 #[derive(Drop)]
 pub struct Adapter<T> {
     inner: T,
@@ -60,9 +61,10 @@ fn read_again<T: Reads>(inner: &mut T, buf: &mut [u8]) -> Result<usize, Trouble>
 impl<T: Reads> Source for Adapter<T> {
     fn take(&mut self, buf: &mut [u8]) -> Result<usize, Failed>
         ensures bound { IfOk result (λ n. n ≤ length buf.new) }
-        ensures bytes { ReadConsumes (T.remaining self.old.inner) (T.remaining self.new.inner) result buf.new }
+        ensures bytes { ReadConsumes (T.remaining self.old.inner) (T.remaining self.new.inner)
+            result buf.new }
         ensures ended { MatchResult result (λ n. EndedBy (T.answers self.new.inner) (Ok n))
-            (λ _. (why : _) × EndedBy (T.answers self.new.inner) (Err why)) }
+            (λ _. EndedByTrouble (T.answers self.new.inner)) }
         ensures cause { HasCause self.old.faults self.new.faults result }
         ensures counts { CountsFault self.old.faults self.new.faults result }
     {
@@ -94,10 +96,9 @@ fn write_again<T: Writes>(inner: &mut T, bytes: &[u8]) -> Result<usize, Trouble>
 
 // Writes all of the bytes and hands them on, and says whether that went well.
 fn write_whole<T: Writes>(inner: &mut T, bytes: &[u8]) -> bool
-    ensures bytes { MatchBool result (Took (T.contents inner.old) (T.contents inner.new) bytes.now)
-        (TookPrefix (T.contents inner.old) (T.contents inner.new) bytes.now) }
-    ensures ended { MatchBool result (EndedBy (T.calls inner.new) (Flushed (Ok tt)))
-        ((last : _) × IsRefusal last × EndedBy (T.calls inner.new) last) }
+    ensures bytes { TookIfWhole result (T.contents inner.old) (T.contents inner.new) bytes.now }
+    ensures ended { MatchBool result (EndedByFlush (T.calls inner.new))
+        (EndedByRefusal (T.calls inner.new)) }
 {
     let mut done = 0;
     'writing: while done < bytes.len() {
@@ -111,10 +112,9 @@ fn write_whole<T: Writes>(inner: &mut T, bytes: &[u8]) -> bool
 
 impl<T: Writes> Sink for Adapter<T> {
     fn put(&mut self, bytes: &[u8]) -> Result<(), Failed>
-        ensures bytes { MatchResult result (λ _. Took (T.contents self.old.inner) (T.contents self.new.inner) bytes.now)
-            (λ _. TookPrefix (T.contents self.old.inner) (T.contents self.new.inner) bytes.now) }
-        ensures ended { MatchResult result (λ _. EndedBy (T.calls self.new.inner) (Flushed (Ok tt)))
-            (λ _. (last : _) × IsRefusal last × EndedBy (T.calls self.new.inner) last) }
+        ensures bytes { TookIfOk result (T.contents self.old.inner) (T.contents self.new.inner) bytes.now }
+        ensures ended { MatchResult result (λ _. EndedByFlush (T.calls self.new.inner))
+            (λ _. EndedByRefusal (T.calls self.new.inner)) }
         ensures cause { HasCause self.old.faults self.new.faults result }
         ensures counts { CountsFault self.old.faults self.new.faults result }
     {

@@ -1,8 +1,9 @@
 //! A journal's disk over a file.
-ghost use Rattle.std.specs.Prelude.{◌≡◌, ◌≤◌, ◌<◌, ℕ, List, length, Option, true, false, Ok, IfOk, OnOk};
+ghost use Rattle.std.specs.Prelude.{◌≡◌, ◌≤◌, ◌<◌, List, length, Option, true, false, Ok, IfOk, OnOk};
 ghost use Rattle.express_words.specs.Seen.{silent};
 ghost use Rattle.express_words.specs.Causes.{HasCause, CountsFault, next};
 ghost use Rattle.express_outside.specs.Calls.{FileCall, ReadAt, WroteAt, Synced, Named, added, EndedBy};
+ghost use Rattle.express_outside.specs.Answers.{EndedByEnd, EndedSynced};
 
 use crate::calls::Trouble;
 use express_words::outside::{Counted, Failed};
@@ -46,13 +47,12 @@ pub struct FileDisk<F> {
     faults: u64,
 }
 
-// Reads until `out` is full or the file ends, and tells how many bytes that were. A read that was interrupted is made
-// again.
+// Reads until `out` is full or the file ends, and tells how many bytes that were. A read that was interrupted
+// is made again.
 fn read_on<F: FileCalls>(file: &mut F, at: u64, out: &mut [u8]) -> Result<usize, Trouble>
     ensures bound { IfOk result (λ n. n ≤ length out.new) }
     ensures length { length out.new ≡ length out.old }
-    ensures ended { IfOk result (λ n. n < length out.old → (from : ℕ)
-        × EndedBy (F.calls file.new) (ReadAt from (Ok 0))) }
+    ensures ended { IfOk result (λ n. n < length out.old → EndedByEnd (F.calls file.new)) }
 {
     let mut done = 0;
     'reading: for _ in 0..u64::MAX {
@@ -77,8 +77,8 @@ fn write_piece_back<F: FileCalls>(file: &mut F, at: u64) -> Result<usize, Troubl
     Ok(count)
 }
 
-// Writes all that is read back to where it is, and waits until the disk has it. After a sync that failed the system may
-// hold bytes as if the disk had them: from now on it has.
+// Writes all that is read back to where it is, and waits until the disk has it. After a sync that failed the
+// system may hold bytes as if the disk had them: from now on it has.
 fn write_back<F: FileCalls>(file: &mut F) -> Result<(), Trouble>
     ensures synced { OnOk result (EndedBy (F.calls file.new) (Synced (Ok tt))) }
 {
@@ -124,8 +124,7 @@ impl<F: FileCalls> FileDisk<F> {
         ensures faults { self.new.faults ≡ self.old.faults }
         ensures bound { IfOk result (λ n. n ≤ length out.new) }
         ensures length { length out.new ≡ length out.old }
-        ensures ended { IfOk result (λ n. n < length out.old
-            → (from : ℕ) × EndedBy (F.calls self.new.file) (ReadAt from (Ok 0))) }
+        ensures ended { IfOk result (λ n. n < length out.old → EndedByEnd (F.calls self.new.file)) }
     {
         self.open()?;
         read_on(&mut self.file, at, out)
@@ -140,8 +139,7 @@ impl<F: FileCalls> FileDisk<F> {
 
     fn sync_file(&mut self) -> Result<(), Trouble>
         ensures faults { self.new.faults ≡ self.old.faults }
-        ensures synced { OnOk result ((before : _)
-            × (F.calls self.new.file ≡ added (Named (Ok tt)) (added (Synced (Ok tt)) before))) }
+        ensures synced { OnOk result (EndedSynced (F.calls self.new.file)) }
     {
         self.open()?;
         self.file.sync()?;
@@ -173,8 +171,7 @@ impl<F: FileCalls> Disk for FileDisk<F> {
         ensures length { length out.new ≡ length out.old }
         ensures cause { HasCause self.old.faults self.new.faults result }
         ensures counts { CountsFault self.old.faults self.new.faults result }
-        ensures ended { IfOk result (λ n. n < length out.old
-            → (from : ℕ) × EndedBy (F.calls self.new.file) (ReadAt from (Ok 0))) }
+        ensures ended { IfOk result (λ n. n < length out.old → EndedByEnd (F.calls self.new.file)) }
     {
         match self.read_file(at, out) {
             Ok(count) => Ok(count),
@@ -198,8 +195,7 @@ impl<F: FileCalls> Disk for FileDisk<F> {
     fn sync(&mut self) -> Result<(), Failed>
         ensures cause { HasCause self.old.faults self.new.faults result }
         ensures counts { CountsFault self.old.faults self.new.faults result }
-        ensures synced { OnOk result ((before : _)
-            × (F.calls self.new.file ≡ added (Named (Ok tt)) (added (Synced (Ok tt)) before))) }
+        ensures synced { OnOk result (EndedSynced (F.calls self.new.file)) }
     {
         match self.sync_file() {
             Ok(()) => Ok(()),

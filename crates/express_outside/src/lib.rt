@@ -1,5 +1,5 @@
-//! Real files and sockets as what the crates above are generic over: sources, sinks, connections, a net and a journal's
-//! disk.
+//! Real files and sockets as what the crates above are generic over: sources, sinks, connections, a net and a
+//! journal's disk.
 #![tactic(auto)]
 
 mod adapter;

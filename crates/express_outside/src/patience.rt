@@ -1,19 +1,20 @@
 //! Sockets whose calls end in time, by the clock.
-ghost use Rattle.std.specs.Prelude.{◌≡◌, ◌≤◌, ◌<◌, ℕ, List, length, Option, None, Some, IfOk, IfSome};
+ghost use Rattle.std.specs.Prelude.{◌≡◌, ◌≤◌, ◌<◌, List, length, Option, None, Some, IfOk, IfSome};
 ghost use Rattle.std.specs.Duration.{as_nanos};
 ghost use Rattle.std.specs.Time.{instant_nanos};
 ghost use Rattle.express_outside.specs.Calls.{added};
-ghost use Rattle.express_outside.specs.Patience.{SocketCall, Told, ReadWithin, WroteWithin, IsWithin, begin_at, left_of, seconds};
+ghost use Rattle.express_outside.specs.Patience.{SocketCall, Told, ReadWithin, WroteWithin, IsWithin};
+ghost use Rattle.express_outside.specs.Patience.{IsLimit, begin_at, left_of, seconds};
 
 use crate::calls::{Reads, Trouble, Writes};
 use std::time::{Duration, Instant};
 
-/// So many seconds an accepted connection has, from its accept on, for all that is read of it, and as many, from
-/// its first write on, for all that is written.
+/// So many seconds an accepted connection has, from its accept on, for all that is read of it, and as many,
+/// from its first write on, for all that is written.
 const PATIENCE_WITH_CLIENTS: u64 = 10;
 
-/// So many seconds a dialled connection has for all that is read and written. Its peer may first have to lose its
-/// patience with others.
+/// So many seconds a dialled connection has for all that is read and written. Its peer may first have to lose
+/// its patience with others.
 const PATIENCE_WITH_SERVERS: u64 = 60;
 
 /// So much time something has from when it begins.
@@ -92,12 +93,12 @@ pub struct Timed<S> {
 }
 
 impl<S> Timed<S> {
-    /// A connection that was accepted at this moment, with so many seconds from then on for all that is read, and as
-    /// many from the first write on for all that is written.
+    /// A connection that was accepted at this moment, with so many seconds from then on for all that is read,
+    /// and as many from the first write on for all that is written.
     pub fn accepted_for(socket: S, at: Instant, secs: u64) -> Self
         ensures socket { result.socket ≡ socket }
-        ensures reading { (result.reading.began ≡ Some at) × (as_nanos result.reading.allowed ≡ seconds secs) }
-        ensures writing { (result.writing.began ≡ None) × (as_nanos result.writing.allowed ≡ seconds secs) }
+        ensures reading { IsLimit result.reading (Some at) secs }
+        ensures writing { IsLimit result.writing None secs }
     {
         Timed {
             socket,
@@ -109,8 +110,8 @@ impl<S> Timed<S> {
     /// A connection that was accepted at this moment.
     pub fn accepted(socket: S, at: Instant) -> Self
         ensures socket { result.socket ≡ socket }
-        ensures reading { (result.reading.began ≡ Some at) × (as_nanos result.reading.allowed ≡ seconds 10) }
-        ensures writing { (result.writing.began ≡ None) × (as_nanos result.writing.allowed ≡ seconds 10) }
+        ensures reading { IsLimit result.reading (Some at) 10 }
+        ensures writing { IsLimit result.writing None 10 }
     {
         Timed::accepted_for(socket, at, PATIENCE_WITH_CLIENTS)
     }

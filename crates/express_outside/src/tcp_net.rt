@@ -3,8 +3,9 @@ ghost use Rattle.std.specs.Prelude.{◌≡◌, ◌≤◌, List, Option, None, So
 ghost use Rattle.std.specs.Duration.{as_nanos};
 ghost use Rattle.express_words.specs.Seen.{netted};
 ghost use Rattle.express_words.specs.Causes.{HasCause, CountsFault, CountsFailure, next};
-ghost use Rattle.express_outside.specs.Calls.{added, EndedBy};
-ghost use Rattle.express_outside.specs.Patience.{seconds};
+ghost use Rattle.express_outside.specs.Calls.{EndedBy};
+ghost use Rattle.express_outside.specs.Answers.{EndedByTrouble, AddsAccept, EndedAtBegin};
+ghost use Rattle.express_outside.specs.Patience.{IsLimit, seconds};
 
 use crate::adapter::Adapter;
 use crate::calls::Trouble;
@@ -12,8 +13,8 @@ use crate::patience::{Socket, Timed};
 use express_words::outside::{Counted, Failed, Net};
 use std::time::Instant;
 
-/// So many times an accept is tried: an error of one pending connection, or of the system for a moment, isn't the
-/// door's.
+/// So many times an accept is tried: an error of one pending connection, or of the system for a moment, isn't
+/// the door's.
 const MOST_ACCEPTS: u32 = 10;
 
 /// A connected socket, and the moment at which it was connected.
@@ -39,8 +40,7 @@ pub trait Ports {
 
     /// One accept: the next connection at the door.
     fn accept(&mut self) -> Result<Connected<Self::Socket>, Trouble>
-        ensures told { MatchResult result (λ made. accepts self.new ≡ added (Ok made.at) (accepts self.old))
-            (λ why. accepts self.new ≡ added (Err why) (accepts self.old)) };
+        ensures told { AddsAccept (accepts self.old) (accepts self.new) result };
 
     /// A connection to the program at an address.
     fn dial(&mut self, peer: &str) -> Result<Connected<Self::Socket>, Trouble>;
@@ -50,8 +50,8 @@ pub trait Ports {
         ensures { accepts self.new ≡ accepts self.old };
 }
 
-/// Sockets of the system, each with an end to its patience. Each error is a fault, but for those after which an
-/// accept is tried again, and so is an accept where nothing listens. The net doesn't tell its calls.
+/// Sockets of the system, each with an end to its patience. Each error is a fault, but for those after which
+/// an accept is tried again, and so is an accept where nothing listens. The net doesn't tell its calls.
 #[derive(Drop)]
 pub struct TcpNet<P: Ports> {
     ports: P,
@@ -140,12 +140,10 @@ impl<P: Ports> Net for TcpNet<P> {
         ensures cause { HasCause self.old.faults self.new.faults result }
         ensures counts { CountsFault self.old.faults self.new.faults result }
         ensures ended { MatchResult result
-            (λ conn. (at : _) × (conn.inner.reading.began ≡ Some at)
-            × EndedBy (P.accepts self.new.ports) (Ok at))
-            (λ _. (why : _) × EndedBy (P.accepts self.new.ports) (Err why)) }
+            (λ conn. EndedAtBegin conn.inner.reading (P.accepts self.new.ports))
+            (λ _. EndedByTrouble (P.accepts self.new.ports)) }
         ensures reading { IfOk result (λ conn. as_nanos conn.inner.reading.allowed ≡ seconds 10) }
-        ensures writing { IfOk result (λ conn. (conn.inner.writing.began ≡ None)
-            × (as_nanos conn.inner.writing.allowed ≡ seconds 10)) }
+        ensures writing { IfOk result (λ conn. IsLimit conn.inner.writing None 10) }
     {
         match accept_again(&mut self.ports) {
             Ok(made) => Ok(Adapter::new(Timed::accepted(made.socket, made.at))),

@@ -1,5 +1,5 @@
 //! TCP sockets of the system.
-ghost use Rattle.std.specs.Prelude.{◌≡◌, ◌≤◌, None, length, IfOk};
+ghost use Rattle.std.specs.Prelude.{◌≤◌, None, length, IfOk};
 
 use crate::calls::{Trouble, trouble_of};
 use crate::patience::{Limit, Socket};
@@ -15,8 +15,8 @@ const PATIENCE_WITH_DIALS: u64 = 10;
 /// So many milliseconds a door that failed is left alone.
 const PAUSE: u64 = 100;
 
-/// The ports of the system, with a listener once `listen` has succeeded. An address is an IP address or a host's
-/// name, and a port, as "127.0.0.1:7000".
+/// The ports of the system, with a listener once `listen` has succeeded. An address is an IP address or a
+/// host's name, and a port, as "127.0.0.1:7000".
 #[derive(Drop)]
 pub struct TcpPorts<R: Net + Clock + Copy> {
     rt: R,

@@ -1,0 +1,55 @@
+-- What the calls so far came to.
+use Rattle.std.specs.Prelude.{◌≡◌, ℕ, List, Bool, Option, Some, Result, Ok, Err, MatchBool, MatchResult}
+use Rattle.std.specs.declared.time.Instant.{Instant}
+use Rattle.express_words.specs.Streams.{Took, TookPrefix}
+use Rattle.express_outside.specs.Calls.{WriteCall, Flushed, IsRefusal, FileCall, ReadAt, Synced, Named}
+use Rattle.express_outside.specs.Calls.{added, EndedBy}
+use Rattle.express_outside.specs.declared.calls.Trouble.{Trouble}
+use Rattle.express_outside.specs.declared.patience.Limit.{Limit}
+use Rattle.express_outside.specs.declared.tcp_net.Connected.{Connected}
+
+-- ---- what takes bytes
+
+-- All of the bytes were taken where the write is told to be whole, and else a prefix of them.
+abbrev pub TookIfWhole : Bool → Option (List ℕ) → Option (List ℕ) → List ℕ → Type 0
+TookIfWhole whole old new bytes = MatchBool whole (Took old new bytes) (TookPrefix old new bytes)
+
+-- All of the bytes were taken where the call went well, and else a prefix of them.
+abbrev pub TookIfOk : {T E : Type 0} → Result T E → Option (List ℕ) → Option (List ℕ) → List ℕ → Type 0
+TookIfOk result old new bytes =
+    MatchResult result (λ _. Took old new bytes) (λ _. TookPrefix old new bytes)
+
+-- the last call handed on what was held back
+abbrev pub EndedByFlush : Option (List WriteCall) → Type 0
+EndedByFlush calls = EndedBy calls (Flushed (Ok tt))
+
+-- the last call refused
+abbrev pub EndedByRefusal : Option (List WriteCall) → Type 0
+EndedByRefusal calls = (last : WriteCall) × IsRefusal last × EndedBy calls last
+
+-- ---- a file
+
+-- the last call was a read, and there was nothing to read
+abbrev pub EndedByEnd : Option (List FileCall) → Type 0
+EndedByEnd calls = (from : ℕ) × EndedBy calls (ReadAt from (Ok 0))
+
+-- the file was synced, and then had its name still
+abbrev pub EndedSynced : Option (List FileCall) → Type 0
+EndedSynced calls =
+    (before : Option (List FileCall)) × (calls ≡ added (Named (Ok tt)) (added (Synced (Ok tt)) before))
+
+-- ---- what answers a value or a trouble
+
+-- the last answer was a trouble
+abbrev pub EndedByTrouble : {T : Type 0} → Option (List (Result T Trouble)) → Type 0
+EndedByTrouble answers = (why : Trouble) × EndedBy answers (Err why)
+
+-- one accept more answered: with the moment of a connection, or with a trouble
+abbrev pub AddsAccept : {S : Type 0} → Option (List (Result Instant Trouble))
+    → Option (List (Result Instant Trouble)) → Result (Connected S) Trouble → Type 0
+AddsAccept old new result =
+    MatchResult result (λ made. new ≡ added (Ok made.at) old) (λ why. new ≡ added (Err why) old)
+
+-- the last answer was a connection, made at the moment at which the limit began
+abbrev pub EndedAtBegin : Limit → Option (List (Result Instant Trouble)) → Type 0
+EndedAtBegin limit accepts = (at : Instant) × (limit.began ≡ Some at) × EndedBy accepts (Ok at)
