@@ -29,7 +29,7 @@ use Rattle.dpf_rules.proofs.RangeLemmas.{part-bytes, given_lt}
 use Rattle.write_hiding.proofs.FormLemmas.{moved-form}
 use Rattle.write_hiding.proofs.AuditLemmas.{own_first, other_first}
 use Rattle.express_words.specs.Ranges.{IsOpenings}
-use Rattle.audit_rules.proofs.InRange.{values-in_range, plus-in_range, length-plus, honest_h-in_range}
+use Rattle.audit_rules.proofs.InRange.{values-in_range, plus-in_range, honest_h-in_range}
 use Rattle.audit_rules.proofs.ValueLemmas.{product_lt, value_lt, opening-in_range}
 
 module _ (width viewer : ℕ) (hv : viewer < 2) (choice : PlainChoice) (aim : PlainAim) (game : PlainGame) (good : IsChoice width choice) (aimed : IsAim width game aim) (fair : IsGame game) where
@@ -157,9 +157,6 @@ module _ (width : ℕ) (choice : PlainChoice) (from to : PlainAim) (game : Plain
 
   h_range : All (λ n. n < 2 ^ 128) (moved_h choice from to game)
   h_range = plus-in_range share.h t share_range.h t_range
-
-  pub h_size : length (moved_h choice from to game) ≡ 5
-  h_size = length-plus share.h t share_range.size
 
   one_words : All (λ n. n < 2 ^ 128) (moved_words 1 choice from to game)
   unfolding moved_words

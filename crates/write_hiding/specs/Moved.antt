@@ -10,9 +10,13 @@ use Rattle.dpf_rules.specs.Keys.{Expansions, pair_at, on_side, raw_pair}
 use Rattle.audit_rules.specs.Audit.{product, value, through_three, honest_f, honest_g}
 use Rattle.tower_laws.specs.Polynomials.{plus_of, times_of}
 use Rattle.audit_rules.specs.declared.sums.Sums.{Sums}
+use Rattle.express_words.specs.declared.audit.ProofShare.{ProofShare}
 use Rattle.write_hiding.specs.declared.choice.View.{View}
+use Rattle.write_hiding.specs.declared.choice.IdealChoice.{IdealChoice}
+use Rattle.write_hiding.specs.declared.choice.Aim.{Aim}
+use Rattle.write_hiding.specs.declared.choice.Game.{Game}
 use Rattle.write_hiding.specs.declared.audit.Audited.{Audited}
-use Rattle.write_hiding.specs.Choices.{PlainChoice, PlainAim, PlainGame}
+use Rattle.write_hiding.specs.Choices.{PlainChoice, PlainAim, PlainGame, plain_choice, plain_aim, plain_game}
 use Rattle.write_hiding.specs.Views.{public_part, difference_of, other_sums}
 use Rattle.write_hiding.specs.Views.{drawn, share_of, other_opening, view}
 
@@ -35,12 +39,17 @@ moved_at part viewer root other from to i =
     let raw = raw_pair (state_at part viewer root to i) in
     moved_pair (word_of part i) (right_of part i) raw (pair_at other i) (side_at from i) (side_at to i)
 
+-- the pairs of all levels
+abbrev pub moved_pairs : List ℕ → ℕ → ℕ → Expansions → ℕ → ℕ → List (ℕ × ℕ)
+moved_pairs part viewer root other from to =
+    map (moved_at part viewer root other from to) (range_with_len 0 128)
+
 -- the expansions that make a public part along the viewer's walk to an address
 unfoldable pub moved_list : List ℕ → ℕ → ℕ → Expansions → ℕ → ℕ → List ℕ → Expansions
 moved_list part viewer root other from to message =
     let end = state_at part viewer root to 128 in
     record {
-      pairs = map (moved_at part viewer root other from to) (range_with_len 0 128);
+      pairs = moved_pairs part viewer root other from to;
       block = xor_bytes (xor_bytes (last_of part) (block (length message) end)) message;
     }
 
@@ -107,6 +116,13 @@ with_zero words h a b c =
     let masks = word 0 ∷ (word 1 ∷ (word 2 ∷ (word 3 ∷ []))) in
     masks ++ (h ++ (a ∷ (word 10 ∷ (b ∷ (word 12 ∷ (c ∷ []))))))
 
+-- the words by which server 0's share makes up server 1's, where that one has this h and c: with f·g and a·b
+abbrev pub zero_words : PlainChoice → ProofShare → ℕ → ℕ → ℕ → List ℕ
+zero_words choice own m r s =
+    let h = made_h choice m r s own.h in
+    let c = made_c choice.words own.a own.b own.c in
+    with_zero choice.words h own.a own.b c
+
 -- where the viewer is server 1, server 0's c is the viewer's, and a·b
 unfoldable pub moved_words : ℕ → PlainChoice → PlainAim → PlainAim → PlainGame → List ℕ
 moved_words viewer choice from to game =
@@ -121,9 +137,20 @@ unfoldable pub moved : ℕ → PlainChoice → PlainAim → PlainAim → PlainGa
 moved viewer choice from to game =
     record (walked viewer choice from to) { words = moved_words viewer choice from to game }
 
+-- the moved choice of one that lies in memory
+abbrev pub moved_of : ℕ → IdealChoice → Aim → Aim → Game → PlainChoice
+moved_of viewer choice from to game =
+    moved viewer (plain_choice choice) (plain_aim from) (plain_aim to) (plain_game game)
+
 -- what a choice at an aim gave the viewer to see, and what both servers audit where it is moved to another
 pub record IsAudited (viewer : ℕ) (choice : PlainChoice) (from to : PlainAim) (game : PlainGame)
     (seen : View) (audited : Audited) : Type 0 where
   pub viewed : seen ≡ view viewer choice from game
   pub other : audited.other ≡ other_sums viewer (walked viewer choice from to) to game
   pub difference : audited.difference ≡ difference_of viewer (walked viewer choice from to) to
+
+-- Whatever aim gave the viewer this to see, these are the words of the choice that is moved from there.
+abbrev pub AreMovedWords : ℕ → PlainChoice → PlainAim → PlainGame → View → Audited → List ℕ → Type 0
+AreMovedWords viewer choice to game seen audited words =
+    (from : PlainAim) → IsAudited viewer choice from to game seen audited →
+    words ≡ moved_words viewer choice from to game

@@ -12,8 +12,12 @@ use Rattle.express_words.specs.declared.audit.Closing.{Closing}
 use Rattle.audit_rules.specs.declared.sums.Sums.{Sums}
 use Rattle.audit_rules.specs.Audit.{zero_share, one_share, opening_of, opened_of, closing_of}
 use Rattle.audit_rules.specs.Challenges.{sums_under}
+use Rattle.write_hiding.specs.declared.audit.Audited.{Audited}
 use Rattle.write_hiding.specs.declared.choice.View.{View}
-use Rattle.write_hiding.specs.Choices.{PlainChoice, PlainAim, PlainGame}
+use Rattle.write_hiding.specs.declared.choice.IdealChoice.{IdealChoice}
+use Rattle.write_hiding.specs.declared.choice.Aim.{Aim}
+use Rattle.write_hiding.specs.declared.choice.Game.{Game}
+use Rattle.write_hiding.specs.Choices.{PlainChoice, PlainAim, PlainGame, plain_choice, plain_aim, plain_game}
 
 -- ---- the point function
 
@@ -61,18 +65,31 @@ share_of server viewer choice aim game =
     if server == 0 then zero_share (drawn choice)
     else one_share (difference_of viewer choice aim) r s (drawn choice)
 
+-- the viewer's share of the proof
+abbrev pub own_share : ℕ → PlainChoice → PlainAim → PlainGame → ProofShare
+own_share viewer choice aim game = share_of viewer viewer choice aim game
+
+-- the other server's
+abbrev pub other_share : ℕ → PlainChoice → PlainAim → PlainGame → ProofShare
+other_share viewer choice aim game = share_of (1 - viewer) viewer choice aim game
+
 abbrev pub own_opening : ℕ → PlainChoice → PlainAim → PlainGame → Openings
 own_opening viewer choice aim game =
-    opening_of (own_sums viewer choice aim game) (share_of viewer viewer choice aim game) game.sigma
+    opening_of (own_sums viewer choice aim game) (own_share viewer choice aim game) game.sigma
 
 abbrev pub other_opening : ℕ → PlainChoice → PlainAim → PlainGame → Openings
 other_opening viewer choice aim game =
-    opening_of (other_sums viewer choice aim game) (share_of (1 - viewer) viewer choice aim game) game.sigma
+    opening_of (other_sums viewer choice aim game) (other_share viewer choice aim game) game.sigma
 
 abbrev pub other_closing : ℕ → PlainChoice → PlainAim → PlainGame → Closing
 other_closing viewer choice aim game =
-    closing_of (1 - viewer) (share_of (1 - viewer) viewer choice aim game) game.sigma
+    closing_of (1 - viewer) (other_share viewer choice aim game) game.sigma
     (opened_of (own_opening viewer choice aim game) (other_opening viewer choice aim game))
+
+-- what both servers open of what they audit, the viewer with its own share and the other with the other
+abbrev pub both_opened : Audited → ProofShare → ProofShare → ℕ → Openings
+both_opened audited own other sigma =
+    opened_of (opening_of audited.own own sigma) (opening_of audited.other other sigma)
 
 -- ---- the view
 
@@ -83,7 +100,11 @@ view viewer choice aim game =
     record {
       own_root = choice.own_root;
       public = public_part viewer choice aim;
-      proof = share_of viewer viewer choice aim game;
+      proof = own_share viewer choice aim game;
       opened = other_opening viewer choice aim game;
       closed = other_closing viewer choice aim game;
     }
+
+-- the view of a choice that lies in memory
+abbrev pub view_of : ℕ → IdealChoice → Aim → Game → View
+view_of viewer choice aim game = view viewer (plain_choice choice) (plain_aim aim) (plain_game game)

@@ -1,5 +1,5 @@
-//! What both servers audit of a choice: the sums of the viewer's leaves and of the other server's, and the difference
-//! of both leaves at the target.
+//! What both servers audit of a choice: the sums of the viewer's leaves and of the other server's, and the
+//! difference of both leaves at the target.
 ghost use Rattle.std.specs.Prelude.{◌≡◌, ◌-◌, ◌≤◌, ◌==◌, if◌then◌else◌, length, map, IfOk};
 ghost use Rattle.std.specs.List.{zip};
 ghost use Rattle.dpf_rules.specs.Walk.{leaf_of};

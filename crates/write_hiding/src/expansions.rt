@@ -1,13 +1,12 @@
 //! The other server's expansions, moved to another target and message.
-ghost use Rattle.std.specs.Prelude.{◌≡◌, ◌+◌, ◌<◌, ◌≤◌, length, map, IfOk};
-ghost use Rattle.std.specs.List.{range_with_len};
+ghost use Rattle.std.specs.Prelude.{◌≡◌, ◌+◌, ◌<◌, ◌≤◌, length, IfOk};
 ghost use Rattle.express_words.specs.Bytes.{xor_bytes};
 ghost use Rattle.express_words.specs.Limits.{levels_len};
 ghost use Rattle.dpf_rules.specs.Expansion.{block};
 ghost use Rattle.dpf_rules.specs.Walk.{last_of, state_at};
 ghost use Rattle.write_hiding.specs.Choices.{plain_choice, plain_aim};
 ghost use Rattle.write_hiding.specs.Views.{public_part};
-ghost use Rattle.write_hiding.specs.Moved.{moved_pair, moved_at, walked};
+ghost use Rattle.write_hiding.specs.Moved.{moved_pair, moved_pairs, walked};
 
 use crate::choice::{Aim, IdealChoice};
 use crate::part::last_into;
@@ -17,8 +16,8 @@ use dpf_keys::levels::{on_side, side_at, step, with_bit};
 use express_words::{List, NoMemory};
 use std::alloc::Global;
 
-// The pair of the other server that makes a level's word and right bit with the viewer's raw pair. The seed that was
-// kept on the side `from` is kept on the side `to`.
+// The pair of the other server that makes a level's word and right bit with the viewer's raw pair. The seed
+// that was kept on the side `from` is kept on the side `to`.
 fn moved_pair(
     word: u128,
     right: u128,
@@ -42,7 +41,8 @@ fn moved_pair(
     }
 }
 
-// The other server's pairs that make the public part along the viewer's walk to another target, and that walk's end.
+// The other server's pairs that make the public part along the viewer's walk to another target, and that
+// walk's end.
 fn moved_levels(
     alloc: Global,
     part: &PublicPart,
@@ -53,9 +53,8 @@ fn moved_levels(
     requires viewer { choice.now.viewer ≤ 1 }
     requires levels { length choice.now.levels ≡ 128 }
     ensures pairs { let c = plain_choice choice.now in
-        let viewer = choice.now.viewer in
-        IfOk result (λ r. r.0.items
-        ≡ map (moved_at part.now viewer c.own_root c.other from to) (range_with_len 0 128)) }
+        IfOk result (λ r.
+        r.0.items ≡ moved_pairs part.now choice.now.viewer c.own_root c.other from to) }
     ensures end { IfOk result (λ r. r.1 ≡ state_at part.now choice.now.viewer choice.now.own_root to 128) }
 {
     let mut pairs = Vec::with_capacity(alloc, 128)?;

@@ -23,9 +23,9 @@ pub fn public_part_stays()
     ensures part_stays { PublicPartStays }
 {}
 
-/// For either viewer, any two registered targets and any two messages of one width, the viewer's view of the second
-/// write under the moved choice is its view of the first, and the opposite move gives the choice back. So as many
-/// distinct choices of the one write as of the other have a given view.
+/// For either viewer, any two registered targets and any two messages of one width, the viewer's view of the
+/// second write under the moved choice is its view of the first, and the opposite move gives the choice back.
+/// So as many distinct choices of the one write as of the other have a given view.
 pub fn views_stay()
     ensures choices_stay { ChoicesStay }
     ensures views_stay { ViewsStay }
@@ -33,9 +33,9 @@ pub fn views_stay()
     ensures distinct_stay { DistinctStay }
 {}
 
-/// A client's write is a choice in which the other server's expansions are honest, and the view of that choice is what
-/// the viewer gets of the write. Its public part is the honest keys, and the other server's leaves are those of its walk
-/// under them, at the target the end of its path.
+/// A client's write is a choice in which the other server's expansions are honest, and the view of that
+/// choice is what the viewer gets of the write. Its public part is the honest keys, and the other server's
+/// leaves are those of its walk under them, at the target the end of its path.
 pub fn writes_are_choices()
     ensures choice { WritesAreChoices }
     ensures seen { WritesAreSeen }

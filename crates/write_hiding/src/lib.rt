@@ -1,5 +1,6 @@
-//! What one of two servers can tell of a write: where the other server's expansions are any, each registered target and
-//! each message of one width fits what the server has, equally. `docs/PRIVACY.md` tells what this means.
+//! What one of two servers can tell of a write: where the other server's expansions are any, each registered
+//! target and each message of one width fits what the server has, equally. `docs/PRIVACY.md` tells what this
+//! means.
 #![tactic(auto)]
 
 mod audit;

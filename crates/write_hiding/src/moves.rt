@@ -1,9 +1,9 @@
 //! The choice by which another write gives the viewer the same view.
 ghost use Rattle.std.specs.Prelude.{◌≡◌, ◌≢◌, ◌≤◌, length, AllPairs, Contains, IfOk};
 ghost use Rattle.express_words.specs.Limits.{IsWidth};
-ghost use Rattle.write_hiding.specs.Choices.{IsChoice, plain_choice, plain_aim, plain_game};
-ghost use Rattle.write_hiding.specs.Views.{view};
-ghost use Rattle.write_hiding.specs.Moved.{moved};
+ghost use Rattle.write_hiding.specs.Choices.{IsChoice, plain_choice};
+ghost use Rattle.write_hiding.specs.Views.{view_of};
+ghost use Rattle.write_hiding.specs.Moved.{moved_of};
 
 use crate::audit::audit;
 use crate::choice::{Aim, Game, IdealChoice};
@@ -15,9 +15,9 @@ use dpf_keys::PublicPart;
 use express_words::NoMemory;
 use std::alloc::Global;
 
-/// The choice that gives the viewer, of the write to `to`, the view that `choice` gives it of the write to `from`. The
-/// opposite move gives `choice` back. `NoMemory` comes where there is none for that view, for the moved pairs and
-/// block, or for their leaves.
+/// The choice that gives the viewer, of the write to `to`, the view that `choice` gives it of the write to
+/// `from`. The opposite move gives `choice` back. `NoMemory` comes where there is none for that view, for the
+/// moved pairs and block, or for their leaves.
 pub fn moved(
     alloc: Global,
     choice: &IdealChoice,
@@ -34,22 +34,16 @@ pub fn moved(
     requires from_registered { Contains game.now.addresses.now from.now.target }
     requires to_registered { Contains game.now.addresses.now to.now.target }
     ensures viewer { IfOk result (λ gone. gone.viewer ≡ choice.now.viewer) }
-    ensures moved { let viewer = choice.now.viewer in
-        let c = plain_choice choice.now in
-        let g = plain_game game.now in
-        IfOk result (λ gone. plain_choice gone ≡ moved viewer c (plain_aim from.now) (plain_aim to.now) g) }
+    ensures moved { let c = choice.now in
+        IfOk result (λ gone. plain_choice gone ≡ moved_of c.viewer c from.now to.now game.now) }
     ensures choice { IfOk result (λ gone. IsChoice (length from.now.message.now) (plain_choice gone)) }
     // The view stays, ..
-    ensures same_view { let viewer = choice.now.viewer in
-        let c = plain_choice choice.now in
-        let g = plain_game game.now in
-        IfOk result (λ gone. view viewer (plain_choice gone) (plain_aim to.now) g
-        ≡ view viewer c (plain_aim from.now) g) }
+    ensures same_view { let c = choice.now in
+        IfOk result (λ gone.
+        view_of c.viewer gone to.now game.now ≡ view_of c.viewer c from.now game.now) }
     // .. and the opposite move gives the choice back.
-    ensures moves_back { let viewer = choice.now.viewer in
-        let c = plain_choice choice.now in
-        let g = plain_game game.now in
-        IfOk result (λ gone. moved viewer (plain_choice gone) (plain_aim to.now) (plain_aim from.now) g ≡ c) }
+    ensures moves_back { let c = choice.now in
+        IfOk result (λ gone. moved_of c.viewer gone to.now from.now game.now ≡ plain_choice c) }
 {
     read_choice(choice);
     read_aim(from, game);

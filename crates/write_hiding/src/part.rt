@@ -1,12 +1,11 @@
 //! The public part of a choice.
-ghost use Rattle.std.specs.Prelude.{◌≡◌, ◌+◌, ◌++◌, ◌≤◌, length, IfOk};
+ghost use Rattle.std.specs.Prelude.{◌≡◌, ◌+◌, ◌≤◌, length, IfOk};
 ghost use Rattle.express_words.specs.Bytes.{xor_bytes};
-ghost use Rattle.dpf_rules.specs.Bytes.{bytes_of, words_bytes, bits_number};
 ghost use Rattle.dpf_rules.specs.Expansion.{block};
 ghost use Rattle.dpf_rules.specs.Ideal.{own_at};
 ghost use Rattle.express_words.specs.Limits.{IsWidth, levels_len};
 ghost use Rattle.write_hiding.specs.Choices.{plain_choice, plain_aim};
-ghost use Rattle.write_hiding.specs.Levels.{own_word, own_right};
+ghost use Rattle.write_hiding.specs.Levels.{levels_bytes};
 ghost use Rattle.write_hiding.specs.Views.{public_part};
 
 use crate::choice::{Aim, IdealChoice};
@@ -25,9 +24,7 @@ fn levels_into(choice: &IdealChoice, target: u128, out: &mut [u8]) -> u128
     ensures end { let c = plain_choice choice.now in
         result ≡ own_at target choice.now.viewer c.own_root c.other 128 }
     ensures bytes { let c = plain_choice choice.now in
-        let viewer = choice.now.viewer in
-        out.new ≡ words_bytes (own_word target viewer c.own_root c.other) 128
-        ++ bytes_of 16 (bits_number (own_right target viewer c.own_root c.other) 128) }
+        out.new ≡ levels_bytes target choice.now.viewer c.own_root c.other }
 {
     let mut state = with_bit(choice.own_root, u128::from(choice.viewer));
     let mut rights = 0u128;

@@ -1,5 +1,6 @@
-//! That choices, aims and games have the form that the laws speak of, which a proof learns where they are read.
-ghost use Rattle.std.specs.Prelude.{◌≡◌, ◌≢◌, ℕ, ◌^◌, ◌<◌, length, All, AllPairs, Contains};
+//! That choices, aims and games have the form that the laws speak of, which a proof learns where they are
+//! read.
+ghost use Rattle.std.specs.Prelude.{◌≡◌, ◌≢◌, ◌^◌, ◌<◌, length, All, AllPairs, Contains};
 ghost use Rattle.write_hiding.specs.Choices.{IsChoice, IsAim, IsGame, plain_choice, plain_aim, plain_game};
 
 use crate::choice::{Aim, Game, IdealChoice};

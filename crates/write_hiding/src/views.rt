@@ -1,9 +1,9 @@
 //! The view of a choice.
 ghost use Rattle.std.specs.Prelude.{◌≡◌, ◌∷◌, ◌+◌, ◌-◌, ◌≤◌, length, IfOk};
 ghost use Rattle.express_words.specs.Limits.{IsWidth, levels_len};
-ghost use Rattle.audit_rules.specs.Audit.{opening_of, opened_of, closing_of};
+ghost use Rattle.audit_rules.specs.Audit.{opening_of, closing_of};
 ghost use Rattle.write_hiding.specs.Choices.{plain_choice, plain_aim, plain_game};
-ghost use Rattle.write_hiding.specs.Views.{difference_of, share_of, view};
+ghost use Rattle.write_hiding.specs.Views.{difference_of, own_share, other_share, both_opened, view_of};
 
 use crate::audit::{Audited, audit};
 use crate::choice::{Aim, Game, IdealChoice, View};
@@ -24,7 +24,8 @@ pub fn drawn(own_root: u128, other_root: u128, words: &[u128; 14]) -> [u128; 16]
     ]
 }
 
-// The viewer's share of the proof, and the other server's, where both leaves differ by `difference` at the target.
+// The viewer's share of the proof, and the other server's, where both leaves differ by `difference` at the
+// target.
 fn shares(
     choice: &IdealChoice,
     difference: u128,
@@ -32,11 +33,12 @@ fn shares(
     game: &Game,
 ) -> (ProofShare, ProofShare)
     requires viewer { choice.now.viewer ≤ 1 }
-    requires difference { difference ≡ difference_of choice.now.viewer (plain_choice choice.now) (plain_aim aim.now) }
-    ensures own { let viewer = choice.now.viewer in
-        result.0 ≡ share_of viewer viewer (plain_choice choice.now) (plain_aim aim.now) (plain_game game.now) }
-    ensures other { let viewer = choice.now.viewer in
-        result.1 ≡ share_of (1 - viewer) viewer (plain_choice choice.now) (plain_aim aim.now) (plain_game game.now) }
+    requires difference { difference
+        ≡ difference_of choice.now.viewer (plain_choice choice.now) (plain_aim aim.now) }
+    ensures own { result.0
+        ≡ own_share choice.now.viewer (plain_choice choice.now) (plain_aim aim.now) (plain_game game.now) }
+    ensures other { result.1
+        ≡ other_share choice.now.viewer (plain_choice choice.now) (plain_aim aim.now) (plain_game game.now) }
 {
     let (r, s) = challenge(&game.ckey, aim.target);
     let words = drawn(choice.own_root, choice.other_root, &choice.words);
@@ -58,8 +60,8 @@ fn exchanged(
 ) -> (Openings, Closing)
     requires viewer { viewer ≤ 1 }
     ensures opened { result.0 ≡ opening_of audited.now.other other.now sigma }
-    ensures closed { result.1 ≡ closing_of (1 - viewer) other.now sigma
-        (opened_of (opening_of audited.now.own own.now sigma) (opening_of audited.now.other other.now sigma)) }
+    ensures closed { result.1
+        ≡ closing_of (1 - viewer) other.now sigma (both_opened audited.now own.now other.now sigma) }
 {
     let own_opening = open_share(&audited.own, own, sigma);
     let opening = open_share(&audited.other, other, sigma);
@@ -73,15 +75,14 @@ fn exchanged(
     )
 }
 
-/// What the viewer has of a choice with this aim, under a game. `NoMemory` comes where there is none for the bytes of
-/// the public part or for a list of leaves, one an address.
+/// What the viewer has of a choice with this aim, under a game. `NoMemory` comes where there is none for the
+/// bytes of the public part or for a list of leaves, one an address.
 pub fn view(alloc: Global, choice: &IdealChoice, aim: &Aim, game: &Game) -> Result<View, NoMemory>
     requires viewer { choice.now.viewer ≤ 1 }
     requires levels { length choice.now.levels ≡ 128 }
     requires block { length choice.now.last_block ≡ length aim.now.message.now }
     requires width { IsWidth (length aim.now.message.now) }
-    ensures view { IfOk result (λ v. v
-        ≡ view choice.now.viewer (plain_choice choice.now) (plain_aim aim.now) (plain_game game.now)) }
+    ensures view { IfOk result (λ v. v ≡ view_of choice.now.viewer choice.now aim.now game.now) }
     ensures length { IfOk result (λ v. length v.public ≡ levels_len + length aim.now.message.now) }
 {
     let bytes = public_part(alloc, choice, aim)?;

@@ -1,9 +1,8 @@
 //! The words of the proof that open and close the same with moved expansions.
 ghost use Rattle.std.specs.Prelude.{◌≡◌, ◌≤◌, length, bit_xor};
 ghost use Rattle.audit_rules.specs.Audit.{product, value};
-ghost use Rattle.write_hiding.specs.Choices.{PlainAim, plain_choice, plain_aim, plain_game};
-ghost use Rattle.write_hiding.specs.Moved.{other_f, other_g, made_h, made_c, with_one, with_zero};
-ghost use Rattle.write_hiding.specs.Moved.{IsAudited, moved_words};
+ghost use Rattle.write_hiding.specs.Choices.{plain_choice, plain_aim, plain_game};
+ghost use Rattle.write_hiding.specs.Moved.{other_f, other_g, with_one, with_zero, zero_words, AreMovedWords};
 
 use crate::audit::Audited;
 use crate::choice::{Aim, Game, IdealChoice, View};
@@ -51,8 +50,8 @@ fn with_zero(words: &[u128; 14], h: &[u128; 5], a: u128, b: u128, c: u128) -> [u
     [u0, u1, v0, v1, h0, h1, h2, h3, h4, a, a1, b, b1, c]
 }
 
-// The words by which server 0's share and f·g and a·b make up server 1's share, where server 0 has these a and b, and
-// server 1 these h and c.
+// The words by which server 0's share and f·g and a·b make up server 1's share, where server 0 has these a
+// and b, and server 1 these h and c.
 fn zero_words(
     choice: &IdealChoice,
     own: &ProofShare,
@@ -61,9 +60,7 @@ fn zero_words(
     s: u128,
 ) -> [u128; 14]
     requires size { length own.now.h ≡ 5 }
-    ensures { let h = made_h (plain_choice choice.now) difference r s own.now.h in
-        let c = made_c choice.now.words own.now.a own.now.b own.now.c in
-        result ≡ with_zero choice.now.words h own.now.a own.now.b c }
+    ensures { result ≡ zero_words (plain_choice choice.now) own.now difference r s }
 {
     let words = with_zero(&choice.words, &own.h, own.a, own.b, own.c);
     let (_, one) = prove(
@@ -75,7 +72,8 @@ fn zero_words(
     with_zero(&choice.words, &one.h, own.a, own.b, one.c)
 }
 
-/// The words of the moved choice, from what the viewer saw and what both servers audit of the moved expansions.
+/// The words of the moved choice, from what the viewer saw and what both servers audit of the moved
+/// expansions.
 pub fn moved_words(
     choice: &IdealChoice,
     seen: &View,
@@ -85,11 +83,9 @@ pub fn moved_words(
 ) -> [u128; 14]
     requires viewer { choice.now.viewer ≤ 1 }
     requires size { length seen.now.proof.h ≡ 5 }
-    ensures { (from : PlainAim) →
-        let c = plain_choice choice.now in
-        let g = plain_game game.now in
-        IsAudited choice.now.viewer c from (plain_aim to.now) g seen.now audited.now →
-        result ≡ moved_words choice.now.viewer c from (plain_aim to.now) g }
+    ensures { let c = choice.now in
+        AreMovedWords c.viewer (plain_choice c) (plain_aim to.now) (plain_game game.now)
+        seen.now audited.now result }
 {
     let (a, b) = moved_factors(choice, &seen.opened, &audited.other, game.sigma);
     if choice.viewer == 0 {

@@ -69,20 +69,11 @@ returns-clause-choice c =
     let from = plain_aim c.args.from.now in
     let to = plain_aim c.args.to.now in
     let game = plain_game c.args.game.now in
-    let gone = plain_choice c.in_ok-walked.walked in
-    let walk = c.in_ok-walked.ensures in
-    let seen = c.in_ok-audited.ensures in
     let small : viewer < 2 = omega arith in
     let good : IsChoice (length from.message) choice = subst (λ n. IsChoice n choice) c.requires.block c.read_choice.ensures.form in
     let aimed : IsAim (length from.message) game to = subst (λ n. IsAim n game to) c.requires.message c.read_aim-2.ensures.form in
     subst (λ (p : PlainChoice). IsChoice (length from.message) p)
-    (sym
-    (moved_is viewer _ choice from to game gone walk.viewer walk.walked c.moved_words-words.result
-    (c.moved_words-words.ensures from (record {
-      viewed = c.in_ok-seen.ensures.view;
-      other = sums_of_walked viewer _ choice from to game gone walk.viewer walk.walked _ seen.other;
-      difference = difference_of_walked viewer _ choice from to game gone walk.viewer walk.walked _ seen.difference;
-    }))))
+    (sym (returns-clause-moved c))
     (choices_stay (length from.message) viewer choice from to game small c.read_game.ensures.form good c.read_aim.ensures.form aimed)
 
 pub returns-clause-same_view : goal.returns-clause-same_view
@@ -92,19 +83,11 @@ returns-clause-same_view c =
     let from = plain_aim c.args.from.now in
     let to = plain_aim c.args.to.now in
     let game = plain_game c.args.game.now in
-    let gone = plain_choice c.in_ok-walked.walked in
-    let walk = c.in_ok-walked.ensures in
-    let seen = c.in_ok-audited.ensures in
     let small : viewer < 2 = omega arith in
     let good : IsChoice (length from.message) choice = subst (λ n. IsChoice n choice) c.requires.block c.read_choice.ensures.form in
     let aimed : IsAim (length from.message) game to = subst (λ n. IsAim n game to) c.requires.message c.read_aim-2.ensures.form in
     ap (λ (p : PlainChoice). view viewer p to game)
-    (moved_is viewer _ choice from to game gone walk.viewer walk.walked c.moved_words-words.result
-    (c.moved_words-words.ensures from (record {
-      viewed = c.in_ok-seen.ensures.view;
-      other = sums_of_walked viewer _ choice from to game gone walk.viewer walk.walked _ seen.other;
-      difference = difference_of_walked viewer _ choice from to game gone walk.viewer walk.walked _ seen.difference;
-    })))
+    (returns-clause-moved c)
     ∙ views_stay (length from.message) viewer choice from to game small c.read_game.ensures.form good c.read_aim.ensures.form aimed
 
 pub returns-clause-moves_back : goal.returns-clause-moves_back
@@ -114,17 +97,9 @@ returns-clause-moves_back c =
     let from = plain_aim c.args.from.now in
     let to = plain_aim c.args.to.now in
     let game = plain_game c.args.game.now in
-    let gone = plain_choice c.in_ok-walked.walked in
-    let walk = c.in_ok-walked.ensures in
-    let seen = c.in_ok-audited.ensures in
     let small : viewer < 2 = omega arith in
     let good : IsChoice (length from.message) choice = subst (λ n. IsChoice n choice) c.requires.block c.read_choice.ensures.form in
     let aimed : IsAim (length from.message) game to = subst (λ n. IsAim n game to) c.requires.message c.read_aim-2.ensures.form in
     ap (λ (p : PlainChoice). moved viewer p to from game)
-    (moved_is viewer _ choice from to game gone walk.viewer walk.walked c.moved_words-words.result
-    (c.moved_words-words.ensures from (record {
-      viewed = c.in_ok-seen.ensures.view;
-      other = sums_of_walked viewer _ choice from to game gone walk.viewer walk.walked _ seen.other;
-      difference = difference_of_walked viewer _ choice from to game gone walk.viewer walk.walked _ seen.difference;
-    })))
+    (returns-clause-moved c)
     ∙ moves_return (length from.message) viewer choice from to game small c.read_game.ensures.form good c.read_aim.ensures.form aimed
