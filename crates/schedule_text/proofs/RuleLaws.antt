@@ -117,25 +117,6 @@ keeps_rules schedule text (first, lines, are, head, events, few) = record {
 
 -- ---- events that keep the rules
 
--- those of a longer list
-pub rules_join : (settings : Settings) (before events more : List Event)
-    → EventsKeepRules settings before events
-    → EventsKeepRules settings (before ++ events) more → EventsKeepRules settings before (events ++ more)
-rules_join settings before [] more h k =
-    subst (λ (b : List Event). EventsKeepRules settings b more) (append-nil before) k
-rules_join settings before (event ∷ events) more h k = (
-  h.0,
-  rules_join settings (before ++ event ∷ []) events more h.1
-      (subst (λ (b : List Event). EventsKeepRules settings b more)
-      (sym (append_assoc before (event ∷ []) events)) k),
-)
-
--- one event more
-pub rules_last : (settings : Settings) (events : List Event) (event : Event)
-    → EventsKeepRules settings [] events
-    → KeepsRulesAfter settings events event → EventsKeepRules settings [] (events ++ event ∷ [])
-rules_last settings events event h k = rules_join settings [] events (event ∷ []) h (k, tt)
-
 -- each event keeps them behind those before it
 rules_from : (settings : Settings) (before events : List Event) (i : ℕ) (event : Event)
     → EventsKeepRules settings before events

@@ -10,7 +10,8 @@ use Rattle.schedule_text.specs.declared.schedule.Event.TheVariants.{Ask, Send, T
 use Rattle.schedule_text.specs.declared.schedule.Event.TheVariants.{Inject}
 use Rattle.schedule_text.specs.declared.schedule.Schedule.{Schedule}
 use Rattle.schedule_text.specs.declared.schedule.TheConstants.{MOST_EVENTS}
-use Rattle.express_texts.specs.LineFields.{◌>>=◌, after, end, wanted, spelled_word, word_at, message_of, seed_of}
+use Rattle.express_texts.specs.LineFields.{◌>>=◌, after, end, wanted, spelled_word, word_at}
+use Rattle.express_texts.specs.LineFields.{message_of, seed_of}
 use Rattle.express_texts.specs.Numbers.{number_at, last_number}
 use Rattle.express_texts.specs.Lines.{lines_of}
 use Rattle.schedule_text.specs.Fields.{or_else, server_at, bytes_of}

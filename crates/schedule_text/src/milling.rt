@@ -1,5 +1,5 @@
 //! The schedule of a mill: 20 clients register 64 boxes, write so many messages, and read all boxes.
-ghost use Rattle.std.specs.Prelude.{◌≡◌, ℕ, ◌≤◌, ◌<◌, ◌++◌, length, IfOk, OnOk};
+ghost use Rattle.std.specs.Prelude.{◌≡◌, ◌≤◌, ◌<◌, ◌++◌, IfOk, OnOk};
 ghost use Rattle.schedule_text.specs.Mill.{mill_seed, mill_address, mill_message, asked_and_finished};
 ghost use Rattle.schedule_text.specs.Mill.{mill_registers, mill_writes, mill_reads, mill_schedule};
 ghost use Rattle.schedule_text.specs.Rules.{KeepsRules};

@@ -1,5 +1,5 @@
 //! Prints a schedule: of its spellings the one with lower-case digits and a last LF.
-ghost use Rattle.std.specs.Prelude.{◌≡◌, ℕ, ◌≤◌, ◌++◌, length, Ok, IfOk, OnOk, string_bytes, codes, flat_map};
+ghost use Rattle.std.specs.Prelude.{◌≡◌, ◌++◌, length, Ok, IfOk, OnOk, string_bytes, flat_map};
 ghost use Rattle.dpf_rules.specs.Bytes.{AreBytes};
 ghost use Rattle.hex.specs.Hex.{encode_lower};
 ghost use Rattle.schedule_text.specs.Grammar.{schedule_of};

@@ -1,11 +1,11 @@
 //! Reads the text of a schedule.
-ghost use Rattle.std.specs.Prelude.{◌≡◌, ℕ, ◌≤◌, ◌<◌, ◌++◌, ◌∷◌, [], List as Listed, length, IfOk, IfSome};
+ghost use Rattle.std.specs.Prelude.{◌≡◌, ◌≤◌, ◌<◌, [], List as Listed, IfOk};
 ghost use Rattle.schedule_text.specs.Grammar.{event_after, events_from, schedule_of};
 ghost use Rattle.express_texts.specs.Lines.{lines_of};
 ghost use Rattle.schedule_text.specs.Reading.{Gives};
 ghost use Rattle.schedule_text.specs.Judging.{Judges};
 ghost use Rattle.schedule_text.specs.Rules.{KeepsRules};
-ghost use Rattle.schedule_text.specs.Tables.{IsTableOf};
+ghost use Rattle.schedule_text.specs.Tables.{IsTableOf, NotesFound};
 ghost use Rattle.schedule_text.specs.declared.schedule.Event.{Event as Happening};
 
 use crate::events::event_of;
@@ -29,8 +29,7 @@ fn event_after(
     requires few { settings.now.lanes ≤ 256 }
     ensures event { (before : Listed Happening) → IsTableOf lanes.old before
         → IfOk result (λ found. found ≡ event_after settings.now before line.now) }
-    ensures lanes { (before : Listed Happening) → IsTableOf lanes.old before
-        → IfOk result (λ found. IfSome found (λ event. IsTableOf lanes.new (before ++ event ∷ []))) }
+    ensures lanes { NotesFound lanes.old lanes.new result }
 {
     match event_of(alloc, settings, line)? {
         None => Ok(None),
