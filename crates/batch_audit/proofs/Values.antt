@@ -23,12 +23,6 @@ plus_values p q x =
     ap (λ n. bit_xor n (value (values q) x.value)) (value-values p x) ∙ ap (bit_xor (value_at z add mul p x).value) (value-values q x)
     ∙ ap (λ e. e.value) (sym (value-plus (level_laws 7).0 p q x)) ∙ sym (value-values (plus_of add p q) x) ∙ ap (λ l. value l x.value) (sym (plus-values p q))
 
-pub plus_value : (p q : List ℕ) (x : ℕ) → InField p → InField q → x < 2 ^ 128 → bit_xor (value p x) (value q x) ≡ value (plus_of bit_xor p q) x
-plus_value p q x hp hq hx =
-    subst (λ p. bit_xor (value p x) (value q x) ≡ value (plus_of bit_xor p q) x) (values-elements p hp)
-    (subst (λ q. bit_xor (value (values (elements p hp)) x) (value q x) ≡ value (plus_of bit_xor (values (elements p hp)) q) x) (values-elements q hq)
-    (plus_values (elements p hp) (elements q hq) (element x hx)))
-
 zeros_up : (p : List E) → All (λ c. c ≡ 0) (values p) → All (λ c. c ≡ z) p
 zeros_up [] h = All-nil (λ c. c ≡ z)
 zeros_up (c ∷ p) h =

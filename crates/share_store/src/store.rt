@@ -43,13 +43,14 @@ impl ShareStore {
         }
     }
 
-    /// XORs the write bytes of each leaf into the share of its box, for the first `count` boxes. A retired box keeps
-    /// its share.
+    /// XORs the write bytes of each leaf into the share of its box, for the first `count` boxes. A retired
+    /// box keeps its share.
     pub fn add_write(&mut self, count: u32, part: &PublicPart, leaves: &[u128])
         requires width { length (last_of part.now) ≡ self.old.width }
         requires boxes { count ≤ length self.old.boxes }
         requires leaves { count ≤ length leaves.now }
-        ensures { self.new ≡ shares_of self.old.width (shares_with part.now (take count leaves.now) self.old.boxes) }
+        ensures { self.new
+            ≡ shares_of self.old.width (shares_with part.now (take count leaves.now) self.old.boxes) }
     {
         add_leaves(
             &mut self.shares,
@@ -64,7 +65,8 @@ impl ShareStore {
         requires there { box_number < length self.old.boxes }
         requires width { length out.old ≡ self.old.width }
         ensures given { out.new ≡ xor_bytes out.old (share_at self.old.boxes box_number).bytes }
-        ensures cleared { self.new ≡ with_cleared self.old box_number (share_at self.old.boxes box_number).live }
+        ensures cleared { self.new
+            ≡ with_cleared self.old box_number (share_at self.old.boxes box_number).live }
     {
         let place = box_number as usize;
         xor_into(out, self.shares.get(place));
@@ -107,7 +109,8 @@ fn add_leaves(shares: &mut BlockArray, live: &[bool], part: &PublicPart, leaves:
     requires count { length leaves.now ≤ length live.now }
     ensures size { shares.new.size ≡ shares.old.size }
     ensures marks { length live.now ≡ length shares.new.blocks }
-    ensures added { shares_in live.now shares.new.blocks ≡ shares_with part.now leaves.now (shares_in live.now shares.old.blocks) }
+    ensures added { shares_in live.now shares.new.blocks
+        ≡ shares_with part.now leaves.now (shares_in live.now shares.old.blocks) }
 {
     let mut bytes = [0u8; 4096];
     let room = &mut bytes[..part.last().len()];
