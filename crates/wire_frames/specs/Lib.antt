@@ -1,2 +1,4 @@
+pub mod Answers
+pub mod Fronts
 pub mod Headers
 pub mod Writing

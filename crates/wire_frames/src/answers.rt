@@ -1,9 +1,8 @@
 //! Frames that answer a frame, or follow it on the link.
-ghost use Rattle.std.specs.Prelude.{◌≡◌, true, ◌^◌, ◌<◌, ◌≤◌};
+ghost use Rattle.std.specs.Prelude.{◌≡◌};
 ghost use Rattle.frame_rules.specs.Frames.{plain, plain_body};
-ghost use Rattle.frame_rules.specs.Kinds.{is_linked};
-ghost use Rattle.frame_rules.specs.Spelling.{kind_of, IsBody, IsFrame};
-ghost use Rattle.frame_rules.specs.Whole.{refused_bytes, answer, on_link, is_from_client, IsAnswer};
+ghost use Rattle.frame_rules.specs.Whole.{refused_bytes, answer, on_link};
+ghost use Rattle.wire_frames.specs.Answers.{AnswerIsFrame, LinkedIsFrame};
 
 use express_words::Refusal;
 use frame_rules::{Body, Frame};
@@ -23,7 +22,7 @@ pub fn refused_bytes(refusal: Refusal) -> Frame<'static>
 /// Answers a client's frame, with its lane and serial.
 pub fn answer<'a>(frame: &Frame<'_>, body: &Body<'a>) -> Frame<'a>
     ensures value { plain result ≡ answer (plain frame.now) (plain_body body.now) }
-    ensures is_frame { IsFrame (plain frame.now) → is_from_client (plain_body frame.now.body) ≡ true → IsAnswer (plain_body body.now) → IsFrame (plain result) }
+    ensures is_frame { AnswerIsFrame (plain frame.now) (plain_body body.now) (plain result) }
 {
     Frame {
         lane: frame.lane,
@@ -36,7 +35,7 @@ pub fn answer<'a>(frame: &Frame<'_>, body: &Body<'a>) -> Frame<'a>
 /// A command or a reply under this link number, with the lane and serial of the frame that it follows.
 pub fn on_link<'a>(frame: &Frame<'_>, number: u64, body: &Body<'a>) -> Frame<'a>
     ensures value { plain result ≡ on_link (plain frame.now) number (plain_body body.now) }
-    ensures is_frame { IsFrame (plain frame.now) → 1 ≤ frame.now.serial → 1 ≤ number → is_linked (kind_of (plain_body body.now)) ≡ true → IsBody (plain_body body.now) → IsFrame (plain result) }
+    ensures is_frame { LinkedIsFrame (plain frame.now) number (plain_body body.now) (plain result) }
 {
     Frame {
         lane: frame.lane,

@@ -1,10 +1,12 @@
-//! The bodies that have no tag. Each function is given the `left` bytes that the length leaves, and the bytes behind
-//! the header.
+//! The bodies that have no tag. Each function is given the `left` bytes that the length leaves, and the bytes
+//! behind the header.
 ghost use Rattle.std.specs.Prelude.{◌≡◌, ◌+◌, ◌≤◌, length};
 ghost use Rattle.std.specs.Int.{w32};
 ghost use Rattle.frame_rules.specs.Frames.{Read, Retire, Challenge, LinkRead, LinkRetire, plain_body};
 ghost use Rattle.frame_rules.specs.Forms.{Gives, filled, number, key};
-ghost use Rattle.frame_rules.specs.Bodies.{openings_in, closing_in, words_of, proof_share_of, register, write, boxed, proof, link_register, link_begin, link_audit, link_settle, link_begun};
+ghost use Rattle.frame_rules.specs.Bodies.{openings_in, closing_in, words_of, proof_share_of};
+ghost use Rattle.frame_rules.specs.Bodies.{register, write, boxed, proof};
+ghost use Rattle.frame_rules.specs.Bodies.{link_register, link_begin, link_audit, link_settle, link_begun};
 
 use crate::fields::{address_of, exactly, key_of, u32_of, wide, word_in};
 use express_words::{Closing, Openings, ProofShare};

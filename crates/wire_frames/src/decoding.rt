@@ -1,5 +1,5 @@
 //! Reading the frame that begins some bytes.
-ghost use Rattle.std.specs.Prelude.{◌≤◌, ◌<◌, ◌≡◌, ◌≢◌, ℕ, List, length, take, IfOk, IfErr, Ok, Err};
+ghost use Rattle.std.specs.Prelude.{◌≤◌, ◌<◌, ◌≡◌, ◌≢◌, ℕ, length, take, IfOk, IfErr, Ok, Err};
 ghost use Rattle.frame_rules.specs.Frames.{PlainFrame, plain, plain_body};
 ghost use Rattle.frame_rules.specs.Spelling.{Spells, spelling};
 ghost use Rattle.frame_rules.specs.Forms.{Gives};
@@ -7,6 +7,7 @@ ghost use Rattle.frame_rules.specs.Bodies.{body_in};
 ghost use Rattle.frame_rules.specs.Reading.{decoded, Reads};
 ghost use Rattle.frame_rules.specs.Fields.{fields, FirstWrong};
 ghost use Rattle.frame_rules.specs.declared.fault.FrameFault.{FrameFault as Fault};
+ghost use Rattle.wire_frames.specs.Fronts.{OnFront};
 
 use crate::FRAME_MAX;
 use crate::bodies::{
@@ -20,7 +21,8 @@ use frame_rules::{Body, Frame, FrameFault, Kind};
 
 fn body_in<'a>(header: &Header, rest: &'a [u8]) -> Result<Body<'a>, FrameFault>
     requires { 1 ≤ header.now.left }
-    ensures { Gives plain_body result (body_in header.now.kind header.now.lane header.now.serial header.now.left rest.now) }
+    ensures { Gives plain_body result
+        (body_in header.now.kind header.now.lane header.now.serial header.now.left rest.now) }
 {
     let left = header.left;
     match header.kind {
@@ -64,7 +66,8 @@ fn frame_in(bytes: &[u8]) -> Result<(Frame<'_>, usize), FrameFault>
 pub fn decode(bytes: &[u8]) -> Result<(Frame<'_>, usize), FrameFault>
     // The fields are judged in the order of the format, and a fault is the first wrong one.
     ensures exact { Reads result (decoded bytes.now) }
-    // A fault but for Short is the first wrong field's, and the first wrong field's fault is the one that comes.
+    // A fault but for Short is the first wrong field's, and the first wrong field's fault is the one that
+    // comes.
     ensures wrong { IfErr result (λ fault. fault ≢ FrameFault.Short → FirstWrong fields bytes.now fault) }
     ensures only_wrong { (fault : Fault) → FirstWrong fields bytes.now fault → result ≡ Err fault }
     // What is read is spelled so.
@@ -77,8 +80,7 @@ pub fn decode(bytes: &[u8]) -> Result<(Frame<'_>, usize), FrameFault>
     // Bytes that are short are fewer than the longest frame has.
     ensures fewer { result ≡ Err FrameFault.Short → length bytes.now < FRAME_MAX }
     // A front of a frame is short.
-    ensures short { (f : PlainFrame) (whole : List ℕ) → Spells f whole → length bytes.now < length whole
-        → bytes.now ≡ take (length bytes.now) whole → result ≡ Err FrameFault.Short }
+    ensures short { OnFront bytes.now (result ≡ Err FrameFault.Short) }
 {
     frame_in(bytes)
 }

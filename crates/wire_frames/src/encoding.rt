@@ -2,7 +2,8 @@
 ghost use Rattle.std.specs.Prelude.{◌≡◌, ◌+◌, ◌≤◌, ℕ, List, ◌∷◌, ◌++◌, length, take, drop, Ok};
 ghost use Rattle.std.specs.Int.{w16, w32, w64, to_be_bytes};
 ghost use Rattle.frame_rules.specs.Frames.{plain, plain_body, plain_reply};
-ghost use Rattle.frame_rules.specs.Spelling.{word, address, openings, closing, refusal, deposit, reply, body, header, spelling, IsDeposit, IsBody, IsFrame, Spells};
+ghost use Rattle.frame_rules.specs.Spelling.{word, address, openings, closing, refusal, deposit, reply};
+ghost use Rattle.frame_rules.specs.Spelling.{body, header, spelling, IsDeposit, IsBody, IsFrame, Spells};
 ghost use Rattle.frame_rules.specs.Reading.{decoded};
 ghost use Rattle.wire_frames.specs.Writing.{Writes};
 
@@ -27,7 +28,8 @@ fn put_rejected(
     tau_1: u128,
 ) -> usize
     requires { place + 65 ≤ length out.old }
-    ensures { Writes out.old place (12 ∷ word o_0 ++ (word o_1 ++ (word tau_0 ++ word tau_1))) out.new result }
+    ensures { Writes out.old place
+        (12 ∷ word o_0 ++ (word o_1 ++ (word tau_0 ++ word tau_1))) out.new result }
 {
     let place = put_tag_word(out, place, 12, o_0);
     let place = put_word(out, place, o_1);
@@ -214,8 +216,8 @@ fn put_frame(out: &mut [u8], frame: &Frame<'_>) -> usize
     end
 }
 
-/// Writes the one spelling of a frame at the front of `out`, and answers its length in bytes. FRAME_MAX bytes have room
-/// for each frame.
+/// Writes the one spelling of a frame at the front of `out`, and answers its length in bytes. FRAME_MAX bytes
+/// have room for each frame.
 pub fn encode_into(frame: &Frame<'_>, out: &mut [u8]) -> usize
     requires is_frame { IsFrame (plain frame.now) }
     requires room { length (spelling (plain frame.now)) ≤ length out.old }

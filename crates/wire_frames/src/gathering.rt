@@ -1,5 +1,6 @@
 //! The bytes of one frame, from a stream that comes in pieces.
-ghost use Rattle.std.specs.Prelude.{◌≡◌, ◌≢◌, ℕ, ◌+◌, ◌-◌, ◌<◌, ◌≤◌, ◌↔◌, IsTrue, List, [], ◌++◌, length, take, Err, IfOk, IfSome, IfNone, vec_len, vec_capacity};
+ghost use Rattle.std.specs.Prelude.{◌≡◌, ◌≢◌, ◌+◌, ◌-◌, ◌<◌, ◌≤◌, IsTrue, Err, IfOk, IfSome, IfNone};
+ghost use Rattle.std.specs.Prelude.{[], ◌++◌, length, take, vec_capacity};
 ghost use Rattle.frame_rules.specs.declared.fault.FrameFault.{FrameFault as Fault};
 ghost use Rattle.frame_rules.specs.Frames.{PlainFrame};
 ghost use Rattle.frame_rules.specs.Spelling.{Spells};
@@ -41,7 +42,8 @@ fn missing_from(held: &[u8]) -> usize
     }
 }
 
-/// So many bytes are judged one by one: the header, a tag and a refusal's number. Behind them the length alone decides.
+/// So many bytes are judged one by one: the header, a tag and a refusal's number. Behind them the length
+/// alone decides.
 const JUDGED: usize = 22;
 
 /// Takes bytes one by one while what is held is waiting for more.
@@ -150,9 +152,11 @@ impl Gather {
         ensures held { self.new ≡ gathered self.old piece.now }
         ensures answer { result ≡ fed (decoded self.new) (length self.new - length self.old) }
         // A fault is answered again until this is cleared.
-        ensures again { (fault : Fault) → fault ≢ FrameFault.Short → decoded self.old ≡ Err fault → (result ≡ Err fault) × (self.new ≡ self.old) }
+        ensures again { (fault : Fault) → fault ≢ FrameFault.Short → decoded self.old ≡ Err fault
+            → (result ≡ Err fault) × (self.new ≡ self.old) }
         ensures never_short { result ≢ Err FrameFault.Short }
-        ensures taken { IfOk result (λ n. (n ≤ length piece.now) × (self.new ≡ self.old ++ take n piece.now)) }
+        ensures taken { IfOk result (λ n. (n ≤ length piece.now)
+            × (self.new ≡ self.old ++ take n piece.now)) }
     {
         feed_into(&mut self.held, piece)
     }
@@ -167,7 +171,8 @@ impl Gather {
 
     /// The frame, where it is whole.
     pub fn frame(&self) -> Option<&[u8]>
-        ensures whole { IfSome result (λ bytes. (bytes.now ≡ self.now) × ((f : PlainFrame) × Spells f self.now)) }
+        ensures whole { IfSome result (λ bytes. (bytes.now ≡ self.now)
+            × ((f : PlainFrame) × Spells f self.now)) }
         ensures none { IfNone result ((f : PlainFrame) → Spells f self.now → ⊥) }
     {
         match decode(&self.held) {

@@ -1,5 +1,5 @@
-//! The bodies that begin with a tag. Each function is given the `left` bytes that the length leaves, and the bytes
-//! behind the header.
+//! The bodies that begin with a tag. Each function is given the `left` bytes that the length leaves, and the
+//! bytes behind the header.
 ghost use Rattle.std.specs.Prelude.{◌≤◌, ◌-◌};
 ghost use Rattle.frame_rules.specs.Frames.{plain_body};
 ghost use Rattle.frame_rules.specs.Forms.{Gives, filled, tagged};

@@ -2,15 +2,16 @@
 ghost use Rattle.std.specs.Prelude.{◌≡◌, true, IfOk, IfErr, IfSome, Ok, Err, option_map};
 ghost use Rattle.frame_rules.specs.Frames.{plain, plain_body};
 ghost use Rattle.frame_rules.specs.Spelling.{IsFrame, Spells};
-ghost use Rattle.frame_rules.specs.Whole.{whole as whole_bytes, linked, is_command, is_reply, has_width, refused_bytes};
+ghost use Rattle.frame_rules.specs.Whole.{whole as whole_bytes, linked, refused_bytes};
+ghost use Rattle.frame_rules.specs.Whole.{is_command, is_reply, has_width};
 
 use crate::classes::{has_width, is_command, is_reply};
 use crate::decoding::decode;
 use express_words::Refusal;
 use frame_rules::{Frame, FrameFault};
 
-/// The frame that the bytes are, or what a server refuses of them: the version, the first wrong field, or where they
-/// or the frame end.
+/// The frame that the bytes are, or what a server refuses of them: the version, the first wrong field, or
+/// where they or the frame end.
 pub fn whole(bytes: &[u8]) -> Result<Frame<'_>, Refusal>
     ensures frame { IfOk result (λ f. whole_bytes bytes.now ≡ Ok (plain f)) }
     ensures spelled { IfOk result (λ f. Spells (plain f) bytes.now) }

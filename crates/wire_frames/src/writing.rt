@@ -1,5 +1,5 @@
-//! Writing the parts of a body, one behind the other. Each function is given the place to write at, and answers the
-//! place behind.
+//! Writing the parts of a body, one behind the other. Each function is given the place to write at, and
+//! answers the place behind.
 ghost use Rattle.std.specs.Prelude.{◌≡◌, ◌+◌, ◌*◌, ◌≤◌, length};
 ghost use Rattle.std.specs.Int.{w16, w32, w64, to_be_bytes};
 ghost use Rattle.std.specs.List.{flat_map};
