@@ -6,6 +6,17 @@ use Rattle.std.specs.List.{list_any}
 abbrev pub has_box : List ℕ → ℕ → Bool
 has_box boxes b = list_any (λ x. b == x) boxes
 
+-- a function gives each value from its argument; further values may follow
+abbrev pub GivesEach : (ℕ → ℕ) → List ℕ → List ℕ → Type 0
+GivesEach value_of arguments values =
+    (k : ℕ) → k < length arguments → slice_index values k ≡ value_of (slice_index arguments k)
+
+-- each value stands at the place of its box, where one function of boxes gives them all
+abbrev pub StandAtBoxes : List ℕ → List ℕ → List ℕ → Type 0
+StandAtBoxes boxes values out =
+    (value_of : ℕ → ℕ) → GivesEach value_of boxes values
+    → (b : ℕ) → IsTrue (has_box boxes b) → slice_index out b ≡ value_of b
+
 -- every box stands once, by rising address
 pub record IsOrder (addresses order : List ℕ) : Type 0 where
   pub as_many : length order ≡ length addresses

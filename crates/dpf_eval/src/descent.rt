@@ -1,10 +1,11 @@
 //! All levels of the tree, from the root to the leaves.
-ghost use Rattle.std.specs.Prelude.{◌≡◌, ℕ, ◌+◌, ◌==◌, ◌^◌, ◌<◌, ◌≤◌, IfOk, length, map, slice_index};
+ghost use Rattle.std.specs.Prelude.{◌≡◌, ◌+◌, ◌==◌, ◌^◌, ◌<◌, ◌≤◌, IfOk, length, map};
 ghost use Rattle.std.specs.List.Sorted.{IsStrictlyIncreasing};
 ghost use Rattle.std.specs.Set.{distinct_count};
-ghost use Rattle.dpf_rules.specs.Walk.{word_of, right_of, side_at, step, leaf_of};
+ghost use Rattle.dpf_rules.specs.Walk.{leaf_of};
 ghost use Rattle.dpf_rules.specs.Evaluation.{prefix, prefix_count};
-ghost use Rattle.dpf_eval.specs.Groups.{IsSplit};
+ghost use Rattle.dpf_eval.specs.Groups.{IsSplit, AreGrouped, HaveDescended};
+ghost use Rattle.dpf_eval.specs.Order.{GivesEach};
 
 use crate::entries::Entries;
 use crate::expansion::expand;
@@ -17,7 +18,8 @@ use std::alloc::{AllocError, Global};
 use std::marker::Model;
 use std::sync::ledger::Ledger;
 
-/// How far the entries have come: their states; and room for the nodes of one level, their states and raw children.
+/// How far the entries have come: their states; and room for the nodes of one level, their states and raw
+/// children.
 #[derive(Drop)]
 pub(crate) struct Descent {
     states: Vec<u128>,
@@ -69,13 +71,8 @@ impl Descent {
         requires splits { length entries.now.splits.items ≡ length entries.now.addresses.items }
         requires split { IsSplit entries.now.addresses.items entries.now.splits.items }
         requires rising { IsStrictlyIncreasing entries.now.addresses.items }
-        requires grouped { let address = slice_index entries.now.addresses.items in
-            (k : ℕ) → k + 1 < length entries.now.addresses.items
-            → prefix level (address k) ≡ prefix level (address (k + 1))
-            → slice_index self.old (k + 1) ≡ slice_index self.old k }
-        ensures states { (k : ℕ) → k < length entries.now.addresses.items → slice_index self.new k
-            ≡ step (word_of part.now level) (right_of part.now level)
-            (side_at (slice_index entries.now.addresses.items k) level) (slice_index self.old k) }
+        requires grouped { AreGrouped level entries.now.addresses.items self.old }
+        ensures states { HaveDescended part.now level entries.now.addresses.items self.old self.new }
         ensures room { length self.new ≡ length self.old }
         ensures steps { steps.new
             ≡ steps.old + distinct_count ◌==◌ (map (prefix level) entries.now.addresses.items) }
@@ -106,9 +103,8 @@ impl Descent {
         requires splits { length entries.now.splits.items ≡ length entries.now.addresses.items }
         requires split { IsSplit entries.now.addresses.items entries.now.splits.items }
         requires rising { IsStrictlyIncreasing entries.now.addresses.items }
-        ensures leaves { let leaf = leaf_of key.entry.part.now key.entry.server key.entry.root in
-            (k : ℕ) → k < length entries.now.addresses.items
-            → slice_index self.new k ≡ leaf (slice_index entries.now.addresses.items k) }
+        ensures leaves { GivesEach (leaf_of key.entry.part.now key.entry.server key.entry.root)
+            entries.now.addresses.items self.new }
         ensures room { length self.new ≡ length self.old }
         ensures steps { steps.new ≡ steps.old + prefix_count entries.now.addresses.items }
     {

@@ -26,7 +26,8 @@ fn expand_eight<L: Ledger>(nodes: &[u128; 8], steps: &mut Steps<L>) -> [(u128, u
     children8(nodes)
 }
 
-// Expands eight nodes at a time, as long as eight stand ready, and gives the number of those that were expanded.
+// Expands eight nodes at a time, as long as eight stand ready, and gives the number of those that were
+// expanded.
 fn expand_eights<L: Ledger>(
     nodes: &[u128],
     pairs: &mut [(u128, u128)],

@@ -2,11 +2,11 @@
 //!
 //! An entry is an address on its way down, with the state that its walk has reached. Entries stand by rising
 //! address, so those that share a prefix are neighbours: a group, which stands at one node of the tree.
-ghost use Rattle.std.specs.Prelude.{◌≡◌, ℕ, ◌+◌, ◌-◌, ◌<◌, ◌≤◌, length, slice_index, slice_index_or, ◌^◌, nat_le, if◌then◌else◌};
+ghost use Rattle.std.specs.Prelude.{◌≡◌, ℕ, ◌+◌, ◌^◌, ◌<◌, ◌≤◌, nat_le, if◌then◌else◌, length, slice_index};
 ghost use Rattle.dpf_rules.specs.Expansion.{with_bit};
 ghost use Rattle.dpf_rules.specs.Keys.{raw_pair};
 ghost use Rattle.dpf_rules.specs.Walk.{word_of, right_of, side_at};
-ghost use Rattle.dpf_eval.specs.Groups.{groups_of, stepped};
+ghost use Rattle.dpf_eval.specs.Groups.{groups_of, group_at, stepped, AreJoined, AreStepped, HaveChildren};
 
 use dpf_keys::PublicPart;
 use dpf_keys::levels::{side_at, with_bit};
@@ -26,12 +26,11 @@ pub(crate) fn gather(states: &[u128], splits: &[u8], level: u8, nodes: &mut [u12
     requires states { length splits.now ≤ length states.now }
     requires nodes { length splits.now ≤ length nodes.old }
     requires first { slice_index splits.now 0 ≤ level }
-    requires grouped { (k : ℕ) → k + 1 < length splits.now → level < slice_index splits.now (k + 1)
-        → slice_index states.now (k + 1) ≡ slice_index states.now k }
+    requires grouped { AreJoined level splits.now states.now }
     ensures count { result ≡ groups_of splits.now level (length splits.now) }
     ensures within { result ≤ length splits.now }
     ensures nodes { (k : ℕ) → k < length splits.now
-        → slice_index nodes.new (groups_of splits.now level (k + 1) - 1) ≡ slice_index states.now k }
+        → slice_index nodes.new (group_at splits.now level k) ≡ slice_index states.now k }
 {
     let mut groups = 0usize;
     for k in 0..splits.len() {
@@ -102,10 +101,8 @@ pub(crate) fn descend(
     requires room { length addresses.now ≤ length pairs.now }
     requires states { length addresses.now ≤ length states.old }
     requires first { slice_index splits.now 0 ≤ level }
-    requires pairs { (k : ℕ) → k < length addresses.now
-        → slice_index_or pairs.now (groups_of splits.now level (k + 1) - 1) (0, 0) ≡ raw_pair (slice_index states.old k) }
-    ensures { (k : ℕ) → k < length addresses.now → slice_index states.new k
-        ≡ stepped correction.now.left correction.now.right (side_at (slice_index addresses.now k) level) (slice_index states.old k) }
+    requires pairs { HaveChildren level splits.now (length addresses.now) pairs.now states.old }
+    ensures { AreStepped correction.now level addresses.now states.old states.new }
 {
     let mut groups = 0usize;
     for k in 0..addresses.len() {

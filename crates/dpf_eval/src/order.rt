@@ -1,6 +1,8 @@
 //! Boxes by the order of their addresses.
-ghost use Rattle.std.specs.Prelude.{◌≡◌, ℕ, ◌<◌, ◌≤◌, length, vec_len, vec_capacity, slice_get, slice_index, unwrap_or, filter, map, nat_lt, position, Contains, IfSome, IfNone, IsTrue, false, ◌==◌};
-ghost use Rattle.dpf_eval.specs.Order.{IsOrder, has_box};
+ghost use Rattle.std.specs.Prelude.{◌≡◌, ℕ, ◌<◌, ◌≤◌, ◌==◌, nat_lt, false, IfSome, IfNone, unwrap_or};
+ghost use Rattle.std.specs.Prelude.{length, vec_len, vec_capacity, slice_get, slice_index, filter, map};
+ghost use Rattle.std.specs.Prelude.{position, Contains};
+ghost use Rattle.dpf_eval.specs.Order.{IsOrder, has_box, StandAtBoxes};
 
 /// Addresses by box, and the boxes by rising address.
 #[derive(Clone, Copy)]
@@ -77,9 +79,7 @@ pub(crate) fn addresses_into(addresses: &[u128], boxes: &[u32], out: &mut Vec<u1
 pub(crate) fn write_at(boxes: &[u32], values: &[u128], out: &mut [u128])
     requires inside { (k : ℕ) → k < length boxes.now → slice_index boxes.now k < length out.old }
     requires values { length boxes.now ≤ length values.now }
-    ensures written { (value_of : ℕ → ℕ)
-        → ((k : ℕ) → k < length boxes.now → slice_index values.now k ≡ value_of (slice_index boxes.now k))
-        → (b : ℕ) → IsTrue (has_box boxes.now b) → slice_index out.new b ≡ value_of b }
+    ensures written { StandAtBoxes boxes.now values.now out.new }
     ensures others { (b : ℕ) → has_box boxes.now b ≡ false → slice_index out.new b ≡ slice_index out.old b }
 {
     for k in 0..boxes.len() {

@@ -42,7 +42,8 @@ impl Scratch {
         })
     }
 
-    /// Writes the leaves of the first `count` addresses, with one step for each different proper prefix of theirs.
+    /// Writes the leaves of the first `count` addresses, with one step for each different proper prefix of
+    /// theirs.
     pub(crate) fn leaves_into<L: Ledger>(
         &mut self,
         key: ServerKey,
@@ -58,8 +59,9 @@ impl Scratch {
         requires there { count ≤ length sorted.addresses.now }
         requires room { count ≤ length out.old }
         ensures size { self.new ≡ self.old }
-        ensures leaves { let leaf = leaf_of key.entry.part.now key.entry.server key.entry.root in
-            take count out.new ≡ map leaf (take count sorted.entry.addresses.now) }
+        ensures leaves { take count out.new
+            ≡ map (leaf_of key.entry.part.now key.entry.server key.entry.root)
+            (take count sorted.entry.addresses.now) }
         ensures rest { drop count out.new ≡ drop count out.old }
         ensures steps { steps.new ≡ steps.old + prefix_count (take count sorted.entry.addresses.now) }
     {

@@ -1,5 +1,6 @@
 //! Addresses ready for evaluation.
-ghost use Rattle.std.specs.Prelude.{◌≡◌, ◌==◌, ◌<◌, ◌≤◌, ◌+◌, ◌++◌, ◌∷◌, [], IfOk, IfSome, IfNone, IsTrue, ◌↔◌, Contains, map, take, drop, length, position};
+ghost use Rattle.std.specs.Prelude.{◌≡◌, ◌==◌, ◌<◌, ◌≤◌, ◌↔◌, ◌+◌, IfOk, IfSome, IfNone, IsTrue};
+ghost use Rattle.std.specs.Prelude.{◌++◌, ◌∷◌, [], Contains, map, take, drop, length, position};
 ghost use Rattle.dpf_rules.specs.Evaluation.{prefix_count};
 ghost use Rattle.dpf_rules.specs.Walk.{leaf_of};
 
@@ -13,8 +14,8 @@ use std::alloc::{AllocError, Global};
 use std::marker::Model;
 use std::sync::ledger::Ledger;
 
-/// The addresses of a server's boxes by number, kept in rising order beside it, so that one pass down the tree meets
-/// each node on the paths to them once. All its memory is taken at opening.
+/// The addresses of a server's boxes by number, kept in rising order beside it, so that one pass down the
+/// tree meets each node on the paths to them once. All its memory is taken at opening.
 #[derive(Drop)]
 pub struct Frontier {
     limit: u32,
@@ -32,7 +33,8 @@ impl Model for Frontier {
 
     ghost view = { λ f. record { addresses = f.addresses.items; limit = f.limit } };
 
-    ghost invariant = { λ f. IsSound f.limit f.addresses.items f.order.items (vec_capacity f.addresses) (vec_capacity f.order) f.scratch };
+    ghost invariant = { λ f. IsSound f.limit f.addresses.items f.order.items
+        (vec_capacity f.addresses) (vec_capacity f.order) f.scratch };
 }
 
 impl Frontier {
@@ -58,7 +60,8 @@ impl Frontier {
     pub fn insert(&mut self, address: u128)
         requires new { ¬ (Contains self.old.addresses address) }
         requires room { length self.old.addresses < self.old.limit }
-        ensures { self.new ≡ record { addresses = self.old.addresses ++ address ∷ []; limit = self.old.limit } }
+        ensures { self.new
+            ≡ record { addresses = self.old.addresses ++ address ∷ []; limit = self.old.limit } }
     {
         let box_number = self.addresses.len() as u32;
         let place = place_of(&self.addresses, &self.order, address);
@@ -100,8 +103,8 @@ impl Frontier {
         &self.addresses[..count as usize]
     }
 
-    /// Writes the leaf of the walk of server 0 or 1 at each of the first `count` addresses, by box. `steps` counts
-    /// every expansion of a node: one for each different proper prefix of these addresses.
+    /// Writes the leaf of the walk of server 0 or 1 at each of the first `count` addresses, by box. `steps`
+    /// counts every expansion of a node: one for each different proper prefix of these addresses.
     pub fn run<L: Ledger>(
         &mut self,
         part: &PublicPart,
@@ -114,7 +117,8 @@ impl Frontier {
         requires server { server < 2 }
         requires there { count ≤ length self.old.addresses }
         requires room { count ≤ length out.old }
-        ensures leaves { take count out.new ≡ map (leaf_of part.now server root) (take count self.old.addresses) }
+        ensures leaves { take count out.new
+            ≡ map (leaf_of part.now server root) (take count self.old.addresses) }
         ensures rest { drop count out.new ≡ drop count out.old }
         ensures steps { steps.new ≡ steps.old + prefix_count (take count self.old.addresses) }
         ensures same { self.new ≡ self.old }
