@@ -1,4 +1,3 @@
 pub mod AddLaws
 pub mod DifferLemmas
-pub mod EntryLemmas
 pub mod RowLemmas

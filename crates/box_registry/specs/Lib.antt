@@ -1,5 +1,4 @@
 pub mod Adds
 pub mod Arrays
 pub mod Boxes
-pub mod Entries
 pub mod Texts

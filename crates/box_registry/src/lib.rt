@@ -3,9 +3,7 @@
 
 mod fault;
 pub mod laws;
-mod plain;
 mod registry;
 
 pub use fault::RegFault;
-pub use plain::PlainRegistry;
 pub use registry::Registry;

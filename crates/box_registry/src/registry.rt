@@ -1,5 +1,6 @@
 //! The boxes in arrays, with the pass down the tree over their addresses. All memory is taken at opening.
-ghost use Rattle.std.specs.Prelude.{◌≡◌, ◌+◌, ◌<◌, ◌≤◌, [], length, map, take, drop, slice_get, IfOk, OnOk, OnErr, IfSome, Some, option_map};
+ghost use Rattle.std.specs.Prelude.{◌≡◌, ◌+◌, ◌<◌, ◌≤◌, IfOk, OnOk, OnErr, IfSome, Some, option_map};
+ghost use Rattle.std.specs.Prelude.{[], length, map, take, drop, slice_get};
 ghost use Rattle.dpf_rules.specs.Evaluation.{prefix_count};
 ghost use Rattle.dpf_rules.specs.Walk.{leaf_of};
 ghost use Rattle.box_registry.specs.Boxes.{Differ, addresses_of, place_of, answer_to, with_box};
@@ -27,7 +28,10 @@ impl Model for Registry {
 
     ghost Value = { Boxes };
 
-    ghost view = { λ r. record { limit = r.limit; boxes = boxes_of_arrays r.frontier.addresses r.keys.items } };
+    ghost view = { λ r. record {
+      limit = r.limit;
+      boxes = boxes_of_arrays r.frontier.addresses r.keys.items;
+    } };
 
     ghost invariant = { λ r. AreArrays r.limit r.frontier r.keys.items (vec_capacity r.keys) };
 }
@@ -110,8 +114,8 @@ impl Registry {
         self.frontier.first(count)
     }
 
-    /// Writes the leaf of the walk of server 0 or 1 at the address of each of the first `count` boxes. `steps` counts
-    /// every expansion of a node: one for each different proper prefix of these addresses.
+    /// Writes the leaf of the walk of server 0 or 1 at the address of each of the first `count` boxes.
+    /// `steps` counts every expansion of a node: one for each different proper prefix of these addresses.
     pub fn leaves<L: Ledger>(
         &mut self,
         part: &PublicPart,
@@ -124,7 +128,8 @@ impl Registry {
         requires server { server < 2 }
         requires there { count ≤ length self.old.boxes }
         requires room { count ≤ length out.old }
-        ensures leaves { take count out.new ≡ map (leaf_of part.now server root) (take count (addresses_of self.old.boxes)) }
+        ensures leaves { take count out.new
+            ≡ map (leaf_of part.now server root) (take count (addresses_of self.old.boxes)) }
         ensures rest { drop count out.new ≡ drop count out.old }
         ensures steps { steps.new ≡ steps.old + prefix_count (take count (addresses_of self.old.boxes)) }
         ensures same { self.new ≡ self.old }

@@ -1,4 +1,5 @@
 //! The registry in arrays beside the plain one, and one of the largest settings.
+use crate::plain::PlainRegistry;
 use box_registry::*;
 use std::test::Fail;
 

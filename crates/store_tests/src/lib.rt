@@ -8,6 +8,8 @@ mod lanes;
 #[cfg(test)]
 mod link;
 #[cfg(test)]
+mod plain;
+#[cfg(test)]
 mod regions;
 #[cfg(test)]
 mod shares;

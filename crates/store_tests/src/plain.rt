@@ -1,8 +1,9 @@
-//! The boxes in a map. It takes memory for each box.
-ghost use Rattle.std.specs.Prelude.{◌≡◌, ◌<◌, ◌≤◌, [], length, take, slice_get, IfOk, OnOk, OnErr, IfSome, Some, None, option_map};
+//! A registry of boxes over a map, against which the one in arrays is tried. It takes memory for each box.
+ghost use Rattle.std.specs.Prelude.{◌≡◌, ◌<◌, ◌≤◌, IfOk, OnOk, OnErr, IfSome, Some, None, option_map};
+ghost use Rattle.std.specs.Prelude.{[], length, take, slice_get};
 ghost use Rattle.box_registry.specs.Boxes.{Differ, addresses_of, place_of, answer_to, with_box};
 
-use crate::RegFault;
+use box_registry::RegFault;
 use express_words::NoMemory;
 use indexmap::IndexMap;
 use std::alloc::Global;
@@ -18,7 +19,7 @@ pub struct PlainRegistry {
 
 impl Model for PlainRegistry {
     ghost use Rattle.box_registry.specs.Boxes.{Boxes};
-    ghost use Rattle.box_registry.specs.Entries.{boxes_of_entries, AreKeys};
+    ghost use Rattle.store_tests.specs.Entries.{boxes_of_entries, AreKeys};
     ghost use Rattle.indexmap.specs.IndexMap.{keys};
 
     ghost Value = { Boxes };
@@ -43,7 +44,8 @@ impl PlainRegistry {
     /// Registers an address with its key. Ok is the new box.
     pub fn add(&mut self, address: u128, key: &[u8; 32]) -> Result<Result<u32, RegFault>, NoMemory>
         ensures answer { IfOk result (λ answer. answer ≡ answer_to self.old address) }
-        ensures added { IfOk result (λ answer. IfOk answer (λ _. self.new ≡ with_box self.old address key.now)) }
+        ensures added { IfOk result (λ answer. IfOk answer (λ _.
+            self.new ≡ with_box self.old address key.now)) }
         ensures refused { IfOk result (λ answer. OnErr answer (self.new ≡ self.old)) }
         ensures memory { OnErr result (self.new ≡ self.old) }
         ensures differ { Differ (addresses_of self.new.boxes) }

@@ -4,7 +4,7 @@ use Rattle.std.specs.Map.{keys_of}
 use Rattle.std.specs.Map.{lookup}
 use Rattle.indexmap.proofs.MapLemmas.{some_index}
 use Rattle.box_registry.specs.Boxes.{Box, Boxes, Differ, addresses_of, place_of}
-use Rattle.box_registry.specs.Entries.{box_of_entry, boxes_of_entries}
+use Rattle.store_tests.specs.Entries.{box_of_entry, boxes_of_entries}
 
 pub addresses_of-entries : (entries : List (ℕ × List ℕ)) → addresses_of (boxes_of_entries entries) ≡ keys_of entries
 addresses_of-entries [] = refl

@@ -1,8 +1,8 @@
 use Rattle.std.proofs.Common.{take, sym, ◌∙◌, ap, subst}
 use Rattle.box_registry.specs.Boxes.{Boxes, Differ, addresses_of}
 use Rattle.box_registry.proofs.DifferLemmas.{differ-take}
-use Rattle.box_registry.proofs.EntryLemmas.{addresses_of-entries}
-use Rattle.box_registry.proofs.plain.PlainRegistry.first.Goals as goal
+use Rattle.store_tests.proofs.EntryLemmas.{addresses_of-entries}
+use Rattle.store_tests.proofs.plain.PlainRegistry.first.Goals as goal
 
 pub returns-clause-first : goal.returns-clause-first
 returns-clause-first c =

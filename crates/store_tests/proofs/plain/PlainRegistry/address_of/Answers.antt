@@ -1,7 +1,7 @@
 use Rattle.std.proofs.Common.{◌<◌, length, slice_get, option_map, arith, sym, ◌∙◌, ap}
 use Rattle.box_registry.specs.Boxes.{Box, Boxes}
-use Rattle.box_registry.proofs.EntryLemmas.{address-entries, get_there, length-now}
-use Rattle.box_registry.proofs.plain.PlainRegistry.address_of.Goals as goal
+use Rattle.store_tests.proofs.EntryLemmas.{address-entries, get_there, length-now}
+use Rattle.store_tests.proofs.plain.PlainRegistry.address_of.Goals as goal
 
 pub returns : goal.returns
 returns c =

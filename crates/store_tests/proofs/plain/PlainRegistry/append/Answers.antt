@@ -2,10 +2,10 @@ use Rattle.std.proofs.Common.{◌≡◌, ◌==◌, position, ◌++◌, ◌∷◌
 use Rattle.std.specs.Map.{keys_of}
 use Rattle.indexmap.proofs.CallerLemmas.{insert_entry-new}
 use Rattle.box_registry.specs.Boxes.{Boxes, Differ, place_of, with_box}
-use Rattle.box_registry.specs.Entries.{boxes_of_entries}
+use Rattle.store_tests.specs.Entries.{boxes_of_entries}
 use Rattle.box_registry.proofs.DifferLemmas.{differ-push}
-use Rattle.box_registry.proofs.EntryLemmas.{addresses-now, addresses_of-entries, boxes_of_entries-push, keys_of-push, absent, length-now}
-use Rattle.box_registry.proofs.plain.PlainRegistry.append.Goals as goal
+use Rattle.store_tests.proofs.EntryLemmas.{addresses-now, addresses_of-entries, boxes_of_entries-push, keys_of-push, absent, length-now}
+use Rattle.store_tests.proofs.plain.PlainRegistry.append.Goals as goal
 
 entries_are : (c : goal.In-Ok) → c.insert.new.self.entries ≡ c.self.inside.by_address.entries ++ (c.args.address, c.args.key.now) ∷ []
 entries_are c =

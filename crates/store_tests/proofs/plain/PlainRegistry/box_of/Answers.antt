@@ -1,7 +1,7 @@
 use Rattle.std.proofs.Common.{sym, ◌∙◌, ap}
 use Rattle.box_registry.specs.Boxes.{Boxes, place_of}
-use Rattle.box_registry.proofs.EntryLemmas.{differ-now, place_of-entries}
-use Rattle.box_registry.proofs.plain.PlainRegistry.box_of.Goals as goal
+use Rattle.store_tests.proofs.EntryLemmas.{differ-now, place_of-entries}
+use Rattle.store_tests.proofs.plain.PlainRegistry.box_of.Goals as goal
 
 pub returns-in_err-place-clause-place : goal.returns-in_err-place-clause-place
 returns-in_err-place-clause-place c =
