@@ -1,10 +1,15 @@
 -- The command line of a desk, as clap reads it: a required WORD, two optional values, --desk and --out.
-use Rattle.std.specs.Prelude.{◌≡◌, ◌≤◌, ◌⊎◌, ℕ, List, [], ◌∷◌, codes, Option, Some, None, true, option_map}
+use Rattle.std.specs.Prelude.{◌≡◌, ◌≤◌, ◌⊎◌, ℕ, List, [], ◌∷◌, Option, Some, None, true, option_map}
+use Rattle.std.specs.Prelude.{String, Vec, codes, map, string_bytes}
 use Rattle.std.specs.Fmt.{decimal}
 use Rattle.clap.specs.Words.{App, Rule, Text, new_app, new_rule, with_rule, matches_of, first_of, fault_of}
 use Rattle.clap.specs.declared.builder.action.ArgAction.TheVariants.{Set}
 use Rattle.desk_words.specs.declared.task.DeskTask.{DeskTask}
 use Rattle.desk_words.specs.declared.task.DeskTask.TheVariants as task
+
+-- the bytes of each word
+abbrev pub words_in : {Y Z : Type 0} → Vec (String Y) Z → List Text
+words_in words = map string_bytes words.items
 
 abbrev pub plain_app : App
 plain_app = record {

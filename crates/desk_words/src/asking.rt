@@ -1,6 +1,6 @@
 //! What the words ask for.
-ghost use Rattle.std.specs.Prelude.{◌≡◌, ◌↔◌, IfOk, IfSome, IsTrue, Some, None, map, option_map, string_bytes};
-ghost use Rattle.desk_words.specs.CommandLine.{AskSome, FolderIs, IsAsked, IsHelpWord, WantHelp, said};
+ghost use Rattle.std.specs.Prelude.{◌≡◌, ◌↔◌, IfOk, IfSome, IsTrue, Some, None, option_map};
+ghost use Rattle.desk_words.specs.CommandLine.{AskSome, FolderIs, IsAsked, IsHelpWord, WantHelp, said, words_in};
 ghost use Rattle.desk_words.specs.Places.{said_at};
 ghost use Rattle.desk_words.specs.Tasks.{IsCountOf, IsTaskOf};
 
@@ -146,7 +146,7 @@ fn is_help_word(word: &str) -> bool
 
 // Whether one word alone wants the help.
 fn wants_help(words: &Vec<String>) -> bool
-    ensures { IsTrue result ↔ WantHelp (map string_bytes words.now.items) }
+    ensures { IsTrue result ↔ WantHelp (words_in words.now) }
 {
     match words.as_slice() {
         [word] => is_help_word(word.as_str()),
@@ -157,10 +157,10 @@ fn wants_help(words: &Vec<String>) -> bool
 /// What the words ask for, if they are words of a desk.
 #[tactic(auto, using(crate::proofs::Named::asks, crate::proofs::Named::asks_nothing, crate::proofs::Named::refused, crate::proofs::Named::said_of))]
 pub fn asked_of<'a>(alloc: Global, words: &'a Vec<String>) -> Result<Option<Asked<'a>>, NoMemory>
-    ensures task { IfOk result (λ asked. IsAsked (map string_bytes words.entry.now.items)
-        (option_map (λ a. a.task) asked)) }
+    ensures task { IfOk result (λ asked.
+        IsAsked (words_in words.entry.now) (option_map (λ a. a.task) asked)) }
     ensures folder { IfOk result (λ asked. IfSome asked (λ a.
-        FolderIs (map string_bytes words.entry.now.items) (option_map (λ s. s.now) a.folder))) }
+        FolderIs (words_in words.entry.now) (option_map (λ s. s.now) a.folder))) }
 {
     if wants_help(words) {
         return Ok(Some(Asked {
@@ -185,9 +185,9 @@ pub fn asked_of<'a>(alloc: Global, words: &'a Vec<String>) -> Result<Option<Aske
 /// The folder that the words name, if they are words of a desk and name one.
 #[tactic(auto, using(crate::proofs::Named::some_asked, crate::proofs::Named::none_asked))]
 pub fn folder_of<'a>(alloc: Global, words: &'a Vec<String>) -> Result<Option<&'a str>, NoMemory>
-    ensures named { IfOk result (λ folder. AskSome (map string_bytes words.entry.now.items)
-        → FolderIs (map string_bytes words.entry.now.items) (option_map (λ s. s.now) folder)) }
-    ensures other { IfOk result (λ folder. (AskSome (map string_bytes words.entry.now.items) → ⊥)
+    ensures named { IfOk result (λ folder. AskSome (words_in words.entry.now)
+        → FolderIs (words_in words.entry.now) (option_map (λ s. s.now) folder)) }
+    ensures other { IfOk result (λ folder. (AskSome (words_in words.entry.now) → ⊥)
         → option_map (λ s. s.now) folder ≡ None) }
 {
     match asked_of(alloc, words)? {

@@ -1,14 +1,14 @@
 //! The values of the command line's arguments.
-ghost use Rattle.std.specs.Prelude.{◌≡◌, ◌≢◌, [], IfOk, IfErr, option_map, map, string_bytes, codes};
+ghost use Rattle.std.specs.Prelude.{◌≡◌, ◌≢◌, [], IfOk, IfErr, option_map, codes};
 ghost use Rattle.clap.specs.Words.{app_of, fault_of, kind_of};
-ghost use Rattle.desk_words.specs.CommandLine.{desk_app, options_app, value_of};
+ghost use Rattle.desk_words.specs.CommandLine.{desk_app, options_app, value_of, words_in};
 
 use clap::error::ErrorKind;
 use clap::{Arg, ArgAction, Command, Error};
 use std::alloc::{AllocError, Global};
 
 /// What stands at each place of the command line.
-#[derive(Clone, Copy, Debug, PartialEq, Eq)]
+#[derive(Clone, Copy)]
 pub(crate) struct Given<'a> {
     pub(crate) desk: Option<&'a str>,
     pub(crate) out: Option<&'a str>,
@@ -49,18 +49,18 @@ fn parser<'a>(alloc: Global) -> Result<Command<'a>, AllocError>
 /// The values that these words give.
 pub(crate) fn given_in<'a>(alloc: Global, words: &'a Vec<String>) -> Result<Given<'a>, Error>
     ensures desk { IfOk result (λ g. option_map (λ s. s.now) g.desk
-        ≡ value_of (codes "DESK") (map string_bytes words.entry.now.items)) }
+        ≡ value_of (codes "DESK") (words_in words.entry.now)) }
     ensures word { IfOk result (λ g. option_map (λ s. s.now) g.word
-        ≡ value_of (codes "WORD") (map string_bytes words.entry.now.items)) }
+        ≡ value_of (codes "WORD") (words_in words.entry.now)) }
     ensures first { IfOk result (λ g. option_map (λ s. s.now) g.first
-        ≡ value_of (codes "FIRST") (map string_bytes words.entry.now.items)) }
+        ≡ value_of (codes "FIRST") (words_in words.entry.now)) }
     ensures second { IfOk result (λ g. option_map (λ s. s.now) g.second
-        ≡ value_of (codes "SECOND") (map string_bytes words.entry.now.items)) }
+        ≡ value_of (codes "SECOND") (words_in words.entry.now)) }
     ensures out { IfOk result (λ g. option_map (λ s. s.now) g.out
-        ≡ value_of (codes "OUT") (map string_bytes words.entry.now.items)) }
-    ensures taken { IfOk result (λ g. fault_of desk_app (map string_bytes words.entry.now.items) ≡ []) }
+        ≡ value_of (codes "OUT") (words_in words.entry.now)) }
+    ensures taken { IfOk result (λ g. fault_of desk_app (words_in words.entry.now) ≡ []) }
     ensures refused { IfErr result (λ e. kind_of e ≢ ErrorKind.OutOfMemory
-        → fault_of desk_app (map string_bytes words.entry.now.items) ≢ []) }
+        → fault_of desk_app (words_in words.entry.now) ≢ []) }
 {
     let command = parser(alloc)?;
     match command.try_get_matches_from(words.as_slice()) {
