@@ -29,3 +29,14 @@ pub data PaperStep : Type 0 where
 -- The last two calls, of which each went well.
 abbrev pub EndedByBoth : {A : Type 0} → Option (List A) → A → A → Type 0
 EndedByBoth {A} calls first last = (before : Option (List A)) × (calls ≡ added last (added first before))
+
+-- The last three, of which each went well.
+abbrev pub EndedByThree : {A : Type 0} → Option (List A) → A → A → A → Type 0
+EndedByThree {A} calls first second last =
+    (before : Option (List A)) × (calls ≡ added last (added second (added first before)))
+
+-- Bytes were written beside a name of a folder and renamed to it, and the disk has the folder's names.
+abbrev pub IsWritten : Option (List PaperStep) → (folder name bytes : List ℕ) → Type 0
+IsWritten calls folder name bytes =
+    EndedByThree calls (Laid folder name bytes (Ok tt)) (Named folder name (Ok tt))
+    (FolderSynced folder (Ok tt))

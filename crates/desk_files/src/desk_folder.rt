@@ -1,9 +1,9 @@
 //! A desk's folder over the system's calls.
-ghost use Rattle.std.specs.Prelude.{◌≡◌, ◌≤◌, List, None, Option, Ok, IfOk, OnOk, MatchResult};
+ghost use Rattle.std.specs.Prelude.{◌≡◌, ◌≤◌, List, None, Option, Ok, IfOk, OnOk};
 ghost use Rattle.express_words.specs.Seen.{silent};
 ghost use Rattle.express_words.specs.Causes.{HasCause, CountsFault, next};
 ghost use Rattle.express_outside.specs.Calls.{added, EndedBy};
-ghost use Rattle.desk_files.specs.Steps.{FolderStep, Made, Checked, Locked, Looked, Renamed, Unlinked, Synced, EndedByBoth};
+ghost use Rattle.desk_files.specs.Steps.{FolderStep, Made, Checked, Locked, Looked, Renamed, Unlinked, Synced, EndedByBoth, EndedByThree};
 
 use desk_outside::{DeskFile, Folder, Hold};
 use express_outside::{FileCalls, FileDisk, Trouble};
@@ -76,8 +76,8 @@ impl<C: FolderCalls> DeskFolder<C> {
 
     fn take(&mut self) -> Result<Hold, Trouble>
         ensures faults { self.new.faults ≡ self.old.faults }
-        ensures held { IfOk result (λ hold. (before : _)
-            × (C.calls self.new.system ≡ added (Locked (Ok hold)) (added (Checked (Ok tt)) (added (Made (Ok tt)) before)))) }
+        ensures held { IfOk result (λ hold. EndedByThree (C.calls self.new.system)
+            (Made (Ok tt)) (Checked (Ok tt)) (Locked (Ok hold))) }
     {
         self.system.make()?;
         self.system.check()?;
@@ -86,7 +86,8 @@ impl<C: FolderCalls> DeskFolder<C> {
 
     fn replace(&mut self, next: DeskFile, file: DeskFile) -> Result<(), Trouble>
         ensures faults { self.new.faults ≡ self.old.faults }
-        ensures placed { OnOk result (EndedByBoth (C.calls self.new.system) (Renamed next file (Ok tt)) (Synced (Ok tt))) }
+        ensures placed { OnOk result
+            (EndedByBoth (C.calls self.new.system) (Renamed next file (Ok tt)) (Synced (Ok tt))) }
     {
         self.system.rename(next, file)?;
         self.system.sync()
@@ -94,7 +95,8 @@ impl<C: FolderCalls> DeskFolder<C> {
 
     fn forget(&mut self, file: DeskFile) -> Result<(), Trouble>
         ensures faults { self.new.faults ≡ self.old.faults }
-        ensures removed { OnOk result (EndedByBoth (C.calls self.new.system) (Unlinked file (Ok tt)) (Synced (Ok tt))) }
+        ensures removed { OnOk result
+            (EndedByBoth (C.calls self.new.system) (Unlinked file (Ok tt)) (Synced (Ok tt))) }
     {
         self.system.unlink(file)?;
         self.system.sync()
@@ -115,8 +117,8 @@ impl<C: FolderCalls> Folder for DeskFolder<C> {
     ghost calls = { λ _. None };
 
     fn hold(&mut self) -> Result<Hold, Failed>
-        ensures held { IfOk result (λ hold. (before : _)
-            × (C.calls self.new.system ≡ added (Locked (Ok hold)) (added (Checked (Ok tt)) (added (Made (Ok tt)) before)))) }
+        ensures held { IfOk result (λ hold. EndedByThree (C.calls self.new.system)
+            (Made (Ok tt)) (Checked (Ok tt)) (Locked (Ok hold))) }
         ensures cause { HasCause self.old.faults self.new.faults result }
         ensures counts { CountsFault self.old.faults self.new.faults result }
     {
@@ -148,7 +150,8 @@ impl<C: FolderCalls> Folder for DeskFolder<C> {
     }
 
     fn put_in_place(&mut self, next: DeskFile, file: DeskFile) -> Result<(), Failed>
-        ensures placed { OnOk result (EndedByBoth (C.calls self.new.system) (Renamed next file (Ok tt)) (Synced (Ok tt))) }
+        ensures placed { OnOk result
+            (EndedByBoth (C.calls self.new.system) (Renamed next file (Ok tt)) (Synced (Ok tt))) }
         ensures cause { HasCause self.old.faults self.new.faults result }
         ensures counts { CountsFault self.old.faults self.new.faults result }
     {
@@ -162,7 +165,8 @@ impl<C: FolderCalls> Folder for DeskFolder<C> {
     }
 
     fn remove(&mut self, file: DeskFile) -> Result<(), Failed>
-        ensures removed { OnOk result (EndedByBoth (C.calls self.new.system) (Unlinked file (Ok tt)) (Synced (Ok tt))) }
+        ensures removed { OnOk result
+            (EndedByBoth (C.calls self.new.system) (Unlinked file (Ok tt)) (Synced (Ok tt))) }
         ensures cause { HasCause self.old.faults self.new.faults result }
         ensures counts { CountsFault self.old.faults self.new.faults result }
     {

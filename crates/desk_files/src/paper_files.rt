@@ -1,9 +1,9 @@
 //! Papers over the system's calls.
-ghost use Rattle.std.specs.Prelude.{◌≡◌, List, None, Option, Ok, IfOk, OnOk};
+ghost use Rattle.std.specs.Prelude.{◌≡◌, List, Option, OnOk};
 ghost use Rattle.express_words.specs.Seen.{silent};
 ghost use Rattle.express_words.specs.Causes.{HasCause, CountsFault};
 ghost use Rattle.express_outside.specs.Calls.{added};
-ghost use Rattle.desk_files.specs.Steps.{PaperStep, FolderMade, Laid, Named, FolderSynced};
+ghost use Rattle.desk_files.specs.Steps.{PaperStep, FolderMade, Laid, Named, FolderSynced, IsWritten};
 
 use desk_outside::Papers;
 use express_outside::{Adapter, Reads, Trouble};
@@ -57,9 +57,8 @@ impl<C: PaperCalls> PaperFiles<C> {
 
     fn put(&mut self, folder: &str, name: &str, bytes: &[u8]) -> Result<(), Trouble>
         ensures faults { self.new.faults ≡ self.old.faults }
-        ensures written { OnOk result ((before : _) × (C.calls self.new.system
-            ≡ added (FolderSynced folder.now (Ok tt)) (added (Named folder.now name.now (Ok tt))
-            (added (Laid folder.now name.now bytes.now (Ok tt)) before)))) }
+        ensures written { OnOk result
+            (IsWritten (C.calls self.new.system) folder.now name.now bytes.now) }
     {
         self.system.make(folder)?;
         self.system.lay(folder, name, bytes)?;
@@ -90,9 +89,8 @@ impl<C: PaperCalls> Papers for PaperFiles<C> {
     }
 
     fn write(&mut self, folder: &str, name: &str, bytes: &[u8]) -> Result<(), Failed>
-        ensures written { OnOk result ((before : _) × (C.calls self.new.system
-            ≡ added (FolderSynced folder.now (Ok tt)) (added (Named folder.now name.now (Ok tt))
-            (added (Laid folder.now name.now bytes.now (Ok tt)) before)))) }
+        ensures written { OnOk result
+            (IsWritten (C.calls self.new.system) folder.now name.now bytes.now) }
         ensures cause { HasCause self.old.faults self.new.faults result }
         ensures counts { CountsFault self.old.faults self.new.faults result }
     {
