@@ -1,5 +1,6 @@
 -- The lines of a sheet, without the blanks at their ends, and what they say.
-use Rattle.std.specs.Prelude.{ℕ, ◌==◌, ◌||◌, if◌then◌else◌, Bool, List, [], ◌∷◌, map, Result, Ok, Err}
+use Rattle.std.specs.Prelude.{ℕ, ◌==◌, ◌||◌, if◌then◌else◌, Bool, List, [], ◌∷◌, map}
+use Rattle.std.specs.Prelude.{Result, Ok, Err}
 use Rattle.express_texts.specs.Lines.{lines_of}
 use Rattle.express_texts.specs.GameLines.{found_or}
 use Rattle.desk_texts.specs.Checks.{with_content, content_of}
@@ -22,7 +23,8 @@ lines_in text = map trimmed (lines_of text)
 
 -- what the first of these lines says behind those contents, the contents with it, and the lines behind it; a
 -- line that is missing is bad at its place
-unfoldable pub content_at : ℕ → List ℕ → List (List ℕ) → Result (List ℕ × List ℕ × List (List ℕ)) ℕ
+unfoldable pub content_at : ℕ → List ℕ → List (List ℕ)
+    → Result (List ℕ × List ℕ × List (List ℕ)) ℕ
 content_at place said [] = Err place
 content_at place said (line ∷ lines) =
     found_or place (content_of said line) (λ content. Ok (content, with_content said content, lines))

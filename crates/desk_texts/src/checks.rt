@@ -59,7 +59,8 @@ pub fn say(said: &mut Vec<u8>, content: &[u8]) -> Result<(), NoMemory>
 /// Adds a line with its check word to a text.
 pub fn add_line(text: &mut Vec<u8>, said: &mut Vec<u8>, content: &[u8]) -> Result<(), NoMemory>
     ensures text { OnOk result (text.new.items
-        ≡ text.old.items ++ ((content.now ++ check_word (with_content said.old.items content.now)) ++ 10 ∷ [])) }
+        ≡ text.old.items
+        ++ ((content.now ++ check_word (with_content said.old.items content.now)) ++ 10 ∷ [])) }
     ensures said { OnOk result (said.new.items ≡ with_content said.old.items content.now) }
 {
     let word = check_word(said, content);

@@ -160,8 +160,10 @@ pub fn read_sheet(alloc: Global, text: &[u8]) -> Result<Sheet, TextFault>
 /// A text is read as a sheet exactly where it spells it, and refused at a line exactly where that is its first bad
 /// one.
 pub fn sheet_is_read_exactly()
-    ensures found { (text : Listed ℕ) (sheet : Sheet) → sheet_of (lines_in text) ≡ Ok sheet → SpellsSheet sheet text }
-    ensures only { (text : Listed ℕ) (sheet : Sheet) → SpellsSheet sheet text → sheet_of (lines_in text) ≡ Ok sheet }
+    ensures found { (text : Listed ℕ) (sheet : Sheet)
+        → sheet_of (lines_in text) ≡ Ok sheet → SpellsSheet sheet text }
+    ensures only { (text : Listed ℕ) (sheet : Sheet)
+        → SpellsSheet sheet text → sheet_of (lines_in text) ≡ Ok sheet }
     ensures bad { (text : Listed ℕ) (n : ℕ) → sheet_of (lines_in text) ≡ Err n → IsFirstBadLine n text }
     ensures only_bad { (text : Listed ℕ) (n : ℕ) → IsFirstBadLine n text → sheet_of (lines_in text) ≡ Err n }
 {}
