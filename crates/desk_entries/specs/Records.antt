@@ -43,6 +43,10 @@ reading_record r =
     flag r.last ∷ to_be_bytes w32 r.serial ++ to_be_bytes w32 r.registered ++ to_be_bytes w64 r.seconds
     ++ held_record r.held
 
+-- the bytes are no reading's
+abbrev pub IsNoReading : List ℕ → Type 0
+IsNoReading bytes = (r : Reading) → bytes ≡ reading_record r → ⊥
+
 abbrev pub IsNoNamed : List ℕ → Type 0
 IsNoNamed bytes = (n : NamedBoxes) → IsNamed n → bytes ≡ named_record n → ⊥
 

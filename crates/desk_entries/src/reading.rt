@@ -5,7 +5,7 @@ ghost use Rattle.std.specs.List.{flat_map};
 ghost use Rattle.desk_entries.specs.Entries.{AreAddresses, IsFormed, IsHeld, IsNamed, IsReading};
 ghost use Rattle.desk_entries.specs.Fronts.{IsFront, front_record};
 ghost use Rattle.desk_entries.specs.Names.{is_name};
-ghost use Rattle.desk_entries.specs.Records.{IsEntry, IsNoEntry, IsNoNamed, box_record, denial_byte, denied_record, entry_record, flag, held_record, named_record, reading_record};
+ghost use Rattle.desk_entries.specs.Records.{IsEntry, IsNoEntry, IsNoNamed, IsNoReading, box_record, denial_byte, denied_record, entry_record, flag, held_record, named_record, reading_record};
 ghost use Rattle.desk_entries.specs.declared.entry.Denied.{Denied};
 ghost use Rattle.desk_entries.specs.declared.entry.Held.{Held};
 ghost use Rattle.desk_entries.specs.declared.entry.Reading.{Reading};
@@ -229,7 +229,7 @@ fn front_in(bytes: &[u8]) -> Option<(Front, &[u8])>
 }
 
 fn reading_in(alloc: Global, bytes: &[u8]) -> Result<Option<Reading>, NoMemory>
-    ensures { IfOk result (λ found. MatchOption found ((r : Reading) → bytes.now ≡ reading_record r → ⊥)
+    ensures { IfOk result (λ found. MatchOption found (IsNoReading bytes.now)
         (λ r. IsReading r × (bytes.now ≡ reading_record r))) }
 {
     let Some((front, rest)) = front_in(bytes) else {

@@ -1,8 +1,9 @@
 //! The records of entries.
 ghost use Rattle.std.specs.Prelude.{◌≡◌, ◌≤◌, ◌++◌, ◌∷◌, length, OnOk, IfOk};
-ghost use Rattle.std.specs.Int.{w32, w64, to_be_bytes};
+ghost use Rattle.std.specs.Int.{w64, to_be_bytes};
 ghost use Rattle.std.specs.List.{flat_map};
 ghost use Rattle.desk_entries.specs.Entries.{IsFormed};
+ghost use Rattle.desk_entries.specs.Fronts.{front_of, front_record};
 ghost use Rattle.desk_entries.specs.Records.{box_record, content, denial_byte, denied_record, entry_record, flag, held_record, named_record, reading_record, tag};
 ghost use Rattle.desk_entries.specs.Writing.{written};
 
@@ -100,8 +101,7 @@ fn put_held(bytes: &mut Vec<u8>, held: &Held) -> Result<(), NoMemory>
 
 // What a reading says before what the box held.
 fn front_bytes(reading: &Reading) -> [u8; 17]
-    ensures { result ≡ flag reading.now.last ∷ to_be_bytes w32 reading.now.serial
-        ++ to_be_bytes w32 reading.now.registered ++ to_be_bytes w64 reading.now.seconds }
+    ensures { result ≡ front_record (front_of reading.now) }
 {
     let [a, b, c, d] = reading.serial.to_be_bytes();
     let [e, f, g, h] = reading.registered.to_be_bytes();
