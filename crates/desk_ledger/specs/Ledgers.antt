@@ -1,5 +1,5 @@
 -- An owner's desk on a disk.
-use Rattle.std.specs.Prelude.{◌≡◌, ℕ, List, [], ◌∷◌, map}
+use Rattle.std.specs.Prelude.{◌≡◌, ℕ, List, [], ◌∷◌, ◌++◌, map}
 use Rattle.desk_entries.specs.declared.entry.Entry.{Entry}
 use Rattle.desk_entries.specs.declared.entry.Entry.TheVariants as entry
 use Rattle.desk_entries.specs.Records.{AreEntries, entry_record}
@@ -33,6 +33,10 @@ pub record IsDesk (p : Pair) (entries : List Entry) (remarks : List (List ℕ)) 
   pub are : AreEntries entries
   pub told : remarks ≡ map entry_record entries
   pub pair : IsOfPair p entries
+
+-- behind the old entries this one
+abbrev pub AddsEntry : {D : Type 0} → Entry → (old new : LedgerState D) → Type 0
+AddsEntry e old new = new.entries ≡ old.entries ++ e ∷ []
 
 -- Of a desk nothing but its entries has changed.
 pub record EntriesOnly {D : Type 0} (old new : LedgerState D) : Type 0 where

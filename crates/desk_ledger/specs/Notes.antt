@@ -5,10 +5,16 @@ use Rattle.node_journal.specs.Disk.{DiskSeen}
 use Rattle.client_restart.specs.declared.fault.KeepFault.{KeepFault}
 use Rattle.client_restart.specs.declared.fault.KeepFault.TheVariants.{NoMemory}
 use Rattle.client_restart.specs.Keeps.{Keeps, sight}
-use Rattle.client_restart.specs.Notes.{Remark}
+use Rattle.client_restart.specs.Notes.{Noted, Remark}
 use Rattle.desk_entries.specs.declared.entry.Entry.{Entry}
 use Rattle.desk_entries.specs.Records.{entry_record}
 use Rattle.desk_ledger.specs.Ledgers.{LedgerState}
+
+-- the ledger's client keeps this note
+abbrev pub KeepsNote : {D T : Type 0} → (D → DiskSeen) → (D → Seen) → Noted → (old new : LedgerState D)
+    → Result T KeepFault → Type 0
+KeepsNote shows counts note old new r =
+    Keeps note (sight shows counts old.client) (sight shows counts new.client) r
 
 -- Where it answers Ok the entry is on the disk, and stands behind the others; where it answers a fault there
 -- is no entry more. For want of memory it may do nothing at all.
@@ -18,4 +24,4 @@ pub record Notes {D T : Type 0} (shows : D → DiskSeen) (counts : D → Seen) (
   pub none_added : OnErr r (new.entries ≡ old.entries)
   pub pair : new.pair ≡ old.pair
   pub keeps : (IsErrOf r NoMemory × (new ≡ old))
-      ⊎ Keeps (Remark (entry_record e)) (sight shows counts old.client) (sight shows counts new.client) r
+      ⊎ KeepsNote shows counts (Remark (entry_record e)) old new r

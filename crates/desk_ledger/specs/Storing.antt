@@ -112,6 +112,10 @@ Misses entries boxes seconds e found = MissesBy (has_outcome entries e.serial) b
 
 -- ---- storing
 
+-- P, of the oldest outcome that wasn't told, if there is one
+abbrev pub OfOldest : {D : Type 0} → LedgerState D → (EndedRequest → Type 0) → Type 0
+OfOldest l P = (e : EndedRequest) (rest : List EndedRequest) → l.client.core.untold ≡ e ∷ rest → P e
+
 abbrev pub refusal_in : Outcome → Option Refusal
 refusal_in (Refused refusal) = Some refusal
 refusal_in (Registered number) = None

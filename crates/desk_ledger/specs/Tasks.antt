@@ -1,10 +1,11 @@
 -- What a desk asks, and what is left to be done.
 use Rattle.std.specs.Prelude.{ℕ, ◌+◌, ◌-◌, ◌==◌, ◌||◌, ◌&&◌, nat_le, not, if◌then◌else◌, Bool, true, false}
 use Rattle.std.specs.Prelude.{List, [], ◌∷◌}
-use Rattle.std.specs.Prelude.{◌++◌, length, Option, Some, None, is_some, slice_get}
+use Rattle.std.specs.Prelude.{◌++◌, length, Option, Some, None, IsOk, is_some, slice_get}
 use Rattle.std.specs.List.{filter}
 use Rattle.mailbox_rules.specs.Requests.{Request}
 use Rattle.mailbox_rules.specs.Requests as plain
+use Rattle.step_rules.specs.ClientAsks.{asked}
 use Rattle.client_restart.specs.declared.owned_box.OwnedBox.{OwnedBox}
 use Rattle.desk_entries.specs.declared.entry.Entry.{Entry}
 use Rattle.desk_entries.specs.Desks.{are_new, is_retiring, name_of, named, waiting}
@@ -12,6 +13,7 @@ use Rattle.desk_entries.specs.Names.{is_name}
 use Rattle.desk_entries.specs.Standings.{is_retired}
 use Rattle.desk_ledger.specs.declared.fault.NameFault.{NameFault}
 use Rattle.desk_ledger.specs.declared.fault.NameFault.TheVariants as fault
+use Rattle.desk_ledger.specs.Ledgers.{LedgerState}
 use Rattle.desk_ledger.specs.declared.task.Task.{Task}
 use Rattle.desk_ledger.specs.declared.task.Task.TheVariants as task
 
@@ -19,6 +21,10 @@ abbrev pub request_of : Task → Request
 request_of (task.Register address) = plain.Register address
 request_of (task.Read own) = plain.Read own
 request_of (task.Retire own) = plain.Retire own
+
+-- the ledger's client takes the request of this task
+abbrev pub TakesTask : {D : Type 0} → LedgerState D → Task → Type 0
+TakesTask l t = IsOk (asked l.client.core.client (request_of t))
 
 -- ---- names
 
@@ -35,6 +41,11 @@ name_fault capacity boxes entries name addresses =
     (if not (are_new entries addresses) then Some fault.SameAddress else
     (if nat_le (length addresses) (room capacity boxes entries) then None else
     Some (fault.NoRoom (room capacity boxes entries))))))
+
+-- why a ledger doesn't take it
+abbrev pub fault_at : {D : Type 0} → LedgerState D → (name addresses : List ℕ) → Option NameFault
+fault_at l name addresses =
+    name_fault l.client.opening.capacity l.client.core.boxes l.entries name addresses
 
 -- ---- boxes
 
@@ -59,6 +70,10 @@ place_if false place = []
 abbrev pub places_of : (OwnedBox → Bool) → ℕ → List OwnedBox → List ℕ
 places_of is place [] = []
 places_of is place (b ∷ boxes) = place_if (is b) place ++ places_of is (place + 1) boxes
+
+-- those of a ledger's live boxes
+abbrev pub live_places : {D : Type 0} → LedgerState D → List ℕ
+live_places l = places_of (is_live l.entries) 0 l.client.core.boxes
 
 -- ---- what is left to be done
 

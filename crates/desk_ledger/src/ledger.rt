@@ -1,16 +1,12 @@
 //! An owner's desk on a disk.
-ghost use Rattle.std.specs.Prelude.{◌≡◌, ◌≢◌, ◌⊎◌, ◌≤◌, ◌<◌, ◌^◌, ◌∷◌, ◌++◌, [], ℕ, List as Listed, true, false, map, drop, length, Some, None, Ok, Err, IfOk, IfErr, IfSome, IsOk, OnOk, OnErr, MatchOption, nat_le, is_none, is_some};
-ghost use Rattle.std.specs.List.{filter};
+ghost use Rattle.std.specs.Prelude.{◌≡◌, ◌≢◌, ◌⊎◌, ◌≤◌, ◌<◌, ◌^◌, ◌∷◌, ◌++◌, [], true, false, map, drop, length, Some, None, Ok, Err, IfOk, IfErr, IfSome, OnOk, OnErr, is_none, is_some};
 ghost use Rattle.std.specs.Option.{option_to_list};
-ghost use Rattle.node_journal.specs.Disk.{IsUntouched};
 ghost use Rattle.client_core.specs.Requests.{fault_in};
 ghost use Rattle.step_rules.specs.ClientAsks.{asked};
 ghost use Rattle.client_restart.specs.Cores.{ended_in};
 ghost use Rattle.client_restart.specs.Faults.{OnStill};
-ghost use Rattle.client_restart.specs.Keeps.{Keeps, sight};
 ghost use Rattle.client_restart.specs.Kept.{Stands};
-ghost use Rattle.client_restart.specs.Notes.{Asked, Remark};
-ghost use Rattle.client_restart.specs.Steps.{EndedRequest};
+ghost use Rattle.client_restart.specs.Notes.{Asked};
 ghost use Rattle.desk_entries.specs.Desks.{is_retiring, name_of, named, waiting};
 ghost use Rattle.desk_entries.specs.Entries.{AreAddresses};
 ghost use Rattle.desk_entries.specs.Letters.{letters_of, shown_of};
@@ -18,10 +14,10 @@ ghost use Rattle.desk_entries.specs.Names.{is_name};
 ghost use Rattle.desk_entries.specs.Records.{AreEntries, IsEntry, entry_record};
 ghost use Rattle.desk_entries.specs.Standings.{stands};
 ghost use Rattle.desk_ledger.specs.Cards.{IsCardOf, card_addresses};
-ghost use Rattle.desk_ledger.specs.Ledgers.{EntriesOnly};
-ghost use Rattle.desk_ledger.specs.Notes.{Notes};
-ghost use Rattle.desk_ledger.specs.Storing.{Misses, Stores, stored_of};
-ghost use Rattle.desk_ledger.specs.Tasks.{is_leaving, is_live, name_fault, next_task, place_if, place_of, places_of, request_of, room};
+ghost use Rattle.desk_ledger.specs.Ledgers.{AddsEntry, EntriesOnly};
+ghost use Rattle.desk_ledger.specs.Notes.{KeepsNote, Notes};
+ghost use Rattle.desk_ledger.specs.Storing.{Misses, OfOldest, Stores, stored_of};
+ghost use Rattle.desk_ledger.specs.Tasks.{TakesTask, fault_at, is_leaving, is_live, live_places, next_task, place_if, place_of, request_of, room};
 
 use crate::fault::NameFault;
 use crate::pair::Pair;
@@ -66,7 +62,8 @@ impl<D: Disk> Model for Ledger<D> {
     ghost view = { λ l. record { pair = l.pair; entries = l.entries.items; client = l.client } };
 
     ghost invariant = { λ l. IsDesk l.pair l.entries.items l.client.core.remarks
-        × (l.client.journal.closed ≡ false → Stands l.client.opening l.client.core (D.disk l.client.disk).reads) };
+        × (l.client.journal.closed ≡ false
+        → Stands l.client.opening l.client.core (D.disk l.client.disk).reads) };
 }
 
 impl<D: Disk> Ledger<D> {
@@ -100,13 +97,11 @@ impl<D: Disk> Ledger<D> {
         addresses: &[u128],
     ) -> Result<Result<(), NameFault>, KeepFault>
         ensures refused { IfOk result (λ taken. IfErr taken (λ fault.
-            name_fault self.old.client.opening.capacity self.old.client.core.boxes self.old.entries
-            name.now addresses.now ≡ Some fault)) }
-        ensures taken { IfOk result (λ taken. OnOk taken (name_fault self.old.client.opening.capacity
-            self.old.client.core.boxes self.old.entries name.now addresses.now ≡ None)) }
+            fault_at self.old name.now addresses.now ≡ Some fault)) }
+        ensures taken { IfOk result (λ taken. OnOk taken (fault_at self.old name.now addresses.now ≡ None)) }
         ensures refused_stays { IfOk result (λ taken. OnErr taken (self.new ≡ self.old)) }
-        ensures noted { IfOk result (λ taken. OnOk taken (self.new.entries ≡ self.old.entries
-            ++ Entry.Named (record { name = name.now; addresses = addresses.now }) ∷ [])) }
+        ensures noted { IfOk result (λ taken. OnOk taken (AddsEntry
+            (Entry.Named (record { name = name.now; addresses = addresses.now })) self.old self.new)) }
         ensures not_noted { OnErr result (self.new.entries ≡ self.old.entries) }
         ensures only { EntriesOnly self.old self.new }
         ensures stays { OnStill result (self.new ≡ self.old) }
@@ -127,8 +122,7 @@ impl<D: Disk> Ledger<D> {
 
     // Why a name isn't taken.
     fn name_fault(&self, name: &str, addresses: &[u128]) -> Result<Option<NameFault>, NoMemory>
-        ensures fault { IfOk result (λ fault. fault ≡ name_fault self.now.client.opening.capacity
-            self.now.client.core.boxes self.now.entries name.now addresses.now) }
+        ensures fault { IfOk result (λ fault. fault ≡ fault_at self.now name.now addresses.now) }
     {
         if !is_name(name.as_bytes()) {
             return Ok(Some(NameFault::Form));
@@ -173,7 +167,7 @@ impl<D: Disk> Ledger<D> {
         ensures retiring { IfOk result (λ known. known ≡ true
             → is_retiring self.new.entries name.now ≡ true) }
         ensures noted { (self.new.entries ≡ self.old.entries)
-            ⊎ (self.new.entries ≡ self.old.entries ++ Entry.Retiring name.now ∷ []) }
+            ⊎ AddsEntry (Entry.Retiring name.now) self.old self.new }
         ensures not_noted { OnErr result (self.new.entries ≡ self.old.entries) }
         ensures only { EntriesOnly self.old self.new }
         ensures stays { OnStill result (self.new ≡ self.old) }
@@ -231,8 +225,8 @@ impl<D: Disk> Ledger<D> {
 
     /// The live boxes, in order, each by its place among the desk's own.
     pub fn live(&self) -> Result<Vec<u32>, NoMemory>
-        ensures { length self.now.client.core.boxes ≤ 2 ^ 32 → IfOk result (λ live.
-            live.items ≡ places_of (is_live self.now.entries) 0 self.now.client.core.boxes) }
+        ensures { length self.now.client.core.boxes ≤ 2 ^ 32
+            → IfOk result (λ live. live.items ≡ live_places self.now) }
     {
         let mut live = Vec::new(self.alloc);
         let mut rest = self.client.boxes();
@@ -251,11 +245,9 @@ impl<D: Disk> Ledger<D> {
         ensures refused { IfOk result (λ taken. IfErr taken (λ fault.
             asked self.old.client.core.client (request_of task) ≡ Err (fault_in fault))) }
         ensures refused_stays { IfOk result (λ taken. OnErr taken (self.new ≡ self.old)) }
-        ensures taken { IfOk result (λ taken. OnOk taken
-            (IsOk (asked self.old.client.core.client (request_of task)))) }
-        ensures keeps { IsOk (asked self.old.client.core.client (request_of task))
-            → Keeps (Asked (request_of task)) (sight D.disk D.Counted.seen self.old.client)
-            (sight D.disk D.Counted.seen self.new.client) result }
+        ensures taken { IfOk result (λ taken. OnOk taken (TakesTask self.old task)) }
+        ensures keeps { TakesTask self.old task
+            → KeepsNote D.disk D.Counted.seen (Asked (request_of task)) self.old self.new result }
         ensures entries { self.new.entries ≡ self.old.entries }
         ensures pair { self.new.pair ≡ self.old.pair }
         ensures stays { OnStill result (self.new ≡ self.old) }
@@ -271,8 +263,7 @@ impl<D: Disk> Ledger<D> {
     /// came between, its serial tells that the entry is there.
     pub fn store(&mut self, seconds: u64) -> Result<Option<Stored>, KeepFault>
         ensures none { self.old.client.core.untold ≡ [] → (result ≡ Ok None) × (self.new ≡ self.old) }
-        ensures stores { (e : EndedRequest) (rest : Listed EndedRequest)
-            → self.old.client.core.untold ≡ e ∷ rest → Stores seconds e self.old self.new result }
+        ensures stores { OfOldest self.old (λ e. Stores seconds e self.old self.new result) }
     {
         match self.oldest(seconds) {
             Ok(Some(found)) => self.store_one(found),
@@ -310,11 +301,10 @@ impl<D: Disk> Ledger<D> {
     fn oldest(&self, seconds: u64) -> Result<Option<Oldest>, NoMemory>
         ensures none { result ≡ Ok None → self.now.client.core.untold ≡ [] }
         ensures some { IfOk result (λ found. IfSome found (λ x. self.now.client.core.untold ≢ [])) }
-        ensures stored { (e : EndedRequest) (rest : Listed EndedRequest)
-            → self.now.client.core.untold ≡ e ∷ rest → IfOk result (λ found. IfSome found (λ x. x.stored ≡ stored_of e)) }
-        ensures misses { (e : EndedRequest) (rest : Listed EndedRequest)
-            → self.now.client.core.untold ≡ e ∷ rest → IfOk result (λ found. IfSome found (λ x.
-            Misses self.now.entries self.now.client.core.boxes seconds e x.entry)) }
+        ensures stored { OfOldest self.now (λ e. IfOk result (λ found.
+            IfSome found (λ x. x.stored ≡ stored_of e))) }
+        ensures misses { OfOldest self.now (λ e. IfOk result (λ found. IfSome found (λ x.
+            Misses self.now.entries self.now.client.core.boxes seconds e x.entry))) }
         ensures is { IfOk result (λ found. IfSome found (λ x. IfSome x.entry IsEntry)) }
         ensures fault { IfErr result (λ e. self.now.client.core.untold ≢ []) }
     {

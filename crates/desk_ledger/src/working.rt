@@ -2,7 +2,7 @@
 ghost use Rattle.std.specs.Prelude.{◌≡◌, ◌≢◌, None, Ok, OnOk};
 ghost use Rattle.kept_errands.specs.Works.{IsEnded};
 ghost use Rattle.kept_errands.specs.Steps.{DiskFaultBy, NetFaultBy};
-ghost use Rattle.desk_ledger.specs.Works.{WorksAt};
+ghost use Rattle.desk_ledger.specs.Works.{WorksIfBusy};
 
 use crate::ledger::Ledger;
 use crate::pair::peers;
@@ -17,8 +17,7 @@ impl<D: Disk> Ledger<D> {
     pub fn work<N: Net>(&mut self, net: &mut N) -> Result<(), Halt>
         ensures idle { self.old.client.core.client.current ≡ None
             → (result ≡ Ok (tt {0})) × (self.new ≡ self.old) × (net.new ≡ net.old) }
-        ensures works { self.old.client.core.client.current ≢ None → WorksAt self.old.pair self.old.client.core
-            self.new.client.core result (N.seen net.old).calls (N.seen net.new).calls }
+        ensures works { WorksIfBusy self.old self.new result (N.seen net.old).calls (N.seen net.new).calls }
         ensures ended { self.old.client.core.client.current ≢ None
             → OnOk result (IsEnded self.old.client.core self.new.client.core) }
         ensures entries { self.new.entries ≡ self.old.entries }
