@@ -12,22 +12,22 @@ use Rattle.desk_tries.specs.declared.heard.Fate.{Fate}
 use Rattle.desk_tries.specs.declared.heard.Fate.TheVariants as fate
 use Rattle.desk_tries.specs.declared.sending.Next.TheVariants as next
 use Rattle.desk_tries.specs.Fate.{fate_by, fate_by_refusal, by_proof}
-use Rattle.desk_tries.specs.Steps.{State, Turn, again_at_address, elsewhere, turn_by, turn_of}
+use Rattle.desk_tries.specs.Steps.{SendingState, SendingTurn, again_at_address, elsewhere, turn_by, turn_of}
 use Rattle.desk_outbox.specs.Answers.{answer_to}
 
-either : (b : Bool) (x y : Turn) → x.next ≢ next.GoOn → y.next ≢ next.GoOn → (cond b x y).next ≢ next.GoOn
+either : (b : Bool) (x y : SendingTurn) → x.next ≢ next.GoOn → y.next ≢ next.GoOn → (cond b x y).next ≢ next.GoOn
 either true x y p q = p
 either false x y p q = q
 
-again_ends : (s : State) → (again_at_address s).next ≢ next.GoOn
+again_ends : (s : SendingState) → (again_at_address s).next ≢ next.GoOn
 unfolding again_at_address
 again_ends s = either (s.further == 0) _ _ (λ e. absurd (cc e)) (λ e. absurd (cc e))
 
-elsewhere_ends : (s : State) → (elsewhere s).next ≢ next.GoOn
+elsewhere_ends : (s : SendingState) → (elsewhere s).next ≢ next.GoOn
 unfolding elsewhere
 elsewhere_ends s = either ((s.further == 0) || (s.address + 1 == s.addresses)) _ _ (λ e. absurd (cc e)) (λ e. absurd (cc e))
 
-on_only : (s : State) (f : Fate) → (turn_by s f).next ≡ next.GoOn → f ≡ fate.GoesOn
+on_only : (s : SendingState) (f : Fate) → (turn_by s f).next ≡ next.GoOn → f ≡ fate.GoesOn
 unfolding turn_by
 on_only s fate.GoesOn e = refl
 on_only s fate.Again e = absurd (cc e)
@@ -74,24 +74,24 @@ next_only (progress.Later r) e = absurd (cc e)
 next_only progress.Ignored e = absurd (cc e)
 
 -- the sending goes on only at a reply that fits
-pub goes_on_only : (s : State) (p : Progress) → (turn_of s (answer_to p)).next ≡ next.GoOn → p ≡ progress.Next
+pub goes_on_only : (s : SendingState) (p : Progress) → (turn_of s (answer_to p)).next ≡ next.GoOn → p ≡ progress.Next
 goes_on_only s p e = next_only p (fits_only s.proof_out (answer_to p) (on_only s _ e))
 
 -- ---- what stays
 
-stays : (b : Bool) (x y : Turn) (n : ℕ) → x.state.addresses ≡ n → y.state.addresses ≡ n → (cond b x y).state.addresses ≡ n
+stays : (b : Bool) (x y : SendingTurn) (n : ℕ) → x.state.addresses ≡ n → y.state.addresses ≡ n → (cond b x y).state.addresses ≡ n
 stays true x y n p q = p
 stays false x y n p q = q
 
-again_stays : (s : State) → (again_at_address s).state.addresses ≡ s.addresses
+again_stays : (s : SendingState) → (again_at_address s).state.addresses ≡ s.addresses
 unfolding again_at_address
 again_stays s = stays (s.further == 0) _ _ s.addresses refl refl
 
-elsewhere_stays : (s : State) → (elsewhere s).state.addresses ≡ s.addresses
+elsewhere_stays : (s : SendingState) → (elsewhere s).state.addresses ≡ s.addresses
 unfolding elsewhere
 elsewhere_stays s = stays ((s.further == 0) || (s.address + 1 == s.addresses)) _ _ s.addresses refl refl
 
-turn_stays : (s : State) (f : Fate) → (turn_by s f).state.addresses ≡ s.addresses
+turn_stays : (s : SendingState) (f : Fate) → (turn_by s f).state.addresses ≡ s.addresses
 unfolding turn_by
 turn_stays s fate.GoesOn = refl
 turn_stays s fate.Again = refl
@@ -99,10 +99,10 @@ turn_stays s fate.NotWritten = again_stays s
 turn_stays s fate.Unknown = elsewhere_stays s
 turn_stays s fate.Written = refl
 
-pub addresses_stay : (s : State) (a : Answer) → (turn_of s a).state.addresses ≡ s.addresses
+pub addresses_stay : (s : SendingState) (a : Answer) → (turn_of s a).state.addresses ≡ s.addresses
 addresses_stay s a = turn_stays s (fate_by s.proof_out a)
 
 -- a frame that was lost is sent again
-pub lost_again : (s : State) → (turn_of s answer.Lost).next ≡ next.SameAgain
+pub lost_again : (s : SendingState) → (turn_of s answer.Lost).next ≡ next.SameAgain
 unfolding turn_by fate_by
 lost_again s = refl

@@ -1,6 +1,6 @@
 -- Bytes that are no place's.
 use Rattle.std.proofs.Common.{◌≤◌, Bool, true, false, arith}
-use Rattle.desk_tries.specs.declared.sending.End.TheVariants as end
+use Rattle.desk_tries.specs.declared.sending.LetterEnd.TheVariants as end
 use Rattle.desk_tries.specs.declared.sending.Next.{Next}
 use Rattle.desk_tries.specs.declared.sending.Next.TheVariants as next
 use Rattle.desk_outbox.specs.Places.{bit_of, code_of}

@@ -2,10 +2,10 @@
 use Rattle.std.specs.Prelude.{◌≢◌, ℕ, ◌+◌, ◌%◌, Bool, true, false, List, [], ◌∷◌}
 use Rattle.std.specs.Prelude.{Option, Some, None}
 use Rattle.std.specs.Int.{w32, to_be_bytes}
-use Rattle.desk_tries.specs.declared.sending.End.TheVariants as end
+use Rattle.desk_tries.specs.declared.sending.LetterEnd.TheVariants as end
 use Rattle.desk_tries.specs.declared.sending.Next.{Next}
 use Rattle.desk_tries.specs.declared.sending.Next.TheVariants as next
-use Rattle.desk_tries.specs.Steps.{State}
+use Rattle.desk_tries.specs.Steps.{SendingState}
 use Rattle.desk_outbox.specs.declared.place.Place.{Place}
 
 abbrev pub bit_of : Bool → ℕ
@@ -56,7 +56,7 @@ abbrev pub next_place : Place → Place
 next_place p = record p { next = next.GoOn; named = None }
 
 -- the sending of the letter, as it stands there, over a card of so many addresses
-abbrev pub state_at : ℕ → Place → State
+abbrev pub state_at : ℕ → Place → SendingState
 state_at addresses p = record {
   addresses = addresses;
   address = p.address;

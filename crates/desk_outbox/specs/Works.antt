@@ -12,7 +12,7 @@ use Rattle.desk_texts.specs.declared.sheet.Sheet.{Sheet}
 use Rattle.desk_tries.specs.declared.heard.Answer.{Answer}
 use Rattle.desk_tries.specs.declared.sending.Next.{Next}
 use Rattle.desk_tries.specs.declared.sending.Next.TheVariants as next
-use Rattle.desk_tries.specs.Steps.{State, Turn, turn_of}
+use Rattle.desk_tries.specs.Steps.{SendingState, SendingTurn, turn_of}
 use Rattle.kept_errands.specs.Steps.{Talked}
 use Rattle.kept_errands.specs.declared.halt.Halt.{Halt}
 use Rattle.kept_errands.specs.declared.halt.Halt.TheVariants as halt
@@ -59,11 +59,11 @@ Readies shows counts old new r = ((r ≡ Ok tt) × (new ≡ old)) ⊎ ReadiesFir
 -- ---- behind an answer
 
 -- the letter's sending, as the try stands
-abbrev pub state_of : {D : Type 0} → OutboxState D → State
+abbrev pub state_of : {D : Type 0} → OutboxState D → SendingState
 state_of o = state_at (length o.card.addresses) o.place
 
 -- where a try stands that an answer ends: as its sending does
-abbrev pub ended_at : Place → Turn → Answer → Place
+abbrev pub ended_at : Place → SendingTurn → Answer → Place
 ended_at p t a = record p {
   address = t.state.address;
   further = t.state.further;

@@ -4,7 +4,7 @@ ghost use Rattle.desk_outbox.specs.Places.{bit_of, code_of, first_place, named_b
 ghost use Rattle.desk_tries.specs.declared.sending.Next.{Next as NextOf};
 ghost use Rattle.desk_outbox.specs.declared.place.Place.{Place as PlaceOf};
 
-use desk_tries::{End, MOST_FURTHER, Next};
+use desk_tries::{LetterEnd, MOST_FURTHER, Next};
 
 /// The bytes of a record.
 pub const PLACE_LEN: usize = 10;
@@ -35,9 +35,9 @@ fn code_of(next: Next) -> u8
         Next::GoOn | Next::SameAgain => 0,
         Next::NewTry => 1,
         Next::NextAddress => 2,
-        Next::Stop(End::Written) => 3,
-        Next::Stop(End::NotWritten) => 4,
-        Next::Stop(End::MaybeWritten) => 5,
+        Next::Stop(LetterEnd::Written) => 3,
+        Next::Stop(LetterEnd::NotWritten) => 4,
+        Next::Stop(LetterEnd::MaybeWritten) => 5,
     }
 }
 
@@ -51,9 +51,9 @@ fn next_in(code: u8) -> Option<Next>
         0 => Some(Next::GoOn),
         1 => Some(Next::NewTry),
         2 => Some(Next::NextAddress),
-        3 => Some(Next::Stop(End::Written)),
-        4 => Some(Next::Stop(End::NotWritten)),
-        5 => Some(Next::Stop(End::MaybeWritten)),
+        3 => Some(Next::Stop(LetterEnd::Written)),
+        4 => Some(Next::Stop(LetterEnd::NotWritten)),
+        5 => Some(Next::Stop(LetterEnd::MaybeWritten)),
         _ => None,
     }
 }

@@ -151,7 +151,8 @@ impl<D: Disk> Outbox<D> {
         ensures damaged { IfErr result (λ x. OnDamaged x.0 (λ n. (c : List ℕ) → (D.disk disk).reads c
             → IsUndamaged 65536 0 c → ⊥)) }
         ensures cause { IfErr result (λ x. IsOfReopen x.0) }
-        ensures untouched_whole { IfOk result (IfWhole (λ o. IsUntouched (D.disk disk) (D.disk o.kept.disk))) }
+        ensures untouched_whole { IfOk result
+            (IfWhole (λ o. IsUntouched (D.disk disk) (D.disk o.kept.disk))) }
         ensures untouched_nothing { IfOk result (IfNothing (λ d. IsUntouched (D.disk disk) (D.disk d))) }
         ensures untouched { IfErr result (λ x. IsUntouched (D.disk disk) (D.disk x.1)) }
     {

@@ -32,7 +32,7 @@ const WORDS_MAX: usize = 8213;
 
 /// What a try is: a card, a place on it, how its client is opened, and the box's bytes.
 #[derive(Clone, Copy)]
-struct Try<'a> {
+struct TryParts<'a> {
     card: &'a Sheet,
     place: Place,
     opening: ClientOpening,
@@ -77,7 +77,7 @@ fn target_of(card: &Sheet, place: &Place) -> u128
 fn note_try<D: Disk>(
     client: &mut KeptClient<D>,
     text: &[u8],
-    begun: &Try<'_>,
+    begun: &TryParts<'_>,
 ) -> Result<(), KeepFault>
     requires begun { IsBegun begun.now.card.now begun.now.place begun.now.opening begun.now.message.now }
     requires text { text.now ≡ printed begun.now.card.now }
@@ -103,7 +103,7 @@ fn note_try<D: Disk>(
     }
 }
 
-fn begin<D: Disk>(alloc: Global, begun: &Try<'_>, disk: D) -> Result<Outbox<D>, (KeepFault, D)>
+fn begin<D: Disk>(alloc: Global, begun: &TryParts<'_>, disk: D) -> Result<Outbox<D>, (KeepFault, D)>
     requires { IsBegun begun.now.card.now begun.now.place begun.now.opening begun.now.message.now }
     ensures begins { IfOk result (Begins D.disk begun.now.card.now begun.now.place begun.now.message.now) }
     ensures opening { IfOk result (λ o. o.kept.opening ≡ begun.now.opening) }
@@ -174,7 +174,7 @@ impl<D: Disk> Outbox<D> {
         }
         let first = (draws.number() % u64::from(head.addresses)) as u8;
         let (lane, first_serial) = first_lane(&head, draws);
-        let begun = Try {
+        let begun = TryParts {
             card,
             place: Place::first_at(first),
             opening: opening_of(lane, head.width, first_serial, seed),
@@ -211,7 +211,7 @@ impl<D: Disk> Outbox<D> {
         let Some((lane, first_serial)) = next else {
             return Err((StartFault::Spent, disk));
         };
-        let begun = Try {
+        let begun = TryParts {
             card: &self.card,
             place: self.place.next(),
             opening: opening_of(lane, last.width, first_serial, seed),

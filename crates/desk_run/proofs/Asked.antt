@@ -1,5 +1,6 @@
 -- What words ask for.
-use Rattle.std.proofs.Common.{◌≡◌, ◌⊎◌, ℕ, Bool, true, false, List, Some, None, inl, inr, refl}
+use Rattle.std.proofs.Common.{◌≡◌, ◌∙◌, ◌⊎◌, ℕ, Bool, true, false, List, [], ◌∷◌, Contains, Some, None, inl, inr, lit<, refl, sym, subst}
+use Rattle.std.proofs.lemmas.List.Elements.{All-contains, All-from_recursion}
 use Rattle.clap.specs.Words.{Text}
 use Rattle.desk_words.specs.CommandLine.{AskSome, IsAsked}
 use Rattle.desk_words.specs.declared.task.DeskTask.{DeskTask}
@@ -44,3 +45,21 @@ done_undone shows counts words n old new (t, is) undone = record {
   asked = is;
   done = record { done = λ zero. cc; met = λ five. cc };
 }
+
+-- a task for which the servers are asked
+pub loud : {P : Type 0} (t known : DeskTask) → t ≡ known → is_quiet known ≡ false → is_quiet t ≡ true → P
+loud t known is other quiet_one =
+    let wrong = sym other ∙ subst (λ (x : DeskTask). is_quiet x ≡ true) is quiet_one in
+    absurd (cc wrong)
+
+-- ---- wrong words
+
+abbrev pub Other : ℕ → ℕ → Type 0
+Other m n = n ≡ m → ⊥
+
+pub not_refused : (m n : ℕ) → Other m 2 → Other m 1 → Contains (2 ∷ 1 ∷ []) n → n ≡ m → ⊥
+not_refused m n two one among =
+    All-contains (Other m) (2 ∷ 1 ∷ []) n (All-from_recursion (Other m) (2 ∷ 1 ∷ []) (two, (one, tt))) among
+
+pub refused_one : (n : ℕ) → n ≡ 1 → Contains (2 ∷ 1 ∷ []) n
+refused_one n is = subst (Contains (2 ∷ 1 ∷ [])) (sym is) (1, lit< tt, refl)

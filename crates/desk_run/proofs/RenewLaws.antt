@@ -8,12 +8,12 @@ use Rattle.desk_ledger.specs.Ledgers.{LedgerState}
 use Rattle.desk_ledger.specs.Tasks.{is_live}
 use Rattle.desk_outside.specs.Calls.{Adds, FolderCall, Placed}
 use Rattle.desk_outside.specs.declared.folder.DeskFile.{DeskFile}
-use Rattle.desk_run.specs.Changes.{Follows}
+use Rattle.desk_run.specs.Changes.{FollowsLedger}
 
 pub follows : {D E : Type 0} (old : LedgerState D) (next : LedgerState E) → next.client.opening ≡ next_opening old.client
     → next.client.core.client.serial ≡ old.client.core.client.serial
     → next.client.core.boxes ≡ filter (is_live old.entries) old.client.core.boxes → next.entries ≡ kept old.entries
-    → next.pair ≡ old.pair → (next.client.core.client.current ≡ None) × (next.client.core.untold ≡ []) → Follows old next
+    → next.pair ≡ old.pair → (next.client.core.client.current ≡ None) × (next.client.core.untold ≡ []) → FollowsLedger old next
 follows old next opening serial boxes entries pair idle = record {
   opening = opening;
   serial = serial;

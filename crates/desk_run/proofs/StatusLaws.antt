@@ -2,15 +2,15 @@
 use Rattle.std.proofs.Common.{◌≡◌, ◌≢◌, ◌⊎◌, inl, inr, ℕ, zero, suc, arith, Result, Bool, true, false, if◌then◌else◌, List, [], ◌∷◌, All, Contains, Option, Some, None, Ok, Err, IfErr, lit<, refl, sym, subst}
 use Rattle.std.proofs.lemmas.List.Elements.{All-contains, All-from_recursion}
 use denote.Bor.{Bor}
-use Rattle.desk_tries.specs.declared.sending.End as letters
-use Rattle.desk_tries.specs.declared.sending.End.TheVariants as letter
+use Rattle.desk_tries.specs.declared.sending.LetterEnd as letters
+use Rattle.desk_tries.specs.declared.sending.LetterEnd.TheVariants as letter
 use Rattle.desk_words.specs.declared.task.DeskTask.{DeskTask}
 use Rattle.desk_words.specs.declared.task.DeskTask.TheVariants as task
-use Rattle.desk_run.specs.declared.ending.End.{End}
-use Rattle.desk_run.specs.declared.ending.End.TheVariants as end
+use Rattle.desk_run.specs.declared.ending.WordEnd.{WordEnd}
+use Rattle.desk_run.specs.declared.ending.WordEnd.TheVariants as end
 use Rattle.desk_run.specs.declared.trouble.Trouble.{Trouble}
 use Rattle.desk_run.specs.declared.trouble.Trouble.TheVariants as trouble
-use Rattle.desk_run.specs.Ends.{IsOfName, IsOfPaper, IsUndone, status_by, status_of}
+use Rattle.desk_run.specs.Ends.{IsOfName, IsOfPaper, IsUndone, Unfailed, status_by, status_of}
 use Rattle.desk_run.specs.LetterEnds.{resume_end, word_end}
 use Rattle.desk_run.specs.Statuses.{IsInUse, MayEnd, statuses_of}
 
@@ -51,19 +51,23 @@ may_one t = has_undone t
 pub may_undone : (t : DeskTask) (n : ℕ) → n ≡ 1 → MayEnd t n
 may_undone t n is = subst (λ (x : ℕ). MayEnd t x) (sym is) (may_one t)
 
+-- a task that is known ends as it may
+pub ends_as : (t known : DeskTask) (n : ℕ) → t ≡ known → MayEnd known n → MayEnd t n
+ends_as t known n is may = subst (λ (x : DeskTask). MayEnd x n) (sym is) may
+
 -- ---- words at which no letters meet
 
-by_end : (t : DeskTask) (r : Result End Trouble) → ((e : Trouble) → r ≡ Err e → MayEnd t (status_by e)) → r ≢ Ok end.Met
+by_end : (t : DeskTask) (r : Result WordEnd Trouble) → ((e : Trouble) → r ≡ Err e → MayEnd t (status_by e)) → r ≢ Ok end.Met
     → MayEnd t (status_of r)
 by_end t (Ok end.Done) troubles not_met = may_zero t
 by_end t (Ok end.NotWritten) troubles not_met = may_one t
 by_end t (Ok end.Met) troubles not_met = absurd (not_met refl)
 by_end t (Err e) troubles not_met = troubles e refl
 
-err_in : (P : Trouble → Type 0) (r : Result End Trouble) (e : Trouble) → IfErr r P → r ≡ Err e → P e
-err_in P r e all is = subst (λ (x : Result End Trouble). IfErr x P) is all
+err_in : (P : Trouble → Type 0) (r : Result WordEnd Trouble) (e : Trouble) → IfErr r P → r ≡ Err e → P e
+err_in P r e all is = subst (λ (x : Result WordEnd Trouble). IfErr x P) is all
 
-pub quiet_ends : (t : DeskTask) (r : Result End Trouble) → IfErr r IsUndone → r ≢ Ok end.Met → MayEnd t (status_of r)
+pub quiet_ends : (t : DeskTask) (r : Result WordEnd Trouble) → IfErr r IsUndone → r ≢ Ok end.Met → MayEnd t (status_of r)
 quiet_ends t r undone not_met = by_end t r (λ e is. may_undone t (status_by e) (err_in IsUndone r e undone is)) not_met
 
 open_three : (pair : Bor (List ℕ)) → MayEnd (task.Open pair) 3
@@ -82,24 +86,24 @@ one_or : (t : DeskTask) (n other : ℕ) → MayEnd t other → (n ≡ 1) ⊎ (n 
 one_or t n other may (inl is) = may_undone t n is
 one_or t n other may (inr is) = subst (λ (x : ℕ). MayEnd t x) (sym is) may
 
-pub open_ends : (pair : Bor (List ℕ)) (r : Result End Trouble) → IfErr r IsOfPaper → r ≢ Ok end.Met
+pub open_ends : (pair : Bor (List ℕ)) (r : Result WordEnd Trouble) → IfErr r IsOfPaper → r ≢ Ok end.Met
     → MayEnd (task.Open pair) (status_of r)
 open_ends pair r trouble not_met = by_end (task.Open pair) r
     (λ e is. one_or (task.Open pair) (status_by e) 3 (open_three pair) (err_in IsOfPaper r e trouble is)) not_met
 
-pub send_ends : (card : Bor (List ℕ)) (file : Option (Bor (List ℕ))) (r : Result End Trouble) → IfErr r IsOfPaper
+pub send_ends : (card : Bor (List ℕ)) (file : Option (Bor (List ℕ))) (r : Result WordEnd Trouble) → IfErr r IsOfPaper
     → r ≢ Ok end.Met → MayEnd (task.Send card file) (status_of r)
 send_ends card file r trouble not_met = by_end (task.Send card file) r
     (λ e is. one_or (task.Send card file) (status_by e) 3 (send_three card file) (err_in IsOfPaper r e trouble is)) not_met
 
-pub box_ends : (name : Bor (List ℕ)) (count : ℕ) (r : Result End Trouble) → IfErr r IsOfName → r ≢ Ok end.Met
+pub box_ends : (name : Bor (List ℕ)) (count : ℕ) (r : Result WordEnd Trouble) → IfErr r IsOfName → r ≢ Ok end.Met
     → MayEnd (task.Box name count) (status_of r)
 box_ends name count r trouble not_met = by_end (task.Box name count) r
     (λ e is. one_or (task.Box name count) (status_by e) 2 (box_two name count) (err_in IsOfName r e trouble is)) not_met
 
 -- ---- words that show letters
 
-any_end : (t : DeskTask) (r : Result End Trouble) → MayEnd t 5 → IfErr r IsUndone → MayEnd t (status_of r)
+any_end : (t : DeskTask) (r : Result WordEnd Trouble) → MayEnd t 5 → IfErr r IsUndone → MayEnd t (status_of r)
 any_end t (Ok end.Done) five undone = may_zero t
 any_end t (Ok end.NotWritten) five undone = may_one t
 any_end t (Ok end.Met) five undone = five
@@ -117,19 +121,19 @@ forget_five : MayEnd task.Forget 5
 unfolding statuses_of MayEnd
 forget_five = (2, lit< tt, refl)
 
-pub letters_ends : (out : Option (Bor (List ℕ))) (r : Result End Trouble) → IfErr r IsUndone
+pub letters_ends : (out : Option (Bor (List ℕ))) (r : Result WordEnd Trouble) → IfErr r IsUndone
     → MayEnd (task.Letters out) (status_of r)
 letters_ends out r undone = any_end (task.Letters out) r (letters_five out) undone
 
-pub retire_ends : (name : Bor (List ℕ)) (r : Result End Trouble) → IfErr r IsUndone
+pub retire_ends : (name : Bor (List ℕ)) (r : Result WordEnd Trouble) → IfErr r IsUndone
     → MayEnd (task.Retire name) (status_of r)
 retire_ends name r undone = any_end (task.Retire name) r (retire_five name) undone
 
-pub forget_ends : (r : Result End Trouble) → IfErr r IsUndone → MayEnd task.Forget (status_of r)
+pub forget_ends : (r : Result WordEnd Trouble) → IfErr r IsUndone → MayEnd task.Forget (status_of r)
 forget_ends r undone = any_end task.Forget r forget_five undone
 
 -- the end is one of letters that met only where they did
-pub met_of : (met : Bool) (e : End) (r : Result End Trouble) → e ≡ (if met then end.Met else end.Done) → r ≡ Ok e
+pub met_of : (met : Bool) (e : WordEnd) (r : Result WordEnd Trouble) → e ≡ (if met then end.Met else end.Done) → r ≡ Ok e
     → r ≡ Ok end.Met → met ≡ true
 met_of true e r is ok so = refl
 met_of false e r is ok so = cc
@@ -156,12 +160,24 @@ pub not_four : (t : DeskTask) (n : ℕ) → MayEnd t n → n ≡ 4 → ⊥
 unfolding MayEnd
 not_four t n among = All-contains NotFour (statuses_of t) n (none_four t) among
 
+-- each word but the help asks for the desk
+pub in_use_of : (t : DeskTask) (n : ℕ) → (t ≡ task.Help → ⊥) → MayEnd t n ⊎ (n ≡ 4) → MayEnd t n ⊎ IsInUse t n
+in_use_of t n other (inl may) = inl may
+in_use_of t n other (inr four) = inr (four, other)
+
 -- ---- what is told of an end
 
 one_or_not : (n : ℕ) → (n ≡ 1) ⊎ (n ≢ 1)
 one_or_not zero = inr (λ e. cc)
 one_or_not (suc zero) = inl refl
 one_or_not (suc (suc n)) = inr (λ e. absurd (omega (arith, e)))
+
+-- what can't be told is told as a word that isn't done
+pub only_one : (n : ℕ) → (n ≢ 1 → n ≡ 1) → n ≡ 1
+only_one n told = elim (one_or_not n) [
+  | inl one ↦ one
+  | inr other ↦ told other
+]
 
 in_use_so : (t : DeskTask) (n s : ℕ) → n ≡ s → MayEnd t s ⊎ IsInUse t s
     → MayEnd t n ⊎ IsInUse t n
@@ -179,17 +195,26 @@ no_five (trouble.Name fault) is = cc
 no_five trouble.InUse is = cc
 no_five _ is = cc
 
-pub only_met : (r : Result End Trouble) → status_of r ≡ 5 → r ≡ Ok end.Met
+pub only_met : (r : Result WordEnd Trouble) → status_of r ≡ 5 → r ≡ Ok end.Met
 only_met (Ok end.Done) is = cc
 only_met (Ok end.NotWritten) is = cc
 only_met (Ok end.Met) is = refl
 only_met (Err t) is = absurd (no_five t is)
 
-pub word_not_met : (e : letters.End) → word_end e ≡ end.Met → ⊥
+pub word_not_met : (e : letters.LetterEnd) → word_end e ≡ end.Met → ⊥
 word_not_met letter.Written is = cc
 word_not_met letter.NotWritten is = cc
 word_not_met letter.MaybeWritten is = cc
 
-pub resume_not_met : (e : Option letters.End) → resume_end e ≡ end.Met → ⊥
+pub resume_not_met : (e : Option letters.LetterEnd) → resume_end e ≡ end.Met → ⊥
 resume_not_met None is = cc
 resume_not_met (Some e) is = word_not_met e is
+
+-- ---- faults
+
+-- behind a word that isn't told as undone there was none
+pub unfailed_told : (r : Result WordEnd Trouble) (old new : ℕ) → status_of r ≢ 1 → Unfailed old new r → new ≡ old
+unfailed_told (Ok end.Done) old new other same = same
+unfailed_told (Ok end.NotWritten) old new other same = same
+unfailed_told (Ok end.Met) old new other same = same
+unfailed_told (Err t) old new other same = same other

@@ -10,12 +10,11 @@ use Rattle.express_words.specs.Seen.{Seen}
 use Rattle.node_journal.specs.Disk.{DiskSeen}
 use Rattle.desk_entries.specs.declared.entry.Entry.{Entry}
 use Rattle.desk_entries.specs.declared.entry.Reading.{Reading}
-use Rattle.desk_ledger.specs.Cards.{card_addresses}
 use Rattle.desk_ledger.specs.Ledgers.{LedgerState}
 use Rattle.desk_words.specs.declared.task.DeskTask.{DeskTask}
 use Rattle.desk_words.specs.declared.task.DeskTask.TheVariants as task
-use Rattle.desk_run.specs.declared.ending.End.{End}
-use Rattle.desk_run.specs.declared.ending.End.TheVariants as end
+use Rattle.desk_run.specs.declared.ending.WordEnd.{WordEnd}
+use Rattle.desk_run.specs.declared.ending.WordEnd.TheVariants as end
 use Rattle.desk_run.specs.declared.trouble.Trouble.{Trouble}
 use Rattle.desk_run.specs.declared.trouble.Trouble.TheVariants as trouble
 use Rattle.desk_run.specs.Carried.{HasNothingLeft, Resumes}
@@ -23,7 +22,7 @@ use Rattle.desk_run.specs.Changes.{NotesShown, Renews, TellsCard, TellsNewAnd, W
 use Rattle.desk_run.specs.Ends.{status_by, status_of}
 use Rattle.desk_run.specs.Printing.{Prints, PrintsSome}
 use Rattle.desk_run.specs.Scenes.{Scene}
-use Rattle.desk_run.specs.Shown.{Each, IsCardText, ShowsEach, is_met, new_letters, none}
+use Rattle.desk_run.specs.Shown.{Each, IsCardFor, ShowsEach, is_met, new_letters, none}
 use Rattle.desk_run.specs.Told.{TellsEach, TellsLetters, TellsOne, end_of, told_of}
 use Rattle.desk_run.specs.Words.{Does, DoesAlone, DoesWord, DoneBy, FetchesLetters, ForgetsLetters, OpensBoxes, RetiresBoxes}
 use Rattle.desk_run.specs.Works.{Goes, ReadsLive}
@@ -35,23 +34,23 @@ no_zero (trouble.Name fault) is = cc
 no_zero trouble.InUse is = cc
 no_zero _ is = cc
 
-only_done : (r : Result End Trouble) → status_of r ≡ 0 → r ≡ Ok end.Done
+only_done : (r : Result WordEnd Trouble) → status_of r ≡ 0 → r ≡ Ok end.Done
 only_done (Ok end.Done) is = refl
 only_done (Ok end.NotWritten) is = cc
 only_done (Ok end.Met) is = cc
 only_done (Err t) is = absurd (no_zero t is)
 
 -- the status tells how the word ended
-pub done_by : {D : Type 0} (shows : D → DiskSeen) (counts : D → Seen) (t : DeskTask) (n : ℕ) (r : Result End Trouble) (old new : Scene D)
+pub done_by : {D : Type 0} (shows : D → DiskSeen) (counts : D → Seen) (t : DeskTask) (n : ℕ) (r : Result WordEnd Trouble) (old new : Scene D)
     → (n ≢ 1 → n ≡ status_of r) → IfOk r (λ e. DoesWord shows counts t e old new) → DoneBy shows counts t n old new
 done_by shows counts t n r old new told does = record {
-  done = λ zero. subst (λ (x : Result End Trouble). IfOk x (λ e. DoesWord shows counts t e old new))
+  done = λ zero. subst (λ (x : Result WordEnd Trouble). IfOk x (λ e. DoesWord shows counts t e old new))
       (only_done r (sym (told (λ one. cc)) ∙ zero)) does;
-  met = λ five. subst (λ (x : Result End Trouble). IfOk x (λ e. DoesWord shows counts t e old new))
+  met = λ five. subst (λ (x : Result WordEnd Trouble). IfOk x (λ e. DoesWord shows counts t e old new))
       (only_met r (sym (told (λ one. cc)) ∙ five)) does;
 }
 
-still_done : {D : Type 0} (shows : D → DiskSeen) (counts : D → Seen) (t : DeskTask) (r : Result End Trouble) (old : Scene D)
+still_done : {D : Type 0} (shows : D → DiskSeen) (counts : D → Seen) (t : DeskTask) (r : Result WordEnd Trouble) (old : Scene D)
     (was now : Option (List ℕ)) (calls : Option (List Call)) (files : Option (List (FolderCall D)))
     → IfOk r (λ e. now ≡ was)
     → IfOk r (λ e. DoesWord shows counts t e old (record { written = was; calls = calls; files = files }))
@@ -62,7 +61,7 @@ still_done shows counts t (Ok e) old was now calls files same does =
 still_done shows counts t (Err why) old was now calls files same does = tt
 
 -- nothing more is printed where the word is done
-pub done_told : {D : Type 0} (shows : D → DiskSeen) (counts : D → Seen) (t : DeskTask) (n : ℕ) (r : Result End Trouble) (old : Scene D)
+pub done_told : {D : Type 0} (shows : D → DiskSeen) (counts : D → Seen) (t : DeskTask) (n : ℕ) (r : Result WordEnd Trouble) (old : Scene D)
     (was now : Option (List ℕ)) (calls : Option (List Call)) (files : Option (List (FolderCall D)))
     → (n ≢ 1 → n ≡ status_of r) → IfOk r (λ e. now ≡ was)
     → IfOk r (λ e. DoesWord shows counts t e old (record { written = was; calls = calls; files = files }))
@@ -72,29 +71,29 @@ done_told shows counts t n r old was now calls files told same does =
     (still_done shows counts t r old was now calls files same does)
 
 -- a fact of the output says the same of its text
-pub ok_written : {K : Type 0} (outs : K → Seen) (r : Result End Trouble) (was now : K) → IfOk r (λ e. now ≡ was)
+pub ok_written : {K : Type 0} (outs : K → Seen) (r : Result WordEnd Trouble) (was now : K) → IfOk r (λ e. now ≡ was)
     → IfOk r (λ e. (outs now).written ≡ (outs was).written)
 ok_written outs (Ok e) was now same = ap (λ out. (outs out).written) same
 ok_written outs (Err why) was now same = tt
 
-pub alone : {D : Type 0} (shows : D → DiskSeen) (counts : D → Seen) (t : DeskTask) (r : Result End Trouble) (old new : Scene D)
+pub alone : {D : Type 0} (shows : D → DiskSeen) (counts : D → Seen) (t : DeskTask) (r : Result WordEnd Trouble) (old new : Scene D)
     (held : Option (List (FolderCall D))) → Adds old.files held (Held false)
     → IfOk r (λ e. Does shows counts t e (record old { files = held }) new) → IfOk r (λ e. DoesAlone shows counts t e old new)
 alone shows counts t (Ok e) old new held takes does = record { held = held; takes = takes; does = does }
 alone shows counts t (Err why) old new held takes does = tt
 
-word_does : {D : Type 0} (shows : D → DiskSeen) (counts : D → Seen) (t : DeskTask) (e : End) (old new : Scene D)
+word_does : {D : Type 0} (shows : D → DiskSeen) (counts : D → Seen) (t : DeskTask) (e : WordEnd) (old new : Scene D)
     → (t ≡ task.Help → ⊥) → DoesAlone shows counts t e old new → DoesWord shows counts t e old new
 word_does shows counts task.Help e old new other does = absurd (other refl)
 word_does shows counts _ e old new other does = does
 
-pub word_alone : {D : Type 0} (shows : D → DiskSeen) (counts : D → Seen) (t : DeskTask) (r : Result End Trouble) (old new : Scene D)
+pub word_alone : {D : Type 0} (shows : D → DiskSeen) (counts : D → Seen) (t : DeskTask) (r : Result WordEnd Trouble) (old new : Scene D)
     → (t ≡ task.Help → ⊥) → IfOk r (λ e. DoesAlone shows counts t e old new) → IfOk r (λ e. DoesWord shows counts t e old new)
 word_alone shows counts t (Ok e) old new other does = word_does shows counts t e old new other does
 word_alone shows counts t (Err why) old new other does = tt
 
 -- a task that is known does what is done for it
-pub does_as : {D : Type 0} (shows : D → DiskSeen) (counts : D → Seen) (t known : DeskTask) (r : Result End Trouble) (old new : Scene D)
+pub does_as : {D : Type 0} (shows : D → DiskSeen) (counts : D → Seen) (t known : DeskTask) (r : Result WordEnd Trouble) (old new : Scene D)
     → t ≡ known → IfOk r (λ e. Does shows counts known e old new) → IfOk r (λ e. Does shows counts t e old new)
 does_as shows counts t known r old new is does =
     subst (λ (x : DeskTask). IfOk r (λ e. Does shows counts x e old new)) (sym is) does
@@ -104,12 +103,12 @@ pub says_nothing : {T E : Type 0} (r : Result T E) → IfOk r (λ x. Unit {0})
 says_nothing (Ok x) = tt
 says_nothing (Err e) = tt
 
-help_done : {D : Type 0} (shows : D → DiskSeen) (counts : D → Seen) (r : Result End Trouble) (old new : Scene D)
+help_done : {D : Type 0} (shows : D → DiskSeen) (counts : D → Seen) (r : Result WordEnd Trouble) (old new : Scene D)
     → IfOk r (λ e. DoesWord shows counts task.Help e old new)
 help_done shows counts (Ok e) old new = tt
 help_done shows counts (Err why) old new = tt
 
-pub help_word : {D : Type 0} (shows : D → DiskSeen) (counts : D → Seen) (t : DeskTask) (r : Result End Trouble) (old new : Scene D)
+pub help_word : {D : Type 0} (shows : D → DiskSeen) (counts : D → Seen) (t : DeskTask) (r : Result WordEnd Trouble) (old new : Scene D)
     → t ≡ task.Help → IfOk r (λ e. DoesWord shows counts t e old new)
 help_word shows counts t r old new is =
     subst (λ (x : DeskTask). IfOk r (λ e. DoesWord shows counts x e old new)) (sym is) (help_done shows counts r old new)
@@ -144,7 +143,7 @@ pub end_none : (rs : List Reading) → rs ≡ [] → end.Done ≡ end_of rs
 end_none [] is = refl
 end_none (r ∷ rs) is = absurd (cc is)
 
-pub end_some : (met : Bool) (e : End) (rs : List Reading) → e ≡ (if met then end.Met else end.Done) → met ≡ list_any is_met rs
+pub end_some : (met : Bool) (e : WordEnd) (rs : List Reading) → e ≡ (if met then end.Met else end.Done) → met ≡ list_any is_met rs
     → e ≡ end_of rs
 end_some met e rs is so = is ∙ ap (λ (b : Bool). if b then end.Met else end.Done) so
 
@@ -154,7 +153,7 @@ tells_and line entries old mid new p next =
     (p.0 ++ line, record { letters = p.0; shown = p.1; is = refl }, took_both old mid new p.0 line p.2 next)
 
 pub tells_card : {D : Type 0} (l : LedgerState D) (name : List ℕ) (old mid new : Option (List ℕ))
-    → Prints (IsCardText l.pair (card_addresses l.entries name)) old mid → Took mid new advice → Prints (TellsCard l name) old new
+    → Prints (IsCardFor l name) old mid → Took mid new advice → Prints (TellsCard l name) old new
 tells_card l name old mid new p next =
     (p.0 ++ advice, record { card = p.0; is_card = p.1; is = refl }, took_both old mid new p.0 advice p.2 next)
 
@@ -166,7 +165,7 @@ behind_resumed : {D : Type 0} (shows : D → DiskSeen) (Form : List ℕ → Type
 behind_resumed shows Form old mid new l r p =
     subst (λ (w : Option (List ℕ)). Prints Form w new.written) r.silent p
 
-pub fetches : {D : Type 0} (shows : D → DiskSeen) (out : Option (Bor (List ℕ))) (e : End) (old mid new : Scene D)
+pub fetches : {D : Type 0} (shows : D → DiskSeen) (out : Option (Bor (List ℕ))) (e : WordEnd) (old mid new : Scene D)
     (resumed now : LedgerState D) (calls : Option (List Call)) → Resumes shows old mid resumed
     → ReadsLive resumed now mid.calls calls → new.calls ≡ calls → new.files ≡ mid.files
     → Prints (TellsLetters out now.entries) mid.written new.written → e ≡ end_of (told_of out now.entries)
@@ -199,7 +198,7 @@ opens_boxes shows name count old mid new resumed noted now resumes wants goes le
   told = behind_resumed shows (TellsCard now name) old mid new resumed resumes told;
 }
 
-pub retires : {D : Type 0} (shows : D → DiskSeen) (name : List ℕ) (e : End) (old mid new : Scene D)
+pub retires : {D : Type 0} (shows : D → DiskSeen) (name : List ℕ) (e : WordEnd) (old mid new : Scene D)
     (resumed noted now : LedgerState D) → Resumes shows old mid resumed → WantsRetired name resumed noted
     → Goes noted mid.calls now new.calls → HasNothingLeft now → new.files ≡ mid.files
     → Prints (TellsNewAnd (retired_line name) now.entries) mid.written new.written → e ≡ end_of (new_letters now.entries)
@@ -218,7 +217,7 @@ retires shows name e old mid new resumed noted now resumes wants goes left files
   ends = ends;
 }
 
-pub forgets : {D : Type 0} (shows : D → DiskSeen) (e : End) (old mid new : Scene D) (resumed noted : LedgerState D)
+pub forgets : {D : Type 0} (shows : D → DiskSeen) (e : WordEnd) (old mid new : Scene D) (resumed noted : LedgerState D)
     → Resumes shows old mid resumed → NotesShown resumed noted → Renews shows noted mid.files new.files → new.calls ≡ mid.calls
     → Prints (TellsNewAnd forgotten_line resumed.entries) mid.written new.written → e ≡ end_of (new_letters resumed.entries)
     → ForgetsLetters shows e old new

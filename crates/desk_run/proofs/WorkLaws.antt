@@ -22,7 +22,7 @@ use Rattle.desk_ledger.specs.Tasks.{request_of}
 use Rattle.desk_run.specs.declared.trouble.Trouble.{Trouble}
 use Rattle.desk_run.specs.declared.trouble.Trouble.TheVariants as trouble
 use Rattle.desk_run.specs.Ends.{IsCause}
-use Rattle.desk_run.specs.Works.{Does, Goes, OnSettled, ReadsEach, Settles, StoresAll, StoresOn}
+use Rattle.desk_run.specs.Works.{DoesTask, Goes, OnSettled, ReadsEach, Settles, StoresAll, StoresOn}
 use Rattle.desk_run.specs.Works as works
 
 -- ---- outcomes that are stored
@@ -87,7 +87,7 @@ pub does_asked : {D T : Type 0} (shows : D → DiskSeen) (counts : D → Seen) (
     (before now : Option (List Call)) (x : T) → IsOk (asks.asked old.client.core.client (request_of t))
     → (IsOk (asks.asked old.client.core.client (request_of t))
     → Keeps {T = T} (Asked (request_of t)) (sight shows counts old.client) (sight shows counts asked.client) (Ok x))
-    → asked.entries ≡ old.entries → asked.pair ≡ old.pair → Settles asked new before now → Does t old new before now
+    → asked.entries ≡ old.entries → asked.pair ≡ old.pair → Settles asked new before now → DoesTask t old new before now
 does_asked shows counts t old asked new before now x accepted keeps entries pair settles = record {
   accepted = accepted;
   asked = asked;
@@ -120,7 +120,7 @@ settles_so old worked new r calls now was idle works ended entries pair opening 
 
 pub reads_more : {D : Type 0} (start l new : LedgerState D) (before mid now : Option (List Call)) (live : List ℕ) (i own d : ℕ)
     → i < length live → own ≡ get_or live i d → ReadsEach start before (take i live) l mid
-    → Does (Read own) l new mid now → ReadsEach start before (take (i + 1) live) new now
+    → DoesTask (Read own) l new mid now → ReadsEach start before (take (i + 1) live) new now
 reads_more start l new before mid now live i own d within at reads does =
     let more : take (i + 1) live ≡ take i live ++ own ∷ [] =
     take_more live i d within ∙ ap (λ (x : ℕ). take i live ++ x ∷ []) (sym at) in

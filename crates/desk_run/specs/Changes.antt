@@ -1,5 +1,6 @@
 -- How the words of an owner change the ledger.
-use Rattle.std.specs.Prelude.{◌≡◌, ◌⊎◌, ◌≤◌, ℕ, List, [], ◌∷◌, ◌++◌, Option, Some, None, length, is_some, true, false, codes}
+use Rattle.std.specs.Prelude.{◌≡◌, ◌⊎◌, ◌≤◌, ℕ, List, [], ◌++◌, Option, Some, None, length, is_some}
+use Rattle.std.specs.Prelude.{true, false, codes}
 use Rattle.std.specs.List.{filter}
 use Rattle.node_journal.specs.Disk.{DiskSeen}
 use Rattle.desk_entries.specs.declared.entry.Entry.{Entry}
@@ -7,14 +8,13 @@ use Rattle.desk_entries.specs.declared.entry.Entry.TheVariants as entry
 use Rattle.desk_entries.specs.Desks.{is_retiring, named}
 use Rattle.desk_entries.specs.Forgetting.{kept}
 use Rattle.desk_entries.specs.Letters.{letters_of, shown_of}
-use Rattle.desk_ledger.specs.Cards.{card_addresses}
 use Rattle.desk_ledger.specs.Forgetting.{next_opening}
-use Rattle.desk_ledger.specs.Ledgers.{EntriesOnly, LedgerState}
-use Rattle.desk_ledger.specs.Tasks.{is_live, name_fault}
+use Rattle.desk_ledger.specs.Ledgers.{AddsEntry, EntriesOnly, LedgerState}
+use Rattle.desk_ledger.specs.Tasks.{fault_at, is_live}
 use Rattle.desk_outside.specs.Calls.{Adds, FolderCall, Opened, Placed, Removed}
 use Rattle.desk_outside.specs.declared.folder.DeskFile.{DeskFile}
 use Rattle.desk_outside.specs.declared.folder.DeskFile.TheVariants.{Ledger, NextLedger}
-use Rattle.desk_run.specs.Shown.{IsCardText, ShowsEach, new_letters}
+use Rattle.desk_run.specs.Shown.{IsCardFor, ShowsEach, new_letters}
 
 -- ---- names
 
@@ -22,8 +22,8 @@ use Rattle.desk_run.specs.Shown.{IsCardText, ShowsEach, new_letters}
 pub record Names {D : Type 0} (name : List ℕ) (count : ℕ) (old new : LedgerState D) : Type 0 where
   pub addresses : List ℕ
   pub many : length addresses ≡ count
-  pub free : name_fault old.client.opening.capacity old.client.core.boxes old.entries name addresses ≡ None
-  pub noted : new.entries ≡ old.entries ++ entry.Named (record { name = name; addresses = addresses }) ∷ []
+  pub free : fault_at old name addresses ≡ None
+  pub noted : AddsEntry (entry.Named (record { name = name; addresses = addresses })) old new
   pub only : EntriesOnly old new
 
 -- The name is used already, and nothing changes.
@@ -37,7 +37,7 @@ WantsBoxes name count old new = IsUsed name old new ⊎ Names name count old new
 -- The boxes of the name are to be retired now, where they weren't before.
 pub record WantsRetired {D : Type 0} (name : List ℕ) (old new : LedgerState D) : Type 0 where
   pub retiring : is_retiring new.entries name ≡ true
-  pub noted : (new.entries ≡ old.entries) ⊎ (new.entries ≡ old.entries ++ entry.Retiring name ∷ [])
+  pub noted : (new.entries ≡ old.entries) ⊎ AddsEntry (entry.Retiring name) old new
   pub only : EntriesOnly old new
 
 -- ---- letters
@@ -46,13 +46,13 @@ pub record WantsRetired {D : Type 0} (name : List ℕ) (old new : LedgerState D)
 pub record NotesShown {D : Type 0} (old new : LedgerState D) : Type 0 where
   pub shown : length (letters_of old.entries) ≤ shown_of new.entries
   pub noted : (new.entries ≡ old.entries)
-      ⊎ (new.entries ≡ old.entries ++ entry.Shown (length (letters_of old.entries)) ∷ [])
+      ⊎ AddsEntry (entry.Shown (length (letters_of old.entries))) old new
   pub only : EntriesOnly old new
 
 -- ---- a ledger in the place of another
 
 -- lane, seed, next serial, pair, live boxes and names are those of the old one, and nothing is under way
-pub record Follows {D E : Type 0} (old : LedgerState D) (next : LedgerState E) : Type 0 where
+pub record FollowsLedger {D E : Type 0} (old : LedgerState D) (next : LedgerState E) : Type 0 where
   pub opening : next.client.opening ≡ next_opening old.client
   pub serial : next.client.core.client.serial ≡ old.client.core.client.serial
   pub boxes : next.client.core.boxes ≡ filter (is_live old.entries) old.client.core.boxes
@@ -75,7 +75,7 @@ pub record Renews {D : Type 0} (shows : D → DiskSeen) (ledger : LedgerState D)
   pub made : MakesFile NextLedger disk old mid
   pub empty : (c : List ℕ) → (shows disk).reads c → c ≡ []
   pub next : LedgerState D
-  pub follows : Follows ledger next
+  pub follows : FollowsLedger ledger next
   pub placed : Adds mid new (Placed NextLedger Ledger false)
 
 -- ---- what is printed
@@ -86,7 +86,7 @@ advice = codes "\nThis is the card of these boxes: hand out its lines as they st
 -- the card of the name's live boxes, and what it is for
 pub record TellsCard {D : Type 0} (l : LedgerState D) (name text : List ℕ) : Type 0 where
   pub card : List ℕ
-  pub is_card : IsCardText l.pair (card_addresses l.entries name) card
+  pub is_card : IsCardFor l name card
   pub is : text ≡ card ++ advice
 
 unfoldable pub retired_line : List ℕ → List ℕ

@@ -1,8 +1,8 @@
 -- How a word ends, and what that says of the faults around it.
 use Rattle.std.specs.Prelude.{◌≡◌, ◌≢◌, ◌⊎◌, ℕ, Result, Ok, Err}
 use Rattle.express_words.specs.declared.refusal.Refusal.{Refusal}
-use Rattle.desk_run.specs.declared.ending.End.{End}
-use Rattle.desk_run.specs.declared.ending.End.TheVariants.{Done, NotWritten, Met}
+use Rattle.desk_run.specs.declared.ending.WordEnd.{WordEnd}
+use Rattle.desk_run.specs.declared.ending.WordEnd.TheVariants.{Done, NotWritten, Met}
 use Rattle.desk_run.specs.declared.trouble.Trouble.{Trouble}
 use Rattle.desk_run.specs.declared.trouble.Trouble.TheVariants as trouble
 
@@ -16,7 +16,7 @@ status_by (trouble.NoLetter fault) = 3
 status_by trouble.InUse = 4
 status_by _ = 1
 
-abbrev pub status_of : Result End Trouble → ℕ
+abbrev pub status_of : Result WordEnd Trouble → ℕ
 status_of (Ok Done) = 0
 status_of (Ok NotWritten) = 1
 status_of (Ok Met) = 5

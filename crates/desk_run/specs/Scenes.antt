@@ -18,3 +18,9 @@ scene outs nets files around = record {
   calls = (nets around.net).calls;
   files = files around.folder;
 }
+
+-- R, of how a word ended and of what was seen before it and behind it
+abbrev pub Between : {D S K N F P C E : Type 0} → (K → Seen) → (N → Seen)
+    → (F → Option (List (FolderCall D))) → (old new : Around S K N F P C)
+    → (E → Scene D → Scene D → Type 0) → E → Type 0
+Between outs nets files old new R end = R end (scene outs nets files old) (scene outs nets files new)

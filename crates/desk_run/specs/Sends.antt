@@ -11,8 +11,8 @@ use Rattle.desk_outbox.specs.Outboxes.{OutboxState}
 use Rattle.desk_outbox.specs.Works.{Works}
 use Rattle.desk_tries.specs.declared.sending.Next.{Next}
 
--- One request of a client that remembers after another, each at the servers of a pair or, for a try of a letter, of
--- its card.
+-- One request of a client that remembers after another, each at the servers of a pair or, for a try of a
+-- letter, of its card.
 pub data Sends {D : Type 0} (shows : D → DiskSeen) (counts : D → Seen) (before : Option (List Call))
     : Option (List Call) → Type 0 where
   nothing : Sends shows counts before before

@@ -1,7 +1,8 @@
 -- What is printed of what boxes held.
-use Rattle.std.specs.Prelude.{◌≡◌, ℕ, Bool, true, false, List, [], ◌∷◌, ◌++◌, drop, length, codes}
+use Rattle.std.specs.Prelude.{◌≡◌, ℕ, Bool, true, false, List, [], ◌∷◌, ◌++◌, drop, length, map, codes}
 use Rattle.std.specs.Fmt.{decimal}
 use Rattle.std.specs.Str.{IsUtf8}
+use denote.Bor.{Bor}
 use Rattle.desk_entries.specs.declared.entry.Entry.{Entry}
 use Rattle.desk_entries.specs.declared.entry.Held.{Held}
 use Rattle.desk_entries.specs.declared.entry.Held.TheVariants as held
@@ -9,7 +10,8 @@ use Rattle.desk_entries.specs.declared.entry.Reading.{Reading}
 use Rattle.desk_entries.specs.Desks.{name_of}
 use Rattle.desk_entries.specs.Letters.{letters_of, shown_of}
 use Rattle.desk_ledger.specs.declared.pair.Pair.{Pair}
-use Rattle.desk_ledger.specs.Cards.{IsCardOf}
+use Rattle.desk_ledger.specs.Cards.{IsCardOf, card_addresses}
+use Rattle.desk_ledger.specs.Ledgers.{LedgerState}
 use Rattle.desk_letters.specs.Screen.{shown_text}
 use Rattle.desk_texts.specs.declared.sheet.Sheet.{Sheet}
 use Rattle.desk_texts.specs.Printing.{printed}
@@ -73,6 +75,10 @@ pub data Each (One : Reading → List ℕ → Type 0) : List Reading → List �
 abbrev pub ShowsEach : List Entry → List Reading → List ℕ → Type 0
 ShowsEach entries = Each (ShowsReading entries)
 
+-- what was read, of readings that are lent
+abbrev pub lent : List (Bor Reading) → List Reading
+lent readings = map (λ r. r.now) readings
+
 -- the letters that weren't shown
 abbrev pub new_letters : List Entry → List Reading
 new_letters entries = drop (shown_of entries) (letters_of entries)
@@ -84,3 +90,7 @@ pub record IsCardText (pair : Pair) (addresses text : List ℕ) : Type 0 where
   pub card : Sheet
   pub is_of : IsCardOf pair addresses card
   pub is : text ≡ printed card
+
+-- that of a ledger's name, with its live boxes
+abbrev pub IsCardFor : {D : Type 0} → LedgerState D → (name text : List ℕ) → Type 0
+IsCardFor l name = IsCardText l.pair (card_addresses l.entries name)

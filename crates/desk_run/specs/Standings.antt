@@ -1,5 +1,6 @@
 -- What is told of how a desk stands.
-use Rattle.std.specs.Prelude.{◌≡◌, ◌≤◌, ◌^◌, ℕ, ◌*◌, ◌/◌, ◌-◌, ◌&&◌, min, Bool, true, false, List, [], ◌++◌, Option, Some, length, is_none, codes}
+use Rattle.std.specs.Prelude.{◌≡◌, ◌≤◌, ◌^◌, ℕ, ◌*◌, ◌/◌, ◌-◌, ◌&&◌, min, Bool, true, false, List, [], ◌++◌}
+use Rattle.std.specs.Prelude.{Option, Some, length, is_none, codes}
 use Rattle.std.specs.Fmt.{decimal}
 use Rattle.std.specs.List.{filter, flat_map}
 use Rattle.desk_entries.specs.declared.entry.Entry.{Entry}

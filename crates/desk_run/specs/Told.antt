@@ -9,8 +9,8 @@ use Rattle.desk_entries.specs.declared.entry.Held.TheVariants as held
 use Rattle.desk_entries.specs.declared.entry.Reading.{Reading}
 use Rattle.desk_entries.specs.Desks.{name_of}
 use Rattle.desk_entries.specs.Letters.{letters_of}
-use Rattle.desk_run.specs.declared.ending.End.{End}
-use Rattle.desk_run.specs.declared.ending.End.TheVariants.{Done, Met}
+use Rattle.desk_run.specs.declared.ending.WordEnd.{WordEnd}
+use Rattle.desk_run.specs.declared.ending.WordEnd.TheVariants.{Done, Met}
 use Rattle.desk_run.specs.Printing.{met_line}
 use Rattle.desk_run.specs.Shown.{Each, ShowsReading, is_met, new_letters}
 
@@ -35,8 +35,20 @@ TellsFile folder name serial held.Met text = text ≡ met_line name
 TellsFile folder name serial (held.Letter id bytes) text =
     (moment : List ℕ) × (text ≡ file_line folder name moment (file_name name serial))
 
+-- the same of what was read in a box of this name
+abbrev pub TellsRead : List ℕ → List ℕ → Reading → List ℕ → Type 0
+TellsRead folder name r = TellsFile folder name r.serial r.held
+
 abbrev pub TellsReading : List ℕ → List Entry → Reading → List ℕ → Type 0
 TellsReading folder entries r text = TellsFile folder (name_of entries r.registered) r.serial r.held text
+
+-- These are told one behind another, each under the name of its box.
+abbrev pub TellsFiles : List ℕ → List Entry → List Reading → List ℕ → Type 0
+TellsFiles folder entries = Each (TellsReading folder entries)
+
+-- all that the entries have
+abbrev pub TellsAll : List ℕ → List Entry → List ℕ → Type 0
+TellsAll folder entries = TellsFiles folder entries (letters_of entries)
 
 -- ---- letters, as a word is to tell them
 
@@ -59,5 +71,5 @@ TellsLetters out entries text = ((told_of out entries ≡ []) × (text ≡ codes
     ⊎ ((told_of out entries ≢ []) × TellsEach out entries text)
 
 -- the word is done, and where letters met it says so
-abbrev pub end_of : List Reading → End
+abbrev pub end_of : List Reading → WordEnd
 end_of readings = if list_any is_met readings then Met else Done

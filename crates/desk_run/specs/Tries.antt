@@ -7,7 +7,7 @@ use Rattle.rand_core.specs.Stream.{Stream}
 use Rattle.desk_texts.specs.declared.sheet.CardHead.{CardHead}
 use Rattle.desk_texts.specs.declared.sheet.Head.TheVariants.{Card}
 use Rattle.desk_texts.specs.declared.sheet.Sheet.{Sheet}
-use Rattle.desk_tries.specs.declared.sending.End.{End}
+use Rattle.desk_tries.specs.declared.sending.LetterEnd.{LetterEnd}
 use Rattle.desk_tries.specs.declared.sending.Next.{Next}
 use Rattle.desk_tries.specs.declared.sending.Next.TheVariants.{NewTry, NextAddress, Stop}
 use Rattle.desk_letters.specs.Letters.{Spells}
@@ -24,7 +24,7 @@ pub record Carries {D : Type 0} (card : Sheet) (text : List ℕ) (o : OutboxStat
   pub spells : Spells id text (message_in o.kept.core.client.current)
 
 -- or it is begun, at an address of the card that is drawn
-pub record IsFirst {D : Type 0} (shows : D → DiskSeen) (card : Sheet) (text : List ℕ) (o : OutboxState D)
+pub record IsFirstTry {D : Type 0} (shows : D → DiskSeen) (card : Sheet) (text : List ℕ) (o : OutboxState D)
     : Type 0 where
   pub head : CardHead
   pub is_card : card.head ≡ Card head
@@ -32,7 +32,7 @@ pub record IsFirst {D : Type 0} (shows : D → DiskSeen) (card : Sheet) (text : 
   pub starts : Starts shows card head text draws o
 
 abbrev pub IsOfLetter : {D : Type 0} → (D → DiskSeen) → Sheet → List ℕ → OutboxState D → Type 0
-IsOfLetter shows card text o = Carries card text o ⊎ IsFirst shows card text o
+IsOfLetter shows card text o = Carries card text o ⊎ IsFirstTry shows card text o
 
 -- ---- its tries
 
@@ -53,8 +53,8 @@ pub data Tries {D : Type 0} (shows : D → DiskSeen) (counts : D → Seen) (star
       → Tries shows counts start before new now
 
 -- the last of them has come to this end
-pub record ComesTo {D : Type 0} (shows : D → DiskSeen) (counts : D → Seen) (start : OutboxState D) (e : End)
-    (before now : Option (List Call)) : Type 0 where
+pub record ComesToEnd {D : Type 0} (shows : D → DiskSeen) (counts : D → Seen) (start : OutboxState D)
+    (e : LetterEnd) (before now : Option (List Call)) : Type 0 where
   pub last : OutboxState D
   pub worked : OutboxState D
   pub mid : Option (List Call)

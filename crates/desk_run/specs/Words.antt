@@ -6,29 +6,29 @@ use Rattle.express_words.specs.Seen.{Seen}
 use Rattle.express_words.specs.Streams.{Took}
 use Rattle.node_journal.specs.Disk.{DiskSeen}
 use Rattle.clap.specs.Words.{Text}
-use Rattle.desk_ledger.specs.Cards.{card_addresses}
 use Rattle.desk_ledger.specs.Ledgers.{LedgerState}
 use Rattle.desk_outbox.specs.Outboxes.{IsCardSheet, OutboxState}
 use Rattle.desk_outside.specs.Calls.{Adds, FolderCall, Held, Removed}
 use Rattle.desk_outside.specs.declared.folder.DeskFile.TheVariants.{Outbox}
 use Rattle.desk_texts.specs.declared.sheet.Sheet.{Sheet}
-use Rattle.desk_tries.specs.declared.sending.End as letters
-use Rattle.desk_words.specs.CommandLine.{IsAsked}
+use Rattle.desk_tries.specs.declared.sending.LetterEnd as letters
+use Rattle.desk_words.specs.CommandLine.{AskSome, IsAsked}
 use Rattle.desk_words.specs.declared.task.DeskTask.{DeskTask}
 use Rattle.desk_words.specs.declared.task.DeskTask.TheVariants as task
-use Rattle.desk_run.specs.declared.ending.End.{End}
-use Rattle.desk_run.specs.declared.ending.End.TheVariants as ending
+use Rattle.desk_run.specs.declared.ending.WordEnd.{WordEnd}
+use Rattle.desk_run.specs.declared.ending.WordEnd.TheVariants as ending
 use Rattle.desk_run.specs.Carried.{HasNothingLeft, Resumes}
-use Rattle.desk_run.specs.Changes.{NotesShown, Renews, TellsCard, TellsNewAnd, WantsBoxes, WantsRetired, forgotten_line, retired_line}
+use Rattle.desk_run.specs.Changes.{NotesShown, Renews, TellsCard, TellsNewAnd, WantsBoxes, WantsRetired}
+use Rattle.desk_run.specs.Changes.{forgotten_line, retired_line}
 use Rattle.desk_run.specs.Opens.{Finds, Opens}
 use Rattle.desk_run.specs.LetterEnds.{end_text, word_end}
 use Rattle.desk_run.specs.Printing.{Prints, PrintsSome}
 use Rattle.desk_run.specs.Scenes.{Scene}
 use Rattle.desk_run.specs.Sends.{SendsOn}
-use Rattle.desk_run.specs.Shown.{IsCardText, new_letters}
+use Rattle.desk_run.specs.Shown.{IsCardFor, new_letters}
 use Rattle.desk_run.specs.Standings.{SaysOutbox, TellsDesk, no_desk}
 use Rattle.desk_run.specs.Told.{TellsLetters, end_of, told_of}
-use Rattle.desk_run.specs.Tries.{ComesTo, IsOfLetter}
+use Rattle.desk_run.specs.Tries.{ComesToEnd, IsOfLetter}
 use Rattle.desk_run.specs.Works.{Goes, ReadsLive}
 
 -- ---- card
@@ -38,7 +38,7 @@ pub record ShowsCard {D : Type 0} (shows : D → DiskSeen) (name : List ℕ)
     (old_files new_files : Option (List (FolderCall D))) (old new : Option (List ℕ)) : Type 0 where
   pub ledger : LedgerState D
   pub opens : Opens shows old_files new_files ledger
-  pub card : Prints (IsCardText ledger.pair (card_addresses ledger.entries name)) old new
+  pub card : Prints (IsCardFor ledger name) old new
 
 -- ---- status
 
@@ -61,7 +61,7 @@ pub record ShowsStatus {D : Type 0} (shows : D → DiskSeen)
 
 -- The desk is resumed, each live box is read, and what the ledger then has is told: without a folder its new
 -- letters, with one all.
-pub record FetchesLetters {D : Type 0} (shows : D → DiskSeen) (out : Option (Bor (List ℕ))) (end : End)
+pub record FetchesLetters {D : Type 0} (shows : D → DiskSeen) (out : Option (Bor (List ℕ))) (end : WordEnd)
     (old new : Scene D) : Type 0 where
   pub resumed : LedgerState D
   pub mid : Scene D
@@ -76,7 +76,7 @@ pub record FetchesLetters {D : Type 0} (shows : D → DiskSeen) (out : Option (B
 
 -- After what was sent for another letter that was on its way, one try after another of this letter is worked
 -- off; what became of it is printed last, and then it is removed.
-pub record LeavesLetter {D : Type 0} (shows : D → DiskSeen) (counts : D → Seen) (end : End)
+pub record LeavesLetter {D : Type 0} (shows : D → DiskSeen) (counts : D → Seen) (end : WordEnd)
     (old new : Scene D) : Type 0 where
   pub card : Sheet
   pub is_card : IsCardSheet card
@@ -85,8 +85,8 @@ pub record LeavesLetter {D : Type 0} (shows : D → DiskSeen) (counts : D → Se
   pub letter : IsOfLetter shows card text outbox
   pub before : Option (List Call)
   pub sends : SendsOn shows counts old.calls before
-  pub letter_end : letters.End
-  pub comes : ComesTo shows counts outbox letter_end before new.calls
+  pub letter_end : letters.LetterEnd
+  pub comes : ComesToEnd shows counts outbox letter_end before new.calls
   pub mid : Option (List ℕ)
   pub printed : PrintsSome old.written mid
   pub told : Took mid new.written (end_text letter_end)
@@ -96,8 +96,8 @@ pub record LeavesLetter {D : Type 0} (shows : D → DiskSeen) (counts : D → Se
 
 -- ---- box
 
--- The desk is resumed, so many new addresses are noted under the name where it isn't used yet, and all that is
--- left to be done then is done; the card that is printed is of the addresses that have boxes now.
+-- The desk is resumed, so many new addresses are noted under the name where it isn't used yet, and all that
+-- is left to be done then is done; the card that is printed is of the addresses that have boxes now.
 pub record OpensBoxes {D : Type 0} (shows : D → DiskSeen) (name : List ℕ) (count : ℕ) (old new : Scene D)
     : Type 0 where
   pub resumed : LedgerState D
@@ -115,8 +115,8 @@ pub record OpensBoxes {D : Type 0} (shows : D → DiskSeen) (name : List ℕ) (c
 
 -- The desk is resumed, the name is noted as one to be retired, and all that is left to be done then is done:
 -- each of its boxes is read for the last time. The new letters are told.
-pub record RetiresBoxes {D : Type 0} (shows : D → DiskSeen) (name : List ℕ) (end : End) (old new : Scene D)
-    : Type 0 where
+pub record RetiresBoxes {D : Type 0} (shows : D → DiskSeen) (name : List ℕ) (end : WordEnd)
+    (old new : Scene D) : Type 0 where
   pub resumed : LedgerState D
   pub mid : Scene D
   pub resumes : Resumes shows old mid resumed
@@ -133,7 +133,8 @@ pub record RetiresBoxes {D : Type 0} (shows : D → DiskSeen) (name : List ℕ) 
 
 -- The desk is resumed, its new letters are told and noted as shown, and a ledger that follows is put in the
 -- place of this one.
-pub record ForgetsLetters {D : Type 0} (shows : D → DiskSeen) (end : End) (old new : Scene D) : Type 0 where
+pub record ForgetsLetters {D : Type 0} (shows : D → DiskSeen) (end : WordEnd) (old new : Scene D)
+    : Type 0 where
   pub resumed : LedgerState D
   pub mid : Scene D
   pub resumes : Resumes shows old mid resumed
@@ -146,7 +147,8 @@ pub record ForgetsLetters {D : Type 0} (shows : D → DiskSeen) (end : End) (old
 
 -- ---- any word
 
-abbrev pub Does : {D : Type 0} → (D → DiskSeen) → (D → Seen) → DeskTask → End → (old new : Scene D) → Type 0
+abbrev pub Does : {D : Type 0} → (D → DiskSeen) → (D → Seen) → DeskTask → WordEnd → (old new : Scene D)
+    → Type 0
 Does shows counts (task.Card name) end old new =
     ShowsCard shows name.now old.files new.files old.written new.written
 Does shows counts task.Status end old new = ShowsStatus shows old.files new.files old.written new.written
@@ -158,14 +160,14 @@ Does shows counts task.Forget end old new = ForgetsLetters shows end old new
 Does shows counts other end old new = Unit {0}
 
 -- The folder is taken for this process alone, and then the word does what it is to do.
-pub record DoesAlone {D : Type 0} (shows : D → DiskSeen) (counts : D → Seen) (t : DeskTask) (end : End)
+pub record DoesAlone {D : Type 0} (shows : D → DiskSeen) (counts : D → Seen) (t : DeskTask) (end : WordEnd)
     (old new : Scene D) : Type 0 where
   pub held : Option (List (FolderCall D))
   pub takes : Adds old.files held (Held false)
   pub does : Does shows counts t end (record old { files = held }) new
 
 -- the same of each word but the help, which needs no folder
-abbrev pub DoesWord : {D : Type 0} → (D → DiskSeen) → (D → Seen) → DeskTask → End → (old new : Scene D)
+abbrev pub DoesWord : {D : Type 0} → (D → DiskSeen) → (D → Seen) → DeskTask → WordEnd → (old new : Scene D)
     → Type 0
 DoesWord shows counts task.Help end old new = Unit {0}
 DoesWord shows counts other end old new = DoesAlone shows counts other end old new
@@ -182,3 +184,9 @@ pub record DoneAsAsked {D : Type 0} (shows : D → DiskSeen) (counts : D → See
   pub task : DeskTask
   pub asked : IsAsked words (Some task)
   pub done : DoneBy shows counts task status old new
+
+-- where one is asked for
+abbrev pub DoneIfAsked : {D : Type 0} → (D → DiskSeen) → (D → Seen) → List Text → (status : ℕ)
+    → (old new : Scene D) → Type 0
+DoneIfAsked shows counts words status old new =
+    AskSome words → DoneAsAsked shows counts words status old new

@@ -1,7 +1,7 @@
 -- What a desk's requests do to its ledger, and on the net.
-use Rattle.std.specs.Prelude.{◌≡◌, ◌≢◌, ◌≤◌, ◌^◌, ℕ, List, [], ◌∷◌, ◌++◌, Option, Some, None, Result, Ok, Err, IsOk, length}
+use Rattle.std.specs.Prelude.{◌≡◌, ◌≢◌, ◌≤◌, ◌^◌, ℕ, List, [], ◌∷◌, ◌++◌, Option, Some, None}
+use Rattle.std.specs.Prelude.{Result, Ok, Err, length}
 use Rattle.express_words.specs.Calls.{Call}
-use Rattle.step_rules.specs.ClientAsks as asks
 use Rattle.client_restart.specs.Notes.{Asked}
 use Rattle.client_restart.specs.Steps.{EndedRequest, step_of}
 use Rattle.kept_errands.specs.Works.{IsEnded}
@@ -10,8 +10,8 @@ use Rattle.desk_ledger.specs.declared.task.Task.{Task}
 use Rattle.desk_ledger.specs.declared.task.Task.TheVariants.{Read}
 use Rattle.desk_ledger.specs.Ledgers.{LedgerState}
 use Rattle.desk_ledger.specs.Storing.{Stores}
-use Rattle.desk_ledger.specs.Tasks.{is_live, places_of, request_of}
-use Rattle.desk_ledger.specs.Works.{WorksAt}
+use Rattle.desk_ledger.specs.Tasks.{TakesTask, live_places, request_of}
+use Rattle.desk_ledger.specs.Works.{WorksIfBusy}
 use Rattle.desk_run.specs.declared.trouble.Trouble.{Trouble}
 use Rattle.desk_run.specs.declared.trouble.Trouble.TheVariants.{Refused}
 
@@ -34,8 +34,7 @@ pub record StoresAll {D : Type 0} (old new : LedgerState D) : Type 0 where
 pub record Settles {D : Type 0} (old new : LedgerState D) (before now : Option (List Call)) : Type 0 where
   pub worked : LedgerState D
   pub idle : old.client.core.client.current ≡ None → (worked ≡ old) × (now ≡ before)
-  pub works : old.client.core.client.current ≢ None
-      → WorksAt old.pair old.client.core worked.client.core (Ok tt) before now
+  pub works : WorksIfBusy old worked (Ok tt) before now
   pub ended : old.client.core.client.current ≢ None → IsEnded old.client.core worked.client.core
   pub entries : worked.entries ≡ old.entries
   pub pair : worked.pair ≡ old.pair
@@ -43,8 +42,9 @@ pub record Settles {D : Type 0} (old new : LedgerState D) (before now : Option (
   pub stores : StoresAll worked new
 
 -- The servers are asked for one thing, and it is settled.
-pub record Does {D : Type 0} (t : Task) (old new : LedgerState D) (before now : Option (List Call)) : Type 0 where
-  pub accepted : IsOk (asks.asked old.client.core.client (request_of t))
+pub record DoesTask {D : Type 0} (t : Task) (old new : LedgerState D) (before now : Option (List Call))
+    : Type 0 where
+  pub accepted : TakesTask old t
   pub asked : LedgerState D
   pub taken : asked.client.core ≡ step_of old.client.core (Asked (request_of t))
   pub entries : asked.entries ≡ old.entries
@@ -67,19 +67,18 @@ pub data Goes {D : Type 0} (start : LedgerState D) (before : Option (List Call))
   settled : (l new : LedgerState D) (mid now : Option (List Call)) → Goes start before l mid
       → Settles l new mid now → Goes start before new now
   done : (t : Task) (l new : LedgerState D) (mid now : Option (List Call)) → Goes start before l mid
-      → Does t l new mid now → Goes start before new now
+      → DoesTask t l new mid now → Goes start before new now
 
 -- the own boxes at these places are read, one after another
 pub data ReadsEach {D : Type 0} (start : LedgerState D) (before : Option (List Call))
     : List ℕ → LedgerState D → Option (List Call) → Type 0 where
   unread : ReadsEach start before [] start before
   read : (places : List ℕ) (own : ℕ) (l new : LedgerState D) (mid now : Option (List Call))
-      → ReadsEach start before places l mid → Does (Read own) l new mid now
+      → ReadsEach start before places l mid → DoesTask (Read own) l new mid now
       → ReadsEach start before (places ++ own ∷ []) new now
 
 -- each live box is read once; a client has fewer than 2^32
 pub record ReadsLive {D : Type 0} (old new : LedgerState D) (before now : Option (List Call)) : Type 0 where
   pub live : List ℕ
-  pub all : length old.client.core.boxes ≤ 2 ^ 32
-      → live ≡ places_of (is_live old.entries) 0 old.client.core.boxes
+  pub all : length old.client.core.boxes ≤ 2 ^ 32 → live ≡ live_places old
   pub each : ReadsEach old before live new now

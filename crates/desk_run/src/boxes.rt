@@ -10,7 +10,7 @@ ghost use Rattle.desk_run.specs.Words.{OpensBoxes};
 use crate::around::Around;
 use crate::cards::show_card;
 use crate::carrying::carry_on;
-use crate::ending::End;
+use crate::ending::WordEnd;
 use crate::resuming::desk_resumed;
 use crate::saying::say;
 use crate::trouble::Trouble;
@@ -90,11 +90,11 @@ pub(crate) fn open_boxes<'a, S: Source, K: Sink, N: Net, F: Folder, P: Papers, C
     count: u32,
     draws: &mut Draws,
     around: &mut Around<S, K, N, F, P, C>,
-) -> Result<End, Trouble<'a>>
+) -> Result<WordEnd, Trouble<'a>>
     ensures done { OnOk result (OpensBoxes F.File.disk name.entry.now count
         (scene K.seen N.seen F.calls around.old) (scene K.seen N.seen F.calls around.new)) }
     ensures trouble { IfErr result IsOfName }
-    ensures not_met { result ≢ Ok End.Met }
+    ensures not_met { result ≢ Ok WordEnd.Met }
     ensures sink { Unfailed (K.seen around.old.out).faults (K.seen around.new.out).faults result }
     ensures net { Unfailed (N.seen around.old.net).faults (N.seen around.new.net).faults result }
     ensures sends { SendsOn F.File.disk F.File.Counted.seen
@@ -107,5 +107,5 @@ pub(crate) fn open_boxes<'a, S: Source, K: Sink, N: Net, F: Folder, P: Papers, C
         return Err(no_card(used));
     }
     tell_card(alloc, &ledger, name, &mut around.out)?;
-    Ok(End::Done)
+    Ok(WordEnd::Done)
 }

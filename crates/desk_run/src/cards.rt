@@ -4,11 +4,11 @@ ghost use Rattle.desk_texts.specs.Printing.{printed};
 ghost use Rattle.express_words.specs.Streams.{Took};
 ghost use Rattle.desk_ledger.specs.Cards.{card_addresses};
 ghost use Rattle.desk_run.specs.Printing.{Prints};
-ghost use Rattle.desk_run.specs.Shown.{IsCardText};
+ghost use Rattle.desk_run.specs.Shown.{IsCardFor};
 ghost use Rattle.desk_run.specs.Ends.{IsUndone, Unfailed};
 ghost use Rattle.desk_run.specs.Words.{ShowsCard};
 
-use crate::ending::End;
+use crate::ending::WordEnd;
 use crate::ledgers::desk_in;
 use crate::saying::say_bytes;
 use crate::trouble::Trouble;
@@ -39,8 +39,7 @@ pub(crate) fn show_card<'a, D: Disk, K: Sink>(
     name: &'a str,
     out: &mut K,
 ) -> Result<(), Trouble<'a>>
-    ensures card { OnOk result (Prints
-        (IsCardText ledger.now.pair (card_addresses ledger.now.entries name.entry.now))
+    ensures card { OnOk result (Prints (IsCardFor ledger.now name.entry.now)
         (K.seen out.old).written (K.seen out.new).written) }
     ensures none { result ≡ Err (Trouble.NoName name.entry)
         → card_addresses ledger.now.entries name.entry.now ≡ [] }
@@ -60,14 +59,14 @@ pub(crate) fn card<'a, F: Folder, K: Sink>(
     name: &'a str,
     folder: &mut F,
     out: &mut K,
-) -> Result<End, Trouble<'a>>
+) -> Result<WordEnd, Trouble<'a>>
     ensures done { OnOk result (ShowsCard F.File.disk name.entry.now (F.calls folder.old) (F.calls folder.new)
         (K.seen out.old).written (K.seen out.new).written) }
     ensures undone { IfErr result IsUndone }
-    ensures not_met { result ≢ Ok End.Met }
+    ensures not_met { result ≢ Ok WordEnd.Met }
     ensures sink { Unfailed (K.seen out.old).faults (K.seen out.new).faults result }
 {
     let ledger = desk_in(alloc, folder)?;
     show_card(alloc, &ledger, name, out)?;
-    Ok(End::Done)
+    Ok(WordEnd::Done)
 }

@@ -3,7 +3,7 @@ ghost use Rattle.std.specs.Prelude.{◌≡◌, Err, IfErr, OnOk};
 ghost use Rattle.desk_run.specs.Carried.{HasNothingLeft};
 ghost use Rattle.desk_run.specs.Ends.{IsCause, IsUndone, Unfailed};
 ghost use Rattle.desk_run.specs.Sends.{SendsOn};
-ghost use Rattle.desk_run.specs.Works.{Does, Goes, OnSettled, Settles, StoresAll};
+ghost use Rattle.desk_run.specs.Works.{DoesTask, Goes, OnSettled, Settles, StoresAll};
 
 use crate::ledgers::is_full;
 use crate::trouble::{Trouble, halted};
@@ -96,7 +96,7 @@ pub(crate) fn do_task<'a, D: Disk, N: Net, C: Clock>(
     ensures refused { (r : Refusal) → result ≡ Err (Trouble.Refused r)
         → (N.seen net.new).faults ≡ (N.seen net.old).faults }
     ensures does { OnSettled result
-        (Does task ledger.old ledger.new (N.seen net.old).calls (N.seen net.new).calls) }
+        (DoesTask task ledger.old ledger.new (N.seen net.old).calls (N.seen net.new).calls) }
 {
     if is_full(ledger.used()) {
         return Err(Trouble::Full);

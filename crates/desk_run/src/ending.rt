@@ -5,8 +5,8 @@ ghost use Rattle.desk_run.specs.Ends.{status_by, status_of};
 use crate::trouble::Trouble;
 
 /// How a word ends that came to no trouble.
-#[derive(Clone, Copy, Debug, PartialEq, Eq)]
-pub enum End {
+#[derive(Clone, Copy)]
+pub enum WordEnd {
     Done,
     /// It was told that the letter isn't written, or may have been.
     NotWritten,
@@ -15,10 +15,10 @@ pub enum End {
 }
 
 /// The end of a word that is done, by whether letters met.
-pub(crate) fn end_by(met: bool) -> End
-    ensures { result ≡ if met then End.Met else End.Done }
+pub(crate) fn end_by(met: bool) -> WordEnd
+    ensures { result ≡ if met then WordEnd.Met else WordEnd.Done }
 {
-    if met { End::Met } else { End::Done }
+    if met { WordEnd::Met } else { WordEnd::Done }
 }
 
 fn status_by(trouble: &Trouble<'_>) -> u8
@@ -36,13 +36,13 @@ fn status_by(trouble: &Trouble<'_>) -> u8
 }
 
 /// The status that the program ends with.
-pub(crate) fn status_of(outcome: &Result<End, Trouble<'_>>) -> u8
+pub(crate) fn status_of(outcome: &Result<WordEnd, Trouble<'_>>) -> u8
     ensures { result ≡ status_of outcome.now }
 {
     match outcome {
-        Ok(End::Done) => 0,
-        Ok(End::NotWritten) => 1,
-        Ok(End::Met) => 5,
+        Ok(WordEnd::Done) => 0,
+        Ok(WordEnd::NotWritten) => 1,
+        Ok(WordEnd::Met) => 5,
         Err(trouble) => status_by(trouble),
     }
 }

@@ -1,15 +1,15 @@
 //! The word `forget`.
 ghost use Rattle.std.specs.Prelude.{◌≡◌, IfErr, IfOk, Ok, OnOk, is_err};
 ghost use Rattle.desk_outside.specs.Calls.{Adds, Placed};
-ghost use Rattle.desk_run.specs.Changes.{Follows, Renews};
+ghost use Rattle.desk_run.specs.Changes.{FollowsLedger, Renews};
 ghost use Rattle.desk_run.specs.Ends.{IsUndone, Unfailed};
-ghost use Rattle.desk_run.specs.Scenes.{scene};
+ghost use Rattle.desk_run.specs.Scenes.{Between};
 ghost use Rattle.desk_run.specs.Words.{ForgetsLetters};
 ghost use Rattle.desk_run.specs.Sends.{SendsOn};
 ghost use Rattle.desk_run.specs.Printing.{Prints, TellsMet};
 
 use crate::around::Around;
-use crate::ending::{End, end_by};
+use crate::ending::{WordEnd, end_by};
 use crate::ledgers::{LIMIT, empty_file};
 use crate::resuming::desk_resumed;
 use crate::saying::say;
@@ -37,7 +37,7 @@ fn replace<'a, F: Folder>(
     next: &Ledger<F::File>,
     folder: &mut F,
 ) -> Result<(), Trouble<'a>>
-    requires follows { Follows old.now next.now }
+    requires follows { FollowsLedger old.now next.now }
     ensures undone { IfErr result IsUndone }
     ensures placed { Adds (F.calls folder.old) (F.calls folder.new)
         (Placed DeskFile.NextLedger DeskFile.Ledger (is_err result)) }
@@ -65,11 +65,11 @@ fn renew<'a, F: Folder>(ledger: &Ledger<F::File>, folder: &mut F) -> Result<(), 
 pub(crate) fn forget<'a, S: Source, K: Sink, N: Net, F: Folder, P: Papers, C: Clock>(
     alloc: Global,
     around: &mut Around<S, K, N, F, P, C>,
-) -> Result<End, Trouble<'a>>
-    ensures done { IfOk result (λ end. ForgetsLetters F.File.disk end
-        (scene K.seen N.seen F.calls around.old) (scene K.seen N.seen F.calls around.new)) }
+) -> Result<WordEnd, Trouble<'a>>
+    ensures done { IfOk result (Between K.seen N.seen F.calls around.old around.new
+        (ForgetsLetters F.File.disk)) }
     ensures undone { IfErr result IsUndone }
-    ensures met { result ≡ Ok End.Met
+    ensures met { result ≡ Ok WordEnd.Met
         → Prints TellsMet (K.seen around.old.out).written (K.seen around.new.out).written }
     ensures sink { Unfailed (K.seen around.old.out).faults (K.seen around.new.out).faults result }
     ensures net { Unfailed (N.seen around.old.net).faults (N.seen around.new.net).faults result }

@@ -4,18 +4,18 @@ ghost use Rattle.std.specs.List.{list_any};
 ghost use Rattle.desk_run.specs.Ends.{IsUndone, Unfailed};
 ghost use Rattle.desk_run.specs.Sends.{SendsOn};
 ghost use Rattle.desk_run.specs.Printing.{Prints, TellsMet};
-ghost use Rattle.desk_run.specs.Scenes.{scene};
+ghost use Rattle.desk_run.specs.Scenes.{Between};
 ghost use Rattle.desk_run.specs.Shown.{is_met};
 ghost use Rattle.desk_run.specs.Told.{TellsEach, told_of};
 ghost use Rattle.desk_run.specs.Words.{FetchesLetters};
-ghost use Rattle.desk_run.specs.Works.{Does, ReadsLive};
+ghost use Rattle.desk_run.specs.Works.{DoesTask, ReadsLive};
 
 use crate::around::Around;
 use crate::carrying::do_task;
-use crate::ending::{End, end_by};
+use crate::ending::{WordEnd, end_by};
 use crate::resuming::desk_resumed;
 use crate::saying::say;
-use crate::showing::{Shown, show_new};
+use crate::showing::{ShownLetters, show_new};
 use crate::trouble::Trouble;
 use crate::writing::write_letters;
 use desk_ledger::{Ledger, Task};
@@ -33,7 +33,7 @@ fn read_one<'a, D: Disk, N: Net, C: Clock>(
     clock: &mut C,
 ) -> Result<Option<Refusal>, Trouble<'a>>
     ensures reads { OnOk result
-        (Does (Task.Read own) ledger.old ledger.new (N.seen net.old).calls (N.seen net.new).calls) }
+        (DoesTask (Task.Read own) ledger.old ledger.new (N.seen net.old).calls (N.seen net.new).calls) }
     ensures undone { IfErr result IsUndone }
     ensures net { Unfailed (N.seen net.old).faults (N.seen net.new).faults result }
     ensures sends { SendsOn D.disk D.Counted.seen (N.seen net.old).calls (N.seen net.new).calls }
@@ -51,7 +51,8 @@ fn fetch<'a, D: Disk, N: Net, C: Clock>(
     net: &mut N,
     clock: &mut C,
 ) -> Result<(), Trouble<'a>>
-    ensures reads { OnOk result (ReadsLive ledger.old ledger.new (N.seen net.old).calls (N.seen net.new).calls) }
+    ensures reads { OnOk result
+        (ReadsLive ledger.old ledger.new (N.seen net.old).calls (N.seen net.new).calls) }
     ensures undone { IfErr result IsUndone }
     ensures net { Unfailed (N.seen net.old).faults (N.seen net.new).faults result }
     ensures sends { SendsOn D.disk D.Counted.seen (N.seen net.old).calls (N.seen net.new).calls }
@@ -74,12 +75,13 @@ fn show<'a, S: Source, K: Sink, N: Net, F: Folder, P: Papers, C: Clock>(
     folder: Option<&'a str>,
     ledger: &mut Ledger<F::File>,
     around: &mut Around<S, K, N, F, P, C>,
-) -> Result<Shown, Trouble<'a>>
+) -> Result<ShownLetters, Trouble<'a>>
     ensures told { OnOk result (Prints (TellsEach folder.entry ledger.old.entries)
         (K.seen around.old.out).written (K.seen around.new.out).written) }
     ensures none { IfOk result (λ shown. shown.any ≡ false → told_of folder.entry ledger.old.entries ≡ []) }
     ensures some { IfOk result (λ shown. shown.any ≡ true → told_of folder.entry ledger.old.entries ≢ []) }
-    ensures met { IfOk result (λ shown. shown.met ≡ list_any is_met (told_of folder.entry ledger.old.entries)) }
+    ensures met { IfOk result (λ shown.
+        shown.met ≡ list_any is_met (told_of folder.entry ledger.old.entries)) }
     ensures tells { IfOk result (λ shown. shown.met ≡ true
         → Prints TellsMet (K.seen around.old.out).written (K.seen around.new.out).written) }
     ensures undone { IfErr result IsUndone }
@@ -98,11 +100,11 @@ pub(crate) fn letters<'a, S: Source, K: Sink, N: Net, F: Folder, P: Papers, C: C
     alloc: Global,
     folder: Option<&'a str>,
     around: &mut Around<S, K, N, F, P, C>,
-) -> Result<End, Trouble<'a>>
-    ensures done { IfOk result (λ end. FetchesLetters F.File.disk folder.entry end
-        (scene K.seen N.seen F.calls around.old) (scene K.seen N.seen F.calls around.new)) }
+) -> Result<WordEnd, Trouble<'a>>
+    ensures done { IfOk result (Between K.seen N.seen F.calls around.old around.new
+        (FetchesLetters F.File.disk folder.entry)) }
     ensures undone { IfErr result IsUndone }
-    ensures met { result ≡ Ok End.Met
+    ensures met { result ≡ Ok WordEnd.Met
         → Prints TellsMet (K.seen around.old.out).written (K.seen around.new.out).written }
     ensures sink { Unfailed (K.seen around.old.out).faults (K.seen around.new.out).faults result }
     ensures net { Unfailed (N.seen around.old.net).faults (N.seen around.new.net).faults result }
@@ -115,7 +117,7 @@ pub(crate) fn letters<'a, S: Source, K: Sink, N: Net, F: Folder, P: Papers, C: C
     fetched?;
     if !shown.any {
         say(&mut around.out, "no new letters\n")?;
-        return Ok(End::Done);
+        return Ok(WordEnd::Done);
     }
     Ok(end_by(shown.met))
 }

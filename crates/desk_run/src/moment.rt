@@ -9,7 +9,7 @@ const DAY: u64 = 86_400;
 const LAST: u64 = 253_402_300_799;
 
 // A day of the calendar.
-#[derive(Clone, Copy, Debug, PartialEq, Eq)]
+#[derive(Clone, Copy)]
 struct Date {
     year: u64,
     month: u64,

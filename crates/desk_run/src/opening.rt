@@ -4,7 +4,7 @@ ghost use Rattle.desk_texts.specs.Spelling.{IsSheet};
 ghost use Rattle.desk_run.specs.Ends.{IsOfPaper, IsUndone, Unfailed};
 
 use crate::around::Around;
-use crate::ending::End;
+use crate::ending::WordEnd;
 use crate::ledgers::{LIMIT, empty_file, ledger_in, trouble_of};
 use crate::reading::{Unread, read_all};
 use crate::saying::say;
@@ -85,9 +85,9 @@ pub(crate) fn open<'a, S: Source, K: Sink, N: Net, F: Folder, P: Papers, C: Cloc
     path: &'a str,
     draws: &mut Draws,
     around: &mut Around<S, K, N, F, P, C>,
-) -> Result<End, Trouble<'a>>
+) -> Result<WordEnd, Trouble<'a>>
     ensures trouble { IfErr result IsOfPaper }
-    ensures not_met { result ≢ Ok End.Met }
+    ensures not_met { result ≢ Ok WordEnd.Met }
     ensures sink { Unfailed (K.seen around.old.out).faults (K.seen around.new.out).faults result }
     ensures net { around.new.net ≡ around.old.net }
 {
@@ -106,5 +106,5 @@ pub(crate) fn open<'a, S: Source, K: Sink, N: Net, F: Folder, P: Papers, C: Cloc
         &mut around.out,
         "the desk is open; make boxes and a card with box NAME\n",
     )?;
-    Ok(End::Done)
+    Ok(WordEnd::Done)
 }

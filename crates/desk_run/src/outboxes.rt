@@ -7,7 +7,7 @@ ghost use Rattle.desk_outbox.specs.Works.{Works};
 ghost use Rattle.desk_run.specs.LetterEnds.{end_text};
 ghost use Rattle.desk_run.specs.Ends.{IsOfPaper, IsUndone, Unfailed};
 ghost use Rattle.desk_run.specs.Sends.{SendsOn};
-ghost use Rattle.desk_run.specs.Tries.{Carries, ComesTo, TriesAgain};
+ghost use Rattle.desk_run.specs.Tries.{Carries, ComesToEnd, TriesAgain};
 
 use crate::ledgers::empty_file;
 use crate::saying::say;
@@ -17,7 +17,7 @@ use desk_letters::{Opened, open};
 use desk_outbox::{Outbox, Reopened, StartFault};
 use desk_outside::{DeskFile, Folder};
 use desk_texts::Sheet;
-use desk_tries::{End, MOST_FURTHER, Next};
+use desk_tries::{LetterEnd, MOST_FURTHER, Next};
 use express_words::limits::MOST_WIDTH;
 use express_words::outside::{Net, Sink};
 use node_journal::Disk;
@@ -148,8 +148,8 @@ pub(crate) fn work_off<'a, F: Folder, N: Net>(
     draws: &mut Draws,
     folder: &mut F,
     net: &mut N,
-) -> Result<End, Trouble<'a>>
-    ensures comes { IfOk result (λ end. ComesTo F.File.disk F.File.Counted.seen outbox end
+) -> Result<LetterEnd, Trouble<'a>>
+    ensures comes { IfOk result (λ end. ComesToEnd F.File.disk F.File.Counted.seen outbox end
         (N.seen net.old).calls (N.seen net.new).calls) }
     ensures undone { IfErr result IsUndone }
     ensures net { Unfailed (N.seen net.old).faults (N.seen net.new).faults result }
@@ -169,13 +169,14 @@ pub(crate) fn work_off<'a, F: Folder, N: Net>(
 }
 
 // What is told of a letter's end.
-fn end_text(end: End) -> &'static str
+fn end_text(end: LetterEnd) -> &'static str
     ensures { result.now ≡ end_text end }
 {
     match end {
-        End::Written => "written: the letter lies in the owner's box\n",
-        End::NotWritten => "not written: the letter lies nowhere; send it again when you like\n",
-        End::MaybeWritten => {
+        LetterEnd::Written => "written: the letter lies in the owner's box\n",
+        LetterEnd::NotWritten =>
+            "not written: the letter lies nowhere; send it again when you like\n",
+        LetterEnd::MaybeWritten => {
             "it may have been written: that can't be found out; if you send the letter again, the owner may have it twice\n"
         }
     }
@@ -185,13 +186,14 @@ fn end_text(end: End) -> &'static str
 #[tactic(auto, using(crate::proofs::PrintLaws::took_both))]
 pub(crate) fn tell_end<'a, F: Folder, K: Sink>(
     whose: &str,
-    end: End,
+    end: LetterEnd,
     folder: &mut F,
     out: &mut K,
 ) -> Result<(), Trouble<'a>>
     ensures told { OnOk result (Took (K.seen out.old).written (K.seen out.new).written
         (whose.now ++ end_text end)) }
-    ensures removed { OnOk result (Adds (F.calls folder.old) (F.calls folder.new) (Removed DeskFile.Outbox false)) }
+    ensures removed { OnOk result
+        (Adds (F.calls folder.old) (F.calls folder.new) (Removed DeskFile.Outbox false)) }
     // Where it couldn't be told it isn't forgotten.
     ensures untold { result ≡ Err Trouble.Out → folder.new ≡ folder.old }
     ensures undone { IfErr result IsUndone }

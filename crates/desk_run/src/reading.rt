@@ -8,7 +8,7 @@ use std::alloc::Global;
 pub(crate) const LONGEST: usize = 65_536;
 
 /// Why a text isn't read.
-#[derive(Clone, Copy, Debug, PartialEq, Eq)]
+#[derive(Clone, Copy)]
 pub(crate) enum Unread {
     Failed,
     NoMemory,

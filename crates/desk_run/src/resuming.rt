@@ -8,7 +8,7 @@ ghost use Rattle.desk_run.specs.LetterEnds.{resume_end};
 
 use crate::around::Around;
 use crate::carrying::carry_on;
-use crate::ending::End;
+use crate::ending::WordEnd;
 use crate::ledgers::ledger_in;
 use crate::outboxes::{outbox_in, tell_end, work_off};
 use crate::saying::say;
@@ -16,7 +16,7 @@ use crate::trouble::Trouble;
 use desk_draws::Draws;
 use desk_ledger::Ledger;
 use desk_outside::{Clock, Folder, Papers};
-use desk_tries::End as LetterEnd;
+use desk_tries::LetterEnd;
 use express_words::outside::{Net, Sink, Source};
 use std::alloc::Global;
 
@@ -85,12 +85,12 @@ pub(crate) fn desk_resumed<'a, S: Source, K: Sink, N: Net, F: Folder, P: Papers,
 }
 
 // How the word ends, by what became of a letter.
-fn end_of(end: Option<LetterEnd>) -> End
+fn end_of(end: Option<LetterEnd>) -> WordEnd
     ensures { result ≡ resume_end end }
 {
     match end {
-        None | Some(LetterEnd::Written) => End::Done,
-        Some(LetterEnd::NotWritten) | Some(LetterEnd::MaybeWritten) => End::NotWritten,
+        None | Some(LetterEnd::Written) => WordEnd::Done,
+        Some(LetterEnd::NotWritten) | Some(LetterEnd::MaybeWritten) => WordEnd::NotWritten,
     }
 }
 
@@ -100,9 +100,9 @@ pub(crate) fn resume<'a, S: Source, K: Sink, N: Net, F: Folder, P: Papers, C: Cl
     alloc: Global,
     draws: &mut Draws,
     around: &mut Around<S, K, N, F, P, C>,
-) -> Result<End, Trouble<'a>>
+) -> Result<WordEnd, Trouble<'a>>
     ensures undone { IfErr result IsUndone }
-    ensures not_met { result ≢ Ok End.Met }
+    ensures not_met { result ≢ Ok WordEnd.Met }
     ensures sink { Unfailed (K.seen around.old.out).faults (K.seen around.new.out).faults result }
     ensures net { Unfailed (N.seen around.old.net).faults (N.seen around.new.net).faults result }
     ensures sends { SendsOn F.File.disk F.File.Counted.seen

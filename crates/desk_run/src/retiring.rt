@@ -1,7 +1,7 @@
 //! The word `retire`.
 ghost use Rattle.std.specs.Prelude.{◌≡◌, IfErr, IfOk, Ok, string_bytes};
 ghost use Rattle.desk_run.specs.Changes.{retired_line};
-ghost use Rattle.desk_run.specs.Scenes.{scene};
+ghost use Rattle.desk_run.specs.Scenes.{Between};
 ghost use Rattle.desk_run.specs.Words.{RetiresBoxes};
 ghost use Rattle.desk_run.specs.Ends.{IsUndone, Unfailed};
 ghost use Rattle.desk_run.specs.Sends.{SendsOn};
@@ -9,7 +9,7 @@ ghost use Rattle.desk_run.specs.Printing.{Prints, TellsMet};
 
 use crate::around::Around;
 use crate::carrying::carry_on;
-use crate::ending::{End, end_by};
+use crate::ending::{WordEnd, end_by};
 use crate::resuming::desk_resumed;
 use crate::saying::say;
 use crate::showing::show_new;
@@ -34,11 +34,11 @@ pub(crate) fn retire<'a, S: Source, K: Sink, N: Net, F: Folder, P: Papers, C: Cl
     alloc: Global,
     name: &'a str,
     around: &mut Around<S, K, N, F, P, C>,
-) -> Result<End, Trouble<'a>>
-    ensures done { IfOk result (λ end. RetiresBoxes F.File.disk name.entry.now end
-        (scene K.seen N.seen F.calls around.old) (scene K.seen N.seen F.calls around.new)) }
+) -> Result<WordEnd, Trouble<'a>>
+    ensures done { IfOk result (Between K.seen N.seen F.calls around.old around.new
+        (RetiresBoxes F.File.disk name.entry.now)) }
     ensures undone { IfErr result IsUndone }
-    ensures met { result ≡ Ok End.Met
+    ensures met { result ≡ Ok WordEnd.Met
         → Prints TellsMet (K.seen around.old.out).written (K.seen around.new.out).written }
     ensures sink { Unfailed (K.seen around.old.out).faults (K.seen around.new.out).faults result }
     ensures net { Unfailed (N.seen around.old.net).faults (N.seen around.new.net).faults result }

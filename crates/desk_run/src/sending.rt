@@ -2,15 +2,15 @@
 ghost use Rattle.std.specs.Prelude.{◌≡◌, ◌≢◌, IfErr, IfOk, Ok, OnOk};
 ghost use Rattle.desk_outbox.specs.Outboxes.{IsCardSheet};
 ghost use Rattle.desk_run.specs.Ends.{IsOfPaper, IsUndone, Unfailed};
-ghost use Rattle.desk_run.specs.Scenes.{scene};
+ghost use Rattle.desk_run.specs.Scenes.{Between};
 ghost use Rattle.desk_run.specs.Sends.{SendsOn};
-ghost use Rattle.desk_run.specs.Tries.{IsFirst, IsOfLetter};
+ghost use Rattle.desk_run.specs.Tries.{IsFirstTry, IsOfLetter};
 ghost use Rattle.desk_run.specs.Words.{LeavesLetter};
 ghost use Rattle.desk_run.specs.Printing.{PrintsSome};
 ghost use Rattle.desk_run.specs.LetterEnds.{word_end};
 
 use crate::around::Around;
-use crate::ending::End;
+use crate::ending::WordEnd;
 use crate::ledgers::empty_file;
 use crate::opening::{paper_at, sheet_in};
 use crate::outboxes::{is_of, outbox_in, place, tell_end, trouble_of, work_off};
@@ -21,7 +21,7 @@ use desk_letters::{SealFault, room};
 use desk_outbox::Outbox;
 use desk_outside::{Clock, DeskFile, Folder, Papers};
 use desk_texts::{Head, Sheet};
-use desk_tries::End as LetterEnd;
+use desk_tries::LetterEnd;
 use express_words::outside::{Net, Sink, Source};
 use std::alloc::Global;
 
@@ -89,7 +89,7 @@ fn start<'a, F: Folder>(
     folder: &mut F,
 ) -> Result<Outbox<F::File>, Trouble<'a>>
     requires card { IsCardSheet card.now }
-    ensures first { IfOk result (λ o. IsFirst F.File.disk card.now text.now o) }
+    ensures first { IfOk result (λ o. IsFirstTry F.File.disk card.now text.now o) }
     ensures trouble { IfErr result IsOfPaper }
 {
     let disk = empty_file(folder, DeskFile::NextOutbox)?;
@@ -109,7 +109,8 @@ fn make_way<'a, S: Source, K: Sink, N: Net, F: Folder, P: Papers, C: Clock>(
     draws: &mut Draws,
     around: &mut Around<S, K, N, F, P, C>,
 ) -> Result<(), Trouble<'a>>
-    ensures printed { OnOk result (PrintsSome (K.seen around.old.out).written (K.seen around.new.out).written) }
+    ensures printed { OnOk result
+        (PrintsSome (K.seen around.old.out).written (K.seen around.new.out).written) }
     ensures undone { IfErr result IsUndone }
     ensures sink { Unfailed (K.seen around.old.out).faults (K.seen around.new.out).faults result }
     ensures net { Unfailed (N.seen around.old.net).faults (N.seen around.new.net).faults result }
@@ -136,7 +137,8 @@ fn begin<'a, S: Source, K: Sink, N: Net, F: Folder, P: Papers, C: Clock>(
 ) -> Result<Outbox<F::File>, Trouble<'a>>
     requires card { IsCardSheet card.now }
     ensures letter { IfOk result (λ o. IsOfLetter F.File.disk card.now text.now o) }
-    ensures printed { OnOk result (PrintsSome (K.seen around.old.out).written (K.seen around.new.out).written) }
+    ensures printed { OnOk result
+        (PrintsSome (K.seen around.old.out).written (K.seen around.new.out).written) }
     ensures trouble { IfErr result IsOfPaper }
     ensures sink { Unfailed (K.seen around.old.out).faults (K.seen around.new.out).faults result }
     ensures net { Unfailed (N.seen around.old.net).faults (N.seen around.new.net).faults result }
@@ -154,12 +156,12 @@ fn begin<'a, S: Source, K: Sink, N: Net, F: Folder, P: Papers, C: Clock>(
 }
 
 // How the word ends, by what became of the letter.
-fn end_of(end: LetterEnd) -> End
+fn end_of(end: LetterEnd) -> WordEnd
     ensures { result ≡ word_end end }
 {
     match end {
-        LetterEnd::Written => End::Done,
-        LetterEnd::NotWritten | LetterEnd::MaybeWritten => End::NotWritten,
+        LetterEnd::Written => WordEnd::Done,
+        LetterEnd::NotWritten | LetterEnd::MaybeWritten => WordEnd::NotWritten,
     }
 }
 
@@ -171,11 +173,11 @@ pub(crate) fn send<'a, S: Source, K: Sink, N: Net, F: Folder, P: Papers, C: Cloc
     file: Option<&'a str>,
     draws: &mut Draws,
     around: &mut Around<S, K, N, F, P, C>,
-) -> Result<End, Trouble<'a>>
-    ensures done { IfOk result (λ end. LeavesLetter F.File.disk F.File.Counted.seen end
-        (scene K.seen N.seen F.calls around.old) (scene K.seen N.seen F.calls around.new)) }
+) -> Result<WordEnd, Trouble<'a>>
+    ensures done { IfOk result (Between K.seen N.seen F.calls around.old around.new
+        (LeavesLetter F.File.disk F.File.Counted.seen)) }
     ensures trouble { IfErr result IsOfPaper }
-    ensures not_met { result ≢ Ok End.Met }
+    ensures not_met { result ≢ Ok WordEnd.Met }
     ensures sink { Unfailed (K.seen around.old.out).faults (K.seen around.new.out).faults result }
     ensures net { Unfailed (N.seen around.old.net).faults (N.seen around.new.net).faults result }
     ensures sends { SendsOn F.File.disk F.File.Counted.seen

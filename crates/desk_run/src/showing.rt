@@ -1,12 +1,12 @@
 //! Letters, shown.
-ghost use Rattle.std.specs.Prelude.{◌≡◌, ◌≢◌, ◌≤◌, ◌<◌, ◌++◌, ◌||◌, [], ◌∷◌, codes, Err, IfErr, IfOk, OnOk, false, length, map, string_bytes, true};
+ghost use Rattle.std.specs.Prelude.{◌≡◌, ◌≢◌, ◌≤◌, ◌<◌, ◌++◌, ◌||◌, [], ◌∷◌, codes, Err, IfErr, IfOk, OnOk, false, length, string_bytes, true};
 ghost use Rattle.std.specs.List.{list_any};
 ghost use Rattle.desk_entries.specs.Letters.{letters_of, shown_of};
 ghost use Rattle.desk_ledger.specs.Ledgers.{EntriesOnly};
 ghost use Rattle.desk_run.specs.Changes.{NotesShown};
 ghost use Rattle.desk_run.specs.Ends.{IsCause, IsUndone, Unfailed};
 ghost use Rattle.desk_run.specs.Printing.{Prints, TellsMet, met_line};
-ghost use Rattle.desk_run.specs.Shown.{Shows, ShowsEach, ShowsLetter, ShowsReading, ShowsText, head_line, is_met, new_letters, no_text};
+ghost use Rattle.desk_run.specs.Shown.{Shows, ShowsEach, ShowsLetter, ShowsReading, ShowsText, head_line, is_met, new_letters, no_text, lent};
 
 use crate::moment::moment_text;
 use crate::saying::say;
@@ -139,9 +139,9 @@ fn show_all<'a, D: Disk, K: Sink>(
     readings: &[&Reading],
     out: &mut K,
 ) -> Result<bool, Trouble<'a>>
-    ensures shown { OnOk result (Prints (ShowsEach ledger.now.entries (map (λ r. r.now) readings.now))
+    ensures shown { OnOk result (Prints (ShowsEach ledger.now.entries (lent readings.now))
         (K.seen out.old).written (K.seen out.new).written) }
-    ensures met { IfOk result (λ met. met ≡ list_any is_met (map (λ r. r.now) readings.now)) }
+    ensures met { IfOk result (λ met. met ≡ list_any is_met (lent readings.now)) }
     ensures told { IfOk result (λ met. met ≡ true
         → Prints TellsMet (K.seen out.old).written (K.seen out.new).written) }
     ensures undone { IfErr result IsUndone }
@@ -158,8 +158,8 @@ fn show_all<'a, D: Disk, K: Sink>(
 }
 
 /// What was shown: how many letters there are now, and of the new ones whether there are any and whether letters met.
-#[derive(Clone, Copy, Debug, PartialEq, Eq)]
-pub(crate) struct Shown {
+#[derive(Clone, Copy)]
+pub(crate) struct ShownLetters {
     pub(crate) count: usize,
     pub(crate) any: bool,
     pub(crate) met: bool,
@@ -170,7 +170,7 @@ fn show_those<'a, D: Disk, K: Sink>(
     alloc: Global,
     ledger: &Ledger<D>,
     out: &mut K,
-) -> Result<Shown, Trouble<'a>>
+) -> Result<ShownLetters, Trouble<'a>>
     ensures shown { OnOk result (Prints (ShowsEach ledger.now.entries (new_letters ledger.now.entries))
         (K.seen out.old).written (K.seen out.new).written) }
     ensures count { IfOk result (λ shown. shown.count ≡ length (letters_of ledger.now.entries)) }
@@ -188,7 +188,7 @@ fn show_those<'a, D: Disk, K: Sink>(
     let count = letters.len();
     let from = (ledger.shown() as usize).min(count);
     let met = show_all(alloc, ledger, &letters[from..], out)?;
-    Ok(Shown {
+    Ok(ShownLetters {
         count,
         any: from < count,
         met,
@@ -201,7 +201,7 @@ pub(crate) fn show_new<'a, D: Disk, K: Sink>(
     alloc: Global,
     ledger: &mut Ledger<D>,
     out: &mut K,
-) -> Result<Shown, Trouble<'a>>
+) -> Result<ShownLetters, Trouble<'a>>
     ensures shown { OnOk result (Prints (ShowsEach ledger.old.entries (new_letters ledger.old.entries))
         (K.seen out.old).written (K.seen out.new).written) }
     ensures none { IfOk result (λ shown. shown.any ≡ false → new_letters ledger.old.entries ≡ []) }
@@ -222,7 +222,7 @@ pub(crate) fn show_new<'a, D: Disk, K: Sink>(
 }
 
 // Notes new letters as shown, where there are any.
-fn note_new<'a, D: Disk>(ledger: &mut Ledger<D>, shown: Shown) -> Result<(), Trouble<'a>>
+fn note_new<'a, D: Disk>(ledger: &mut Ledger<D>, shown: ShownLetters) -> Result<(), Trouble<'a>>
     requires count { shown.count ≡ length (letters_of ledger.old.entries) }
     requires none { shown.any ≡ false → length (letters_of ledger.old.entries) ≤ shown_of ledger.old.entries }
     ensures notes { OnOk result (NotesShown ledger.old ledger.new) }

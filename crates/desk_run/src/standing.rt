@@ -7,7 +7,7 @@ ghost use Rattle.desk_run.specs.Printing.{Prints};
 ghost use Rattle.desk_run.specs.Standings.{IsDone, SaysOutbox, TellsDesk, TellsWork, boxes_line, boxes_lines, count_of, full_line, hundredths, letters_line, line_of, outbox_line, pair_line, work_text, work_words};
 ghost use Rattle.desk_run.specs.Words.{ShowsStatus, StatusBy};
 
-use crate::ending::End;
+use crate::ending::WordEnd;
 use crate::ledgers::{hundredths, ledger_in};
 use crate::saying::say;
 use crate::trouble::Trouble;
@@ -191,7 +191,8 @@ fn say_ledger<'a, D: Disk, K: Sink>(
     ledger: &Ledger<D>,
     out: &mut K,
 ) -> Result<(), Trouble<'a>>
-    ensures told { OnOk result (Prints (TellsDesk ledger.now) (K.seen out.old).written (K.seen out.new).written) }
+    ensures told { OnOk result
+        (Prints (TellsDesk ledger.now) (K.seen out.old).written (K.seen out.new).written) }
     ensures undone { IfErr result IsUndone }
     ensures sink { Unfailed (K.seen out.old).faults (K.seen out.new).faults result }
 {
@@ -208,7 +209,8 @@ fn say_desk<'a, D: Disk, K: Sink>(
     ledger: &Option<Ledger<D>>,
     out: &mut K,
 ) -> Result<(), Trouble<'a>>
-    ensures told { OnOk result (Prints (StatusBy ledger.now) (K.seen out.old).written (K.seen out.new).written) }
+    ensures told { OnOk result
+        (Prints (StatusBy ledger.now) (K.seen out.old).written (K.seen out.new).written) }
     ensures undone { IfErr result IsUndone }
     ensures sink { Unfailed (K.seen out.old).faults (K.seen out.new).faults result }
 {
@@ -219,7 +221,8 @@ fn say_desk<'a, D: Disk, K: Sink>(
 }
 
 fn say_sending<'a, K: Sink>(is_sending: bool, out: &mut K) -> Result<(), Trouble<'a>>
-    ensures said { OnOk result (Took (K.seen out.old).written (K.seen out.new).written (outbox_line is_sending)) }
+    ensures said { OnOk result
+        (Took (K.seen out.old).written (K.seen out.new).written (outbox_line is_sending)) }
     ensures undone { IfErr result IsUndone }
     ensures sink { Unfailed (K.seen out.old).faults (K.seen out.new).faults result }
 {
@@ -248,15 +251,15 @@ pub(crate) fn status<'a, F: Folder, K: Sink>(
     alloc: Global,
     folder: &mut F,
     out: &mut K,
-) -> Result<End, Trouble<'a>>
+) -> Result<WordEnd, Trouble<'a>>
     ensures done { OnOk result (ShowsStatus F.File.disk (F.calls folder.old) (F.calls folder.new)
         (K.seen out.old).written (K.seen out.new).written) }
     ensures undone { IfErr result IsUndone }
-    ensures not_met { result ≢ Ok End.Met }
+    ensures not_met { result ≢ Ok WordEnd.Met }
     ensures sink { Unfailed (K.seen out.old).faults (K.seen out.new).faults result }
 {
     let ledger = ledger_in(alloc, folder)?;
     say_desk(alloc, &ledger, out)?;
     say_outbox(folder, out)?;
-    Ok(End::Done)
+    Ok(WordEnd::Done)
 }

@@ -1,20 +1,20 @@
 //! The top call.
-ghost use Rattle.std.specs.Prelude.{◌≡◌, ◌≢◌, ◌⊎◌, ◌∷◌, [], Contains, IfErr, IfOk, OnOk, Ok, false, map, string_bytes, true};
+ghost use Rattle.std.specs.Prelude.{◌≡◌, ◌≢◌, ◌⊎◌, ◌∷◌, [], Contains, IfErr, IfOk, OnOk, Ok, false, true};
 ghost use Rattle.desk_outside.specs.Calls.{Adds, Held};
-ghost use Rattle.desk_words.specs.CommandLine.{AskSome};
+ghost use Rattle.desk_words.specs.CommandLine.{AskSome, words_in};
 ghost use Rattle.desk_run.specs.Ends.{IsUndone, Unfailed, status_by, status_of};
 ghost use Rattle.desk_run.specs.Sends.{Sends, SendsOn};
 ghost use Rattle.desk_run.specs.Printing.{Prints, TellsMet};
 ghost use Rattle.desk_run.specs.Quiet.{AskServers, is_quiet};
 ghost use Rattle.desk_run.specs.Rests.{IsAtHome};
-ghost use Rattle.desk_run.specs.Scenes.{scene};
+ghost use Rattle.desk_run.specs.Scenes.{Between};
 ghost use Rattle.desk_run.specs.Statuses.{EndsAsAsked, IsInUse, MayEnd};
-ghost use Rattle.desk_run.specs.Words.{Does, DoesAlone, DoesWord, DoneAsAsked, DoneBy};
+ghost use Rattle.desk_run.specs.Words.{Does, DoesAlone, DoesWord, DoneBy, DoneIfAsked};
 
 use crate::around::Around;
 use crate::boxes::open_boxes;
 use crate::cards::card;
-use crate::ending::{End, status_of};
+use crate::ending::{WordEnd, status_of};
 use crate::forgetting::forget;
 use crate::letters::letters;
 use crate::opening::open;
@@ -48,27 +48,26 @@ fn hold<'a, F: Folder>(folder: &mut F) -> Result<(), Trouble<'a>>
 }
 
 // The word `help`.
-fn help<'a, K: Sink>(out: &mut K) -> Result<End, Trouble<'a>>
+fn help<'a, K: Sink>(out: &mut K) -> Result<WordEnd, Trouble<'a>>
     ensures undone { IfErr result IsUndone }
-    ensures not_met { result ≢ Ok End.Met }
+    ensures not_met { result ≢ Ok WordEnd.Met }
     ensures sink { Unfailed (K.seen out.old).faults (K.seen out.new).faults result }
 {
     say(out, HELP)?;
-    Ok(End::Done)
+    Ok(WordEnd::Done)
 }
 
 // What the task comes to, where the folder is this process's alone.
-#[tactic(auto, using(crate::proofs::StatusLaws::open_ends, crate::proofs::StatusLaws::box_ends, crate::proofs::StatusLaws::send_ends, crate::proofs::StatusLaws::quiet_ends, crate::proofs::StatusLaws::letters_ends, crate::proofs::StatusLaws::retire_ends, crate::proofs::StatusLaws::forget_ends))]
 fn in_folder<'a, S: Source, K: Sink, N: Net, F: Folder, P: Papers, C: Clock>(
     alloc: Global,
     task: DeskTask<'a>,
     draws: &mut Draws,
     around: &mut Around<S, K, N, F, P, C>,
-) -> Result<End, Trouble<'a>>
+) -> Result<WordEnd, Trouble<'a>>
     ensures ends { MayEnd task.entry (status_of result) }
-    ensures done { IfOk result (λ end. Does F.File.disk F.File.Counted.seen task.entry end
-        (scene K.seen N.seen F.calls around.old) (scene K.seen N.seen F.calls around.new)) }
-    ensures met { result ≡ Ok End.Met
+    ensures done { IfOk result (Between K.seen N.seen F.calls around.old around.new
+        (Does F.File.disk F.File.Counted.seen task.entry)) }
+    ensures met { result ≡ Ok WordEnd.Met
         → Prints TellsMet (K.seen around.old.out).written (K.seen around.new.out).written }
     ensures sink { Unfailed (K.seen around.old.out).faults (K.seen around.new.out).faults result }
     ensures net { Unfailed (N.seen around.old.net).faults (N.seen around.new.net).faults result }
@@ -91,20 +90,20 @@ fn in_folder<'a, S: Source, K: Sink, N: Net, F: Folder, P: Papers, C: Clock>(
 }
 
 // What a task comes to that needs the folder.
-#[tactic(auto, using(crate::proofs::StatusLaws::not_four, crate::proofs::StatusLaws::may_undone))]
+#[tactic(auto, using(crate::proofs::StatusLaws::may_undone))]
 fn with_folder<'a, S: Source, K: Sink, N: Net, F: Folder, P: Papers, C: Clock>(
     alloc: Global,
     task: DeskTask<'a>,
     seed: &[u8; 32],
     around: &mut Around<S, K, N, F, P, C>,
-) -> Result<End, Trouble<'a>>
+) -> Result<WordEnd, Trouble<'a>>
     ensures ends { MayEnd task.entry (status_of result) ⊎ (status_of result ≡ 4) }
     ensures in_use { status_of result ≡ 4 → IsAtHome around.old around.new }
     ensures held { status_of result ≡ 4
         → Adds (F.calls around.old.folder) (F.calls around.new.folder) (Held false) }
-    ensures done { IfOk result (λ end. DoesAlone F.File.disk F.File.Counted.seen task.entry end
-        (scene K.seen N.seen F.calls around.old) (scene K.seen N.seen F.calls around.new)) }
-    ensures met { result ≡ Ok End.Met
+    ensures done { IfOk result (Between K.seen N.seen F.calls around.old around.new
+        (DoesAlone F.File.disk F.File.Counted.seen task.entry)) }
+    ensures met { result ≡ Ok WordEnd.Met
         → Prints TellsMet (K.seen around.old.out).written (K.seen around.new.out).written }
     ensures sink { Unfailed (K.seen around.old.out).faults (K.seen around.new.out).faults result }
     ensures net { Unfailed (N.seen around.old.net).faults (N.seen around.new.net).faults result }
@@ -118,20 +117,19 @@ fn with_folder<'a, S: Source, K: Sink, N: Net, F: Folder, P: Papers, C: Clock>(
 }
 
 // What the task comes to.
-#[tactic(auto, using(crate::proofs::StatusLaws::not_four, crate::proofs::StatusLaws::quiet_ends))]
 fn do_task<'a, S: Source, K: Sink, N: Net, F: Folder, P: Papers, C: Clock>(
     alloc: Global,
     task: DeskTask<'a>,
     seed: &[u8; 32],
     around: &mut Around<S, K, N, F, P, C>,
-) -> Result<End, Trouble<'a>>
+) -> Result<WordEnd, Trouble<'a>>
     ensures ends { MayEnd task.entry (status_of result) ⊎ IsInUse task.entry (status_of result) }
     ensures in_use { status_of result ≡ 4 → IsAtHome around.old around.new }
     ensures held { status_of result ≡ 4
         → Adds (F.calls around.old.folder) (F.calls around.new.folder) (Held false) }
-    ensures does { IfOk result (λ end. DoesWord F.File.disk F.File.Counted.seen task.entry end
-        (scene K.seen N.seen F.calls around.old) (scene K.seen N.seen F.calls around.new)) }
-    ensures met { result ≡ Ok End.Met
+    ensures does { IfOk result (Between K.seen N.seen F.calls around.old around.new
+        (DoesWord F.File.disk F.File.Counted.seen task.entry)) }
+    ensures met { result ≡ Ok WordEnd.Met
         → Prints TellsMet (K.seen around.old.out).written (K.seen around.new.out).written }
     ensures sink { Unfailed (K.seen around.old.out).faults (K.seen around.new.out).faults result }
     ensures net { Unfailed (N.seen around.old.net).faults (N.seen around.new.net).faults result }
@@ -146,7 +144,7 @@ fn do_task<'a, S: Source, K: Sink, N: Net, F: Folder, P: Papers, C: Clock>(
 }
 
 // What the outcome is told as. Where that can't be printed the word isn't done.
-fn finish<K: Sink>(alloc: Global, outcome: Result<End, Trouble<'_>>, out: &mut K) -> u8
+fn finish<K: Sink>(alloc: Global, outcome: Result<WordEnd, Trouble<'_>>, out: &mut K) -> u8
     ensures status { result ≢ 1 → result ≡ status_of outcome.entry }
     ensures rests { IfOk outcome.entry (λ end. out.new ≡ out.old) }
     ensures sink { result ≢ 1 → (K.seen out.new).faults ≡ (K.seen out.old).faults }
@@ -160,7 +158,6 @@ fn finish<K: Sink>(alloc: Global, outcome: Result<End, Trouble<'_>>, out: &mut K
 }
 
 // Does the task, and tells what it comes to where that isn't told yet.
-#[tactic(auto, using(crate::proofs::StatusLaws::ends_so, crate::proofs::StatusLaws::only_met))]
 fn run_task<'a, S: Source, K: Sink, N: Net, F: Folder, P: Papers, C: Clock>(
     alloc: Global,
     task: DeskTask<'a>,
@@ -171,8 +168,8 @@ fn run_task<'a, S: Source, K: Sink, N: Net, F: Folder, P: Papers, C: Clock>(
     ensures in_use { result ≡ 4 → IsAtHome around.old around.new }
     ensures held { result ≡ 4
         → Adds (F.calls around.old.folder) (F.calls around.new.folder) (Held false) }
-    ensures done { DoneBy F.File.disk F.File.Counted.seen task.entry result
-        (scene K.seen N.seen F.calls around.old) (scene K.seen N.seen F.calls around.new) }
+    ensures done { Between K.seen N.seen F.calls around.old around.new
+        (DoneBy F.File.disk F.File.Counted.seen task.entry) result }
     ensures met { result ≡ 5
         → Prints TellsMet (K.seen around.old.out).written (K.seen around.new.out).written }
     ensures sink { result ≢ 1 → (K.seen around.new.out).faults ≡ (K.seen around.old.out).faults }
@@ -202,7 +199,6 @@ fn refuse<K: Sink>(out: &mut K) -> u8
 /// what a person can do.
 ///
 /// All that is drawn by lot is drawn out of `seed`, of which no other run may know.
-#[tactic(auto, using(crate::proofs::Asked::asked_none, crate::proofs::Asked::asked_some, crate::proofs::Asked::quiet, crate::proofs::Asked::ends, crate::proofs::Asked::ends_undone, crate::proofs::Asked::done, crate::proofs::Asked::done_undone))]
 pub fn run_desk<S: Source, K: Sink, N: Net, F: Folder, P: Papers, C: Clock>(
     alloc: Global,
     words: &Vec<String>,
@@ -210,23 +206,20 @@ pub fn run_desk<S: Source, K: Sink, N: Net, F: Folder, P: Papers, C: Clock>(
     around: &mut Around<S, K, N, F, P, C>,
 ) -> u8
     // Each word has its statuses.
-    ensures ends { AskSome (map string_bytes words.now.items)
-        → EndsAsAsked (map string_bytes words.now.items) result }
-    ensures wrong { (AskSome (map string_bytes words.now.items) → ⊥) → Contains (2 ∷ 1 ∷ []) result }
+    ensures ends { AskSome (words_in words.now) → EndsAsAsked (words_in words.now) result }
+    ensures wrong { (AskSome (words_in words.now) → ⊥) → Contains (2 ∷ 1 ∷ []) result }
     // With wrong words nothing is touched but the output.
-    ensures rests { (AskSome (map string_bytes words.now.items) → ⊥) → IsAtHome around.old around.new }
-    ensures folder_rests { (AskSome (map string_bytes words.now.items) → ⊥)
-        → around.new.folder ≡ around.old.folder }
+    ensures rests { (AskSome (words_in words.now) → ⊥) → IsAtHome around.old around.new }
+    ensures folder_rests { (AskSome (words_in words.now) → ⊥) → around.new.folder ≡ around.old.folder }
     // Nor is it where another process has the desk; its folder is asked for, and that doesn't fail.
     ensures in_use { result ≡ 4 → IsAtHome around.old around.new }
     ensures held { result ≡ 4
         → Adds (F.calls around.old.folder) (F.calls around.new.folder) (Held false) }
     // A word that needs no server makes no call on the net.
-    ensures quiet { (AskServers (map string_bytes words.now.items) → ⊥) → around.new.net ≡ around.old.net }
+    ensures quiet { (AskServers (words_in words.now) → ⊥) → around.new.net ≡ around.old.net }
     // With status 0 or 5 the word has done what it is to do, row by row.
-    ensures done { AskSome (map string_bytes words.now.items)
-        → DoneAsAsked F.File.disk F.File.Counted.seen (map string_bytes words.now.items) result
-        (scene K.seen N.seen F.calls around.old) (scene K.seen N.seen F.calls around.new) }
+    ensures done { Between K.seen N.seen F.calls around.old around.new
+        (DoneIfAsked F.File.disk F.File.Counted.seen (words_in words.now)) result }
     // Where letters met that is printed, with the name of the box.
     ensures met { result ≡ 5
         → Prints TellsMet (K.seen around.old.out).written (K.seen around.new.out).written }

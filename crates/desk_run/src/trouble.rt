@@ -12,34 +12,34 @@ use node_journal::JournalFault;
 use std::fmt;
 
 /// One of the two servers, as cards and pair files call it.
-#[derive(Clone, Copy, Debug, PartialEq, Eq)]
-pub enum Server {
+#[derive(Clone, Copy)]
+pub enum ServerName {
     Leader,
     Helper,
 }
 
-impl Server {
+impl ServerName {
     // The server of this number.
-    fn of(server: Option<u8>) -> Server {
+    fn of(server: Option<u8>) -> ServerName {
         match server {
-            Some(1) => Server::Helper,
-            Some(_) => Server::Leader,
-            None => Server::Leader,
+            Some(1) => ServerName::Helper,
+            Some(_) => ServerName::Leader,
+            None => ServerName::Leader,
         }
     }
 }
 
-impl fmt::Display for Server {
+impl fmt::Display for ServerName {
     fn fmt<W: fmt::Write>(&self, f: &mut fmt::Formatter<W>) -> fmt::Result {
         match self {
-            Server::Leader => f.write_str("leader"),
-            Server::Helper => f.write_str("helper"),
+            ServerName::Leader => f.write_str("leader"),
+            ServerName::Helper => f.write_str("helper"),
         }
     }
 }
 
 /// Why a word isn't done. A text is the path, the folder or the name that the words have.
-#[derive(Clone, Copy, Debug, PartialEq, Eq)]
+#[derive(Clone, Copy)]
 pub enum Trouble<'a> {
     /// The output failed, so nothing can be told.
     Out,
@@ -80,9 +80,9 @@ pub enum Trouble<'a> {
     /// The lane's last number was used.
     Spent,
     /// The server wasn't reached, or the connection broke off.
-    Unreached(Server),
+    Unreached(ServerName),
     /// The server gave no whole answer.
-    NoAnswer(Server),
+    NoAnswer(ServerName),
     /// A server asks to come again later.
     Later,
     /// A server refused the request.
@@ -125,10 +125,10 @@ pub(crate) fn halted<'a>(halt: Halt, server: Option<u8>) -> Trouble<'a>
 {
     match halt {
         Halt::Keep(fault) => Trouble::from(fault),
-        Halt::Stop(Stop::Answer) => Trouble::NoAnswer(Server::of(server)),
+        Halt::Stop(Stop::Answer) => Trouble::NoAnswer(ServerName::of(server)),
         Halt::Stop(Stop::Later(_)) => Trouble::Later,
         Halt::Stop(Stop::Spent) => Trouble::Spent,
         Halt::Stop(Stop::Full) => Trouble::Full,
-        Halt::Stop(Stop::Fault(_)) => Trouble::Unreached(Server::of(server)),
+        Halt::Stop(Stop::Fault(_)) => Trouble::Unreached(ServerName::of(server)),
     }
 }

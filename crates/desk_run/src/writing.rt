@@ -1,15 +1,15 @@
 //! Letters, written to files.
-ghost use Rattle.std.specs.Prelude.{◌≡◌, ◌≢◌, ◌≤◌, ◌<◌, ℕ, List as Listed, [], Err, IfErr, IfOk, OnOk, false, length, map, string_bytes, true};
+ghost use Rattle.std.specs.Prelude.{◌≡◌, ◌≢◌, ◌≤◌, ◌<◌, ℕ, List as Listed, [], Err, IfErr, IfOk, OnOk, false, length, string_bytes, true};
 ghost use Rattle.std.specs.List.{list_any};
 ghost use Rattle.desk_entries.specs.Letters.{letters_of};
 ghost use Rattle.desk_run.specs.Ends.{IsUndone, Unfailed};
 ghost use Rattle.desk_run.specs.Printing.{Prints, TellsMet};
-ghost use Rattle.desk_run.specs.Shown.{Each, is_met};
-ghost use Rattle.desk_run.specs.Told.{TellsFile, TellsReading, file_line, file_name, place_text};
+ghost use Rattle.desk_run.specs.Shown.{is_met, lent};
+ghost use Rattle.desk_run.specs.Told.{TellsAll, TellsFiles, TellsRead, file_line, file_name, place_text};
 
 use crate::moment::moment_text;
 use crate::saying::say;
-use crate::showing::{Shown, either, is_met, met_text, note_shown};
+use crate::showing::{ShownLetters, either, is_met, met_text, note_shown};
 use crate::trouble::Trouble;
 use desk_entries::{Held, Reading};
 use desk_ledger::Ledger;
@@ -55,8 +55,8 @@ fn line_at(
 
 // What is told of a letter that is in its file.
 fn line_text(alloc: Global, name: &str, reading: &Reading, folder: &str) -> Result<String, NoMemory>
-    ensures { IfOk result (λ text. (moment : Listed ℕ)
-        × (string_bytes text ≡ file_line folder.now name.now moment (file_name name.now reading.now.serial))) }
+    ensures { IfOk result (λ text. (moment : Listed ℕ) × (string_bytes text
+        ≡ file_line folder.now name.now moment (file_name name.now reading.now.serial))) }
 {
     let moment = moment_text(alloc, reading.seconds)?;
     let file = file_name(alloc, name, reading.serial)?;
@@ -65,8 +65,7 @@ fn line_text(alloc: Global, name: &str, reading: &Reading, folder: &str) -> Resu
 
 // What is told of what a box held.
 fn told_text(alloc: Global, folder: &str, name: &str, reading: &Reading) -> Result<String, NoMemory>
-    ensures { IfOk result (λ text. TellsFile folder.now name.now reading.now.serial reading.now.held
-        (string_bytes text)) }
+    ensures { IfOk result (λ text. TellsRead folder.now name.now reading.now (string_bytes text)) }
 {
     match &reading.held {
         Held::Nothing => Ok(String::new(alloc)),
@@ -106,7 +105,7 @@ fn write_letter<'a, P: Papers, K: Sink>(
     papers: &mut P,
     out: &mut K,
 ) -> Result<(), Trouble<'a>>
-    ensures told { OnOk result (Prints (TellsFile folder.entry.now name.now reading.now.serial reading.now.held)
+    ensures told { OnOk result (Prints (TellsRead folder.entry.now name.now reading.now)
         (K.seen out.old).written (K.seen out.new).written) }
     ensures undone { IfErr result IsUndone }
     ensures sink { Unfailed (K.seen out.old).faults (K.seen out.new).faults result }
@@ -124,9 +123,10 @@ fn write_all<'a, D: Disk, P: Papers, K: Sink>(
     papers: &mut P,
     out: &mut K,
 ) -> Result<bool, Trouble<'a>>
-    ensures each { OnOk result (Prints (Each (TellsReading folder.entry.now ledger.now.entries)
-        (map (λ r. r.now) readings.now)) (K.seen out.old).written (K.seen out.new).written) }
-    ensures met { IfOk result (λ met. met ≡ list_any is_met (map (λ r. r.now) readings.now)) }
+    ensures each { OnOk result (Prints
+        (TellsFiles folder.entry.now ledger.now.entries (lent readings.now))
+        (K.seen out.old).written (K.seen out.new).written) }
+    ensures met { IfOk result (λ met. met ≡ list_any is_met (lent readings.now)) }
     ensures told { IfOk result (λ met. met ≡ true
         → Prints TellsMet (K.seen out.old).written (K.seen out.new).written) }
     ensures undone { IfErr result IsUndone }
@@ -150,9 +150,9 @@ fn write_those<'a, D: Disk, P: Papers, K: Sink>(
     ledger: &Ledger<D>,
     papers: &mut P,
     out: &mut K,
-) -> Result<Shown, Trouble<'a>>
-    ensures each { OnOk result (Prints (Each (TellsReading folder.entry.now ledger.now.entries)
-        (letters_of ledger.now.entries)) (K.seen out.old).written (K.seen out.new).written) }
+) -> Result<ShownLetters, Trouble<'a>>
+    ensures each { OnOk result (Prints (TellsAll folder.entry.now ledger.now.entries)
+        (K.seen out.old).written (K.seen out.new).written) }
     ensures none { IfOk result (λ shown. shown.any ≡ false → length (letters_of ledger.now.entries) ≤ 0) }
     ensures some { IfOk result (λ shown. shown.any ≡ true → 0 < length (letters_of ledger.now.entries)) }
     ensures met { IfOk result (λ shown. shown.met ≡ list_any is_met (letters_of ledger.now.entries)) }
@@ -164,7 +164,7 @@ fn write_those<'a, D: Disk, P: Papers, K: Sink>(
     let letters = ledger.letters()?;
     let count = letters.len();
     let met = write_all(alloc, folder, ledger, &letters, papers, out)?;
-    Ok(Shown {
+    Ok(ShownLetters {
         count,
         any: 0 < count,
         met,
@@ -179,9 +179,9 @@ pub(crate) fn write_letters<'a, D: Disk, P: Papers, K: Sink>(
     ledger: &mut Ledger<D>,
     papers: &mut P,
     out: &mut K,
-) -> Result<Shown, Trouble<'a>>
-    ensures each { OnOk result (Prints (Each (TellsReading folder.entry.now ledger.old.entries)
-        (letters_of ledger.old.entries)) (K.seen out.old).written (K.seen out.new).written) }
+) -> Result<ShownLetters, Trouble<'a>>
+    ensures each { OnOk result (Prints (TellsAll folder.entry.now ledger.old.entries)
+        (K.seen out.old).written (K.seen out.new).written) }
     ensures none { IfOk result (λ shown. shown.any ≡ false → letters_of ledger.old.entries ≡ []) }
     ensures some { IfOk result (λ shown. shown.any ≡ true → letters_of ledger.old.entries ≢ []) }
     ensures met { IfOk result (λ shown. shown.met ≡ list_any is_met (letters_of ledger.old.entries)) }

@@ -11,13 +11,13 @@ use Rattle.desk_tries.specs.declared.heard.Answer.{Answer}
 use Rattle.desk_tries.specs.declared.heard.Answer.TheVariants as answer
 use Rattle.desk_tries.specs.declared.heard.Fate.{Fate}
 use Rattle.desk_tries.specs.declared.heard.Fate.TheVariants.{GoesOn, Again, NotWritten, Unknown, Written}
-use Rattle.desk_tries.specs.declared.sending.End.{End}
-use Rattle.desk_tries.specs.declared.sending.End.TheVariants as end
+use Rattle.desk_tries.specs.declared.sending.LetterEnd.{LetterEnd}
+use Rattle.desk_tries.specs.declared.sending.LetterEnd.TheVariants as end
 use Rattle.desk_tries.specs.declared.sending.Next.TheVariants.{NewTry, NextAddress, Stop}
 use Rattle.desk_tries.specs.Fate.{by_proof, fate_by_refusal, fate_by}
 use Rattle.desk_tries.specs.Servers.{closes, excludes}
-use Rattle.desk_tries.specs.Steps.{State, turn, after_proof, new_try, end_of, again_at_address, elsewhere, turn_by}
-use Rattle.desk_tries.specs.Runs.{Try, fresh, may_be_accepted, may_be_accepted_at, accepted_at, Event, ProofGoes, Hears, Run, tries, opened, hears, follows_turn, goes_on, if_open, after_event, run_from, run_of}
+use Rattle.desk_tries.specs.Steps.{SendingState, turn, after_proof, new_try, end_of, again_at_address, elsewhere, turn_by}
+use Rattle.desk_tries.specs.Runs.{Try, fresh, may_be_accepted, may_be_accepted_at, accepted_at, TryEvent, ProofGoes, Hears, Run, tries, opened, hears, follows_turn, goes_on, if_open, after_event, run_from, run_of}
 use Rattle.desk_tries.specs.Laws.{WrittenOnce, NotWrittenIsTrue, IsAccepted, WrittenIsTrue, AreFew, TriesAreFew}
 
 -- ---- what an answer tells
@@ -138,13 +138,13 @@ adds_none address t none =
 
 -- ---- what a run keeps
 
-abbrev pub EndIs : Option End → State → Try → Type 0
+abbrev pub EndIs : Option LetterEnd → SendingState → Try → Type 0
 EndIs None s t = Unit {0}
 EndIs (Some end.Written) s t = IsAccepted t
 EndIs (Some end.NotWritten) s t = (s.address ≡ 0) × (may_be_accepted t ≡ false)
 EndIs (Some end.MaybeWritten) s t = Unit {0}
 
-pub record Keeps (addresses : ℕ) (s : State) (t : Try) (before : List Try) : Type 0 where
+pub record Keeps (addresses : ℕ) (s : SendingState) (t : Try) (before : List Try) : Type 0 where
   pub addresses_are : s.addresses ≡ addresses
   pub there : s.address < addresses
   pub address_is : t.address ≡ s.address
@@ -160,7 +160,7 @@ pub record Good (addresses : ℕ) (run : Run) : Type 0 where
   pub end_is : EndIs run.end run.state run.now
 
 -- a new try at the same address, behind one that can't have been accepted
-same_address : (n : ℕ) (s : State) (t : Try) (before : List Try) → Keeps n s t before → may_be_accepted t ≡ false
+same_address : (n : ℕ) (s : SendingState) (t : Try) (before : List Try) → Keeps n s t before → may_be_accepted t ≡ false
     → (s.further ≡ 0 → ⊥) → Keeps n (new_try s s.address) (fresh s.address) (t ∷ before)
 same_address n s t before k none left = record {
   addresses_are = k.addresses_are;
@@ -174,7 +174,7 @@ same_address n s t before k none left = record {
 }
 
 -- a new try at the next address
-next_address : (n : ℕ) (s : State) (t : Try) (before : List Try) → Keeps n s t before → (s.further ≡ 0 → ⊥)
+next_address : (n : ℕ) (s : SendingState) (t : Try) (before : List Try) → Keeps n s t before → (s.further ≡ 0 → ⊥)
     → (s.address + 1 ≡ s.addresses → ⊥) → Keeps n (new_try s (s.address + 1)) (fresh (s.address + 1)) (t ∷ before)
 next_address n s t before k left more = record {
   addresses_are = k.addresses_are;
@@ -197,7 +197,7 @@ next_address n s t before k left more = record {
         let e = adds_elsewhere a t other in let c = k.once a in let s = accepted_cons a t before in omega (arith, e, c, s)
 
 -- what is kept says the same of a try that heard one more answer
-heard : (n : ℕ) (s : State) (t : Try) (before : List Try) (a : Answer) → Keeps n s t before → Keeps n s (hears t a) before
+heard : (n : ℕ) (s : SendingState) (t : Try) (before : List Try) (a : Answer) → Keeps n s t before → Keeps n s (hears t a) before
 heard n s t before a k = record {
   addresses_are = k.addresses_are;
   there = k.there;
@@ -211,8 +211,8 @@ heard n s t before a k = record {
 
 -- behind an answer, by what it told
 module _ (n : ℕ) (run : Run) (t : Try) (k : Keeps n run.state t run.before) (open_is : run.end ≡ None) where
-  going : (s : State) (now : Try) → EndIs run.end s now
-  going s now = subst (λ (e : Option End). EndIs e s now) (sym open_is) tt
+  going : (s : SendingState) (now : Try) → EndIs run.end s now
+  going s now = subst (λ (e : Option LetterEnd). EndIs e s now) (sym open_is) tt
 
   at_end : (b : Bool) → eqb run.state.address 0 ≡ b → may_be_accepted t ≡ false
       → EndIs (Some (cond b end.NotWritten end.MaybeWritten)) run.state t
@@ -273,7 +273,7 @@ accepted_by out t a is told =
 
 -- ---- one event, and a run
 
-proof_kept : (n : ℕ) (s : State) (t : Try) (before : List Try) → Keeps n s t before
+proof_kept : (n : ℕ) (s : SendingState) (t : Try) (before : List Try) → Keeps n s t before
     → Keeps n (after_proof s) (record t { proof_out = true }) before
 proof_kept n s t before k = record {
   addresses_are = k.addresses_are;
@@ -286,10 +286,10 @@ proof_kept n s t before k = record {
   once = k.once;
 }
 
-good_next : (n : ℕ) (run : Run) (event : Event) → run.end ≡ None → Good n run → Good n (goes_on run event)
+good_next : (n : ℕ) (run : Run) (event : TryEvent) → run.end ≡ None → Good n run → Good n (goes_on run event)
 good_next n run ProofGoes open_is g = record {
   keeps = proof_kept n run.state run.now run.before g.keeps;
-  end_is = subst (λ (e : Option End). EndIs e (after_proof run.state) (record run.now { proof_out = true })) (sym open_is) tt;
+  end_is = subst (λ (e : Option LetterEnd). EndIs e (after_proof run.state) (record run.now { proof_out = true })) (sym open_is) tt;
 }
 good_next n run (Hears a) open_is g =
     let out : Bool = run.state.proof_out in
@@ -297,15 +297,15 @@ good_next n run (Hears a) open_is g =
     (λ told. none_by out run.now a g.keeps.proof_is told)
     (λ told. accepted_by out run.now a g.keeps.proof_is told)
 
-good_after : (n : ℕ) (run : Run) (event : Event) → Good n run → Good n (after_event run event)
+good_after : (n : ℕ) (run : Run) (event : TryEvent) → Good n run → Good n (after_event run event)
 unfolding after_event
 good_after n run event g = at_end run.end refl
   where
-    at_end : (e : Option End) → run.end ≡ e → Good n (if_open e (goes_on run event) run)
+    at_end : (e : Option LetterEnd) → run.end ≡ e → Good n (if_open e (goes_on run event) run)
     at_end None is = good_next n run event is g
     at_end (Some other) is = g
 
-good_from : (n : ℕ) (run : Run) (events : List Event) → Good n run → Good n (run_from run events)
+good_from : (n : ℕ) (run : Run) (events : List TryEvent) → Good n run → Good n (run_from run events)
 unfolding run_from
 good_from n run [] g = g
 good_from n run (event ∷ events) g = good_from n (after_event run event) events (good_after n run event g)
@@ -327,7 +327,7 @@ good_start n h = record {
 
 -- ---- the laws
 
-good_run : (n : ℕ) (events : List Event) → 1 ≤ n → Good n (run_of n events)
+good_run : (n : ℕ) (events : List TryEvent) → 1 ≤ n → Good n (run_of n events)
 good_run n events h = good_from n (opened n) events (good_start n h)
 
 once_of : (n a : ℕ) (run : Run) → Good n run → accepted_at a (tries run) ≤ 1
@@ -349,7 +349,7 @@ written_once n events a h = once_of n a (run_of n events) (good_run n events h)
 
 none_of : (n a : ℕ) (run : Run) → Good n run → run.end ≡ Some end.NotWritten → accepted_at a (tries run) ≡ 0
 none_of n a run g is =
-    let ended = subst (λ (e : Option End). EndIs e run.state run.now) is g.end_is in
+    let ended = subst (λ (e : Option LetterEnd). EndIs e run.state run.now) is g.end_is in
     let e = adds_none a run.now ended.1 in
     let first = ended.0 in
     let c = g.keeps.clear a (omega (arith, first)) in
@@ -361,7 +361,7 @@ not_written_is_true n events a h is = none_of n a (run_of n events) (good_run n 
 pub written_is_true : WrittenIsTrue
 written_is_true n events h is =
     let run : Run = run_of n events in
-    subst (λ (e : Option End). EndIs e run.state run.now) is (good_run n events h).end_is
+    subst (λ (e : Option LetterEnd). EndIs e run.state run.now) is (good_run n events h).end_is
 
 few_of : (n : ℕ) (run : Run) → Good n run → AreFew n run
 few_of n run g = record {

@@ -2,17 +2,17 @@
 use Rattle.std.specs.Prelude.{◌≡◌, ℕ, ◌<◌, ◌≤◌, true, List, ◌∷◌, All, Some, length}
 use Rattle.desk_tries.specs.declared.heard.Answer.{Answer}
 use Rattle.desk_tries.specs.declared.heard.Answer.TheVariants.{Accepted}
-use Rattle.desk_tries.specs.declared.sending.End.TheVariants as end
-use Rattle.desk_tries.specs.Runs.{Try, Event, Run, tries, accepted_at, run_of}
+use Rattle.desk_tries.specs.declared.sending.LetterEnd.TheVariants as end
+use Rattle.desk_tries.specs.Runs.{Try, TryEvent, Run, tries, accepted_at, run_of}
 
 -- at most one try to each address may have been accepted
 abbrev pub WrittenOnce : Type 0
-WrittenOnce = (addresses : ℕ) (events : List Event) (address : ℕ) → 1 ≤ addresses
+WrittenOnce = (addresses : ℕ) (events : List TryEvent) (address : ℕ) → 1 ≤ addresses
     → accepted_at address (tries (run_of addresses events)) ≤ 1
 
 -- told as not written, the letter was accepted at no try to any address
 abbrev pub NotWrittenIsTrue : Type 0
-NotWrittenIsTrue = (addresses : ℕ) (events : List Event) (address : ℕ) → 1 ≤ addresses
+NotWrittenIsTrue = (addresses : ℕ) (events : List TryEvent) (address : ℕ) → 1 ≤ addresses
     → (run_of addresses events).end ≡ Some end.NotWritten
     → accepted_at address (tries (run_of addresses events)) ≡ 0
 
@@ -24,7 +24,7 @@ pub record IsAccepted (t : Try) : Type 0 where
 
 -- told as written, the letter was accepted at the last try
 abbrev pub WrittenIsTrue : Type 0
-WrittenIsTrue = (addresses : ℕ) (events : List Event) → 1 ≤ addresses
+WrittenIsTrue = (addresses : ℕ) (events : List TryEvent) → 1 ≤ addresses
     → (run_of addresses events).end ≡ Some end.Written
     → IsAccepted (run_of addresses events).now
 
@@ -34,5 +34,5 @@ pub record AreFew (addresses : ℕ) (run : Run) : Type 0 where
   pub there : All (λ t. t.address < addresses) (tries run)
 
 abbrev pub TriesAreFew : Type 0
-TriesAreFew = (addresses : ℕ) (events : List Event) → 1 ≤ addresses
+TriesAreFew = (addresses : ℕ) (events : List TryEvent) → 1 ≤ addresses
     → AreFew addresses (run_of addresses events)

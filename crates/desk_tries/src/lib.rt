@@ -9,4 +9,4 @@ mod sending;
 
 pub use draws::{highest_named, lane_among, next_lane, serial_above};
 pub use heard::{Answer, Fate, fate_by};
-pub use sending::{End, MOST_FURTHER, Next, Sending};
+pub use sending::{LetterEnd, MOST_FURTHER, Next, Sending};

@@ -21,12 +21,12 @@ pub enum Next {
     /// The same at the next address.
     NextAddress,
     /// Nothing.
-    Stop(End),
+    Stop(LetterEnd),
 }
 
 /// What became of the letter.
 #[derive(Clone, Copy, Debug, PartialEq, Eq)]
-pub enum End {
+pub enum LetterEnd {
     /// It is written.
     Written,
     /// It isn't written anywhere, now or later.
@@ -47,9 +47,9 @@ pub struct Sending {
 
 impl Model for Sending {
     ghost use Rattle.std.specs.Prelude.{◌<◌};
-    ghost use Rattle.desk_tries.specs.Steps.{State};
+    ghost use Rattle.desk_tries.specs.Steps.{SendingState};
 
-    ghost Value = { State };
+    ghost Value = { SendingState };
 
     ghost view = { λ s. record {
       addresses = s.addresses;
@@ -131,7 +131,7 @@ impl Sending {
         match fate_by(self.proof_out, answer) {
             Fate::GoesOn => Next::GoOn,
             Fate::Again => Next::SameAgain,
-            Fate::Written => Next::Stop(End::Written),
+            Fate::Written => Next::Stop(LetterEnd::Written),
             Fate::NotWritten => self.try_again(),
             Fate::Unknown => self.try_elsewhere(),
         }
@@ -158,7 +158,7 @@ impl Sending {
         ensures state { self.new ≡ (elsewhere self.old).state }
     {
         if self.further == 0 || self.address + 1 == self.addresses {
-            return Next::Stop(End::MaybeWritten);
+            return Next::Stop(LetterEnd::MaybeWritten);
         }
         self.further -= 1;
         self.address += 1;
@@ -167,13 +167,13 @@ impl Sending {
     }
 
     // An address is left behind only where it isn't known whether the letter was written there.
-    fn end(&self) -> End
+    fn end(&self) -> LetterEnd
         ensures { result ≡ end_of self.now }
     {
         if self.address == 0 {
-            End::NotWritten
+            LetterEnd::NotWritten
         } else {
-            End::MaybeWritten
+            LetterEnd::MaybeWritten
         }
     }
 }

@@ -2,7 +2,7 @@ use Rattle.std.proofs.Common.{◌≡◌, true, ap, refl, subst, List, Option, �
 use Rattle.std.proofs.lemmas.Bool.{not-false, not-true}
 use Rattle.desk_run.specs.Printing.{Prints, TellsMet}
 use Rattle.desk_run.specs.Told.{told_of}
-use Rattle.desk_run.specs.declared.ending.End.TheVariants as end
+use Rattle.desk_run.specs.declared.ending.WordEnd.TheVariants as end
 use Rattle.desk_run.proofs.StatusLaws.{met_of}
 use Rattle.desk_run.proofs.WordLaws.{end_none, end_some, fetches, tells_none, tells_some}
 use Rattle.desk_run.proofs.letters.letters.Goals as goal
