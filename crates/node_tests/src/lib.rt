@@ -4,14 +4,18 @@
 #[cfg(test)]
 mod door;
 #[cfg(test)]
+mod hidden;
+#[cfg(test)]
 mod journal;
+#[cfg(test)]
+mod nets;
 #[cfg(test)]
 mod notes;
 #[cfg(test)]
 mod requests;
 #[cfg(test)]
-mod restart;
-#[cfg(test)]
 mod runs;
+#[cfg(test)]
+mod told;
 #[cfg(test)]
 mod two_parts;

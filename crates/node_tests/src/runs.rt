@@ -1,6 +1,9 @@
 //! Runs over a net in memory that gives recorded answers.
-use client_run::{Ran, RunEnd, Untold, run_carry, run_client};
-use express_words::outside::{MemoryConn, MemoryNet, MemorySink};
+use crate::hidden::Hidden;
+use crate::nets::{HiddenNet, net_of};
+use crate::told::is_told;
+use client_run::{Ran, Untold, run_carry, run_client};
+use express_words::outside::{MemoryConn, MemorySink};
 use settings_text::{read_carry, read_client};
 use std::alloc::{AllocError, Global};
 use std::test::Fail;
@@ -46,10 +49,12 @@ const ANSWERS: [&str; 8] = [
 ];
 
 // The first two frames that this program sends.
-const FRAMES: [&str; 2] = [
-    "000000310101000000000001000000000000000001cf323ab90f22f9f0d536e2b50d47830f798663b944f225a3381755501a62a218",
-    "0000004001020000000000010000000000000000000000000000000000000000000000001ae9902a1c493fa84a8ad2034a502d2caa003c7f1f4e485911b807342e02ec09",
-];
+const FRAMES: &str =
+    "000000310101000000000001000000000000000001cf323ab90f22f9f0d536e2b50d47830f798663b944f225a3381755501a62a218\n\
+    0000004001020000000000010000000000000000000000000000000000000000000000001ae9902a1c493fa84a8ad2034a502d2caa003c7f1f4e485911b807342e02ec09\n";
+
+// The first bytes of the first answer.
+const EARLY: &str = "000000110106000000";
 
 const AGAIN: &str = "00000019010900000000000100000000000000000d0000000000000001";
 
@@ -61,7 +66,7 @@ const FETCHED: [&str; 4] = [
     "00000015010900000000000400000000000000000800000009",
 ];
 
-fn text(alloc: Global, lines: &[&str]) -> Result<String, AllocError> {
+fn text_of(alloc: Global, lines: &[&str]) -> Result<String, AllocError> {
     let mut text = String::new(alloc);
     text.push_str(SERVERS)?;
     text.push_str(SEED)?;
@@ -71,143 +76,161 @@ fn text(alloc: Global, lines: &[&str]) -> Result<String, AllocError> {
     Ok(text)
 }
 
-fn net(alloc: Global, answers: &[&str], failing: &[u64]) -> Result<MemoryNet, Fail> {
-    let mut conns = Vec::new(alloc);
-    for answer in answers {
-        let bytes = hex::decode(alloc, answer)?;
-        let conn = MemoryConn::new(alloc, &bytes, 8213, &[])?;
-        conns.push(conn).map_err(AllocError::from)?;
-    }
-    Ok(MemoryNet::new(alloc, conns, 20, 99, failing)?)
+/// The net of a run, and what takes its lines.
+#[derive(Drop)]
+struct Ends {
+    net: HiddenNet,
+    out: Hidden<MemorySink>,
+}
+
+fn sink(alloc: Global, failing: u64) -> Result<Hidden<MemorySink>, Fail> {
+    let inside = MemorySink::new(alloc, 400, &[failing])?;
+    Ok(Hidden { inside })
+}
+
+// The net's call and the put with these numbers fail, 0 for none.
+fn ends_of(alloc: Global, answers: &[&str], call: u64, put: u64) -> Result<Ends, Fail> {
+    Ok(Ends {
+        net: net_of(alloc, answers, call)?,
+        out: sink(alloc, put)?,
+    })
 }
 
 // The run of the client, or of the carrier, of these settings. Callers learn nothing of what they promise, which
 // keeps their proofs small.
-fn run_of(
-    alloc: Global,
-    text: &[u8],
-    out: &mut MemorySink,
-    net: &mut MemoryNet,
-) -> Result<Result<Ran, Untold>, Fail> {
+fn client_runs(alloc: Global, text: &[u8], ends: &mut Ends) -> Result<Result<Ran, Untold>, Fail> {
     let settings = read_client(alloc, text)?;
-    Ok(run_client(alloc, &settings, &[7; 32], out, net))
+    Ok(run_client(
+        alloc,
+        &settings,
+        &[7; 32],
+        &mut ends.out.inside,
+        &mut ends.net.inside,
+    ))
 }
 
-fn carry_of(
-    alloc: Global,
-    text: &[u8],
-    out: &mut MemorySink,
-    net: &mut MemoryNet,
-) -> Result<Result<Ran, Untold>, Fail> {
+fn carrier_runs(alloc: Global, text: &[u8], ends: &mut Ends) -> Result<Result<Ran, Untold>, Fail> {
     let settings = read_carry(alloc, text)?;
-    Ok(run_carry(alloc, &settings, &[7; 32], out, net))
+    Ok(run_carry(
+        alloc,
+        &settings,
+        &[7; 32],
+        &mut ends.out.inside,
+        &mut ends.net.inside,
+    ))
 }
 
-// Whether a run came to this end, and this is what it put and its last text.
-fn is_end(
-    alloc: Global,
-    out: &MemorySink,
-    ran: Result<Ran, Untold>,
-    end: RunEnd,
-    text: &str,
-) -> Result<bool, Fail> {
-    let ran = ran?;
-    let mut printed = Vec::from_slice(alloc, out.written())?;
-    for byte in ran.text.as_str().as_bytes() {
-        printed.push(*byte)?;
+fn lines_told(out: &Hidden<MemorySink>, told: &mut String) -> Result<(), Fail> {
+    let lines = std::str::from_utf8(out.inside.written())?;
+    Ok(told.push_str(lines)?)
+}
+
+// The last text of a run and how it ended, or why the text isn't told.
+fn last_told(ran: &Result<Ran, Untold>, told: &mut String) -> Result<(), AllocError> {
+    match ran {
+        Ok(ran) => write!(told, "{}{:?}", ran.text.as_str(), ran.end),
+        Err(untold) => write!(told, "{untold}"),
     }
-    Ok(ran.end == end && printed.as_slice() == text.as_bytes())
 }
 
-// Whether the client's run comes to this end and text, where the connections give these answers in order.
-fn runs(
-    alloc: Global,
-    answers: &[&str],
-    failing: &[u64],
-    end: RunEnd,
-    wanted: &str,
-) -> Result<bool, Fail> {
-    let text = text(alloc, &CLIENT)?;
-    let mut net = net(alloc, answers, failing)?;
-    let mut out = MemorySink::new(alloc, 400, &[])?;
-    let ran = run_of(alloc, text.as_bytes(), &mut out, &mut net)?;
-    is_end(alloc, &out, ran, end, wanted)
+fn closed_by(ends: &Ends) -> usize {
+    ends.net.inside.closed().len()
 }
 
-// Whether a carrier's run comes to its end, and prints this.
-pub(crate) fn carries(
+// What a run put, its last text, how it ended, and how many connections it closed.
+fn told_of(alloc: Global, ran: &Result<Ran, Untold>, ends: &Ends) -> Result<String, Fail> {
+    let mut told = String::new(alloc);
+    lines_told(&ends.out, &mut told)?;
+    last_told(ran, &mut told)?;
+    write!(told, " {}\n", closed_by(ends))?;
+    Ok(told)
+}
+
+fn client_told(alloc: Global, answers: &[&str], call: u64, put: u64) -> Result<String, Fail> {
+    let text = text_of(alloc, &CLIENT)?;
+    let mut ends = ends_of(alloc, answers, call, put)?;
+    let ran = client_runs(alloc, text.as_bytes(), &mut ends)?;
+    told_of(alloc, &ran, &ends)
+}
+
+/// What is told of a carrier's run.
+pub(crate) fn carrier_told(
     alloc: Global,
     lines: &[&str],
     answers: &[&str],
-    wanted: &str,
-) -> Result<bool, Fail> {
-    let text = text(alloc, lines)?;
-    let mut net = net(alloc, answers, &[])?;
-    let mut out = MemorySink::new(alloc, 400, &[])?;
-    let ran = carry_of(alloc, text.as_bytes(), &mut out, &mut net)?;
-    is_end(alloc, &out, ran, RunEnd::Done, wanted)
+) -> Result<String, Fail> {
+    let text = text_of(alloc, lines)?;
+    let mut ends = ends_of(alloc, answers, 0, 0)?;
+    let ran = carrier_runs(alloc, text.as_bytes(), &mut ends)?;
+    told_of(alloc, &ran, &ends)
 }
 
-// What the client's run puts where this put of it fails, and how many connections it closed by then.
-fn cut_off(alloc: Global, failing: u64, wanted: &str) -> Result<usize, Fail> {
-    let text = text(alloc, &CLIENT)?;
-    let mut net = net(alloc, &ANSWERS, &[])?;
-    let mut out = MemorySink::new(alloc, 400, &[failing])?;
-    let ran = run_of(alloc, text.as_bytes(), &mut out, &mut net)?;
-    match ran {
-        Err(Untold::Unwritten) if out.written() == wanted.as_bytes() => Ok(net.closed().len()),
-        _ => Ok(99),
-    }
+const OUTCOMES: &str = "outcome 0 registered 0\noutcome 1 accepted\n\
+    outcome 2 message ffffffffffffffffffffffffffffffff\noutcome 3 no box 1\nend\nDone 8\n";
+
+#[test]
+fn client_runs_to_its_end(rt: HostRuntime) -> Result<(), Fail> {
+    let alloc = rt.alloc();
+    is_told(client_told(alloc, &ANSWERS, 0, 0), OUTCOMES)?;
+    let again = client_told(alloc, &[ANSWERS[0], AGAIN], 0, 0);
+    is_told(again, "stopped again 1\nDone 2\n")?;
+    let early = client_told(alloc, &[ANSWERS[0], EARLY], 0, 0);
+    is_told(early, "stopped answer\nDone 2\n")?;
+    let fault = client_told(alloc, &ANSWERS, 5, 0);
+    is_told(fault, "outcome 0 registered 0\nnet fault\nNetFault 4\n")
 }
 
-// Whether the connections that a run closed first took the first frames.
-fn sends_frames(alloc: Global) -> Result<bool, Fail> {
-    let text = text(alloc, &CLIENT)?;
-    let mut net = net(alloc, &ANSWERS, &[])?;
-    let mut out = MemorySink::new(alloc, 400, &[])?;
-    run_of(alloc, text.as_bytes(), &mut out, &mut net)??;
-    let mut same = net.closed().len() == ANSWERS.len();
-    for (conn, frame) in net.closed().iter().zip(FRAMES) {
-        same = same && conn.written() == hex::decode(alloc, frame)?.as_slice();
-    }
-    Ok(same)
+fn frame_told(alloc: Global, conn: &MemoryConn, told: &mut String) -> Result<(), Fail> {
+    let digits = hex::encode(alloc, conn.written())?;
+    write!(told, "{digits}\n")?;
+    Ok(())
+}
+
+fn two_told(alloc: Global, ends: &Ends, told: &mut String) -> Result<(), Fail> {
+    let [first, second, ..] = ends.net.inside.closed() else {
+        return Err(Fail::new("fewer connections were closed"));
+    };
+    frame_told(alloc, first, told)?;
+    frame_told(alloc, second, told)
+}
+
+// The first two frames that a run sends.
+fn frames_told(alloc: Global) -> Result<String, Fail> {
+    let text = text_of(alloc, &CLIENT)?;
+    let mut ends = ends_of(alloc, &ANSWERS, 0, 0)?;
+    client_runs(alloc, text.as_bytes(), &mut ends)??;
+    let mut told = String::new(alloc);
+    two_told(alloc, &ends, &mut told)?;
+    Ok(told)
 }
 
 #[test]
-fn client_runs(rt: HostRuntime) -> Result<(), Fail> {
-    assert!(rt; sends_frames(rt.alloc())?);
-    let text = "outcome 0 registered 0\noutcome 1 accepted\n\
-        outcome 2 message ffffffffffffffffffffffffffffffff\noutcome 3 no box 1\nend\n";
-    assert!(rt; runs(rt.alloc(), &ANSWERS, &[], RunEnd::Done, text)?);
-    let again = "stopped again 1\n";
-    assert!(rt; runs(rt.alloc(), &[ANSWERS[0], AGAIN], &[], RunEnd::Done, again)?);
-    let early = [ANSWERS[0], &ANSWERS[0][..18]];
-    assert!(rt; runs(rt.alloc(), &early, &[], RunEnd::Done, "stopped answer\n")?);
-    let fault = "outcome 0 registered 0\nnet fault\n";
-    assert!(rt; runs(rt.alloc(), &ANSWERS, &[5], RunEnd::NetFault, fault)?);
-    Ok(())
+fn frames_are_sent(rt: HostRuntime) -> Result<(), Fail> {
+    is_told(frames_told(rt.alloc()), FRAMES)
 }
 
 #[test]
 fn sends_and_fetches(rt: HostRuntime) -> Result<(), Fail> {
     let alloc = rt.alloc();
-    let sent = "outcome 0 accepted\nsent 1\nend\n";
-    assert!(rt; carries(alloc, &SEND, &ANSWERS[2..6], sent)?);
-    let fetched = "file 000102\nend\n";
-    assert!(rt; carries(alloc, &FETCH, &FETCHED[..2], fetched)?);
+    let sent = carrier_told(alloc, &SEND, &ANSWERS[2..6]);
+    is_told(sent, "outcome 0 accepted\nsent 1\nend\nDone 4\n")?;
+    let fetched = carrier_told(alloc, &FETCH, &FETCHED[..2]);
+    is_told(fetched, "file 000102\nend\nDone 2\n")?;
     let broken = "outcome 1 refused nobox 9\n\
-        box 0 0000000000000007000000010003000000010200000000000000000000000000\nstopped outcome\n";
-    assert!(rt; carries(alloc, &FETCH_TWO, &FETCHED, broken)?);
-    Ok(())
+        box 0 0000000000000007000000010003000000010200000000000000000000000000\nstopped outcome\nDone 4\n";
+    is_told(carrier_told(alloc, &FETCH_TWO, &FETCHED), broken)
 }
 
 // A register takes two exchanges, a write four and a read two; a line that can't be put ends the run.
 #[test]
 fn tells_each_before_the_next(rt: HostRuntime) -> Result<(), Fail> {
     let alloc = rt.alloc();
-    assert!(rt; cut_off(alloc, 1, "")? == 2);
-    assert!(rt; cut_off(alloc, 2, "outcome 0 registered 0\n")? == 6);
-    let two = "outcome 0 registered 0\noutcome 1 accepted\n";
-    assert!(rt; cut_off(alloc, 3, two)? == 8);
-    Ok(())
+    is_told(client_told(alloc, &ANSWERS, 0, 1), "write fault 2\n")?;
+    let one = client_told(alloc, &ANSWERS, 0, 2);
+    is_told(one, "outcome 0 registered 0\nwrite fault 6\n")?;
+    let two = client_told(alloc, &ANSWERS, 0, 3);
+    is_told(
+        two,
+        "outcome 0 registered 0\noutcome 1 accepted\nwrite fault 8\n",
+    )
 }

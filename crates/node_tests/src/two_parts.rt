@@ -1,7 +1,8 @@
 //! A file of two parts over answers of both servers, recorded: by the cores of the leader and the helper, opened
 //! for four boxes of 32 bytes and one lane with seeds of bytes 1 and of bytes 2. The client had registered both
 //! boxes before, by its serials 1 and 2.
-use crate::runs::carries;
+use crate::runs::carrier_told;
+use crate::told::is_told;
 use std::test::Fail;
 
 const SEND: [&str; 3] = [
@@ -37,9 +38,8 @@ const FETCHED: [&str; 4] = [
 
 #[test]
 fn two_parts(rt: HostRuntime) -> Result<(), Fail> {
-    let sent = "outcome 0 accepted\noutcome 1 accepted\nsent 2\nend\n";
-    assert!(rt; carries(rt.alloc(), &SEND, &SENT, sent)?);
-    let fetched = "file 000102030405060708090a0b0c0d0e0f10\nend\n";
-    assert!(rt; carries(rt.alloc(), &FETCH, &FETCHED, fetched)?);
-    Ok(())
+    let sent = "outcome 0 accepted\noutcome 1 accepted\nsent 2\nend\nDone 8\n";
+    is_told(carrier_told(rt.alloc(), &SEND, &SENT), sent)?;
+    let fetched = "file 000102030405060708090a0b0c0d0e0f10\nend\nDone 4\n";
+    is_told(carrier_told(rt.alloc(), &FETCH, &FETCHED), fetched)
 }
