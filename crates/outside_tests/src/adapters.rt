@@ -58,15 +58,26 @@ fn fails(source: &mut Adapter<Direct<Failing>>, buf: &mut [u8; 8], faults: u64) 
     source.take(buf).is_err() && source.faults() == faults
 }
 
+fn has_ok(buf: &[u8; 8]) -> bool {
+    buf[..2] == [b'o', b'k']
+}
+
+// Two bytes, a fault and the end.
+fn source_told(interrupts: u32) -> [bool; 4] {
+    let mut source = Adapter::new(Direct(Failing::new(interrupts)));
+    let mut buf = [0u8; 8];
+    [
+        gives(&mut source, &mut buf, 2, 0),
+        has_ok(&buf),
+        fails(&mut source, &mut buf, 1),
+        gives(&mut source, &mut buf, 0, 1),
+    ]
+}
+
 #[test]
 fn a_source_counts_a_read_error_but_no_interruption_and_no_end(rt: HostRuntime) {
     for interrupts in [0, 1, 999] {
-        let mut source = Adapter::new(Direct(Failing::new(interrupts)));
-        let mut buf = [0u8; 8];
-        assert!(rt; gives(&mut source, &mut buf, 2, 0));
-        assert!(rt; buf[0] == b'o' && buf[1] == b'k');
-        assert!(rt; fails(&mut source, &mut buf, 1));
-        assert!(rt; gives(&mut source, &mut buf, 0, 1));
+        assert!(rt; source_told(interrupts) == [true; 4]);
     }
 }
 
@@ -121,8 +132,11 @@ fn puts(sink: &mut Adapter<Direct<Narrow>>, bytes: &[u8], taken: bool, faults: u
 #[test]
 fn a_sink_writes_on_and_counts_what_is_not_taken(rt: HostRuntime) {
     let mut narrow = sink(true);
-    assert!(rt; puts(&mut narrow, b"short", true, 0));
-    assert!(rt; puts(&mut narrow, b"longer", false, 1));
+    let told = [
+        puts(&mut narrow, b"short", true, 0),
+        puts(&mut narrow, b"longer", false, 1),
+    ];
+    assert!(rt; told == [true; 2]);
 }
 
 #[test]

@@ -142,48 +142,77 @@ fn fails<F: FileCalls>(disk: &mut FileDisk<F>, faults: u64) -> bool {
     disk.read(0, &mut [0; 8]).is_err() && disk.faults() == faults
 }
 
+type NarrowDisk<'a> = FileDisk<Narrow<'a>>;
+
+// Whether so many calls of the disk have failed.
+fn has_counted<F: FileCalls>(disk: &FileDisk<F>, faults: u64) -> bool {
+    disk.faults() == faults
+}
+
+fn written_back(disk: &mut NarrowDisk<'_>, notes: &Notes) -> [bool; 6] {
+    [
+        ends_with(disk, 8, b"before"),
+        notes.are(14, 0),
+        // It stays as it was, and is written back only once.
+        ends_with(disk, 0, b"written before"),
+        ends_with(disk, 14, b""),
+        notes.are(14, 0),
+        has_counted(disk, 0),
+    ]
+}
+
 #[test]
 fn what_is_there_is_written_back_before_the_first_answer(rt: HostRuntime) {
     let notes = Notes::new();
     let mut disk = FileDisk::new(Narrow::new(b"written before", &notes));
-    assert!(rt; ends_with(&mut disk, 8, b"before"));
-    assert!(rt; notes.are(14, 0) && disk.faults() == 0);
-    assert!(rt;
-        ends_with(&mut disk, 0, b"written before"),
-        "and stays as it was"
-    );
-    assert!(rt; ends_with(&mut disk, 14, b""));
-    assert!(rt; notes.are(14, 0), "only once");
+    assert!(rt; written_back(&mut disk, &notes) == [true; 6]);
+}
+
+fn written_in_pieces(disk: &mut NarrowDisk<'_>, notes: &Notes) -> [bool; 7] {
+    [
+        keeps(disk, 0, b"some bytes"),
+        writes(disk, 5, b"others"),
+        notes.are(16, 6),
+        ends_with(disk, 0, b"some others"),
+        has_counted(disk, 0),
+        !writes(disk, 30, b"no room"),
+        has_counted(disk, 1),
+    ]
 }
 
 #[test]
 fn pieces_and_interruptions_change_nothing(rt: HostRuntime) {
     let notes = Notes::new();
     let mut disk = FileDisk::new(Narrow::new(b"", &notes));
-    assert!(rt; keeps(&mut disk, 0, b"some bytes"));
-    assert!(rt; writes(&mut disk, 5, b"others") && notes.are(16, 6));
-    assert!(rt; ends_with(&mut disk, 0, b"some others") && disk.faults() == 0);
-    assert!(rt; !writes(&mut disk, 30, b"no room") && disk.faults() == 1);
+    assert!(rt; written_in_pieces(&mut disk, &notes) == [true; 7]);
+}
+
+fn read_until_it_fails(disk: &mut NarrowDisk<'_>, notes: &Notes) -> [bool; 2] {
+    let is_read = ends_with(disk, 0, b"bytes");
+    notes.fails_from.set(3);
+    [is_read, fails(disk, 1)]
 }
 
 #[test]
 fn a_read_error_is_not_taken_for_the_end(rt: HostRuntime) {
     let notes = Notes::new();
     let mut disk = FileDisk::new(Narrow::new(b"bytes", &notes));
-    assert!(rt; ends_with(&mut disk, 0, b"bytes"));
+    assert!(rt; read_until_it_fails(&mut disk, &notes) == [true; 2]);
+}
+
+fn opened_once_it_is_read(disk: &mut NarrowDisk<'_>, notes: &Notes) -> [bool; 4] {
     notes.fails_from.set(3);
-    assert!(rt; fails(&mut disk, 1));
+    let (fails, keeps) = (fails(disk, 1), keeps(disk, 0, b"others"));
+    let has_failed = has_counted(disk, 2);
+    notes.fails_from.set(u64::MAX);
+    [fails, !keeps, has_failed, ends_with(disk, 0, b"bytes")]
 }
 
 #[test]
 fn a_file_that_cannot_be_read_whole_is_not_opened(rt: HostRuntime) {
     let notes = Notes::new();
-    notes.fails_from.set(3);
     let mut disk = FileDisk::new(Narrow::new(b"bytes", &notes));
-    assert!(rt; fails(&mut disk, 1));
-    assert!(rt; !keeps(&mut disk, 0, b"others") && disk.faults() == 2);
-    notes.fails_from.set(u64::MAX);
-    assert!(rt; ends_with(&mut disk, 0, b"bytes"));
+    assert!(rt; opened_once_it_is_read(&mut disk, &notes) == [true; 4]);
 }
 
 /// The folder that the program runs in, as a file whose writes go nowhere.
@@ -227,6 +256,10 @@ fn a_folder_in_a_files_place_is_a_fault_and_no_empty_disk(rt: HostRuntime) {
         rt: &rt,
         folder: None,
     });
-    assert!(rt; fails(&mut disk, 1));
-    assert!(rt; disk.sync().is_err() && disk.faults() == 2);
+    let told = [
+        fails(&mut disk, 1),
+        disk.sync().is_err(),
+        has_counted(&disk, 2),
+    ];
+    assert!(rt; told == [true; 3]);
 }

@@ -86,8 +86,8 @@ fn an_accept_that_is_made_again_is_not_counted(rt: HostRuntime) -> Result<(), Fa
     let at = Instant::now(&rt)?;
     for fails in [0, 1, 9] {
         let mut net = jammed_net(at, fails);
-        assert!(rt; accepts(&mut net));
-        assert!(rt; has_counted(&net, 0, 0));
+        let told = [accepts(&mut net), has_counted(&net, 0, 0)];
+        assert!(rt; told == [true; 2]);
     }
     Ok(())
 }
@@ -95,19 +95,17 @@ fn an_accept_that_is_made_again_is_not_counted(rt: HostRuntime) -> Result<(), Fa
 #[test]
 fn an_accept_that_fails_ten_times_is_one_fault(rt: HostRuntime) -> Result<(), Fail> {
     let mut net = jammed_net(Instant::now(&rt)?, 19);
-    assert!(rt; !accepts(&mut net));
-    assert!(rt; has_counted(&net, 1, 1));
-    assert!(rt; accepts(&mut net), "nine more fail");
-    assert!(rt; has_counted(&net, 1, 1));
+    let ten = [!accepts(&mut net), has_counted(&net, 1, 1)];
+    let nine = [accepts(&mut net), has_counted(&net, 1, 1)];
+    assert!(rt; [ten, nine] == [[true; 2]; 2]);
     Ok(())
 }
 
 #[test]
 fn a_listen_is_a_fault_at_the_door_and_a_dial_is_not(rt: HostRuntime) -> Result<(), Fail> {
     let mut net = jammed_net(Instant::now(&rt)?, 0);
-    assert!(rt; !listens(&mut net));
-    assert!(rt; has_counted(&net, 1, 1));
-    assert!(rt; !dials(&mut net));
-    assert!(rt; has_counted(&net, 2, 1));
+    let listen = [!listens(&mut net), has_counted(&net, 1, 1)];
+    let dial = [!dials(&mut net), has_counted(&net, 2, 1)];
+    assert!(rt; [listen, dial] == [[true; 2]; 2]);
     Ok(())
 }

@@ -25,31 +25,68 @@ pub fn mode_of(rt: &HostRuntime, path: &str) -> Result<u32, Fail> {
 }
 
 // A disk is put in place, and goes on there.
-fn moves_into_place(folder: &mut DeskFolder<SystemFolder<'_>>) -> Result<bool, Fail> {
+fn moved_into_place(folder: &mut DeskFolder<SystemFolder<'_>>) -> Result<[bool; 6], Fail> {
     let mut disk = folder.open(DeskFile::NextLedger).map_err(|_| "not opened")?;
-    let is_made = keeps(&mut disk, 0, b"bytes") && !is_there(folder, DeskFile::Ledger);
-    folder
-        .put_in_place(DeskFile::NextLedger, DeskFile::Ledger)
-        .map_err(|_| "not put in place")?;
-    let is_moved = is_there(folder, DeskFile::Ledger) && !is_there(folder, DeskFile::NextLedger);
-    Ok(is_made && is_moved && keeps(&mut disk, 0, b"moved"))
+    Ok([
+        keeps(&mut disk, 0, b"bytes"),
+        !is_there(folder, DeskFile::Ledger),
+        folder
+            .put_in_place(DeskFile::NextLedger, DeskFile::Ledger)
+            .is_ok(),
+        is_there(folder, DeskFile::Ledger),
+        !is_there(folder, DeskFile::NextLedger),
+        keeps(&mut disk, 0, b"moved"),
+    ])
 }
 
-fn removes<F: Folder>(folder: &mut F, file: DeskFile) -> bool {
-    folder.remove(file).is_ok() && !is_there(folder, file) && folder.remove(file).is_ok()
+fn is_removed<F: Folder>(folder: &mut F, file: DeskFile) -> bool {
+    folder.remove(file).is_ok()
+}
+
+// A file is removed, and once more where it isn't there.
+fn removed<F: Folder>(folder: &mut F, file: DeskFile) -> [bool; 4] {
+    [
+        is_removed(folder, file),
+        !is_there(folder, file),
+        is_removed(folder, file),
+        folder.faults() == 0,
+    ]
+}
+
+fn holds(folder: &mut DeskFolder<SystemFolder<'_>>, wanted: Hold) -> bool {
+    folder.hold() == Ok(wanted)
+}
+
+// The folder is held, and another over the same paths finds it in use.
+fn held(
+    rt: &HostRuntime,
+    paths: &DeskPaths,
+    folder: &mut DeskFolder<SystemFolder<'_>>,
+) -> [bool; 2] {
+    let is_held = holds(folder, Hold::Held);
+    [is_held, holds(&mut folder_of(rt, paths), Hold::InUse)]
+}
+
+// The modes of the folder, its lock and its ledger.
+fn modes(rt: &HostRuntime, paths: &DeskPaths) -> Result<[u32; 3], Fail> {
+    Ok([
+        mode_of(rt, FOLDER)?,
+        mode_of(rt, paths.lock())?,
+        mode_of(rt, paths.path(DeskFile::Ledger))?,
+    ])
 }
 
 #[test]
 fn a_folder_is_private_and_one_process_has_it(rt: HostRuntime) -> Result<(), Fail> {
     let paths = DeskPaths::of(rt.alloc(), FOLDER)?;
     let mut folder = folder_of(&rt, &paths);
-    assert!(rt; folder.hold() == Ok(Hold::Held));
-    assert!(rt; folder_of(&rt, &paths).hold() == Ok(Hold::InUse));
-    assert!(rt; moves_into_place(&mut folder)?);
-    assert!(rt; mode_of(&rt, FOLDER)? == 0o700 && mode_of(&rt, paths.lock())? == 0o600);
-    assert!(rt; mode_of(&rt, paths.path(DeskFile::Ledger))? == 0o600);
-    assert!(rt; removes(&mut folder, DeskFile::Ledger) && folder.faults() == 0);
+    let held = held(&rt, &paths, &mut folder);
+    let moved = moved_into_place(&mut folder)?;
+    let modes = modes(&rt, &paths)?;
+    let removed = removed(&mut folder, DeskFile::Ledger);
     fs::remove_dir_all(&rt, FOLDER)?;
+    assert!(rt; held == [true; 2] && moved == [true; 6]);
+    assert!(rt; modes == [0o700, 0o600, 0o600] && removed == [true; 4]);
     Ok(())
 }
 
@@ -63,17 +100,29 @@ fn is_refused(rt: &HostRuntime, path: &str) -> Result<bool, Fail> {
     Ok(folder.hold().is_err() && folder.faults() == 1)
 }
 
+fn refuses_mode(rt: &HostRuntime, mode: u32) -> Result<bool, Fail> {
+    fs::set_permissions(rt, OPEN, Permissions::from_mode(mode))?;
+    is_refused(rt, OPEN)
+}
+
+fn refuses_link(rt: &HostRuntime) -> Result<bool, Fail> {
+    symlink(rt, OPEN, LINK)?;
+    let refused = is_refused(rt, LINK)?;
+    fs::remove_file(rt, LINK)?;
+    Ok(refused)
+}
+
 #[test]
 fn a_folder_that_is_open_to_others_or_a_link_is_refused(rt: HostRuntime) -> Result<(), Fail> {
     fs::create_dir(&rt, OPEN)?;
-    for mode in [0o701, 0o710, 0o750] {
-        fs::set_permissions(&rt, OPEN, Permissions::from_mode(mode))?;
-        assert!(rt; is_refused(&rt, OPEN)?);
-    }
-    fs::set_permissions(&rt, OPEN, Permissions::from_mode(0o700))?;
-    symlink(&rt, OPEN, LINK)?;
-    assert!(rt; is_refused(&rt, LINK)? && !is_refused(&rt, OPEN)?);
-    fs::remove_file(&rt, LINK)?;
+    let open = [
+        refuses_mode(&rt, 0o701)?,
+        refuses_mode(&rt, 0o710)?,
+        refuses_mode(&rt, 0o750)?,
+    ];
+    let private = refuses_mode(&rt, 0o700)?;
+    let link = refuses_link(&rt)?;
     fs::remove_dir_all(&rt, OPEN)?;
+    assert!(rt; open == [true; 3] && !private && link);
     Ok(())
 }

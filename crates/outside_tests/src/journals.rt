@@ -17,17 +17,37 @@ fn has(rt: &HostRuntime, name: &str, wanted: &str) -> Result<bool, Fail> {
     Ok(fs::read_to_string(rt, name)?.as_str() == wanted)
 }
 
+// Whether so many calls of the disk have failed.
+fn has_counted(disk: &FileDisk<JournalFile<'_>>, faults: u64) -> bool {
+    disk.faults() == faults
+}
+
+// Whether a file with the bytes that `has` asks for is made.
+fn makes(rt: &HostRuntime, name: &str) -> bool {
+    let mut disk = on_file(rt, name);
+    keeps(&mut disk, 0, b"bytes")
+}
+
 const NAME: &str = "journals_tests.journal";
+
+// A second disk of the file keeps nothing.
+fn kept_by_one(rt: &HostRuntime) -> [bool; 6] {
+    let (mut disk, mut second) = (on_file(rt, NAME), on_file(rt, NAME));
+    [
+        keeps(&mut disk, 0, b"bytes"),
+        ends_with(&mut disk, 2, b"tes"),
+        !keeps(&mut second, 0, b"other"),
+        has_counted(&second, 1),
+        ends_with(&mut disk, 0, b"bytes"),
+        has_counted(&disk, 0),
+    ]
+}
 
 #[test]
 fn a_file_keeps_bytes_and_is_for_one_disk_alone(rt: HostRuntime) -> Result<(), Fail> {
-    let mut disk = on_file(&rt, NAME);
-    assert!(rt; keeps(&mut disk, 0, b"bytes"));
-    assert!(rt; ends_with(&mut disk, 2, b"tes"));
-    let mut second = on_file(&rt, NAME);
-    assert!(rt; !keeps(&mut second, 0, b"other") && second.faults() == 1);
-    assert!(rt; ends_with(&mut disk, 0, b"bytes") && disk.faults() == 0);
+    let told = kept_by_one(&rt);
     fs::remove_file(&rt, NAME)?;
+    assert!(rt; told == [true; 6]);
     Ok(())
 }
 
@@ -41,48 +61,54 @@ fn is_kept(rt: &HostRuntime, wanted: &[u8]) -> bool {
 
 #[test]
 fn a_file_is_opened_again_as_it_was_and_never_emptied(rt: HostRuntime) -> Result<(), Fail> {
-    {
-        let mut disk = on_file(&rt, KEPT);
-        assert!(rt; keeps(&mut disk, 0, b"bytes"));
-    }
-    assert!(rt; is_kept(&rt, b"bytes"));
-    assert!(rt; is_kept(&rt, b"bytes"));
-    assert!(rt; has(&rt, KEPT, "bytes")?);
+    let told = [
+        makes(&rt, KEPT),
+        is_kept(&rt, b"bytes"),
+        is_kept(&rt, b"bytes"),
+        has(&rt, KEPT, "bytes")?,
+    ];
     fs::remove_file(&rt, KEPT)?;
+    assert!(rt; told == [true; 4]);
     Ok(())
 }
 
 const OPEN: &str = "journals_tests.open";
 
-// Whether a file of this mode is taken. Taken or not, it keeps its bytes.
-fn takes_mode(rt: &HostRuntime, mode: u32) -> Result<bool, Fail> {
+fn is_open_taken(rt: &HostRuntime) -> bool {
+    let mut disk = on_file(rt, OPEN);
+    ends_with(&mut disk, 0, b"bytes")
+}
+
+// Whether a file of this mode is taken, and whether it keeps its bytes.
+fn takes_mode(rt: &HostRuntime, mode: u32) -> Result<(bool, bool), Fail> {
     fs::write(rt, OPEN, b"bytes")?;
     fs::set_permissions(rt, OPEN, Permissions::from_mode(mode))?;
-    let mut disk = on_file(rt, OPEN);
-    let is_taken = ends_with(&mut disk, 0, b"bytes");
-    if !has(rt, OPEN, "bytes")? {
-        Err("it was changed")?;
-    }
+    let told = (is_open_taken(rt), has(rt, OPEN, "bytes")?);
     fs::remove_file(rt, OPEN)?;
-    Ok(is_taken)
+    Ok(told)
 }
 
 #[test]
 fn a_file_that_others_may_read_or_write_is_refused(rt: HostRuntime) -> Result<(), Fail> {
     for mode in [0o644, 0o640, 0o620, 0o604, 0o602, 0o666] {
-        assert!(rt; !takes_mode(&rt, mode)?);
+        assert!(rt; takes_mode(&rt, mode)? == (false, true));
     }
-    assert!(rt; takes_mode(&rt, 0o600)?);
+    assert!(rt; takes_mode(&rt, 0o600)? == (true, true));
     Ok(())
 }
 
 const LINK: &str = "journals_tests.link";
 
+// Whether what has this name is taken.
+fn is_taken(rt: &HostRuntime, name: &str) -> bool {
+    let mut disk = on_file(rt, name);
+    disk.sync().is_ok()
+}
+
 // Whether a link to what has this name is taken.
 fn takes_link(rt: &HostRuntime, target: &str) -> Result<bool, Fail> {
     symlink(rt, target, LINK)?;
-    let mut disk = on_file(rt, LINK);
-    let is_taken = disk.sync().is_ok();
+    let is_taken = is_taken(rt, LINK);
     fs::remove_file(rt, LINK)?;
     Ok(is_taken)
 }
@@ -91,16 +117,12 @@ const TARGET: &str = "journals_tests.target";
 
 #[test]
 fn links_and_folders_are_refused(rt: HostRuntime) -> Result<(), Fail> {
-    assert!(rt; !takes_link(&rt, TARGET)?, "to nothing");
-    {
-        let mut target = on_file(&rt, TARGET);
-        assert!(rt; keeps(&mut target, 0, b"bytes"));
-    }
-    assert!(rt; !takes_link(&rt, TARGET)?, "to a file");
-    assert!(rt; has(&rt, TARGET, "bytes")?);
+    let to_nothing = takes_link(&rt, TARGET)?;
+    let made = makes(&rt, TARGET);
+    let to_a_file = takes_link(&rt, TARGET)?;
+    let kept = has(&rt, TARGET, "bytes")?;
     fs::remove_file(&rt, TARGET)?;
-    let mut folder = on_file(&rt, ".");
-    assert!(rt; folder.sync().is_err());
+    assert!(rt; made && kept && [to_nothing, to_a_file, is_taken(&rt, ".")] == [false; 3]);
     Ok(())
 }
 
@@ -109,29 +131,53 @@ const FAR: &str = "journals_tests.far";
 // No file of the system has so large an offset.
 const NOWHERE: u64 = u64::MAX;
 
+fn read_and_written_far(disk: &mut FileDisk<JournalFile<'_>>) -> [bool; 7] {
+    [
+        keeps(disk, 0, b"bytes"),
+        ends_with(disk, 5, b""),
+        has_counted(disk, 0),
+        disk.read(NOWHERE, &mut [0; 8]).is_err(),
+        has_counted(disk, 1),
+        !keeps(disk, NOWHERE, b"lost"),
+        has_counted(disk, 2),
+    ]
+}
+
 #[test]
 fn an_error_of_the_system_is_a_fault_and_no_end(rt: HostRuntime) -> Result<(), Fail> {
     let mut disk = on_file(&rt, FAR);
-    assert!(rt; keeps(&mut disk, 0, b"bytes"));
-    assert!(rt; ends_with(&mut disk, 5, b"") && disk.faults() == 0);
-    assert!(rt; disk.read(NOWHERE, &mut [0; 8]).is_err() && disk.faults() == 1);
-    assert!(rt; !keeps(&mut disk, NOWHERE, b"lost") && disk.faults() == 2);
+    let told = read_and_written_far(&mut disk);
     fs::remove_file(&rt, FAR)?;
+    assert!(rt; told == [true; 7]);
     Ok(())
 }
 
 const GONE: &str = "journals_tests.gone";
 
+// A disk is used, and once more when its file was removed.
+fn removed(rt: &HostRuntime, disk: &mut FileDisk<JournalFile<'_>>) -> Result<[bool; 3], Fail> {
+    let made = keeps(disk, 0, b"bytes");
+    fs::remove_file(rt, GONE)?;
+    Ok([made, !keeps(disk, 0, b"lost"), has_counted(disk, 1)])
+}
+
+// Another file has the name, and then the disk is used again.
+fn replaced(rt: &HostRuntime, disk: &mut FileDisk<JournalFile<'_>>) -> [bool; 3] {
+    let mut second = on_file(rt, GONE);
+    [
+        keeps(&mut second, 0, b"bytes"),
+        !keeps(disk, 0, b"lost"),
+        has_counted(disk, 2),
+    ]
+}
+
 #[test]
 fn a_file_that_was_removed_or_replaced_is_a_fault(rt: HostRuntime) -> Result<(), Fail> {
     let mut disk = on_file(&rt, GONE);
-    assert!(rt; keeps(&mut disk, 0, b"bytes"));
+    let removed = removed(&rt, &mut disk)?;
+    let replaced = replaced(&rt, &mut disk);
     fs::remove_file(&rt, GONE)?;
-    assert!(rt; !keeps(&mut disk, 0, b"lost") && disk.faults() == 1);
-    let mut second = on_file(&rt, GONE);
-    assert!(rt; keeps(&mut second, 0, b"bytes"));
-    assert!(rt; !keeps(&mut disk, 0, b"lost") && disk.faults() == 2);
-    fs::remove_file(&rt, GONE)?;
+    assert!(rt; [removed, replaced] == [[true; 3]; 2]);
     Ok(())
 }
 
@@ -141,6 +187,14 @@ const THERE: &str = "journals_tests.there";
 
 const ELSEWHERE: &str = "journals_tests.elsewhere";
 
+fn moved(rt: &HostRuntime, disk: &mut FileDisk<JournalFile<'_>>) -> Result<[bool; 4], Fail> {
+    let here = keeps(disk, 0, b"bytes");
+    fs::rename(rt, HERE, THERE)?;
+    let (there, ends) = (keeps(disk, 0, b"moved"), ends_with(disk, 0, b"moved"));
+    fs::rename(rt, THERE, ELSEWHERE)?;
+    Ok([here, there, ends, !keeps(disk, 0, b"lost")])
+}
+
 #[test]
 fn a_file_may_be_moved_to_one_other_name(rt: HostRuntime) -> Result<(), Fail> {
     let place = Place {
@@ -149,11 +203,8 @@ fn a_file_may_be_moved_to_one_other_name(rt: HostRuntime) -> Result<(), Fail> {
         moved: THERE,
     };
     let mut disk = FileDisk::new(JournalFile::at(&rt, place));
-    assert!(rt; keeps(&mut disk, 0, b"bytes"));
-    fs::rename(&rt, HERE, THERE)?;
-    assert!(rt; keeps(&mut disk, 0, b"moved") && ends_with(&mut disk, 0, b"moved"));
-    fs::rename(&rt, THERE, ELSEWHERE)?;
-    assert!(rt; !keeps(&mut disk, 0, b"lost"));
+    let moved = moved(&rt, &mut disk)?;
     fs::remove_file(&rt, ELSEWHERE)?;
+    assert!(rt; moved == [true; 4]);
     Ok(())
 }

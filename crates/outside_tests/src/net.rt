@@ -39,6 +39,10 @@ fn accepts(net: &mut Loopback) -> bool {
     net.accept().is_ok()
 }
 
+fn listens(net: &mut Loopback, at: &str) -> bool {
+    net.listen(at).is_ok()
+}
+
 fn dials(net: &mut Loopback, peer: &str) -> bool {
     net.dial(peer).is_ok()
 }
@@ -52,7 +56,7 @@ pub fn free_address(rt: &HostRuntime) -> Result<String, Fail> {
 // Where the net listens from now on.
 fn listening(rt: &HostRuntime, net: &mut Loopback) -> Result<String, Fail> {
     let at = free_address(rt)?;
-    if net.listen(at.as_str()).is_err() {
+    if !listens(net, at.as_str()) {
         Err("it can't listen")?;
     }
     Ok(at)
@@ -81,17 +85,23 @@ fn fails(rt: &HostRuntime, net: &mut Loopback, at: &str) -> Result<bool, Fail> {
     Ok(failed)
 }
 
+// Nothing listens yet, and the texts lack a port.
+fn unheard(net: &mut Loopback) -> [bool; 4] {
+    [
+        !accepts(net),
+        !listens(net, "no address"),
+        !dials(net, "127.0.0.1"),
+        has_counted(net, 3, 2),
+    ]
+}
+
 #[test]
 fn bytes_go_both_ways_and_each_fault_of_a_net_is_counted(rt: HostRuntime) -> Result<(), Fail> {
     let mut net = TcpNet::new(TcpPorts::new(rt));
-    assert!(rt; !accepts(&mut net), "nothing listens yet");
-    assert!(rt; net.listen("no address").is_err(), "a text without a port");
-    assert!(rt; !dials(&mut net, "127.0.0.1"), "a text without a port");
-    assert!(rt; has_counted(&net, 3, 2));
+    let unheard = unheard(&mut net);
     let at = listening(&rt, &mut net)?;
-    assert!(rt; talks(&mut net, at.as_str()));
-    assert!(rt; has_counted(&net, 3, 2));
-    assert!(rt; fails(&rt, &mut net, at.as_str())?);
-    assert!(rt; has_counted(&net, 4, 2));
+    let talked = [talks(&mut net, at.as_str()), has_counted(&net, 3, 2)];
+    let failed = [fails(&rt, &mut net, at.as_str())?, has_counted(&net, 4, 2)];
+    assert!(rt; unheard == [true; 4] && [talked, failed] == [[true; 2]; 2]);
     Ok(())
 }

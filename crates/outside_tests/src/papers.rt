@@ -8,35 +8,72 @@ use std::test::Fail;
 
 const LETTERS: &str = "papers_tests.letters";
 
-// Whether the file at this path has these bytes, which are fewer than 16.
-fn has(papers: &mut PaperFiles<SystemPapers<'_>>, path: &str, bytes: &[u8]) -> bool {
+type Files<'a> = PaperFiles<SystemPapers<'a>>;
+
+// Whether these are the next bytes of a source, which are fewer than 16.
+fn gives<S: Source>(source: &mut S, bytes: &[u8]) -> bool {
     let mut found = [0; 16];
-    match papers.read(path) {
-        Ok(mut paper) => match paper.take(&mut found) {
-            Ok(count) => count <= 16 && &found[..count] == bytes,
-            Err(_) => false,
-        },
+    match source.take(&mut found) {
+        Ok(count) => count <= 16 && &found[..count] == bytes,
         Err(_) => false,
     }
+}
+
+// Whether the file at this path has these bytes.
+fn has(papers: &mut Files<'_>, path: &str, bytes: &[u8]) -> bool {
+    match papers.read(path) {
+        Ok(mut paper) => gives(&mut paper, bytes),
+        Err(_) => false,
+    }
+}
+
+fn writes(papers: &mut Files<'_>, name: &str, bytes: &[u8]) -> bool {
+    papers.write(LETTERS, name, bytes).is_ok()
+}
+
+fn reads(papers: &mut Files<'_>, path: &str) -> bool {
+    papers.read(path).is_ok()
+}
+
+fn has_counted(papers: &Files<'_>, faults: u64) -> bool {
+    papers.faults() == faults
+}
+
+fn written(papers: &mut Files<'_>) -> [bool; 3] {
+    [
+        writes(papers, "one.txt", b"a longer one"),
+        writes(papers, "one.txt", b"short"),
+        has(papers, "papers_tests.letters/one.txt", b"short"),
+    ]
+}
+
+fn counted(papers: &mut Files<'_>) -> [bool; 4] {
+    [
+        !reads(papers, "papers_tests.letters/two.txt"),
+        has_counted(papers, 1),
+        !writes(papers, "none/one.txt", b"nowhere"),
+        has_counted(papers, 2),
+    ]
 }
 
 #[test]
 fn a_paper_is_written_whole_and_replaced(rt: HostRuntime) -> Result<(), Fail> {
     let mut papers = PaperFiles::new(SystemPapers::new(&rt));
-    assert!(rt; papers.write(LETTERS, "one.txt", b"a longer one").is_ok());
-    assert!(rt; papers.write(LETTERS, "one.txt", b"short").is_ok());
-    assert!(rt; has(&mut papers, "papers_tests.letters/one.txt", b"short"));
-    assert!(rt; mode_of(&rt, "papers_tests.letters/one.txt")? == 0o600);
-    assert!(rt; papers.read("papers_tests.letters/two.txt").is_err() && papers.faults() == 1);
-    assert!(rt; papers.write(LETTERS, "none/one.txt", b"nowhere").is_err() && papers.faults() == 2);
+    let (written, counted) = (written(&mut papers), counted(&mut papers));
+    let mode = mode_of(&rt, "papers_tests.letters/one.txt")?;
     fs::remove_dir_all(&rt, LETTERS)?;
+    assert!(rt; written == [true; 3] && counted == [true; 4] && mode == 0o600);
     Ok(())
 }
 
+fn breaks<S: Source>(source: &mut S) -> bool {
+    source.take(&mut [0; 8]).is_err() && source.faults() == 1
+}
+
 // Whether what is read at this path fails, and isn't taken for a paper's end.
-fn fails(papers: &mut PaperFiles<SystemPapers<'_>>, path: &str) -> bool {
+fn fails(papers: &mut Files<'_>, path: &str) -> bool {
     match papers.read(path) {
-        Ok(mut paper) => paper.take(&mut [0; 8]).is_err() && paper.faults() == 1,
+        Ok(mut paper) => breaks(&mut paper),
         Err(_) => false,
     }
 }

@@ -34,17 +34,30 @@ fn takes_a_byte(rt: &HostRuntime, near: &mut Near, peer: &mut TcpStream) -> Resu
     Ok(is_taken)
 }
 
+fn replies(near: &mut Near) -> bool {
+    near.put(b"reply").is_ok()
+}
+
+fn has_failed_once(near: &Near) -> bool {
+    near.faults() == 1
+}
+
+// Two bytes are taken and the third is not, which may still be answered, but not a second later.
+fn dripped(rt: &HostRuntime, near: &mut Near, peer: &mut TcpStream) -> Result<[bool; 6], Fail> {
+    let first = takes_a_byte(rt, near, peer)?;
+    let second = takes_a_byte(rt, near, peer)?;
+    let third = takes_a_byte(rt, near, peer)?;
+    let (failed, answered) = (has_failed_once(near), replies(near));
+    thread::sleep(rt, Duration::from_millis(1100));
+    Ok([first, second, third, failed, answered, replies(near)])
+}
+
 #[test]
 fn a_peer_that_drips_is_cut_and_may_still_be_answered(rt: HostRuntime) -> Result<(), Fail> {
     let mut ports = TcpPorts::new(rt);
     let (mut near, mut peer) = pair(&rt, &mut ports)?;
-    assert!(rt; takes_a_byte(&rt, &mut near, &mut peer)?);
-    assert!(rt; takes_a_byte(&rt, &mut near, &mut peer)?);
-    assert!(rt; !takes_a_byte(&rt, &mut near, &mut peer)?);
-    assert!(rt; near.faults() == 1);
-    assert!(rt; near.put(b"reply").is_ok());
-    thread::sleep(&rt, Duration::from_millis(1100));
-    assert!(rt; near.put(b"reply").is_err());
+    let told = dripped(&rt, &mut near, &mut peer)?;
+    assert!(rt; told == [true, true, false, true, true, false]);
     Ok(())
 }
 
@@ -54,23 +67,35 @@ fn lasts_a_second(rt: &HostRuntime, start: Instant) -> Result<bool, Fail> {
     Ok(elapsed >= Duration::from_millis(900) && elapsed < Duration::from_secs(5))
 }
 
+// Whether a take fails after a second.
+fn waits(rt: &HostRuntime, near: &mut Near) -> Result<bool, Fail> {
+    let start = Instant::now(rt)?;
+    let failed = near.take(&mut [0; 8]).is_err();
+    Ok(lasts_a_second(rt, start)? && failed)
+}
+
 #[test]
 fn a_silent_peer_is_cut(rt: HostRuntime) -> Result<(), Fail> {
     let mut ports = TcpPorts::new(rt);
     let (mut near, _peer) = pair(&rt, &mut ports)?;
-    let start = Instant::now(&rt)?;
-    assert!(rt; near.take(&mut [0; 8]).is_err());
-    assert!(rt; lasts_a_second(&rt, start)?);
+    let waited = waits(&rt, &mut near)?;
+    assert!(rt; waited);
     Ok(())
+}
+
+// Whether a put of more than a peer takes by itself fails after a second.
+fn pushes(rt: &HostRuntime, near: &mut Near) -> Result<bool, Fail> {
+    let bytes = vec![in rt.alloc(); 0u8; 1 << 26]?;
+    let start = Instant::now(rt)?;
+    let failed = near.put(&bytes).is_err();
+    Ok(lasts_a_second(rt, start)? && failed)
 }
 
 #[test]
 fn a_peer_that_takes_nothing_is_cut(rt: HostRuntime) -> Result<(), Fail> {
     let mut ports = TcpPorts::new(rt);
     let (mut near, _peer) = pair(&rt, &mut ports)?;
-    let bytes = vec![in rt.alloc(); 0u8; 1 << 26]?;
-    let start = Instant::now(&rt)?;
-    assert!(rt; near.put(&bytes).is_err());
-    assert!(rt; lasts_a_second(&rt, start)?);
+    let pushed = pushes(&rt, &mut near)?;
+    assert!(rt; pushed);
     Ok(())
 }
