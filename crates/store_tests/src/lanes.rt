@@ -3,7 +3,6 @@
 ghost use Rattle.std.specs.Prelude.{◌≡◌, ◌≤◌, length};
 
 use lane_table::{Gate, Lanes, Row, Want, closing, opening, phase};
-use std::process::Abort;
 use std::test::Fail;
 
 const WAITING: Row = Row {
@@ -47,21 +46,31 @@ fn is_refused(lanes: &Lanes, lane: u16, count: u16) -> bool {
     lanes.get(lane) == Err(count)
 }
 
-fn set_and_keep(rt: &impl Abort, lanes: &mut Lanes)
+fn set_and_keep(lanes: &mut Lanes) -> [bool; 3]
     requires { lanes.old.room ≡ 4 }
 {
-    assert!(rt; keeps(lanes, 1, &[1, 2, 3, 4]));
-    assert!(rt; sets(lanes, 1, WAITING));
-    assert!(rt; keeps(lanes, 1, &[5]));
-    assert!(rt; has_row(lanes, 0, Row::IDLE) && has_row(lanes, 1, WAITING));
-    assert!(rt; is_refused(lanes, 2, 2));
-    assert!(rt; has_reply(lanes, 0, &[]) && has_reply(lanes, 1, &[5]));
+    [
+        keeps(lanes, 1, &[1, 2, 3, 4]),
+        sets(lanes, 1, WAITING),
+        keeps(lanes, 1, &[5]),
+    ]
+}
+
+fn are_kept(lanes: &Lanes) -> [bool; 5] {
+    [
+        has_row(lanes, 0, Row::IDLE),
+        has_row(lanes, 1, WAITING),
+        is_refused(lanes, 2, 2),
+        has_reply(lanes, 0, &[]),
+        has_reply(lanes, 1, &[5]),
+    ]
 }
 
 #[test]
 fn each_lane_keeps_its_own_row_and_reply(rt: HostRuntime) -> Result<(), Fail> {
     let mut lanes = Lanes::open(rt.alloc(), 2, 4)?;
-    set_and_keep(&rt, &mut lanes);
+    let set = set_and_keep(&mut lanes);
+    assert!(rt; set == [true; 3] && are_kept(&lanes) == [true; 5]);
     Ok(())
 }
 
@@ -69,36 +78,44 @@ fn gates(row: &Row, serial: u32, want: Want) -> (Gate, Gate) {
     (opening(row, serial, want), closing(row, serial))
 }
 
-#[test]
-fn gates_judge_serials_and_wants_against_a_row(rt: HostRuntime) {
-    let cases = [
-        (6, Want::Write, Gate::Stale(7), Gate::Stale(7)),
-        (7, Want::Write, Gate::Same, Gate::Same),
-        (7, Want::Read, Gate::Phase(phase::WAITING), Gate::Same),
-        (8, Want::Read, Gate::New, Gate::Stale(7)),
-    ];
-    for (serial, want, opened, closed) in cases {
-        assert!(rt; gates(&WAITING, serial, want) == (opened, closed));
-    }
-    let read = Row {
-        want: Want::Read,
-        ..WAITING
-    };
-    assert!(rt; gates(&read, 7, Want::Read).1 == Gate::Phase(phase::WAITING));
+fn are_gates(serial: u32, want: Want, opened: Gate, closed: Gate) -> bool {
+    gates(&WAITING, serial, want) == (opened, closed)
 }
 
-fn keep_longest(rt: &impl Abort, lanes: &mut Lanes, reply: &[u8; 8213])
+const READING: Row = Row {
+    serial: 7,
+    phase: phase::WAITING,
+    want: Want::Read,
+};
+
+#[test]
+fn gates_judge_serials_and_wants_against_a_row(rt: HostRuntime) {
+    let waits = Gate::Phase(phase::WAITING);
+    let told = [
+        are_gates(6, Want::Write, Gate::Stale(7), Gate::Stale(7)),
+        are_gates(7, Want::Write, Gate::Same, Gate::Same),
+        are_gates(7, Want::Read, waits, Gate::Same),
+        are_gates(8, Want::Read, Gate::New, Gate::Stale(7)),
+        gates(&READING, 7, Want::Read).1 == waits,
+    ];
+    assert!(rt; told == [true; 5]);
+}
+
+fn keep_longest(lanes: &mut Lanes, reply: &[u8; 8213]) -> [bool; 4]
     requires { lanes.old.room ≡ 8213 }
 {
-    assert!(rt; keeps(lanes, 255, reply));
-    assert!(rt; has_reply(lanes, 255, reply) && has_reply(lanes, 254, &[]));
-    assert!(rt; is_refused(lanes, 256, 256));
+    [
+        keeps(lanes, 255, reply),
+        has_reply(lanes, 255, reply),
+        has_reply(lanes, 254, &[]),
+        is_refused(lanes, 256, 256),
+    ]
 }
 
 // The most lanes, each with room for the longest frame.
 #[test]
 fn the_last_of_256_lanes_keeps_the_longest_reply(rt: HostRuntime) -> Result<(), Fail> {
     let mut lanes = Lanes::open(rt.alloc(), 256, 8213)?;
-    keep_longest(&rt, &mut lanes, &[7; 8213]);
+    assert!(rt; keep_longest(&mut lanes, &[7; 8213]) == [true; 4]);
     Ok(())
 }

@@ -2,9 +2,9 @@
 //! What the helpers say of a link is what the next call on it requires, and no more.
 ghost use Rattle.std.specs.Prelude.{◌≡◌, ◌+◌, ◌-◌, ◌<◌, ◌≤◌, ◌^◌, length};
 
+use express_words::NoMemory;
 use link_order::{Arrival, Incoming, Outgoing};
 use std::alloc::Global;
-use std::process::Abort;
 use std::test::Fail;
 
 fn issues(link: &mut Outgoing, frame: &[u8], wanted: Result<u64, u64>) -> bool
@@ -32,35 +32,35 @@ fn is_empty(link: &Outgoing) -> bool {
     link.oldest().is_none()
 }
 
-fn one_waits(rt: &impl Abort, one: &mut Outgoing)
-    requires { one.old.size ≡ 16 }
-{
-    assert!(rt; issues(one, b"a", Ok(1)));
-    assert!(rt; issues(one, b"b", Err(1)));
-    assert!(rt; !acknowledges(one, 2));
-    assert!(rt; acknowledges(one, 1));
-    assert!(rt; is_empty(one));
-    assert!(rt; issues(one, b"bc", Ok(2)));
-    assert!(rt; is_oldest(one, 2, b"bc"));
+fn one_waits(alloc: Global) -> Result<[bool; 7], NoMemory> {
+    let mut one = Outgoing::open(alloc, 1, 16)?;
+    Ok([
+        issues(&mut one, b"a", Ok(1)),
+        issues(&mut one, b"b", Err(1)),
+        !acknowledges(&mut one, 2),
+        acknowledges(&mut one, 1),
+        is_empty(&one),
+        issues(&mut one, b"bc", Ok(2)),
+        is_oldest(&one, 2, b"bc"),
+    ])
 }
 
-fn two_wait(rt: &impl Abort, two: &mut Outgoing)
-    requires { two.old.size ≡ 16 }
-{
-    assert!(rt; issues(two, b"a", Ok(1)));
-    assert!(rt; issues(two, b"b", Ok(2)));
-    assert!(rt; issues(two, b"c", Err(1)));
-    assert!(rt; !acknowledges(two, 2));
-    assert!(rt; acknowledges(two, 1));
-    assert!(rt; issues(two, b"c", Ok(3)));
+fn two_wait(alloc: Global) -> Result<[bool; 6], NoMemory> {
+    let mut two = Outgoing::open(alloc, 2, 16)?;
+    Ok([
+        issues(&mut two, b"a", Ok(1)),
+        issues(&mut two, b"b", Ok(2)),
+        issues(&mut two, b"c", Err(1)),
+        !acknowledges(&mut two, 2),
+        acknowledges(&mut two, 1),
+        issues(&mut two, b"c", Ok(3)),
+    ])
 }
 
 #[test]
 fn commands_wait_within_the_window_and_go_in_order(rt: HostRuntime) -> Result<(), Fail> {
-    let mut one = Outgoing::open(rt.alloc(), 1, 16)?;
-    one_waits(&rt, &mut one);
-    let mut two = Outgoing::open(rt.alloc(), 2, 16)?;
-    two_wait(&rt, &mut two);
+    let (one, two) = (one_waits(rt.alloc())?, two_wait(rt.alloc())?);
+    assert!(rt; one == [true; 7] && two == [true; 6]);
     Ok(())
 }
 
@@ -87,13 +87,12 @@ fn is_answered(link: &Incoming, number: u64, reply: &[u8]) -> bool {
     *arrives(link, number) == *reply
 }
 
-fn one_is_kept(rt: &impl Abort, one: &mut Incoming)
-    requires { (one.old.size ≡ 16) × (one.old.carried ≡ 0) }
-{
-    carry(one, b"first");
-    assert!(rt; is_answered(one, 1, b"first"));
-    assert!(rt; is_answered(one, 2, b"next"));
-    assert!(rt; is_answered(one, 3, b"passed"));
+fn one_is_kept(one: &Incoming) -> [bool; 3] {
+    [
+        is_answered(one, 1, b"first"),
+        is_answered(one, 2, b"next"),
+        is_answered(one, 3, b"passed"),
+    ]
 }
 
 fn carry_three(link: &mut Incoming)
@@ -104,49 +103,55 @@ fn carry_three(link: &mut Incoming)
     carry(link, b"third");
 }
 
-fn two_are_kept(rt: &impl Abort, two: &Incoming) {
-    assert!(rt; is_answered(two, 1, b"passed"));
-    assert!(rt; is_answered(two, 2, b"second"));
-    assert!(rt; is_answered(two, 3, b"third"));
-    assert!(rt; is_answered(two, 4, b"next"));
-    assert!(rt; is_answered(two, 5, b"passed"));
+fn two_are_kept(two: &Incoming) -> [bool; 5] {
+    [
+        is_answered(two, 1, b"passed"),
+        is_answered(two, 2, b"second"),
+        is_answered(two, 3, b"third"),
+        is_answered(two, 4, b"next"),
+        is_answered(two, 5, b"passed"),
+    ]
 }
 
 #[test]
 fn the_last_replies_are_kept_and_other_numbers_pass(rt: HostRuntime) -> Result<(), Fail> {
     let mut one = Incoming::open(rt.alloc(), 1, 16)?;
-    one_is_kept(&rt, &mut one);
+    carry(&mut one, b"first");
+    assert!(rt; one_is_kept(&one) == [true; 3]);
     let mut two = Incoming::open(rt.alloc(), 2, 16)?;
     carry_three(&mut two);
-    two_are_kept(&rt, &two);
+    assert!(rt; two_are_kept(&two) == [true; 5]);
     Ok(())
 }
 
 // The most commands that may be outstanding, each of the most bytes.
-fn most_commands(rt: &impl Abort, alloc: Global, frame: &[u8; 8213]) -> Result<(), Fail> {
+fn most_commands(alloc: Global, frame: &[u8; 8213]) -> Result<bool, NoMemory> {
     let mut commands = Outgoing::open(alloc, 32, 8213)?;
+    let mut issued = true;
     for number in 1..33 {
-        assert!(rt; issues(&mut commands, frame, Ok(number)));
+        issued = issues(&mut commands, frame, Ok(number)) & issued;
     }
-    assert!(rt; issues(&mut commands, frame, Err(1)));
-    Ok(())
+    Ok(issues(&mut commands, frame, Err(1)) & issued)
 }
 
 // The most replies that are kept, each of the most bytes.
-fn most_replies(rt: &impl Abort, alloc: Global, frame: &[u8; 8213]) -> Result<(), Fail> {
+fn most_replies(alloc: Global, frame: &[u8; 8213]) -> Result<bool, NoMemory> {
     let mut replies = Incoming::open(alloc, 32, 8213)?;
+    let mut kept = true;
     for number in 1..33u64 {
         carry(&mut replies, frame);
-        assert!(rt; is_answered(&replies, number, frame));
+        kept = is_answered(&replies, number, frame) & kept;
     }
-    assert!(rt; is_answered(&replies, 1, frame));
-    Ok(())
+    Ok(is_answered(&replies, 1, frame) & kept)
 }
 
 #[test]
 fn the_most_commands_and_replies_of_the_longest_are_kept(rt: HostRuntime) -> Result<(), Fail> {
     let frame = [7; 8213];
-    most_commands(&rt, rt.alloc(), &frame)?;
-    most_replies(&rt, rt.alloc(), &frame)?;
+    let most = [
+        most_commands(rt.alloc(), &frame)?,
+        most_replies(rt.alloc(), &frame)?,
+    ];
+    assert!(rt; most == [true; 2]);
     Ok(())
 }

@@ -23,12 +23,17 @@ fn holds(region: &Region, block: &Block, value: u8) -> bool
     bytes.len() == 16 && is_all(bytes, value)
 }
 
+fn takes(region: &mut Region) -> bool
+    requires { 0 < length region.old.classes }
+    ensures { 0 < length region.new.classes }
+{
+    region.take(0).is_some()
+}
+
 fn no_third_block(region: &mut Region) -> bool
     requires { 0 < length region.old.classes }
 {
-    let first = region.take(0).is_some();
-    let second = region.take(0).is_some();
-    first && second && region.take(0).is_none()
+    [takes(region), takes(region), takes(region)] == [true, true, false]
 }
 
 fn gives_zeros(region: &mut Region) -> bool
@@ -76,10 +81,10 @@ const CLASS: Class = Class { size: 16, count: 2 };
 
 #[test]
 fn a_class_of_two_has_no_third_block_and_gives_zeros(rt: HostRuntime) -> Result<(), Fail> {
-    let mut region = Region::open(rt.alloc(), &[CLASS])?;
-    assert!(rt; no_third_block(&mut region));
-    let mut region = Region::open(rt.alloc(), &[CLASS])?;
-    assert!(rt; fills_and_gives(&mut region));
+    let mut one = Region::open(rt.alloc(), &[CLASS])?;
+    let mut other = Region::open(rt.alloc(), &[CLASS])?;
+    let told = [no_third_block(&mut one), fills_and_gives(&mut other)];
+    assert!(rt; told == [true; 2]);
     Ok(())
 }
 
@@ -130,8 +135,11 @@ fn last_block(alloc: Global, size: u32, count: u32) -> Result<bool, NoMemory>
 
 #[test]
 fn the_last_block_of_the_largest_arrays_is_written(rt: HostRuntime) -> Result<(), Fail> {
-    assert!(rt; last_block(rt.alloc(), 4096, 4096)?);
-    assert!(rt; last_block(rt.alloc(), 8213, 256)?);
-    assert!(rt; last_block(rt.alloc(), 8213, 32)?);
+    let written = [
+        last_block(rt.alloc(), 4096, 4096)?,
+        last_block(rt.alloc(), 8213, 256)?,
+        last_block(rt.alloc(), 8213, 32)?,
+    ];
+    assert!(rt; written == [true; 3]);
     Ok(())
 }

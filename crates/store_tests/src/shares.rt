@@ -75,6 +75,49 @@ fn is_sum(sum: &[u8; 16], left: &[u8; 16], right: &[u8; 16]) -> bool {
     same
 }
 
+// Both boxes below the count have their shares, and the third has none.
+fn has_two(store: &ShareStore) -> [bool; 3]
+    requires { length store.now.boxes ≡ 3 }
+{
+    [
+        has_share(store, 0, &BYTES[0]),
+        has_share(store, 1, &BYTES[1]),
+        has_share(store, 2, &[0; 16]),
+    ]
+}
+
+// The box that was read takes the next write, and the retired one takes none.
+fn has_one_again(store: &ShareStore) -> [bool; 4]
+    requires { length store.now.boxes ≡ 3 }
+{
+    [
+        !is_retired(store, 0),
+        is_retired(store, 1),
+        has_share(store, 0, &BYTES[0]),
+        has_share(store, 1, &[0; 16]),
+    ]
+}
+
+fn written_twice(
+    store: &mut ShareStore,
+    part: &PublicPart,
+    leaves: &[u128; 3],
+) -> ([bool; 3], [bool; 4], bool)
+    requires width { store.old.width ≡ 16 }
+    requires boxes { length store.old.boxes ≡ 3 }
+{
+    let mut out = [0; 16];
+    add(store, 2, part, leaves);
+    let two = has_two(store);
+    read_two(store, &mut out);
+    add(store, 3, part, leaves);
+    (
+        two,
+        has_one_again(store),
+        is_sum(&out, &BYTES[0], &BYTES[1]),
+    )
+}
+
 #[test]
 fn a_write_reaches_the_live_boxes_below_its_count(rt: HostRuntime) -> Result<(), Fail> {
     let mut public = [0; 2080];
@@ -85,16 +128,9 @@ fn a_write_reaches_the_live_boxes_below_its_count(rt: HostRuntime) -> Result<(),
         leaf_at(&part, ROOTS[0], OTHER),
         0,
     ];
-    let mut out = [0; 16];
     let mut store = ShareStore::open(rt.alloc(), 3, 16)?;
-    add(&mut store, 2, &part, &leaves);
-    assert!(rt; has_share(&store, 0, &BYTES[0]) && has_share(&store, 1, &BYTES[1]));
-    assert!(rt; has_share(&store, 2, &[0; 16]));
-    read_two(&mut store, &mut out);
-    assert!(rt; !is_retired(&store, 0) && is_retired(&store, 1));
-    add(&mut store, 3, &part, &leaves);
-    assert!(rt; has_share(&store, 0, &BYTES[0]) && has_share(&store, 1, &[0; 16]));
-    assert!(rt; is_sum(&out, &BYTES[0], &BYTES[1]));
+    let (two, again, sum) = written_twice(&mut store, &part, &leaves);
+    assert!(rt; two == [true; 3] && again == [true; 4] && sum);
     Ok(())
 }
 
@@ -118,7 +154,12 @@ fn the_last_of_4096_widest_boxes_is_retired(rt: HostRuntime) -> Result<(), Fail>
     let mut store = ShareStore::open(rt.alloc(), 4096, 4096)?;
     let mut out = [7; 4096];
     retire_last(&mut store, &mut out);
-    assert!(rt; is_retired(&store, 4095) && !is_retired(&store, 4094));
-    assert!(rt; is_clear(&store, 4095) && out == [7; 4096]);
+    let told = [
+        is_retired(&store, 4095),
+        !is_retired(&store, 4094),
+        is_clear(&store, 4095),
+        out == [7; 4096],
+    ];
+    assert!(rt; told == [true; 4]);
     Ok(())
 }
