@@ -68,6 +68,10 @@ fn has_children(state: u128, pair: (u128, u128)) -> bool {
     children(state) == pair
 }
 
+fn children_of(state: u128) -> (u128, u128) {
+    children(state)
+}
+
 fn have_children(states: &[u128; 8], pairs: &[(u128, u128); 8]) -> bool {
     children8(states) == *pairs
 }
@@ -111,29 +115,37 @@ fn mask_over(key: &[u8; 32], lane: u16, serial: u32, out: &mut [u8])
 
 #[test]
 fn children_match_an_independent_program(rt: HostRuntime) {
-    assert!(rt; has_children(0, ZERO_PAIR));
-    assert!(rt; has_children(1, ZERO_PAIR));
+    let mut same = has_children(0, ZERO_PAIR) & has_children(1, ZERO_PAIR);
     for i in 0..8 {
-        assert!(rt; has_children(STATES[i], CHILDREN[i]));
+        same = has_children(STATES[i], CHILDREN[i]) & same;
     }
+    assert!(rt; same);
+}
+
+const BLOCK: [u8; 128] =
+    *b"\x35\x4d\xfa\xa3\x84\x34\x2a\x11\x64\xc8\xe4\x36\x6e\x1a\x75\x8f\x1a\x7a\x6c\x12\x7e\x82\xbf\x4f\x2a\x25\x21\x9e\x8d\xcf\xc4\xfa\x8b\x81\x6d\x03\xb1\xe6\x4c\x00\x10\xd2\x31\x49\x9b\xd0\xef\x50\xf5\xdb\xcf\xf1\x45\x5e\x56\xaa\xd2\xb8\xbc\x8d\x00\x45\x9c\x38\xaa\x17\x01\x15\xc8\x92\xbd\xea\x86\xe0\x71\x3a\xef\x60\xa5\x35\xce\x85\xe2\x5e\xfd\xd5\x98\xdf\x15\x5d\xa5\x6c\x7b\x1b\xcb\x10\x34\xd4\x4b\x7e\xa3\x84\xc0\x04\x9f\x28\x38\x72\x5e\xf8\xae\x54\xfc\x3d\xa9\xe0\xa6\x47\xc2\x76\xc5\xd8\x90\xda\x7f\x31\xe3\x64";
+
+fn is_block(block: &[u8; 128], wanted: &[u8; 128]) -> bool {
+    *block == *wanted
 }
 
 #[test]
 fn a_block_matches_an_independent_program(rt: HostRuntime) {
     let mut block = [0u8; 128];
     fill_block(0x9842059055e2ae8a1fc3f96286c923a3, &mut block);
-    let expected =
-        *b"\x35\x4d\xfa\xa3\x84\x34\x2a\x11\x64\xc8\xe4\x36\x6e\x1a\x75\x8f\x1a\x7a\x6c\x12\x7e\x82\xbf\x4f\x2a\x25\x21\x9e\x8d\xcf\xc4\xfa\x8b\x81\x6d\x03\xb1\xe6\x4c\x00\x10\xd2\x31\x49\x9b\xd0\xef\x50\xf5\xdb\xcf\xf1\x45\x5e\x56\xaa\xd2\xb8\xbc\x8d\x00\x45\x9c\x38\xaa\x17\x01\x15\xc8\x92\xbd\xea\x86\xe0\x71\x3a\xef\x60\xa5\x35\xce\x85\xe2\x5e\xfd\xd5\x98\xdf\x15\x5d\xa5\x6c\x7b\x1b\xcb\x10\x34\xd4\x4b\x7e\xa3\x84\xc0\x04\x9f\x28\x38\x72\x5e\xf8\xae\x54\xfc\x3d\xa9\xe0\xa6\x47\xc2\x76\xc5\xd8\x90\xda\x7f\x31\xe3\x64";
-    assert!(rt; block == expected);
+    assert!(rt; is_block(&block, &BLOCK));
 }
 
 // Equal states, all zeros, all ones, and eight that differ.
 #[test]
 fn eight_nodes_at_once_have_the_children_of_each(rt: HostRuntime) {
-    assert!(rt; have_children(&[0; 8], &[ZERO_PAIR; 8]));
-    assert!(rt; have_children(&[u128::MAX; 8], &[children(u128::MAX); 8]));
-    assert!(rt; have_children(&[STATES[0]; 8], &[CHILDREN[0]; 8]));
-    assert!(rt; have_children(&STATES, &CHILDREN));
+    let told = [
+        have_children(&[0; 8], &[ZERO_PAIR; 8]),
+        have_children(&[u128::MAX; 8], &[children_of(u128::MAX); 8]),
+        have_children(&[STATES[0]; 8], &[CHILDREN[0]; 8]),
+        have_children(&STATES, &CHILDREN),
+    ];
+    assert!(rt; told == [true; 4]);
 }
 
 // One lane differs from the others, each in turn.
@@ -222,9 +234,12 @@ fn many_blocks_are_right_at_the_ends_of_their_runs(rt: HostRuntime) {
     let last = b"\xfb\xfe\xa0\x00\xd8\x6a\xcf\xf4\x29\x4b\x08\x90\x75\x04\x49\xdd";
     let mut block = [0u8; 1360];
     fill_block(STATES[7], &mut block);
-    assert!(rt; has_at(&block, 504, first));
-    assert!(rt; has_at(&block, 1016, second));
-    assert!(rt; has_at(&block, 1344, last));
+    let told = [
+        has_at(&block, 504, first),
+        has_at(&block, 1016, second),
+        has_at(&block, 1344, last),
+    ];
+    assert!(rt; told == [true; 3]);
 }
 
 #[test]
@@ -233,8 +248,8 @@ fn two_whole_runs_of_blocks_are_right_at_their_ends(rt: HostRuntime) {
     let second = b"\x14\xb8\x96\x12\xda\x5d\xd3\xdd\xe8\x99\x93\xca\x47\x14\x08\x29";
     let mut block = [0u8; 1024];
     fill_block(STATES[7], &mut block);
-    assert!(rt; has_at(&block, 504, first));
-    assert!(rt; has_at(&block, 1008, second));
+    let told = [has_at(&block, 504, first), has_at(&block, 1008, second)];
+    assert!(rt; told == [true; 2]);
 }
 
 #[test]
@@ -301,5 +316,5 @@ fn tokens_and_masks_match_an_independent_program(rt: HostRuntime) {
     let mut out =
         *b"\x6c\x64\x81\xb7\x7f\x0d\x08\x2a\xfa\x9d\x31\x61\xf9\x6d\x66\x52\x8f\xdd\xed\x4b\x2c\x8a\xc0\x4c\x43\xc4\xdd\xe1\x48\x44\xaa\x6b\xed\x37\x2e\x79\x73\xe2\x2d\x4e\x9f\x45\xb9\x6d\xe0\x34\xdd\x1b\x79\x4d\xd0\x9d\x99\xc7\x78\xa6\xa8\xe4\x7d\xfa\xb6\xc5\x35\x1d\x5b\xa8\x9b\x1a\x48\x3f\xee\x4e\x75\xe8\xba\x2f\xc1\x0a\x5a\x5b\xb5\x3b\xcf\xda\xd5\x6d\x33\x5f\x32\x03\x78\x70\x18\x3d\xcd\x09\x30\x15\xcc\x9a\x33\x05\xab\x41\x76\x01\x00\xde\x7f\x69\xc9\xc9\x6a\xd5\x84\xb3\xeb\xd7\xb1\xec\xbe\xea\x28\x2a\xc0\x25\x9b\xdc";
     mask_over(key, 16765, 12279281, &mut out);
-    assert!(rt; out == [0; 128]);
+    assert!(rt; is_block(&out, &[0; 128]));
 }

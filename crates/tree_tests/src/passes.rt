@@ -113,20 +113,35 @@ fn are_walks(part: &PublicPart, leaves: &[u128; 14], server: u8) -> bool
     same
 }
 
-// Both servers' leaves are right by box, and what comes after the count stays.
+// Whether the server's leaves are right by box, and what comes after the count stays.
+fn are_leaves(frontier: &mut Frontier, part: &PublicPart, server: u8) -> bool
+    requires { server < 2 }
+{
+    let mut out = [7; 14];
+    leaves_into::<Brand>(Blank::new(1), frontier, part, server, 13, &mut out);
+    are_outside(&out, server) && are_walks(part, &out, server) && out[13] == 7
+}
+
+fn has_places(frontier: &Frontier) -> [bool; 4] {
+    [
+        frontier.count() == 14,
+        frontier.is_full(),
+        has_place(frontier, TARGET, Some(2)),
+        has_place(frontier, 1, None),
+    ]
+}
+
 #[test]
 fn leaves_by_box(rt: HostRuntime) -> Result<(), Fail> {
     let mut bytes = [0; 2080];
     assert!(rt; writes_keys(TARGET, &MESSAGE, ROOTS, &mut bytes));
     let part = PublicPart::of(&bytes).ok_or("length")?;
     let mut frontier = fourteen_addresses(rt.alloc())?;
-    assert!(rt; frontier.count() == 14 && frontier.is_full());
-    assert!(rt; has_place(&frontier, TARGET, Some(2)) && has_place(&frontier, 1, None));
-    for server in 0..2u8 {
-        let mut out = [7; 14];
-        leaves_into::<Brand>(Blank::new(1), &mut frontier, &part, server, 13, &mut out);
-        assert!(rt; are_outside(&out, server) && are_walks(&part, &out, server));
-        assert!(rt; out[13] == 7);
-    }
+    let placed = has_places(&frontier);
+    let leaves = [
+        are_leaves(&mut frontier, &part, 0),
+        are_leaves(&mut frontier, &part, 1),
+    ];
+    assert!(rt; placed == [true; 4] && leaves == [true; 2]);
     Ok(())
 }
