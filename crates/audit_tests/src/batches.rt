@@ -21,9 +21,12 @@ fn is_good(zero: &[Closing], one: &[Closing], rho: u128) -> bool {
 fn bad_pairs_pass_at_their_one_bad_value_alone(rt: HostRuntime) {
     let zero = [Closing { o: 2, tau: 0 }, Closing { o: 1, tau: 0 }];
     let one = [NOTHING; 2];
-    assert!(rt; is_good(&zero, &one, 2));
-    assert!(rt; closing_of(&zero, 3) == Closing { o: 1, tau: 0 });
-    assert!(rt; !is_good(&zero, &one, 3));
+    let told = [
+        is_good(&zero, &one, 2),
+        closing_of(&zero, 3) == Closing { o: 1, tau: 0 },
+        !is_good(&zero, &one, 3),
+    ];
+    assert!(rt; told == [true; 3]);
 }
 
 // The product is an independent program's.
@@ -33,9 +36,12 @@ fn the_second_closing_is_taken_times_rho(rt: HostRuntime) {
     let b = 0xd7ec74e643da718b32a068d002101fe6;
     let product = 0xb22ba96e5f948fb0e90cd378592316cd;
     let closings = [Closing { o: 5, tau: 9 }, Closing { o: a, tau: b }];
-    assert!(rt; closing_of(&closings, b).o == product ^ 5);
-    assert!(rt; closing_of(&closings, a).tau == product ^ 9);
-    assert!(rt; closing_of(&[], a) == NOTHING);
+    let told = [
+        closing_of(&closings, b).o == product ^ 5,
+        closing_of(&closings, a).tau == product ^ 9,
+        closing_of(&[], a) == NOTHING,
+    ];
+    assert!(rt; told == [true; 3]);
 }
 
 // How many ranges are judged, where the lengths are equal.
@@ -51,9 +57,11 @@ fn of_two_pairs_the_bad_second_is_rejected(rt: HostRuntime) {
     let zero = [NOTHING, Closing { o: 1, tau: 0 }];
     let one = [NOTHING; 2];
     let mut rejected = [true, false];
-    assert!(rt; judged_of(&zero, &one, &mut rejected) == Some(3));
-    assert!(rt; rejected == [false, true]);
-    assert!(rt; judged_of(&[], &[], &mut []) == Some(0));
+    let judged = [
+        judged_of(&zero, &one, &mut rejected),
+        judged_of(&[], &[], &mut []),
+    ];
+    assert!(rt; judged == [Some(3), Some(0)] && rejected == [false, true]);
 }
 
 fn is_bad(place: usize, step: usize) -> bool

@@ -12,27 +12,38 @@ fn is_inverse(a: u128, inverse: Option<u128>) -> bool {
     }
 }
 
+/// Products by hand: two factors and their product.
+pub(crate) const PRODUCTS: [(u128, u128, u128); 7] = [
+    (2, 2, 3),
+    (2, 3, 1),
+    (3, 3, 2),
+    (4, 4, 9),
+    (16, 16, 65),
+    (256, 256, 4097),
+    (1 << 64, 1 << 64, (1 << 96) + 1),
+];
+
+fn are_products(rows: &[(u128, u128, u128)]) -> bool {
+    let mut right = true;
+    for (a, b, product) in rows {
+        right = is_product(*a, *b, *product) & right;
+    }
+    right
+}
+
 #[test]
 fn products_are_the_worked_ones(rt: HostRuntime) {
-    let rows: [(u128, u128, u128); 7] = [
-        (2, 2, 3),
-        (2, 3, 1),
-        (3, 3, 2),
-        (4, 4, 9),
-        (16, 16, 65),
-        (256, 256, 4097),
-        (1 << 64, 1 << 64, (1 << 96) + 1),
-    ];
-    for (a, b, product) in rows {
-        assert!(rt; is_product(a, b, product));
-    }
+    assert!(rt; are_products(&PRODUCTS));
 }
 
 #[test]
 fn inverses_are_the_worked_ones_and_zero_has_none(rt: HostRuntime) {
-    assert!(rt; is_inverse(2, Some(3)));
-    assert!(rt; is_inverse(1 << 64, Some((1 << 64) + (1 << 32))));
-    assert!(rt; is_inverse(Gf128::zero().value(), None));
+    let told = [
+        is_inverse(2, Some(3)),
+        is_inverse(1 << 64, Some((1 << 64) + (1 << 32))),
+        is_inverse(Gf128::zero().value(), None),
+    ];
+    assert!(rt; told == [true; 3]);
 }
 
 /// That a value times its inverse is one, that a sum with itself is zero, and that a square is a product.
@@ -48,9 +59,14 @@ fn is_lawful<F: Field>(x: F) -> bool {
 fn levels_of_the_tower_keep_the_laws_of_a_field(rt: HostRuntime) {
     let two: Quad<Bit> = Quad::twist();
     let four: Quad<Quad<Bit>> = Quad::twist();
-    assert!(rt; is_lawful(Bit(true)) && is_lawful(Bit(false)));
-    assert!(rt; is_lawful(two) && is_lawful(Quad::<Bit>::zero()));
-    assert!(rt; is_lawful(four.add(four.square())));
-    assert!(rt; four.trace() && !Quad::<Bit>::one().trace());
-    assert!(rt; is_lawful(Gf128(0x0123_4567_89ab_cdef)));
+    let lawful = [
+        is_lawful(Bit(true)),
+        is_lawful(Bit(false)),
+        is_lawful(two),
+        is_lawful(Quad::<Bit>::zero()),
+        is_lawful(four.add(four.square())),
+        is_lawful(Gf128(0x0123_4567_89ab_cdef)),
+    ];
+    let traces = [four.trace(), Quad::<Bit>::one().trace()];
+    assert!(rt; lawful == [true; 6] && traces == [true, false]);
 }

@@ -24,9 +24,12 @@ fn squares<F: Field>(p: &[F], square: &mut [F]) -> bool
 
 #[test]
 fn a_square_expands_over_three_fields(rt: HostRuntime) {
-    assert!(rt; squares(&[Bit(true); 2], &mut [Bit(false); 3]));
     let one = Quad::<Bit>::one();
-    assert!(rt; squares(&[one; 2], &mut [one; 3]));
-    assert!(rt; squares(&[Gf128(1); 2], &mut [Gf128(7); 3]));
-    assert!(rt; eval(&[], Bit::twist()) == Bit::zero());
+    let told = [
+        squares(&[Bit(true); 2], &mut [Bit(false); 3]),
+        squares(&[one; 2], &mut [one; 3]),
+        squares(&[Gf128(1); 2], &mut [Gf128(7); 3]),
+        eval(&[], Bit::twist()) == Bit::zero(),
+    ];
+    assert!(rt; told == [true; 4]);
 }

@@ -1,4 +1,5 @@
 //! Products and inverses of an independent program, and the order of the tables' base.
+use crate::field::PRODUCTS;
 use field_tables::{Tables, mul_fast};
 use tower_field::{Field, Gf128};
 
@@ -98,35 +99,47 @@ fn is_inverse(a: u128, inverse: u128) -> bool {
     Gf128(a).invert() == Some(Gf128(inverse))
 }
 
+fn are_right(tables: &Tables, rows: &[Row]) -> bool {
+    let mut right = true;
+    for row in rows {
+        right = is_product(row.a, row.b, row.product) & right;
+        right = is_fast_product(tables, row.a, row.b, row.product) & right;
+        right = is_inverse(row.a, row.inverse) & right;
+    }
+    right
+}
+
 #[test]
 fn products_and_inverses_match_an_independent_program(rt: HostRuntime) {
     let tables = Tables::new();
-    for row in &ROWS {
-        assert!(rt; is_product(row.a, row.b, row.product));
-        assert!(rt; is_fast_product(&tables, row.a, row.b, row.product));
-        assert!(rt; is_inverse(row.a, row.inverse));
+    assert!(rt; are_right(&tables, &ROWS));
+}
+
+fn are_fast_products(tables: &Tables, rows: &[(u128, u128, u128)]) -> bool {
+    let mut right = true;
+    for (a, b, product) in rows {
+        right = is_fast_product(tables, *a, *b, *product) & right;
     }
+    right
 }
 
 #[test]
 fn products_by_tables_are_the_worked_ones(rt: HostRuntime) {
     let tables = Tables::new();
-    let rows: [(u128, u128, u128); 7] = [
-        (2, 2, 3),
-        (2, 3, 1),
-        (3, 3, 2),
-        (4, 4, 9),
-        (16, 16, 65),
-        (256, 256, 4097),
-        (1 << 64, 1 << 64, (1 << 96) + 1),
-    ];
-    for (a, b, product) in rows {
-        assert!(rt; is_fast_product(&tables, a, b, product));
-    }
+    assert!(rt; are_fast_products(&tables, &PRODUCTS));
 }
 
 fn next_power(tables: &Tables, power: u128) -> u128 {
     mul_fast(tables, power, 128)
+}
+
+// Marks a power as seen. False where it was seen before, or is none of the least 256 numbers.
+fn is_new(seen: &mut [bool; 256], power: u128) -> bool {
+    if power >= 256 || seen[power as usize] {
+        return false;
+    }
+    seen[power as usize] = true;
+    true
 }
 
 /// The powers 128^0 to 128^254 all differ.
@@ -135,11 +148,10 @@ fn powers_of_the_base_differ(rt: HostRuntime) {
     let tables = Tables::new();
     let mut seen = [false; 256];
     let mut power: u128 = 1;
-    for i in 0..255u32 {
-        assert!(rt; power < 256);
-        assert!(rt; !seen[power as usize], "128 to the {i}");
-        seen[power as usize] = true;
+    let mut differ = true;
+    for _ in 0..255u32 {
+        differ = is_new(&mut seen, power) & differ;
         power = next_power(&tables, power);
     }
-    assert!(rt; power == 1);
+    assert!(rt; differ && power == 1);
 }

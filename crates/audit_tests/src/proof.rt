@@ -370,13 +370,19 @@ fn closes(row: &Row) -> bool {
     zero == row.closings.0 && one == row.closings.1 && !is_judged(&zero, &one)
 }
 
+fn are_right(rows: &[Row]) -> bool {
+    let mut right = true;
+    for row in rows {
+        right = proves(row) & right;
+        right = opens(&row.sums, &row.shares.0, row.sigma, &row.openings) & right;
+        right = closes(row) & right;
+    }
+    right
+}
+
 #[test]
 fn shares_openings_and_closings_match_an_independent_program(rt: HostRuntime) {
-    for row in &ROWS {
-        assert!(rt; proves(row));
-        assert!(rt; opens(&row.sums, &row.shares.0, row.sigma, &row.openings));
-        assert!(rt; closes(row));
-    }
+    assert!(rt; are_right(&ROWS));
 }
 
 // Of the proof of m = 1 with r = 2 and s = 3 whose f is 2t² and whose g is 3t, at the point 4: with this
@@ -400,15 +406,20 @@ fn closes_with(constant: u128, c: u128, closing: Closing) -> bool {
     opens(&sums, &share, 4, &opened) && closing_of(0, &sums, &share, 4, &opened) == closing
 }
 
+// Whether it closes with this tau, and whether that is judged as good.
+fn closed(constant: u128, c: u128, tau: u128) -> [bool; 2] {
+    let closing = Closing { o: 0, tau };
+    [
+        closes_with(constant, c, closing),
+        is_judged(&closing, &Closing { o: 0, tau: 0 }),
+    ]
+}
+
 /// The proof as it is, with another constant of h, and with a triple's error that hides this at the point.
 #[test]
 fn a_wrong_proof_passes_only_where_a_triple_hides_it(rt: HostRuntime) {
-    let nothing = Closing { o: 0, tau: 0 };
-    for (constant, c, tau) in [(0u128, 1u128, 0u128), (1, 1, 4), (1, 5, 0)] {
-        let closing = Closing { o: 0, tau };
-        assert!(rt; closes_with(constant, c, closing));
-        assert!(rt; is_judged(&closing, &nothing) == (tau == 0));
-    }
+    let told = [closed(0, 1, 0), closed(1, 1, 4), closed(1, 5, 0)];
+    assert!(rt; told == [[true, true], [true, false], [true, true]]);
 }
 
 // The shares of a write to the second of these addresses, whose leaves there have this sum.
@@ -439,10 +450,13 @@ fn both_servers_accept_an_honest_proof_and_no_wrong_triple(rt: HostRuntime) {
     let addresses = [3u128, 1 << 90, u128::MAX];
     let ckey = [9u8; 32];
     let (zero, one) = shares_at(&addresses, &ckey, 12 ^ (1 << 70));
-    assert!(rt; both_accept(&addresses, &ckey, &zero, &one));
     let wrong = ProofShare {
         c: one.c ^ 1,
         ..one
     };
-    assert!(rt; !both_accept(&addresses, &ckey, &zero, &wrong));
+    let accepted = [
+        both_accept(&addresses, &ckey, &zero, &one),
+        both_accept(&addresses, &ckey, &zero, &wrong),
+    ];
+    assert!(rt; accepted == [true, false]);
 }
