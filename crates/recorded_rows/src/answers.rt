@@ -32,16 +32,28 @@ fn answer_line<R: Print + Eprint + AllocGlobal>(
     }
 }
 
+// Prints the lines with their answers. Whether each has one.
+fn answer_lines<R: Input + Print + Eprint + AllocGlobal>(
+    rt: &R,
+    part: &mut Part,
+) -> io::Result<bool> {
+    let alloc = rt.alloc();
+    for line in BufReader::new(alloc, rt.reader())?.lines(alloc) {
+        let line = line?;
+        if !answer_line(rt, part, line.as_str())? {
+            return Ok(false);
+        }
+    }
+    Ok(true)
+}
+
 /// Prints the lines with their answers, up to the first that has none. It is a failure that a line has none, and what
 /// it lacks is told on standard error.
 pub(crate) fn print_all<R: Input + Print + Eprint + AllocGlobal>(rt: &R) -> io::Result<ExitCode> {
-    let alloc = rt.alloc();
     let mut part = Part::Nothing;
-    for line in BufReader::new(alloc, rt.reader())?.lines(alloc) {
-        let line = line?;
-        if !answer_line(rt, &mut part, line.as_str())? {
-            return Ok(ExitCode::FAILURE);
-        }
+    if answer_lines(rt, &mut part)? {
+        Ok(ExitCode::SUCCESS)
+    } else {
+        Ok(ExitCode::FAILURE)
     }
-    Ok(ExitCode::SUCCESS)
 }

@@ -19,21 +19,31 @@ pub(crate) enum Part {
     Served(Rows),
 }
 
+// What stands before the first line of the part of this name.
+fn head_of(alloc: Global, name: &str) -> Result<String> {
+    let mut text = format!(in alloc; "part {name}\n")?;
+    if name == "remembered" {
+        text.push_str(report(alloc)?.as_str())?;
+    }
+    Ok(text)
+}
+
 impl Part {
+    // The part of this name.
+    fn of(alloc: Global, name: &str) -> Result<Part> {
+        match name {
+            "joined" => Ok(Part::Recorded(Scene::open(alloc, LEAST, None)?)),
+            "served" => Ok(Part::Served(Rows::open(alloc)?)),
+            "kept" => Ok(Part::Recorded(Scene::open(alloc, LEAST, Some(LIMIT))?)),
+            "remembered" => Ok(Part::Nothing),
+            _ => Err(Fault::Unknown),
+        }
+    }
+
     // What a part prints before its first line.
     fn begin(&mut self, alloc: Global, name: &str) -> Result<String> {
-        let mut text = format!(in alloc; "part {name}\n")?;
-        match name {
-            "joined" => *self = Part::Recorded(Scene::open(alloc, LEAST, None)?),
-            "served" => *self = Part::Served(Rows::open(alloc)?),
-            "kept" => *self = Part::Recorded(Scene::open(alloc, LEAST, Some(LIMIT))?),
-            "remembered" => {
-                *self = Part::Nothing;
-                text.push_str(report(alloc)?.as_str())?;
-            }
-            _ => return Err(Fault::Unknown),
-        }
-        Ok(text)
+        *self = Part::of(alloc, name)?;
+        head_of(alloc, name)
     }
 
     /// What is printed of a line with this question.

@@ -10,17 +10,22 @@ use std::marker::Model;
 /// The bytes of the disk may be so many.
 const LIMIT: u64 = 65536;
 
-// What stands on a disk after a journal was made with a first record, and after an append of the second where that has a
-// byte.
-fn journal_bytes(alloc: Global, first: &[u8], second: &[u8]) -> Result<Vec<u8>> {
+// Makes a journal with a first record, and appends the second where that has a byte.
+fn write_both(disk: &mut MemoryDisk, first: &[u8], second: &[u8]) -> Result<()> {
     if first.is_empty() || first.len() > RECORD_MAX || second.len() > RECORD_MAX {
         return Err(Fault::Unknown);
     }
-    let mut disk = disk_of(alloc, &[], 0, &[])?;
-    let mut journal = Journal::create(&mut disk, LIMIT, first)?;
+    let mut journal = Journal::create(disk, LIMIT, first)?;
     if !second.is_empty() {
-        journal.append(&mut disk, second)?;
+        journal.append(disk, second)?;
     }
+    Ok(())
+}
+
+// What stands on a disk after both.
+fn journal_bytes(alloc: Global, first: &[u8], second: &[u8]) -> Result<Vec<u8>> {
+    let mut disk = disk_of(alloc, &[], 0, &[])?;
+    write_both(&mut disk, first, second)?;
     Ok(Vec::from_slice(alloc, disk.bytes())?)
 }
 

@@ -1,5 +1,5 @@
 //! What the crashes of the client's disk leave.
-use crate::crashes::{Left, Work, crash_everywhere};
+use crate::crashes::{Left, Tally, Work, crash_everywhere};
 use crate::fault::{Fault, Result};
 use crate::remembered::run::{WorkedOff, run};
 use std::alloc::Global;
@@ -46,19 +46,28 @@ impl Work for WorkedOff {
     }
 }
 
+fn lines_of(alloc: Global, told: &[String]) -> Result<String> {
+    let mut text = String::new(alloc);
+    for line in told {
+        text.push_str(line.as_str())?;
+        text.push('\n')?;
+    }
+    Ok(text)
+}
+
+fn add_counts(mut text: String, tally: &Tally) -> Result<String> {
+    let (crashes, with, alike, again) = (tally.crashes, tally.with, tally.alike, tally.again);
+    write!(
+        text,
+        "{crashes} crashes, {with} with the note under way, {alike} with the same end, {again} told again\n"
+    )?;
+    Ok(text)
+}
+
 /// The outcomes with no crash, and the counts of the crashes.
 pub fn report(alloc: Global) -> Result<String> {
     let plain = run(alloc, 0, &[])?.ok_or(Fault::Unknown)?;
     let tally = crash_everywhere(alloc, &plain)?;
-    let mut text = String::new(alloc);
-    for line in &plain.told {
-        text.push_str(line.as_str())?;
-        text.push('\n')?;
-    }
-    let (crashes, with, alike, again) = (tally.crashes, tally.with, tally.alike, tally.again);
-    let counts = format!(in alloc;
-        "{crashes} crashes, {with} with the note under way, {alike} with the same end, {again} told again\n"
-    )?;
-    text.push_str(counts.as_str())?;
-    Ok(text)
+    let text = lines_of(alloc, &plain.told)?;
+    add_counts(text, &tally)
 }
