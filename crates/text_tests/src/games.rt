@@ -35,8 +35,10 @@ const TWO: &[u8] = b"address 00000000000000000000000000000002\n";
 
 const LAST: &[u8] = b"address ffffffffffffffffffffffffffffffff\n";
 
+const WORKED: [&[u8]; 7] = [CLOAK, CKEY, SIGMA, FROM, TO, ZERO, LAST];
+
 const ROWS: [&[&[u8]]; 13] = [
-    &[CLOAK, CKEY, SIGMA, FROM, TO, ZERO, LAST],
+    &WORKED,
     &[],
     &[CLOAK, CKEY, SIGMA],
     &[CLOAK, CKEY, SIGMA, FROM, TO],
@@ -60,15 +62,23 @@ fn aim_told(told: &mut String, aim: &AimText) -> Result<(), AllocError> {
     write!(told, "{:x} {:?}\n", aim.address, aim.message.as_slice())
 }
 
+fn head_told(told: &mut String, game: &CloakGame) -> Result<(), AllocError> {
+    write!(told, "{} {} {:x}\n", game.viewer, game.width, game.sigma)?;
+    write!(told, "{:?}\n{:?}\n", game.seed, game.ckey)
+}
+
+fn aims_told(told: &mut String, game: &CloakGame) -> Result<(), AllocError> {
+    aim_told(told, &game.old_aim)?;
+    aim_told(told, &game.new_aim)?;
+    write!(told, "{:?}\n", game.addresses.as_slice())
+}
+
 fn game_told(alloc: Global) -> Result<String, Fail> {
-    let text = joined(alloc, ROWS[0])?;
+    let text = joined(alloc, &WORKED)?;
     let game = game_in(alloc, &text)?;
     let mut told = String::new(alloc);
-    write!(told, "{} {} {:x}\n", game.viewer, game.width, game.sigma)?;
-    write!(told, "{:?}\n{:?}\n", game.seed, game.ckey)?;
-    aim_told(&mut told, &game.old_aim)?;
-    aim_told(&mut told, &game.new_aim)?;
-    write!(told, "{:?}\n", game.addresses.as_slice())?;
+    head_told(&mut told, &game)?;
+    aims_told(&mut told, &game)?;
     Ok(told)
 }
 

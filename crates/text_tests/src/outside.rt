@@ -78,14 +78,18 @@ fn has_passed(conn: &MemoryConn, given: &[u8], written: &[u8]) -> bool {
     conn.given() == given && conn.written() == written
 }
 
+fn conn_calls_told(conn: &mut MemoryConn, told: &mut String) -> Result<(), AllocError> {
+    let mut buf = [0u8; 2];
+    put_all(conn, &[b"x", b"x"], told)?;
+    take(conn, &mut buf, told)?;
+    take(conn, &mut buf, told)?;
+    put_all(conn, &[b"yz"], told)
+}
+
 fn conn_told(alloc: Global) -> Result<String, Fail> {
     let mut conn = conn(alloc, b"abc", 2, &[1, 3])?;
-    let mut buf = [0u8; 2];
     let mut told = String::new(alloc);
-    put_all(&mut conn, &[b"x", b"x"], &mut told)?;
-    take(&mut conn, &mut buf, &mut told)?;
-    take(&mut conn, &mut buf, &mut told)?;
-    put_all(&mut conn, &[b"yz"], &mut told)?;
+    conn_calls_told(&mut conn, &mut told)?;
     write!(told, "{}\n", has_passed(&conn, b"ab", b"x"))?;
     Ok(told)
 }
@@ -199,15 +203,21 @@ fn has_closed(net: &MemoryNet, given: &[u8], written: &[u8]) -> bool {
 }
 
 // The net's count rises once for a connection with two faults, and the next call is numbered as before.
+fn counted(net: &mut MemoryNet) -> [bool; 4] {
+    [
+        faults(net) == 1,
+        has_closed(net, b"ab", b"x"),
+        listen(net, "") == Err(Failed),
+        faults(net) == 2,
+    ]
+}
+
 #[test]
 fn connection_from_a_net(rt: HostRuntime) -> Result<(), Fail> {
     let mut net = small_net(rt.alloc())?;
     let mut conn = dial(&mut net, "them")?;
-    assert!(rt; is_broken_by_calls(&mut conn));
+    let broken = is_broken_by_calls(&mut conn);
     close(&mut net, Ok(conn));
-    assert!(rt; faults(&net) == 1);
-    assert!(rt; has_closed(&net, b"ab", b"x"));
-    assert!(rt; listen(&mut net, "") == Err(Failed));
-    assert!(rt; faults(&net) == 2);
+    assert!(rt; broken && counted(&mut net) == [true; 4]);
     Ok(())
 }
