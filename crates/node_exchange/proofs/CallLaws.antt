@@ -5,7 +5,7 @@ use Rattle.express_words.specs.Causes.{Rose}
 use Rattle.express_words.specs.Streams.{Stream, Gave, Took}
 use Rattle.express_words.specs.Calls.{Call, Dialled, Closed, Adds, AddsClose, GivesTelling}
 use Rattle.node_exchange.specs.Taking.{IsWanted}
-use Rattle.node_exchange.specs.Exchanging.{Makes, Exchange, IsExchange, IsFault, IsAnswer, TakesFirst}
+use Rattle.node_exchange.specs.Exchanging.{Makes, Exchange, ExchangeOn, IsFault, IsAnswer, TakesFirst}
 
 pub gave_more : (a b c : Option Stream) (x y : List ℕ) → Gave a b x → Gave b c y → Gave a c (x ++ y)
 gave_more None b c x y g h = tt
@@ -41,7 +41,7 @@ close_made (Some a) (Some b) (Some c) (Some s) (Some t) (Some v) (Some w) call g
 pub whole_talk : (a b c : Option (List Call)) (s t : Option Stream) (v w : Option (List ℕ)) (peer : List ℕ) (e : Exchange) (given : List ℕ) (count : ℕ)
     → Adds a b (Dialled peer false) → GivesTelling b s v → Gave s t given → Took v w e.sent → AddsClose b c t w count
     → count ≡ 0 → IsWanted given → IsAnswer e.answer given
-    → (calls : List Call) × Makes a c calls × IsExchange peer e calls
+    → ExchangeOn peer e a c
 whole_talk a b c s t v w peer e given count dial tells gave took close none wanted answer =
     (Dialled peer false ∷ Closed given e.sent true ∷ [], close_made a b c s t v w (Dialled peer false) given e.sent count true dial tells gave took close (ap (λ n. eqb n 0) none), (refl, (refl, wanted, answer)))
 
@@ -52,7 +52,7 @@ not_zero n h = grind (arith, nat_tests)
 pub broken_talk : (a b c : Option (List Call)) (s t : Option Stream) (v w : Option (List ℕ)) (peer : List ℕ) (e : Exchange) (given : List ℕ) (count : ℕ)
     → Adds a b (Dialled peer false) → GivesTelling b s v → Gave s t given → TakesFirst v w e.sent given → AddsClose b c t w count
     → Rose 0 count → IsWanted given → IsFault e.answer
-    → (calls : List Call) × Makes a c calls × IsExchange peer e calls
+    → ExchangeOn peer e a c
 broken_talk a b c s t v w peer e given count dial tells gave (inl took) close rose wanted fault =
     let some : count ≢ 0 = λ z. absurd (omega arith) in
     (Dialled peer false ∷ Closed given e.sent false ∷ [], close_made a b c s t v w (Dialled peer false) given e.sent count false dial tells gave took close (not_zero count some), (refl, (inl refl, wanted, fault)))

@@ -4,8 +4,7 @@ use Rattle.std.proofs.lemmas.List.{length-append}
 use Rattle.express_words.specs.Calls.{Call, Dialled, Closed}
 use Rattle.frame_rules.specs.Reading.{decoded}
 use Rattle.frame_rules.specs.declared.fault.FrameFault.TheVariants.{Short}
-use Rattle.node_exchange.specs.Exchanging.{Exchange, IsAnswer, IsFault, IsTalk, IsExchange, EndsShort}
-use Rattle.node_exchange.specs.Exchanging.{ExchangeOn}
+use Rattle.node_exchange.specs.Exchanging.{Exchange, IsAnswer, IsFault, IsTalk, IsExchange, EndsShort, ExchangeOn}
 use Rattle.node_exchange.specs.declared.exchanging.Broken.{Broken}
 use Rattle.node_exchange.specs.declared.exchanging.Broken.TheVariants as broken
 use Rattle.node_exchange.proofs.HeldLaws.{frame_not_short, fault_not_short}

@@ -1,10 +1,9 @@
 //! One frame goes to a peer, and one comes back.
-ghost use Rattle.std.specs.Prelude.{◌≡◌, ◌≢◌, ℕ, ◌≤◌, List, length, take, IfOk, Err, Some};
+ghost use Rattle.std.specs.Prelude.{◌≡◌, ◌≢◌, ℕ, ◌≤◌, length, take, IfOk, Err, Some};
 ghost use Rattle.express_words.specs.Causes.{Rose};
 ghost use Rattle.express_words.specs.Streams.{Gave, IsAtEnd, Took};
-ghost use Rattle.express_words.specs.Calls.{Call};
 ghost use Rattle.frame_rules.specs.Room.{HasRoom};
-ghost use Rattle.node_exchange.specs.Exchanging.{Makes, IsExchange, Exchange, answer_in, CountBy, ClosedAtEnd, TakesFirst};
+ghost use Rattle.node_exchange.specs.Exchanging.{ExchangeOn, answer_in, CountBy, ClosedAtEnd, TakesFirst};
 ghost use Rattle.node_exchange.specs.Texts.{broken_text};
 ghost use Rattle.node_exchange.specs.Taking.{EndsBy, IsOneFrame, IsWanted};
 
@@ -68,8 +67,8 @@ pub fn exchange<N: Net>(
     requires room { HasRoom reply.old }
     ensures frame { IfOk result (λ n. (n ≤ length reply.new) × IsOneFrame (take n reply.new)) }
     // One dial, and where it succeeded one close of its connection, after what that took and gave.
-    ensures calls { (calls : List Call) × Makes (N.seen net.old).calls (N.seen net.new).calls calls
-        × IsExchange peer.now (record { sent = frame.now; answer = answer_in result reply.new }) calls }
+    ensures calls { ExchangeOn peer.now (record { sent = frame.now; answer = answer_in result reply.new })
+        (N.seen net.old).calls (N.seen net.new).calls }
     ensures early { (n : ℕ) → result ≡ Err (Broken.Early n) → (conn : N.Conn)
         × ClosedAtEnd (N.seen net.new).calls (N.Conn.seen conn) }
     ensures fault { CountBy result (N.seen net.old).faults (N.seen net.new).faults }
