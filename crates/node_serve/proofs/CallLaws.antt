@@ -4,8 +4,7 @@ use Rattle.std.proofs.lemmas.List.{append-nil}
 use Rattle.express_words.specs.Seen.{Seen}
 use Rattle.express_words.specs.Streams.{Stream, Gave}
 use Rattle.express_words.specs.Calls.{Call, Accepted, Closed, Adds, AddsClose, GivesTelling}
-use Rattle.node_exchange.specs.Exchanging.{Makes, Exchange}
-use Rattle.node_exchange.specs.Exchanging.{ClosedAtEnd, EarlyAtEnd, EndsShort, ExchangesOn}
+use Rattle.node_exchange.specs.Exchanging.{Makes, Exchange, ClosedAtEnd, EarlyAtEnd, EndsShort, ExchangesOn}
 use Rattle.frame_rules.specs.Frames.{PlainFrame}
 use Rattle.frame_rules.specs.Whole.{whole}
 use Rattle.step_rules.specs.Leader.{Leader}
@@ -14,10 +13,11 @@ use Rattle.node_restart.specs.declared.server.Core.{Core}
 use Rattle.node_restart.specs.declared.server.Core.TheVariants.{Lead, Help}
 use Rattle.node_serve.specs.Handling.{IsHelp}
 use Rattle.node_serve.specs.Leading.{taken_in}
-use Rattle.node_serve.specs.Responding.{Responds, Stretch, meanwhile}
+use Rattle.node_serve.specs.Moved.{Stretch, meanwhile}
+use Rattle.node_serve.specs.Responding.{Responds}
 use Rattle.node_serve.specs.Stopping.{LeadStops, Stops}
 use Rattle.node_serve.specs.declared.node.Served.{Served}
-use Rattle.node_serve.specs.Visits.{Visit, visit_calls, Broken, Shown, IsOfTold, IsOfBrokenTold, LinkAtEnd, up_to_close}
+use Rattle.node_serve.specs.Visits.{Visit, visit_calls, Shown, ClosedAs, LinkAtEnd, up_to_close}
 
 pub makes_none : (a : Option (List Call)) → Makes a a []
 makes_none None = tt
@@ -60,22 +60,22 @@ responds_told peer (Lead l) bytes new frames net why reply (now, is, (made, on, 
     let calls = told peer made net.before net.now [] on in
     (calls.0, calls.1, (now, is, (made, calls.2, leads)), λ none. absurd none)
 
-lead_told : (found : Option PlainFrame) (peer : List ℕ) (l : Leader) (bytes : List ℕ) (new : Core) (frames : List Handed) (refused : Handed) (a b : Option (List Call))
-    → LeadStops found peer l bytes new frames refused a b
-    → (calls : List Call) × Makes a b calls × LeadStops found peer l bytes new frames refused (Some []) (Some calls)
-lead_told None peer l bytes new frames refused a b (same, at) =
-    ([], subst (λ (x : Option (List Call)). Makes a x []) (sym same) (makes_none a), (refl, at))
-lead_told (Some f) peer l bytes new frames refused a b (now, is, (made, on, down)) =
-    let calls = told peer made a b [] on in
+lead_told : (found : Option PlainFrame) (peer : List ℕ) (l : Leader) (bytes : List ℕ) (new : Core) (frames : List Handed) (refused : Handed) (net : Stretch) (count : ℕ)
+    → LeadStops found peer l bytes new frames refused net
+    → (calls : List Call) × Makes net.before net.now calls × LeadStops found peer l bytes new frames refused (meanwhile calls count)
+lead_told None peer l bytes new frames refused net count (same, at) =
+    ([], subst (λ (x : Option (List Call)). Makes net.before x []) (sym same) (makes_none net.before), (refl, at))
+lead_told (Some f) peer l bytes new frames refused net count (now, is, (made, on, down)) =
+    let calls = told peer made net.before net.now [] on in
     (calls.0, calls.1, (now, is, (made, calls.2, down)))
 
-pub stops_told : (peer : List ℕ) (core : Core) (bytes : List ℕ) (new : Core) (frames : List Handed) (refused : Handed) (a b : Option (List Call))
-    → Stops peer core bytes new frames refused a b → (IsHelp core → b ≡ a)
-    → (calls : List Call) × Makes a b calls × Stops peer core bytes new frames refused (Some []) (Some calls) × (IsHelp core → calls ≡ [])
-stops_told peer (Help h) bytes new frames refused a b stops rests =
-    ([], subst (λ (x : Option (List Call)). Makes a x []) (sym (rests tt)) (makes_none a), stops, λ is. refl)
-stops_told peer (Lead l) bytes new frames refused a b stops rests =
-    let calls = lead_told (taken_in (whole bytes)) peer l bytes new frames refused a b stops in
+pub stops_told : (peer : List ℕ) (core : Core) (bytes : List ℕ) (new : Core) (frames : List Handed) (refused : Handed) (net : Stretch) (count : ℕ)
+    → Stops peer core bytes new frames refused net → (IsHelp core → net.now ≡ net.before)
+    → (calls : List Call) × Makes net.before net.now calls × Stops peer core bytes new frames refused (meanwhile calls count) × (IsHelp core → calls ≡ [])
+stops_told peer (Help h) bytes new frames refused net count stops rests =
+    ([], subst (λ (x : Option (List Call)). Makes net.before x []) (sym (rests tt)) (makes_none net.before), stops, λ is. refl)
+stops_told peer (Lead l) bytes new frames refused net count stops rests =
+    let calls = lead_told (taken_in (whole bytes)) peer l bytes new frames refused net count stops in
     (calls.0, calls.1, calls.2, λ none. absurd none)
 
 -- ---- an accept, these calls, and a close
@@ -92,7 +92,7 @@ same_stream a b x y given left = cc
 
 pub visit_made : (a b c d : Option (List Call)) (s t : Option Stream) (w x : Option (List ℕ)) (v : Visit)
     → Adds a b (Accepted false) → GivesTelling b s w → Gave s t v.given → v.left ≡ left_in t → (w ≢ None → x ≡ Some v.taken)
-    → Makes b c v.calls → AddsClose c d t x v.faults → Makes a d (visit_calls v) × IsOfTold d v t x v.faults
+    → Makes b c v.calls → AddsClose c d t x v.faults → Makes a d (visit_calls v) × ClosedAs d v.given v.left v.taken v.faults t x v.faults
 visit_made a b c None s t w x v accept tells gave left took makes close = (tt, tt)
 visit_made a b c (Some d) s None w x v accept tells gave left took makes close = absurd close
 visit_made a b c (Some d) s (Some t) w None v accept tells gave left took makes close = absurd close
@@ -134,11 +134,3 @@ link_at_end shows (Some a) b None (Some d) (Some t) (Some x) n v accept makes cl
 link_at_end shows (Some a) None (Some c) (Some d) (Some t) (Some x) n v accept makes close early = absurd makes
 link_at_end shows (Some a) (Some b) (Some c) (Some d) (Some t) (Some x) n v accept makes close early =
     at_end shows (Some c) (Some (a ++ Accepted false ∷ v.calls)) (ap Some (behind_accept a b c v.calls accept makes)) early
-
--- ---- a connection that took nothing
-
-pub of_broken : (d : Option (List Call)) (v : Visit) (u : Broken) (t : Option Stream) (x : Option (List ℕ)) → u.given ≡ v.given → u.left ≡ v.left → v.taken ≡ [] → v.faults ≡ 0
-    → IsOfTold d v t x 0 → IsOfBrokenTold d u t x 0
-of_broken None v u t x given left taken faults of = tt
-of_broken (Some d) v u t x given left taken faults of =
-    (of.0 ∙ ap Some (same_stream v.given u.given v.left u.left (sym given) (sym left)), of.1 ∙ ap Some taken, refl)

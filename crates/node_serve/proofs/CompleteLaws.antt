@@ -13,13 +13,10 @@ pub completed : (n : Node) (bytes : List ℕ) (new : Node) (a b : Option (List C
     → Serves n bytes new a b count why reply → WritesTold why old now conn_before conn_now reply
     → FaultIn why net_before net_now → NoneFailed conn_before conn_now → NoneFailed net_before net_now
     → IsComplete n why
+completed n bytes new a b count (served.ConnFault k) reply old now cb cn nb nn s w f c d = absurd (c w.1)
+completed n bytes new a b count served.Ended reply old now cb cn nb nn s w f c d = absurd w
+completed n bytes new a b count (served.LinkFault k) reply old now cb cn nb nn s w f c d = absurd (d f.0)
 completed (node.Help h) bytes new a b count served.Answered reply old now cb cn nb nn s w f c d = refl
-completed (node.Help h) bytes new a b count (served.ConnFault n) reply old now cb cn nb nn s w f c d = absurd (c w.1)
-completed (node.Help h) bytes new a b count served.Ended reply old now cb cn nb nn s w f c d = absurd w
-completed (node.Help h) bytes new a b count (served.LinkFault n) reply old now cb cn nb nn s w f c d = absurd s.0
 completed (node.Help h) bytes new a b count served.LinkBad reply old now cb cn nb nn s w f c d = absurd s.0
 completed (node.Lead l peer) bytes new a b count served.Answered reply old now cb cn nb nn s w f c d = inl refl
-completed (node.Lead l peer) bytes new a b count (served.ConnFault n) reply old now cb cn nb nn s w f c d = absurd (c w.1)
-completed (node.Lead l peer) bytes new a b count served.Ended reply old now cb cn nb nn s w f c d = absurd w
-completed (node.Lead l peer) bytes new a b count (served.LinkFault n) reply old now cb cn nb nn s w f c d = absurd (d f.0)
 completed (node.Lead l peer) bytes new a b count served.LinkBad reply old now cb cn nb nn s w f c d = inr refl

@@ -28,13 +28,9 @@ down_link a bytes b made why (inr late) = off_link b late.second.failed.answer w
 put_is : (sent : Served) (old new : Option (List ℕ)) (before now : ℕ) (reply : List ℕ) → IsSent sent → WritesTold sent old new before now reply → IsPut old new before now reply
 put_is served.Answered old new before now reply is w = inl w
 put_is (served.ConnFault count) old new before now reply is w = inr (w.0, w.1)
-put_is served.Ended old new before now reply is w = absurd is
-put_is (served.LinkFault count) old new before now reply is w = absurd is
-put_is served.LinkBad old new before now reply is w = absurd is
+put_is sent old new before now reply is w = absurd is
 
 pub writes_down : (why sent : Served) (old new : Option (List ℕ)) (before now : ℕ) (reply : List ℕ) → IsLink why → IsSent sent → WritesTold sent old new before now reply → WritesTold why old new before now reply
-writes_down served.Answered sent old new before now reply link is w = absurd link
-writes_down (served.ConnFault count) sent old new before now reply link is w = absurd link
-writes_down served.Ended sent old new before now reply link is w = absurd link
 writes_down (served.LinkFault count) sent old new before now reply link is w = put_is sent old new before now reply is w
 writes_down served.LinkBad sent old new before now reply link is w = put_is sent old new before now reply is w
+writes_down why sent old new before now reply link is w = absurd link

@@ -11,7 +11,7 @@ use Rattle.node_serve.specs.declared.node.Served.{Served}
 use Rattle.node_serve.specs.declared.stop.Halt.{Halt}
 use Rattle.node_serve.specs.declared.stop.Halt.TheVariants as halt
 use Rattle.node_serve.specs.declared.tally.Tally.{Tally}
-use Rattle.node_serve.specs.Tallies.{is_answered, is_ended, is_connection_fault, is_link_fault, is_bad_link, count_of, tally_of}
+use Rattle.node_serve.specs.Tallies.{is_answered, is_ended, is_connection_fault, is_link_fault, is_bad_link, count_of, tally_of, CountsMore}
 use Rattle.node_serve.specs.Hosting.{Visited, Hosts}
 use Rattle.node_serve.specs.Visits.{Visit, visit_calls, Standing, VisitEnds, none, then}
 use Rattle.node_serve.proofs.CallLaws.{makes_none, makes_both}
@@ -22,14 +22,6 @@ counts_more : (is : Served → Bool) (visits : List Visit) (v : Visit) (answer :
 counts_more is visits v answer old new same before more =
     let one : cond {A = ℕ} (is v.answer) 1 0 ≡ cond {A = ℕ} (is answer) 1 0 = ap (λ (x : Served). cond {A = ℕ} (is x) 1 0) same in
     omega (arith, one, before, more, sum_by-append (λ (x : Visit). cond (is x.answer) 1 0) visits (v ∷ []))
-
--- what one more answer makes of the counts
-pub record CountsMore (old new : Tally) (answer : Served) : Type 0 where
-  pub answered : new.answered ≡ old.answered + count_by is_answered (answer ∷ [])
-  pub ended : new.ended ≡ old.ended + count_by is_ended (answer ∷ [])
-  pub connection_faults : new.connection_faults ≡ old.connection_faults + count_by is_connection_fault (answer ∷ [])
-  pub link_faults : new.link_faults ≡ old.link_faults + count_by is_link_fault (answer ∷ [])
-  pub bad_links : new.bad_links ≡ old.bad_links + count_by is_bad_link (answer ∷ [])
 
 abbrev tally : (answered ended connection_faults link_faults bad_links : ℕ) → Tally
 tally a e c l b = record { answered = a; ended = e; connection_faults = c; link_faults = l; bad_links = b }

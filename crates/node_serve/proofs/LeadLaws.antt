@@ -4,7 +4,7 @@ use Rattle.std.proofs.Common.{◌≡◌, inl, inr, ℕ, List, [], ◌∷◌, ◌
 use Rattle.express_words.specs.Calls.{Call}
 use Rattle.step_rules.specs.Leader.{Leader}
 use Rattle.step_rules.specs.LeaderClients.{on_client}
-use Rattle.node_serve.specs.Draining.{Stand, stand, Drained, BreaksOff}
+use Rattle.node_serve.specs.Draining.{DrainState, drain_start, Drained, BreaksInDrain}
 use Rattle.node_serve.specs.Leading.{reply_to, stepped, Handles}
 use Rattle.node_serve.specs.declared.node.Served.{Served}
 use Rattle.node_serve.proofs.StandLaws.{exchanges_both}
@@ -16,7 +16,7 @@ use Rattle.node_serve.specs.declared.broke.Broke.{Broke}
 use Rattle.node_serve.specs.declared.broke.Broke.TheVariants as broke
 use Rattle.node_serve.specs.Handing.{IfLink, IfKeep, answers_in, around}
 use Rattle.node_serve.specs.Handling.{Drains, DrainBreaks, HandlesAll, HandleBreaks, Steps}
-use Rattle.node_serve.specs.Stopping.{StopsAt, DrainStops, HandleStops}
+use Rattle.node_serve.specs.Stopping.{StopsInDrain, DrainStops, HandleStops}
 
 pub if_ok : {A E : Type 0} (r : Result A E) (P Q : A → Type 0) → ((x : A) → P x → Q x) → IfOk r P → IfOk r Q
 if_ok (Ok x) P Q f h = f x h
@@ -43,9 +43,9 @@ one_lead : (a b : Leader) → (let c : Core = Lead a in c) ≡ Lead b → a ≡ 
 one_lead a b e = cc
 
 -- where the step leaves a leader that was drained
-stepped_is : (at l m : Leader) (bytes told : List ℕ) → l ≡ at → m ≡ (on_client l bytes).leader → told ≡ reply_to (on_client l bytes).answer → stand m told ≡ stepped at bytes
+stepped_is : (at l m : Leader) (bytes told : List ℕ) → l ≡ at → m ≡ (on_client l bytes).leader → told ≡ reply_to (on_client l bytes).answer → drain_start m told ≡ stepped at bytes
 stepped_is at l m bytes told is leader reply =
-    ap (λ (x : Leader). stand x told) leader ∙ ap (λ (x : List ℕ). stand (on_client l bytes).leader x) reply ∙ ap (λ (x : Leader). stepped x bytes) is
+    ap (λ (x : Leader). drain_start x told) leader ∙ ap (λ (x : List ℕ). drain_start (on_client l bytes).leader x) reply ∙ ap (λ (x : Leader). stepped x bytes) is
 
 pub handles : (peer : List ℕ) (start : Core) (bytes : List ℕ) (one two now : Core) (first told reply : List ℕ) (f g : List Handed) (x y z : Option (List Call))
     → Drains peer start [] one f first x y → Steps one bytes two told → Drains peer two told now g reply y z
@@ -54,12 +54,12 @@ handles peer (Help h) bytes one two now first told reply f g x y z d s e = absur
 handles peer (Lead a) bytes (Help h) two now first told reply f g x y z d s e = absurd s
 handles peer (Lead a) bytes (Lead l) (Help h) now first told reply f g x y z d s e = absurd e
 handles peer (Lead a) bytes (Lead l) (Lead m) now first told reply f g x y z d s e =
-    let is : stand m told ≡ stepped d.0.leader bytes = stepped_is d.0.leader l m bytes told (one_lead l d.0.leader d.2) (one_lead m _ s.0) s.1 in
+    let is : drain_start m told ≡ stepped d.0.leader bytes = stepped_is d.0.leader l m bytes told (one_lead l d.0.leader d.2) (one_lead m _ s.0) s.1 in
     let both : Handles a bytes e.0.leader reply (d.0.made ++ e.0.made) = record {
       before = d.0;
       after = e.0;
       first = d.1;
-      second = subst (λ (t : Stand). Drained t e.0) is e.1;
+      second = subst (λ (t : DrainState). Drained t e.0) is e.1;
       leader = refl;
       reply_is = e.3;
       all = refl;
@@ -80,7 +80,7 @@ breaks_late peer (Help h) bytes one two now first told f g x y z why d s e = abs
 breaks_late peer (Lead a) bytes (Help h) two now first told f g x y z why d s e = absurd s
 breaks_late peer (Lead a) bytes (Lead l) (Help h) now first told f g x y z why d s e = absurd e
 breaks_late peer (Lead a) bytes (Lead l) (Lead m) now first told f g x y z why d s (b, at, (made, off, more, calls)) =
-    let is : stand m told ≡ stepped d.0.leader bytes = stepped_is d.0.leader l m bytes told (one_lead l d.0.leader d.2) (one_lead m _ s.0) s.1 in
+    let is : drain_start m told ≡ stepped d.0.leader bytes = stepped_is d.0.leader l m bytes told (one_lead l d.0.leader d.2) (one_lead m _ s.0) s.1 in
     let all : f ++ handed Client bytes ∷ g ≡ around d.0.made bytes made =
     ap (λ (t : List Handed). t ++ handed Client bytes ∷ g) d.4 ∙ ap (λ (t : List Handed). answers_in d.0.made ++ handed Client bytes ∷ t) more in (
       b,
@@ -89,7 +89,7 @@ breaks_late peer (Lead a) bytes (Lead l) (Lead m) now first told f g x y z why d
         d.0.made ++ made,
         exchanges_both peer d.0.made made x y z d.5 calls,
         (
-          inr (record { before = d.0; first = d.1; more = made; second = subst (λ (t : Stand). BreaksOff t b made why) is off; all = refl }),
+          inr (record { before = d.0; first = d.1; more = made; second = subst (λ (t : DrainState). BreaksInDrain t b made why) is off; all = refl }),
           all,
         ),
       ),
@@ -113,9 +113,9 @@ stops_late peer (Help h) bytes one two now first told f g refused x y z d s e = 
 stops_late peer (Lead a) bytes (Help h) two now first told f g refused x y z d s e = absurd s
 stops_late peer (Lead a) bytes (Lead l) (Help h) now first told f g refused x y z d s e = absurd e
 stops_late peer (Lead a) bytes (Lead l) (Lead m) now first told f g refused x y z d s (b, at, (made, calls, (stops, more))) =
-    let is : stand m told ≡ stepped d.0.leader bytes = stepped_is d.0.leader l m bytes told (one_lead l d.0.leader d.2) (one_lead m _ s.0) s.1 in
-    let moved : (u : StopsAt (stepped d.0.leader bytes) b made refused) × (g ≡ answers_in u.last.made) =
-    subst (λ (t : Stand). (u : StopsAt t b made refused) × (g ≡ answers_in u.last.made)) is (stops, more) in
+    let is : drain_start m told ≡ stepped d.0.leader bytes = stepped_is d.0.leader l m bytes told (one_lead l d.0.leader d.2) (one_lead m _ s.0) s.1 in
+    let moved : (u : StopsInDrain (stepped d.0.leader bytes) b made refused) × (g ≡ answers_in u.last.made) =
+    subst (λ (t : DrainState). (u : StopsInDrain t b made refused) × (g ≡ answers_in u.last.made)) is (stops, more) in
     let all : f ++ handed Client bytes ∷ g ≡ around d.0.made bytes moved.0.last.made =
     ap (λ (t : List Handed). t ++ handed Client bytes ∷ g) d.4 ∙ ap (λ (t : List Handed). answers_in d.0.made ++ handed Client bytes ∷ t) moved.1 in (
       b,

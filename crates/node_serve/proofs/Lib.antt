@@ -5,6 +5,7 @@ pub mod DownLaws
 pub mod CompleteLaws
 pub mod TellLaws
 pub mod RespondLaws
+pub mod OutcomeLaws
 pub mod OpenLaws
 pub mod CallLaws
 pub mod VisitLaws

@@ -2,11 +2,11 @@
 use Rattle.std.proofs.Common.{◌≡◌, ◌≢◌, ℕ, List, [], subst}
 use Rattle.node_journal.specs.Disk.{DiskSeen, Within, IsUntouched}
 use Rattle.node_journal.specs.Records.{content}
-use Rattle.node_journal.specs.declared.fault.JournalFault.TheVariants.{Closed, NotEmpty, Full, Disk, Damaged}
+use Rattle.node_journal.specs.declared.fault.JournalFault.TheVariants.{Damaged}
 use Rattle.node_restart.specs.declared.opening.Opening.{Opening}
 use Rattle.node_restart.specs.declared.server.Core.{Core}
 use Rattle.node_restart.specs.declared.fault.KeepFault.{KeepFault}
-use Rattle.node_restart.specs.declared.fault.KeepFault.TheVariants.{Journal, NoMemory, Foreign}
+use Rattle.node_restart.specs.declared.fault.KeepFault.TheVariants.{Journal, Foreign}
 use Rattle.node_restart.specs.Faults.{OnForeign, OnDamaged}
 use Rattle.node_restart.specs.Frames.{IsForeign}
 use Rattle.node_restart.specs.Kept.{KeptState, Stands, IsDamagedAt}
@@ -43,11 +43,6 @@ reopened_before shows limit o first disk k same r = record {
 pub cause_before : (fault : OpenFault) (limit : ℕ) (o : Opening) (a b : List ℕ → Type 0) → Within a b → IsCauseOf fault limit o b → IsCauseOf fault limit o a
 cause_before (opens.Keep (Journal (Damaged at))) limit o a b still cause = λ x read. cause x (still x read)
 cause_before (opens.Keep (Foreign n)) limit o a b still cause = λ x read. cause x (still x read)
-cause_before (opens.Keep (Journal Closed)) limit o a b still cause = tt
-cause_before (opens.Keep (Journal NotEmpty)) limit o a b still cause = tt
-cause_before (opens.Keep (Journal (Full end))) limit o a b still cause = tt
-cause_before (opens.Keep (Journal (Disk faults))) limit o a b still cause = tt
-cause_before (opens.Keep NoMemory) limit o a b still cause = tt
 cause_before (opens.Differs key) limit o a b still cause = (
   λ x read. cause.0 x (still x read),
   record {
@@ -58,17 +53,13 @@ cause_before (opens.Differs key) limit o a b still cause = (
     differs = cause.1.differs;
   },
 )
+cause_before fault limit o a b still cause = tt
 
 pub leaves_all : {D : Type 0} (fault : OpenFault) (shows : D → DiskSeen) (old new : D) → IsUntouched (shows old) (shows new)
     → LeavesDisk fault shows old new
 leaves_all (opens.Keep (Journal (Damaged at))) shows old new same = same
-leaves_all (opens.Keep (Foreign n)) shows old new same = same
-leaves_all (opens.Keep (Journal Closed)) shows old new same = tt
-leaves_all (opens.Keep (Journal NotEmpty)) shows old new same = tt
-leaves_all (opens.Keep (Journal (Full end))) shows old new same = tt
-leaves_all (opens.Keep (Journal (Disk faults))) shows old new same = tt
-leaves_all (opens.Keep NoMemory) shows old new same = same
-leaves_all (opens.Differs key) shows old new same = same
+leaves_all (opens.Keep (Journal fault)) shows old new same = tt
+leaves_all fault shows old new same = same
 
 pub counts_before : (fault : OpenFault) (first before now : ℕ) → before ≡ first → CountsOpen before now fault → CountsOpen first now fault
 counts_before fault first before now same counts = subst (λ n. CountsOpen n now fault) same counts
@@ -78,8 +69,4 @@ pub cause_reopened : (fault : KeepFault) (limit : ℕ) (o : Opening) (reads : Li
     → IsCauseOf (opens.Keep fault) limit o reads
 cause_reopened (Journal (Damaged at)) limit o reads some foreign damaged = λ c read. (some c read, damaged c read)
 cause_reopened (Foreign n) limit o reads some foreign damaged = λ c read. (some c read, foreign c read)
-cause_reopened (Journal Closed) limit o reads some foreign damaged = tt
-cause_reopened (Journal NotEmpty) limit o reads some foreign damaged = tt
-cause_reopened (Journal (Full end)) limit o reads some foreign damaged = tt
-cause_reopened (Journal (Disk faults)) limit o reads some foreign damaged = tt
-cause_reopened NoMemory limit o reads some foreign damaged = tt
+cause_reopened fault limit o reads some foreign damaged = tt

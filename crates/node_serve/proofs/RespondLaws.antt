@@ -22,7 +22,8 @@ use Rattle.node_restart.specs.declared.server.Core.TheVariants.{Lead, Help}
 use Rattle.node_restart.specs.declared.frames.Sender.TheVariants.{Client}
 use Rattle.node_restart.specs.Frames.{Handed, handed}
 use Rattle.node_serve.specs.Handling.{Helps, IsHelp, IsLead, HandlesAll, HandleBreaks, Steps, frames_handled, frames_broken}
-use Rattle.node_serve.specs.Responding.{frames_led, Responds, Stretch, stretch}
+use Rattle.node_serve.specs.Moved.{Stretch, moved, stretch}
+use Rattle.node_serve.specs.Responding.{frames_led, Responds}
 use Rattle.node_serve.specs.Stopping.{HandleStops, LeadStops, Stops, sender_at_helper}
 
 -- what a leader did, with the frames that it was handed
@@ -34,18 +35,14 @@ led_sent : (f : PlainFrame) (a : Leader) (bytes : List ℕ) (b : Leader) (made :
     → IsSent why → (h : Handles a bytes b reply made) → frames ≡ frames_handled h → Led (Some f) a bytes b made count why reply frames
 led_sent f a bytes b made count served.Answered reply frames sent h is = (h, is)
 led_sent f a bytes b made count (served.ConnFault n) reply frames sent h is = (h, is)
-led_sent f a bytes b made count served.Ended reply frames sent h is = absurd sent
-led_sent f a bytes b made count (served.LinkFault n) reply frames sent h is = absurd sent
-led_sent f a bytes b made count served.LinkBad reply frames sent h is = absurd sent
+led_sent f a bytes b made count why reply frames sent h is = absurd sent
 
 led_down : (f : PlainFrame) (a : Leader) (bytes : List ℕ) (b : Leader) (made : List Exchange) (count : ℕ) (why : Served) (reply : List ℕ) (frames : List Handed)
     → (down : BreaksDown a bytes b made why) → frames ≡ frames_broken a bytes b made why down → reply ≡ spelling (link_down f count)
     → Led (Some f) a bytes b made count why reply frames
 led_down f a bytes b made count (served.LinkFault n) reply frames down is said = ((down, said), is)
 led_down f a bytes b made count served.LinkBad reply frames down is said = ((down, said), is)
-led_down f a bytes b made count served.Answered reply frames down is said = absurd (down_link a bytes b made served.Answered down)
-led_down f a bytes b made count (served.ConnFault n) reply frames down is said = absurd (down_link a bytes b made (served.ConnFault n) down)
-led_down f a bytes b made count served.Ended reply frames down is said = absurd (down_link a bytes b made served.Ended down)
+led_down f a bytes b made count why reply frames down is said = absurd (down_link a bytes b made why down)
 
 pub responds_all : (peer : List ℕ) (core : Core) (bytes : List ℕ) (new : Core) (frames : List Handed) (reply : List ℕ) (net : Stretch) (why : Served) (f : PlainFrame)
     → Some f ≡ taken_in (whole bytes) → IsSent why → HandlesAll peer core bytes new frames reply net.before net.now → Responds peer core bytes new frames net why reply
@@ -64,7 +61,7 @@ breaks_link peer (Help h) bytes new frames x y why all = absurd all
 breaks_link peer (Lead a) bytes new frames x y why (b, is, (made, calls, (h, all))) = down_link a bytes b made why h
 
 pub responds_refused : (peer : List ℕ) (core : Core) (bytes : List ℕ) (new : Core) (reply : List ℕ) (net : Seen) (why : Served)
-    → None ≡ taken_in (whole bytes) → IsSent why → Steps core bytes new reply → Responds peer core bytes new (handed Client bytes ∷ []) (stretch net net) why reply
+    → None ≡ taken_in (whole bytes) → IsSent why → Steps core bytes new reply → Responds peer core bytes new (handed Client bytes ∷ []) (stretch (moved net net)) why reply
 responds_refused peer (Help h) bytes new reply net why none sent s = absurd s
 responds_refused peer (Lead a) bytes new reply net why none sent s =
     let b : Leader = (on_client a bytes).leader in
@@ -77,30 +74,28 @@ responds_helped peer (Help a) bytes new reply net why sent h = (sent, h.0, h.1, 
 
 -- ---- up to a frame that wasn't kept
 
-pub stops_down : (peer : List ℕ) (core : Core) (bytes : List ℕ) (new : Core) (frames : List Handed) (refused : Handed) (x y : Option (List Call)) (f : PlainFrame)
-    → Some f ≡ taken_in (whole bytes) → HandleStops peer core bytes new frames refused x y → Stops peer core bytes new frames refused x y
-stops_down peer (Help h) bytes new frames refused x y f found s = absurd s
-stops_down peer (Lead a) bytes new frames refused x y f found s = subst (λ (o : Option PlainFrame). LeadStops o peer a bytes new frames refused x y) found s
+pub stops_down : (peer : List ℕ) (core : Core) (bytes : List ℕ) (new : Core) (frames : List Handed) (refused : Handed) (net : Stretch) (f : PlainFrame)
+    → Some f ≡ taken_in (whole bytes) → HandleStops peer core bytes new frames refused net.before net.now → Stops peer core bytes new frames refused net
+stops_down peer (Help h) bytes new frames refused net f found s = absurd s
+stops_down peer (Lead a) bytes new frames refused net f found s = subst (λ (o : Option PlainFrame). LeadStops o peer a bytes new frames refused net) found s
 
-pub stops_refused : (peer : List ℕ) (core : Core) (bytes : List ℕ) (new : Core) (x : Option (List Call))
-    → IsLead core → None ≡ taken_in (whole bytes) → new ≡ core → Stops peer core bytes new [] (handed Client bytes) x x
-stops_refused peer (Help h) bytes new x lead none same = absurd lead
-stops_refused peer (Lead a) bytes new x lead none same =
-    subst (λ (o : Option PlainFrame). LeadStops o peer a bytes new [] (handed Client bytes) x x) none (refl, record { stays = same; none = refl; is = refl })
+pub stops_refused : (peer : List ℕ) (core : Core) (bytes : List ℕ) (new : Core) (net : Seen)
+    → IsLead core → None ≡ taken_in (whole bytes) → new ≡ core → Stops peer core bytes new [] (handed Client bytes) (stretch (moved net net))
+stops_refused peer (Help h) bytes new net lead none same = absurd lead
+stops_refused peer (Lead a) bytes new net lead none same =
+    subst (λ (o : Option PlainFrame). LeadStops o peer a bytes new [] (handed Client bytes) (stretch (moved net net))) none (refl, record { stays = same; none = refl; is = refl })
 
-pub stops_helped : (peer : List ℕ) (core : Core) (bytes : List ℕ) (new : Core) (x : Option (List Call))
-    → IsHelp core → new ≡ core → Stops peer core bytes new [] (handed (sender_at_helper bytes) bytes) x x
-stops_helped peer (Lead a) bytes new x help same = absurd help
-stops_helped peer (Help h) bytes new x help same = record { stays = same; none = refl; is = refl }
+pub stops_helped : (peer : List ℕ) (core : Core) (bytes : List ℕ) (new : Core) (net : Stretch)
+    → IsHelp core → new ≡ core → Stops peer core bytes new [] (handed (sender_at_helper bytes) bytes) net
+stops_helped peer (Lead a) bytes new net help same = absurd help
+stops_helped peer (Help h) bytes new net help same = record { stays = same; none = refl; is = refl }
 
 -- ---- the net rests
 
 pub sent_fault : (why : Served) (n : ℕ) → IsSent why → FaultIn why n n
 sent_fault served.Answered n sent = refl
 sent_fault (served.ConnFault count) n sent = refl
-sent_fault served.Ended n sent = absurd sent
-sent_fault (served.LinkFault count) n sent = absurd sent
-sent_fault served.LinkBad n sent = absurd sent
+sent_fault why n sent = absurd sent
 
 -- ---- a server whose frames go nowhere
 

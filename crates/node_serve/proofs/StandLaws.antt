@@ -5,10 +5,8 @@ use Rattle.express_words.specs.Calls.{Call}
 use Rattle.frame_rules.specs.Spelling.{spelling}
 use Rattle.step_rules.specs.Leader.{Leader, Ignored}
 use Rattle.step_rules.specs.LeaderReplies.{on_reply_bytes}
-use Rattle.node_exchange.specs.Exchanging.{Exchange}
-use Rattle.node_serve.specs.Draining.{Stand, stand, IsOldest, reply_of, answered, then, Drained, Breaks, BreaksOff}
-use Rattle.node_exchange.specs.Exchanging.{ExchangeOn, ExchangesOn}
-use Rattle.node_serve.specs.Draining as serve
+use Rattle.node_exchange.specs.Exchanging.{Exchange, ExchangeOn, ExchangesOn}
+use Rattle.node_serve.specs.Draining.{DrainState, drain_start, IsOldest, reply_of, answered, DrainsOn, none, then, Drained, Breaks, BreaksInDrain}
 use Rattle.node_serve.specs.declared.node.Served.{Served}
 use Rattle.node_restart.specs.declared.server.Core.{Core}
 use Rattle.node_restart.specs.declared.server.Core.TheVariants.{Lead, Help}
@@ -16,7 +14,7 @@ use Rattle.node_restart.specs.Frames.{Handed}
 use Rattle.node_restart.specs.Steps.{resent_by}
 use Rattle.node_serve.specs.Handing.{answer_frames, answers_in}
 use Rattle.node_serve.specs.Handling.{IsLead, Replies, Fails, DrainBreaks}
-use Rattle.node_serve.specs.Stopping.{Unkept, StopsAt, DrainStops}
+use Rattle.node_serve.specs.Stopping.{Unkept, StopsInDrain, DrainStops}
 
 pub exchanges_more : (peer : List ℕ) (es : List Exchange) (e : Exchange) (a b c : Option (List Call)) → ExchangesOn peer es a b → ExchangeOn peer e b c → ExchangesOn peer (es ++ e ∷ []) a c
 exchanges_more peer [] e a b c same more = (c, subst (λ (x : Option (List Call)). ExchangeOn peer e x c) same more, refl)
@@ -35,8 +33,8 @@ answers_one e = append-nil (answer_frames e.answer)
 
 -- where a drain stands that began at this leader
 pub record StandsBy (a : Leader) (told peer : List ℕ) (now : Core) (reply : List ℕ) (frames : List Handed) (x y : Option (List Call)) : Type 0 where
-  pub at : Stand
-  pub drains : serve.Drains (stand a told) at
+  pub at : DrainState
+  pub drains : DrainsOn (drain_start a told) at
   pub leader : now ≡ Lead at.leader
   pub reply_is : reply ≡ at.reply
   pub frames_are : frames ≡ answers_in at.made
@@ -47,7 +45,7 @@ Stands (Lead a) told peer now reply frames x y = StandsBy a told peer now reply 
 Stands (Help h) told peer now reply frames x y = ⊥
 
 pub stands_first : (start : Core) (told peer : List ℕ) (x : Option (List Call)) → IsLead start → Stands start told peer start told [] x x
-stands_first (Lead a) told peer x lead = record { at = stand a told; drains = serve.none; leader = refl; reply_is = refl; frames_are = refl; calls = refl }
+stands_first (Lead a) told peer x lead = record { at = drain_start a told; drains = none; leader = refl; reply_is = refl; frames_are = refl; calls = refl }
 stands_first (Help h) told peer x lead = absurd lead
 
 abbrev OldestOf : Core → List ℕ → Type 0
@@ -78,7 +76,7 @@ stands_broken (Lead a) told peer (Help h) new before sent frames more x y z why 
 stands_broken (Lead a) told peer (Lead b) new before sent frames more x y z why s oldest u =
     let same : b ≡ s.at.leader = cc s.leader in
     let last : Exchange = record { sent = sent; answer = u.answer } in
-    let off : BreaksOff (stand a told) b (s.at.made ++ last ∷ []) why = record {
+    let off : BreaksInDrain (drain_start a told) b (s.at.made ++ last ∷ []) why = record {
       last = s.at;
       drains = s.drains;
       stays = same;
@@ -99,7 +97,7 @@ stands_stopped (Lead a) told peer (Help h) new before sent frames more refused x
 stands_stopped (Lead a) told peer (Lead b) new before sent frames more refused x y z s oldest u =
     let same : b ≡ s.at.leader = cc s.leader in
     let last : Exchange = record { sent = sent; answer = Ok u.bytes } in
-    let stops : StopsAt (stand a told) b (s.at.made ++ last ∷ []) refused = record {
+    let stops : StopsInDrain (drain_start a told) b (s.at.made ++ last ∷ []) refused = record {
       last = s.at;
       drains = s.drains;
       stays = same;

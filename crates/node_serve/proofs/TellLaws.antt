@@ -2,6 +2,7 @@
 use Rattle.std.proofs.Common.{◌≡◌, ◌≢◌, ℕ, ◌<◌, ◌≤◌, Bool, true, false, List, [], ◌∷◌, length, take, Option, Ok, Err, refl, sym, ap, ◌∙◌, subst, arith}
 use Rattle.std.proofs.lemmas.List.{length-take}
 use Rattle.express_words.specs.Calls.{Call}
+use Rattle.express_words.specs.Seen.{Seen}
 use Rattle.leader_core.specs.Told.{turned, acked, acked_bytes}
 use Rattle.helper_core.specs.State as helper_state
 use Rattle.step_rules.specs.Leader as leader
@@ -28,6 +29,10 @@ use Rattle.node_restart.specs.declared.frames.Sender.{Sender}
 use Rattle.node_restart.specs.declared.frames.Sender.TheVariants.{Client, Peer}
 use Rattle.node_restart.specs.Frames.{handed}
 use Rattle.node_restart.specs.Steps.{step_of, lead_client, lead_peer, help_client, help_peer, Takes}
+use Rattle.node_serve.specs.declared.broke.Broke.TheVariants as broke
+use Rattle.node_serve.specs.Logs.{Log}
+use Rattle.node_serve.specs.Moved.{Moved}
+use Rattle.node_serve.specs.Outcomes.{ExchangeEnds}
 use Rattle.node_serve.specs.Handing.{told, is_ignored}
 use Rattle.node_serve.specs.Handling.{Helps, IsHelp, IsLead, rounds_of, Replies, Fails, Steps}
 use Rattle.node_serve.specs.Stopping.{sender_by, sender_at_helper}
@@ -36,13 +41,11 @@ use Rattle.node_serve.specs.Stopping.{sender_by, sender_at_helper}
 
 told_lead : (answer : leader.Answer) (out : List ℕ) → take (length (leader.written answer)) out ≡ leader.written answer → take (told (did.Lead (turned answer))) out ≡ reply_to answer
 told_lead (leader.Reply reply) out e = e
-told_lead (leader.Link number command) out e = refl
-told_lead (leader.StillWaiting number) out e = refl
+told_lead answer out e = refl
 
 told_ack : (ack : leader.Ack) (out : List ℕ) → take (length (acked_bytes ack)) out ≡ acked_bytes ack → take (told (did.Acked (acked ack))) out ≡ reply_of ack
 told_ack (leader.ToLane lane reply) out e = e
-told_ack (leader.Settles number command) out e = refl
-told_ack leader.Ignored out e = refl
+told_ack ack out e = refl
 
 told_link : (answer : helper.Answer) (out : List ℕ) → take (length (helper.written answer)) out ≡ helper.written answer → take (told (did.Linked (helper_state.turned answer))) out ≡ helper.written answer
 told_link (helper.Carried reply) out e = e
@@ -71,18 +74,15 @@ front_room w out e = omega (arith, ap length e, length-take (length w) out)
 
 lead_room : (answer : leader.Answer) → told (did.Lead (turned answer)) ≤ length (leader.written answer)
 lead_room (leader.Reply reply) = omega arith
-lead_room (leader.Link number command) = omega arith
-lead_room (leader.StillWaiting number) = omega arith
+lead_room answer = omega arith
 
 ack_room : (ack : leader.Ack) → told (did.Acked (acked ack)) ≤ length (acked_bytes ack)
 ack_room (leader.ToLane lane reply) = omega arith
-ack_room (leader.Settles number command) = omega arith
-ack_room leader.Ignored = omega arith
+ack_room ack = omega arith
 
 link_room : (answer : helper.Answer) → told (did.Linked (helper_state.turned answer)) ≤ length (helper.written answer)
-link_room (helper.Carried reply) = omega arith
-link_room (helper.Repeated bytes) = omega arith
 link_room helper.Ignored = omega arith
+link_room answer = omega arith
 
 step_room : (core : Core) (sender : Sender) (bytes : List ℕ) → told (step_of core sender bytes).did ≤ length (step_of core sender bytes).written
 unfolding lead_client lead_peer help_client help_peer
@@ -98,9 +98,8 @@ told_within core sender bytes new d old out t =
 -- ---- one exchange
 
 ignored_ack : (ack : leader.Ack) → is_ignored (did.Acked (acked ack)) ≡ true → ack ≡ leader.Ignored
-ignored_ack (leader.ToLane lane reply) e = absurd (cc e)
-ignored_ack (leader.Settles number command) e = absurd (cc e)
 ignored_ack leader.Ignored e = refl
+ignored_ack ack e = absurd (cc e)
 
 fitting_ack : (ack : leader.Ack) → is_ignored (did.Acked (acked ack)) ≡ false → ack ≢ leader.Ignored
 fitting_ack ack e is = absurd (cc (sym e ∙ ap (λ (x : leader.Ack). is_ignored (did.Acked (acked x))) is))
@@ -109,11 +108,17 @@ ignored_stays : (a : Leader) (ack : leader.Ack) (after : Leader) → AckLeaves a
 ignored_stays a ack after leaves is = subst (λ (x : leader.Ack). AckLeaves x a after) is leaves
 
 -- the exchange gave no frame
-pub fails_unheard : (peer : List ℕ) (core : Core) (sent : List ℕ) (got why : Broken) (x y : Option (List Call)) (what : Served) → IsLead core → got ≡ why
+fails_unheard : (peer : List ℕ) (core : Core) (sent : List ℕ) (got why : Broken) (x y : Option (List Call)) (what : Served) → IsLead core → got ≡ why
     → ((a : Leader) → Breaks a (Err why) what) → ExchangeOn peer (record { sent = sent; answer = Err got }) x y → Fails peer core core sent [] x y what
 fails_unheard peer (Lead a) sent got why x y what lead is breaks calls =
     record { stays = refl; answer = Err got; broken = subst (λ (b : Broken). Breaks a (Err b) what) (sym is) (breaks a); frames_are = refl; calls = calls }
 fails_unheard peer (Help h) sent got why x y what lead is breaks calls = absurd lead
+
+pub unheard_ends : {S F : Type 0} (log : Log S F) (peer sent out : List ℕ) (got why : Broken) (what : Served) (s : S) (net : Moved Seen) → IsLead (log.core s) → got ≡ why
+    → ((a : Leader) → Breaks a (Err why) what) → ExchangeOn peer (record { sent = sent; answer = Err got }) net.old.calls net.new.calls → log.takes s s []
+    → ExchangeEnds log peer sent out (Err (broke.Link what)) s s net
+unheard_ends log peer sent out got why what s net lead is breaks calls none =
+    record { replied = tt; failed = ([], fails_unheard peer (log.core s) sent got why net.old.calls net.new.calls what lead is breaks calls, none); unkept = tt }
 
 -- or one that was ignored
 pub fails_ignored : (peer : List ℕ) (core : Core) (sent bytes : List ℕ) (new : Core) (d : Did) (old out : List ℕ) (x y : Option (List Call)) → IsLead core

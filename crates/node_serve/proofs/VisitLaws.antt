@@ -14,13 +14,13 @@ use Rattle.node_restart.specs.Frames.{Handed}
 use Rattle.node_serve.specs.Draining.{FaultIn}
 use Rattle.node_serve.specs.Handling.{IsHelp}
 use Rattle.node_serve.specs.Logs.{Log}
-use Rattle.node_serve.specs.Responding.{Answers, StopsShort, moved, stretch}
+use Rattle.node_serve.specs.Moved.{moved, stretch}
+use Rattle.node_serve.specs.Responding.{Answers, StopsShort}
 use Rattle.node_serve.specs.Serving.{Brings, IsCut, WritesTold}
 use Rattle.node_serve.specs.declared.node.Served.{Served}
 use Rattle.node_serve.specs.declared.node.Served.TheVariants as served
-use Rattle.node_serve.specs.Visits.{Visit, Standing, standing, Shown, WasThere, IsCutOff, IsStepped, ClosesWith, IsVisit}
-use Rattle.node_serve.specs.Visits.{Broken, IsBroken, IsOfBrokenTold}
-use Rattle.node_serve.proofs.CallLaws.{makes_none, responds_told, stops_told, left_in, visit_made, link_at_end, of_broken}
+use Rattle.node_serve.specs.Visits.{Visit, Standing, standing, Shown, WasThere, IsCutOff, IsStepped, ClosesWith, IsVisit, RefusedVisit, IsRefusedVisit, IsOfRefused, ClosedAs}
+use Rattle.node_serve.proofs.CallLaws.{makes_none, responds_told, stops_told, left_in, visit_made, link_at_end}
 
 pub is_short_or_not : (r : Result (PlainFrame × ℕ) FrameFault) → (r ≡ Err Short) ⊎ (r ≢ Err Short)
 is_short_or_not (Ok x) = inr (λ e. absurd (cc e))
@@ -33,9 +33,7 @@ pub cut_told : (answer : Served) (given : List ℕ) (t : Option Stream) (before 
 cut_told served.Ended given None before now h = (refl, h.1)
 cut_told served.Ended given (Some t) before now h = h
 cut_told (served.ConnFault count) given t before now h = h
-cut_told served.Answered given t before now h = absurd h
-cut_told (served.LinkFault count) given t before now h = absurd h
-cut_told served.LinkBad given t before now h = absurd h
+cut_told why given t before now h = absurd h
 
 -- ---- what was written to a connection that had taken nothing yet
 
@@ -84,7 +82,7 @@ pub record ServedBy {S F C : Type 0} (log : Log S F) (peer : List ℕ) (shows : 
   pub stays : decoded held ≡ Err Short → new ≡ old
   pub rests : decoded held ≡ Err Short → c.calls ≡ b.calls
   pub untold : decoded held ≡ Err Short → t.written ≡ s.written
-  pub serves : decoded held ≢ Err Short → Answers log peer held (moved old new) (stretch b c) (moved s t) answer
+  pub serves : decoded held ≢ Err Short → Answers log peer held (moved old new) (moved b c) (moved s t) answer
   pub early : answer ≡ served.LinkBad → EarlyAtEnd c.calls shows
   pub alone : IsHelp (log.core old) → c.calls ≡ b.calls
   pub fault : FaultIn answer b.faults c.faults
@@ -99,36 +97,52 @@ pub untouched : (w x : Option (List ℕ)) → IsBlank w → x ≡ w → w ≢ No
 untouched None x blank is some = absurd (some refl)
 untouched (Some w) x blank is some = is ∙ ap Some blank
 
-visited_cut : {S F C : Type 0} (log : Log S F) (peer : List ℕ) (shows : C → Seen) (old new : S) (answer : Served) (a b c d s : Seen) (conn : C) (given : List ℕ)
-    → decoded (gathered [] given) ≡ Err Short → Gave s.content (shows conn).content given → IsWanted given
+-- the visit that gave and took these bytes, by a connection that shows this at its close
+abbrev visit_of : (given taken : List ℕ) → List Call → Served → Seen → Visit
+visit_of given taken calls answer t =
+    record { given = given; left = left_in t.content; taken = taken; faults = t.faults; calls = calls; answer = answer }
+
+visit_is : {S F C : Type 0} (log : Log S F) (peer : List ℕ) (shows : C → Seen) (old new : S) (answer : Served) (a b c d s : Seen) (conn : C) (given taken : List ℕ) (calls : List Call) (frames : List Handed)
+    → Gave s.content (shows conn).content given → IsWanted given
     → ServedBy log peer shows old new answer b c s (shows conn) (gathered [] given) → Accepts a b s → Closes c d (shows conn)
+    → (s.written ≢ None → (shows conn).written ≡ Some taken) → Makes b.calls c.calls calls
+    → (decoded (gathered [] given) ≡ Err Short → IsCutOff (visit_of given taken calls answer (shows conn)) old new frames)
+    → (decoded (gathered [] given) ≢ Err Short → IsStepped log peer (visit_of given taken calls answer (shows conn)) old new frames c.faults)
     → VisitOf log peer shows answer (standing old a) (standing new d)
-visited_cut log peer shows old new answer a b c d s conn given short gave wanted h accept close =
+visit_is log peer shows old new answer a b c d s conn given taken calls frames gave wanted h accept close took makes cut stepped =
     let t : Seen = shows conn in
-    let v : Visit = record { given = given; left = left_in t.content; taken = []; faults = t.faults; calls = []; answer = answer } in
-    let cut : IsCut answer t.content 0 t.faults = subst (λ n. IsCut answer t.content n t.faults) accept.whole (h.cut short) in
-    let off : IsCutOff v old new [] = record { answer = cut_told answer given t.content 0 t.faults cut; stays = h.stays short; none = refl; calls = refl; untold = refl } in
-    let makes : Makes b.calls c.calls [] = subst (λ (y : Option (List Call)). Makes b.calls y []) (sym (h.rests short)) (makes_none b.calls) in
-    let made = visit_made a.calls b.calls c.calls d.calls s.content t.content s.written t.written v accept.call accept.tells gave refl (untouched s.written t.written accept.blank (h.untold short)) makes close.call in
+    let v : Visit = visit_of given taken calls answer t in
+    let made = visit_made a.calls b.calls c.calls d.calls s.content t.content s.written t.written v accept.call accept.tells gave refl took makes close.call in
     let there : WasThere (Shown shows) v a.calls d.calls = record {
       conn = t;
       shows = (conn, refl);
       is = made.1;
       early = λ bad. link_at_end shows a.calls b.calls c.calls d.calls t.content t.written t.faults v accept.call makes close.call (h.early bad);
     } in
-    let link : FaultIn answer a.faults c.faults = subst (λ n. FaultIn answer n c.faults) accept.faults h.fault in
-    let is : IsVisit log peer (Shown shows) v [] (standing old a) (standing new d) = record {
+    let is : IsVisit log peer (Shown shows) v frames (standing old a) (standing new d) = record {
       wanted = wanted;
       count = c.faults;
-      cut = λ e. off;
-      stepped = λ e. absurd (e short);
-      link = link;
+      cut = cut;
+      stepped = stepped;
+      link = subst (λ n. FaultIn answer n c.faults) accept.faults h.fault;
       close = close.counts;
       calls = made.0;
       doors = close.doors ∙ h.doors ∙ accept.doors;
       there = there;
     } in
-    (v, refl, ([], is))
+    (v, refl, (frames, is))
+
+visited_cut : {S F C : Type 0} (log : Log S F) (peer : List ℕ) (shows : C → Seen) (old new : S) (answer : Served) (a b c d s : Seen) (conn : C) (given : List ℕ)
+    → decoded (gathered [] given) ≡ Err Short → Gave s.content (shows conn).content given → IsWanted given
+    → ServedBy log peer shows old new answer b c s (shows conn) (gathered [] given) → Accepts a b s → Closes c d (shows conn)
+    → VisitOf log peer shows answer (standing old a) (standing new d)
+visited_cut log peer shows old new answer a b c d s conn given short gave wanted h accept close =
+    let t : Seen = shows conn in
+    let cut : IsCut answer t.content 0 t.faults = subst (λ n. IsCut answer t.content n t.faults) accept.whole (h.cut short) in
+    let off : IsCutOff (visit_of given [] [] answer t) old new [] =
+    record { answer = cut_told answer given t.content 0 t.faults cut; stays = h.stays short; none = refl; calls = refl; untold = refl } in
+    let makes : Makes b.calls c.calls [] = subst (λ (y : Option (List Call)). Makes b.calls y []) (sym (h.rests short)) (makes_none b.calls) in
+    visit_is log peer shows old new answer a b c d s conn given [] [] [] gave wanted h accept close (untouched s.written t.written accept.blank (h.untold short)) makes (λ e. off) (λ e. absurd (e short))
 
 visited_step : {S F C : Type 0} (log : Log S F) (peer : List ℕ) (shows : C → Seen) (old new : S) (answer : Served) (a b c d s : Seen) (conn : C) (given : List ℕ)
     → decoded (gathered [] given) ≢ Err Short → Gave s.content (shows conn).content given → IsWanted given
@@ -137,32 +151,12 @@ visited_step : {S F C : Type 0} (log : Log S F) (peer : List ℕ) (shows : C →
 visited_step log peer shows old new answer a b c d s conn given enough gave wanted h accept close =
     let t : Seen = shows conn in
     let step = h.serves enough in
-    let own = responds_told peer (log.core old) (gathered [] given) (log.core new) step.frames (stretch b c) answer step.reply step.responds h.alone in
+    let own = responds_told peer (log.core old) (gathered [] given) (log.core new) step.frames (stretch (moved b c)) answer step.reply step.responds h.alone in
     let fresh : WritesTold answer s.written t.written 0 t.faults step.reply = subst (λ n. WritesTold answer s.written t.written n t.faults step.reply) accept.whole step.writes in
     let written : Wrote answer s.written t.written t.faults step.reply = wrote answer s.written t.written t.faults step.reply accept.blank fresh in
-    let v : Visit = record { given = given; left = left_in t.content; taken = written.0; faults = t.faults; calls = own.0; answer = answer } in
-    let stepped : IsStepped log peer v old new step.frames c.faults =
+    let stepped : IsStepped log peer (visit_of given written.0 own.0 answer t) old new step.frames c.faults =
     record { reply = step.reply; responds = own.2; writes = written.1; takes = step.takes; alone = own.3 } in
-    let made = visit_made a.calls b.calls c.calls d.calls s.content t.content s.written t.written v accept.call accept.tells gave refl written.2 own.1 close.call in
-    let there : WasThere (Shown shows) v a.calls d.calls = record {
-      conn = t;
-      shows = (conn, refl);
-      is = made.1;
-      early = λ bad. link_at_end shows a.calls b.calls c.calls d.calls t.content t.written t.faults v accept.call own.1 close.call (h.early bad);
-    } in
-    let link : FaultIn answer a.faults c.faults = subst (λ n. FaultIn answer n c.faults) accept.faults h.fault in
-    let is : IsVisit log peer (Shown shows) v step.frames (standing old a) (standing new d) = record {
-      wanted = wanted;
-      count = c.faults;
-      cut = λ e. absurd (enough e);
-      stepped = λ e. stepped;
-      link = link;
-      close = close.counts;
-      calls = made.0;
-      doors = close.doors ∙ h.doors ∙ accept.doors;
-      there = there;
-    } in
-    (v, refl, (step.frames, is))
+    visit_is log peer shows old new answer a b c d s conn given written.0 own.0 step.frames gave wanted h accept close written.2 own.1 (λ e. absurd (enough e)) (λ e. stepped)
 
 visited_by : {S F C : Type 0} (log : Log S F) (peer : List ℕ) (shows : C → Seen) (old new : S) (answer : Served) (a b c d s : Seen) (conn : C) (given : List ℕ)
     → (decoded (gathered [] given) ≡ Err Short) ⊎ (decoded (gathered [] given) ≢ Err Short) → Gave s.content (shows conn).content given → IsWanted given
@@ -182,38 +176,34 @@ visited log peer shows old new answer a b c d s conn held (given, gave, wanted, 
 -- a count of 64 bits doesn't fall
 pub fault_later : (why : Served) (before now : ℕ) → before < 2 ^ 64 → FaultIn why before now → before ≤ now
 fault_later (served.LinkFault count) before now bound h = omega (arith, h.0, bound)
-fault_later served.Answered before now bound h = omega (arith, h)
-fault_later served.Ended before now bound h = omega (arith, h)
-fault_later (served.ConnFault count) before now bound h = omega (arith, h)
-fault_later served.LinkBad before now bound h = omega (arith, h)
+fault_later why before now bound h = omega (arith, h)
 
 -- ---- a visit at which the log refused a frame
 
 -- what the call that serves a connection says then
 pub record RefusedBy {S F : Type 0} (log : Log S F) (peer : List ℕ) (old new : S) (fault : F) (b c s t : Seen) (held : List ℕ) : Type 0 where
-  pub stops : StopsShort log peer held (moved old new) (stretch b c) fault
+  pub stops : StopsShort log peer held (moved old new) (moved b c) fault
   pub alone : IsHelp (log.core old) → c.calls ≡ b.calls
   pub untold : t.written ≡ s.written
   pub unfailed : t.faults ≡ s.faults
   pub faults : c.faults ≡ b.faults
   pub doors : c.doors ≡ b.doors
 
-pub broken : {S F C : Type 0} (log : Log S F) (peer : List ℕ) (shows : C → Seen) (old new : S) (fault : F) (a b c d s : Seen) (conn : C) (held : List ℕ)
+pub refused : {S F C : Type 0} (log : Log S F) (peer : List ℕ) (shows : C → Seen) (old new : S) (fault : F) (a b c d s : Seen) (conn : C) (held : List ℕ)
     → Brings s.content (shows conn).content held
     → RefusedBy log peer old new fault b c s (shows conn) held → Accepts a b s → Closes c d (shows conn)
-    → (last : Broken) × IsBroken log peer (Shown shows) last fault (standing old a) (standing new d)
-broken log peer shows old new fault a b c d s conn held (given, gave, wanted, is) h accept close =
+    → (last : RefusedVisit) × IsRefusedVisit log peer (Shown shows) last fault (standing old a) (standing new d)
+refused log peer shows old new fault a b c d s conn held (given, gave, wanted, is) h accept close =
     let t : Seen = shows conn in
-    let here = subst (λ (l : List ℕ). StopsShort log peer l (moved old new) (stretch b c) fault) is h.stops in
+    let here = subst (λ (l : List ℕ). StopsShort log peer l (moved old new) (moved b c) fault) is h.stops in
     let whole : t.faults ≡ 0 = h.unfailed ∙ accept.whole in
-    let own = stops_told peer (log.core old) (gathered [] given) (log.core new) here.frames here.refused b.calls c.calls here.far h.alone in
+    let own = stops_told peer (log.core old) (gathered [] given) (log.core new) here.frames here.refused (stretch (moved b c)) d.faults here.far h.alone in
     let v : Visit = record { given = given; left = left_in t.content; taken = []; faults = 0; calls = own.0; answer = served.Answered } in
-    let u : Broken = record { given = given; left = left_in t.content; calls = own.0 } in
+    let u : RefusedVisit = record { given = given; left = left_in t.content; calls = own.0 } in
     let closes : AddsClose c.calls d.calls t.content t.written 0 = subst (AddsClose c.calls d.calls t.content t.written) whole close.call in
     let made = visit_made a.calls b.calls c.calls d.calls s.content t.content s.written t.written v accept.call accept.tells gave refl (untouched s.written t.written accept.blank h.untold) own.1 closes in
-    let of : IsOfBrokenTold d.calls u t.content t.written t.faults =
-    subst (IsOfBrokenTold d.calls u t.content t.written) (sym whole) (of_broken d.calls v u t.content t.written refl refl refl refl made.1) in
-    let is_broken : IsBroken log peer (Shown shows) u fault (standing old a) (standing new d) = record {
+    let of : IsOfRefused d.calls u t = subst (ClosedAs d.calls given u.left [] 0 t.content t.written) (sym whole) made.1 in
+    let last : IsRefusedVisit log peer (Shown shows) u fault (standing old a) (standing new d) = record {
       frames = here.frames;
       refused = here.refused;
       wanted = wanted;
@@ -225,7 +215,7 @@ broken log peer shows old new fault a b c d s conn held (given, gave, wanted, is
       doors = close.doors ∙ h.doors ∙ accept.doors;
       there = (t, (conn, refl), of);
     } in
-    (u, is_broken)
+    (u, last)
 
 -- ---- what a visit hands to the log
 

@@ -1,14 +1,13 @@
 -- A leader's exchanges with its helper, each with the oldest outstanding command.
 use Rattle.std.specs.Prelude.{◌≡◌, ◌≢◌, ℕ, List, [], ◌∷◌, ◌++◌, sum_by}
-use Rattle.std.specs.Prelude.{Option, Some, None, option_map, Result, Ok, Err}
+use Rattle.std.specs.Prelude.{Some, None, option_map, Result, Ok, Err}
 use Rattle.express_words.specs.Causes.{Rose}
-use Rattle.express_words.specs.Calls.{Call}
 use Rattle.frame_rules.specs.Frames as frame
 use Rattle.frame_rules.specs.Frames.{PlainFrame, PlainBody}
 use Rattle.frame_rules.specs.Spelling.{spelling}
 use Rattle.step_rules.specs.Leader.{Leader, Ack, ToLane, Settles, Ignored}
 use Rattle.step_rules.specs.LeaderReplies.{on_reply_bytes, resent}
-use Rattle.node_exchange.specs.Exchanging.{Makes, Exchange, IsExchange}
+use Rattle.node_exchange.specs.Exchanging.{Exchange}
 use Rattle.node_exchange.specs.declared.exchanging.Broken.{Broken}
 use Rattle.node_exchange.specs.declared.exchanging.Broken.TheVariants as broken
 use Rattle.node_serve.specs.declared.node.Served.{Served}
@@ -17,13 +16,13 @@ use Rattle.node_serve.specs.declared.node.Served.TheVariants as served
 -- ---- a drain
 
 -- the leader, the reply for the client that it has given last, and the exchanges so far
-pub record Stand : Type 0 where
+pub record DrainState : Type 0 where
   pub leader : Leader
   pub reply : List ℕ
   pub made : List Exchange
 
-abbrev pub stand : Leader → List ℕ → Stand
-stand a reply = record { leader = a; reply = reply; made = [] }
+abbrev pub drain_start : Leader → List ℕ → DrainState
+drain_start a reply = record { leader = a; reply = reply; made = [] }
 
 -- the bytes are those of the oldest outstanding command
 abbrev pub IsOldest : Leader → List ℕ → Type 0
@@ -36,7 +35,7 @@ reply_of (Settles number command) = []
 reply_of Ignored = []
 
 -- these bytes were sent, and the helper answered those
-abbrev pub answered : Stand → (sent bytes : List ℕ) → Stand
+abbrev pub answered : DrainState → (sent bytes : List ℕ) → DrainState
 answered s sent bytes = record {
   leader = (on_reply_bytes s.leader bytes).leader;
   reply = reply_of (on_reply_bytes s.leader bytes).ack;
@@ -44,15 +43,15 @@ answered s sent bytes = record {
 }
 
 -- exchanges of the oldest outstanding command, each answered by a reply that fits
-pub data Drains (start : Stand) : Stand → Type 0 where
-  none : Drains start start
-  then : (s : Stand) (sent bytes : List ℕ) →
-      Drains start s → IsOldest s.leader sent → (on_reply_bytes s.leader bytes).ack ≢ Ignored →
-      Drains start (answered s sent bytes)
+pub data DrainsOn (start : DrainState) : DrainState → Type 0 where
+  none : DrainsOn start start
+  then : (s : DrainState) (sent bytes : List ℕ) →
+      DrainsOn start s → IsOldest s.leader sent → (on_reply_bytes s.leader bytes).ack ≢ Ignored →
+      DrainsOn start (answered s sent bytes)
 
 -- until no command is outstanding
-pub record Drained (start end : Stand) : Type 0 where
-  pub drains : Drains start end
+pub record Drained (start end : DrainState) : Type 0 where
+  pub drains : DrainsOn start end
   pub empty : resent end.leader ≡ None
 
 -- an answer that is no reply that fits, and what is said of it
@@ -63,9 +62,10 @@ Breaks a (Err (broken.Early count)) why = why ≡ served.LinkBad
 Breaks a (Err (broken.Wrong fault)) why = why ≡ served.LinkBad
 
 -- a drain that one exchange broke off: its command is still the oldest outstanding one
-pub record BreaksOff (start : Stand) (end : Leader) (made : List Exchange) (why : Served) : Type 0 where
-  pub last : Stand
-  pub drains : Drains start last
+pub record BreaksInDrain (start : DrainState) (end : Leader) (made : List Exchange) (why : Served)
+    : Type 0 where
+  pub last : DrainState
+  pub drains : DrainsOn start last
   pub stays : end ≡ last.leader
   pub failed : Exchange
   pub oldest : IsOldest end failed.sent

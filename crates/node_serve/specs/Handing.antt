@@ -18,14 +18,10 @@ use Rattle.node_serve.specs.declared.broke.Broke.TheVariants as broke
 abbrev pub told : Did → ℕ
 told (did.Replied length) = length
 told (did.Lead (turn.Reply length)) = length
-told (did.Lead (turn.Link number length)) = 0
-told (did.Lead (turn.Waiting number)) = 0
-told (did.Linked link.Ignored) = 0
 told (did.Linked (link.Repeated length)) = length
 told (did.Linked (link.Carried length)) = length
 told (did.Acked (ack.Reply lane length)) = length
-told (did.Acked (ack.Link number length)) = 0
-told (did.Acked ack.Ignored) = 0
+told other = 0
 
 -- whether the leader ignored bytes of the helper
 abbrev pub is_ignored : Did → Bool

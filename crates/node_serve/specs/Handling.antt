@@ -5,9 +5,8 @@ use Rattle.express_words.specs.Calls.{Call}
 use Rattle.step_rules.specs.Leader.{Leader, Ignored}
 use Rattle.step_rules.specs.LeaderClients.{on_client}
 use Rattle.step_rules.specs.LeaderReplies.{on_reply_bytes}
-use Rattle.node_exchange.specs.Exchanging.{Exchange}
-use Rattle.node_serve.specs.Draining.{Stand, stand, Drained, BreaksOff}
-use Rattle.node_exchange.specs.Exchanging.{ExchangeOn, ExchangesOn}
+use Rattle.node_exchange.specs.Exchanging.{Exchange, ExchangeOn, ExchangesOn}
+use Rattle.node_serve.specs.Draining.{DrainState, drain_start, Drained, BreaksInDrain}
 use Rattle.node_serve.specs.Draining.{Breaks, reply_of, rounds_left}
 use Rattle.node_serve.specs.Helping.{helper_step}
 use Rattle.node_serve.specs.Leading.{reply_to, Handles, BreaksDown}
@@ -68,14 +67,14 @@ Fails peer (Help h) new sent frames before now why = ⊥
 abbrev pub Drains : List ℕ → Core → List ℕ → Core → List Handed → List ℕ → (before now : Option (List Call)) →
     Type 0
 Drains peer (Lead a) told new frames reply before now =
-    (end : Stand) × Drained (stand a told) end × (new ≡ Lead end.leader) × (reply ≡ end.reply)
+    (end : DrainState) × Drained (drain_start a told) end × (new ≡ Lead end.leader) × (reply ≡ end.reply)
     × (frames ≡ answers_in end.made) × ExchangesOn peer end.made before now
 Drains peer (Help h) told new frames reply before now = ⊥
 
 abbrev pub DrainBreaks : List ℕ → Core → List ℕ → Core → List Handed → (before now : Option (List Call)) →
     Served → Type 0
 DrainBreaks peer (Lead a) told new frames before now why =
-    (b : Leader) × (new ≡ Lead b) × ((made : List Exchange) × BreaksOff (stand a told) b made why
+    (b : Leader) × (new ≡ Lead b) × ((made : List Exchange) × BreaksInDrain (drain_start a told) b made why
     × (frames ≡ answers_in made) × ExchangesOn peer made before now)
 DrainBreaks peer (Help h) told new frames before now why = ⊥
 

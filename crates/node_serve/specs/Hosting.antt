@@ -9,7 +9,7 @@ use Rattle.node_serve.specs.declared.stop.Halt.TheVariants as halt
 use Rattle.node_serve.specs.declared.stop.Stop.{Stop}
 use Rattle.node_serve.specs.declared.tally.Tally.{Tally}
 use Rattle.node_serve.specs.Tallies.{tally_of}
-use Rattle.node_serve.specs.Visits.{Visit, visit_calls, Visits, Standing, DoorFails, Broken, IsBroken}
+use Rattle.node_serve.specs.Visits.{Visit, visit_calls, Visits, Standing, DoorFails, RefusedVisit, IsRefusedVisit}
 
 -- Visits were made one after another, and no other call; the log took the frames that the server was handed.
 pub record Visited {S F : Type 0} (log : Log S F) (peer : List ℕ) (shown : Seen → Type 0)
@@ -24,8 +24,8 @@ pub record Visited {S F : Type 0} (log : Log S F) (peer : List ℕ) (shown : See
 pub record LogRefuses {S F : Type 0} {log : Log S F} {peer : List ℕ} {shown : Seen → Type 0}
     {start between : Standing S} (fault : F) (done : Visited log peer shown start between) (end : Standing S)
     : Type 0 where
-  pub last : Broken
-  pub broken : IsBroken log peer shown last fault between end
+  pub last : RefusedVisit
+  pub broken : IsRefusedVisit log peer shown last fault between end
   pub stops : log.stops start.server end.server (done.frames ++ broken.frames) broken.refused fault
 
 -- behind these, an accept failed, or the log refused a frame

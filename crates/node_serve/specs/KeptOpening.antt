@@ -1,13 +1,13 @@
 -- How a server is opened, from its settings or from its journal.
-use Rattle.std.specs.Prelude.{◌≡◌, ◌≢◌, ℕ, nat_eq, cond, true, false, List, [], ◌++◌, codes}
+use Rattle.std.specs.Prelude.{◌≡◌, ◌≢◌, ◌⊎◌, ℕ, nat_eq, cond, true, false, List, [], ◌++◌, codes}
 use Rattle.node_journal.specs.Disk.{DiskSeen, Within, IsUntouched}
 use Rattle.node_journal.specs.Records.{content, IsUndamaged}
-use Rattle.node_journal.specs.declared.fault.JournalFault.TheVariants.{Closed, NotEmpty, Full, Disk, Damaged}
+use Rattle.node_journal.specs.declared.fault.JournalFault.TheVariants.{Closed, NotEmpty, Full, Damaged}
 use Rattle.node_restart.specs.declared.opening.Opening.{Opening}
 use Rattle.node_restart.specs.declared.opening.Role.{Role}
 use Rattle.node_restart.specs.declared.opening.Role.TheVariants as role
 use Rattle.node_restart.specs.declared.server.Core.{Core}
-use Rattle.node_restart.specs.declared.fault.KeepFault.TheVariants.{Journal, NoMemory, Foreign}
+use Rattle.node_restart.specs.declared.fault.KeepFault.TheVariants.{Journal, Foreign}
 use Rattle.node_restart.specs.Faults.{CountsFault}
 use Rattle.node_restart.specs.Frames.{Handed, IsForeign}
 use Rattle.node_restart.specs.Kept.{KeptState, HoldsFrames, Stands, IsDamagedAt}
@@ -77,18 +77,17 @@ pub record IsReopened {D : Type 0} (shows : D → DiskSeen) (limit : ℕ) (o : O
   pub durable : Within (shows k.disk).may_leave (shows k.disk).reads
   pub untouched : IsUntouched (shows disk) (shows k.disk)
 
+abbrev pub IsOpenedOn : {D : Type 0} → (D → DiskSeen) → (limit : ℕ) → Opening → D → KeptState D → Type 0
+IsOpenedOn shows limit o disk k = IsCreated shows limit o disk k ⊎ IsReopened shows limit o disk k
+
 -- ---- a server that wasn't
 
 -- a disk with a byte has no journal that is whole and of the form, or no call on it failed
 abbrev pub IsOfOpening : OpenFault → Type 0
-IsOfOpening (opens.Keep (Journal (Disk faults))) = Unit {0}
-IsOfOpening (opens.Keep (Journal (Damaged at))) = Unit {0}
-IsOfOpening (opens.Keep (Foreign n)) = Unit {0}
-IsOfOpening (opens.Keep NoMemory) = Unit {0}
 IsOfOpening (opens.Keep (Journal Closed)) = ⊥
 IsOfOpening (opens.Keep (Journal NotEmpty)) = ⊥
 IsOfOpening (opens.Keep (Journal (Full end))) = ⊥
-IsOfOpening (opens.Differs key) = Unit {0}
+IsOfOpening fault = Unit {0}
 
 -- a server stands on the disk that was opened otherwise
 pub record StandsOther (key : SettingsKey) (o : Opening) (reads : List ℕ → Type 0) : Type 0 where
@@ -103,23 +102,14 @@ abbrev pub IsCauseOf : OpenFault → ℕ → Opening → (List ℕ → Type 0) �
 IsCauseOf (opens.Keep (Journal (Damaged at))) limit o reads =
     (c : List ℕ) → reads c → (c ≢ []) × IsDamagedAt limit at c
 IsCauseOf (opens.Keep (Foreign n)) limit o reads = (c : List ℕ) → reads c → (c ≢ []) × IsForeign n (content c)
-IsCauseOf (opens.Keep (Journal Closed)) limit o reads = Unit {0}
-IsCauseOf (opens.Keep (Journal NotEmpty)) limit o reads = Unit {0}
-IsCauseOf (opens.Keep (Journal (Full end))) limit o reads = Unit {0}
-IsCauseOf (opens.Keep (Journal (Disk faults))) limit o reads = Unit {0}
-IsCauseOf (opens.Keep NoMemory) limit o reads = Unit {0}
 IsCauseOf (opens.Differs key) limit o reads = ((c : List ℕ) → reads c → c ≢ []) × StandsOther key o reads
+IsCauseOf fault limit o reads = Unit {0}
 
 -- but where a call on the disk failed, it is as it was
 abbrev pub LeavesDisk : {D : Type 0} → OpenFault → (D → DiskSeen) → (old new : D) → Type 0
-LeavesDisk (opens.Keep (Journal (Disk faults))) shows old new = Unit {0}
-LeavesDisk (opens.Keep (Journal Closed)) shows old new = Unit {0}
-LeavesDisk (opens.Keep (Journal NotEmpty)) shows old new = Unit {0}
-LeavesDisk (opens.Keep (Journal (Full end))) shows old new = Unit {0}
 LeavesDisk (opens.Keep (Journal (Damaged at))) shows old new = IsUntouched (shows old) (shows new)
-LeavesDisk (opens.Keep (Foreign n)) shows old new = IsUntouched (shows old) (shows new)
-LeavesDisk (opens.Keep NoMemory) shows old new = IsUntouched (shows old) (shows new)
-LeavesDisk (opens.Differs key) shows old new = IsUntouched (shows old) (shows new)
+LeavesDisk (opens.Keep (Journal fault)) shows old new = Unit {0}
+LeavesDisk fault shows old new = IsUntouched (shows old) (shows new)
 
 abbrev pub CountsOpen : (before now : ℕ) → OpenFault → Type 0
 CountsOpen before now (opens.Keep fault) = CountsFault before now fault

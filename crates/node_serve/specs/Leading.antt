@@ -10,7 +10,7 @@ use Rattle.frame_rules.specs.Whole.{answer}
 use Rattle.step_rules.specs.Leader.{Leader, Answer, Reply, Link, StillWaiting}
 use Rattle.step_rules.specs.LeaderClients.{on_client}
 use Rattle.node_exchange.specs.Exchanging.{Exchange}
-use Rattle.node_serve.specs.Draining.{Stand, stand, Drained, BreaksOff}
+use Rattle.node_serve.specs.Draining.{DrainState, drain_start, Drained, BreaksInDrain}
 use Rattle.node_serve.specs.declared.node.Served.{Served}
 use Rattle.node_serve.specs.declared.node.Served.TheVariants as served
 
@@ -41,16 +41,16 @@ reply_to (Link number command) = []
 reply_to (StillWaiting number) = []
 
 -- where the leader stands once it has taken its step
-abbrev pub stepped : Leader → List ℕ → Stand
-stepped a bytes = stand (on_client a bytes).leader (reply_to (on_client a bytes).answer)
+abbrev pub stepped : Leader → List ℕ → DrainState
+stepped a bytes = drain_start (on_client a bytes).leader (reply_to (on_client a bytes).answer)
 
 -- ---- a drain, the step, and a drain
 
 pub record Handles (a : Leader) (bytes : List ℕ) (b : Leader) (reply : List ℕ)
     (made : List Exchange) : Type 0 where
-  pub before : Stand
-  pub after : Stand
-  pub first : Drained (stand a []) before
+  pub before : DrainState
+  pub after : DrainState
+  pub first : Drained (drain_start a []) before
   pub second : Drained (stepped before.leader bytes) after
   pub leader : b ≡ after.leader
   pub reply_is : reply ≡ after.reply
@@ -59,22 +59,22 @@ pub record Handles (a : Leader) (bytes : List ℕ) (b : Leader) (reply : List �
 -- the second drain broke off
 pub record BreaksLate (a : Leader) (bytes : List ℕ) (b : Leader) (made : List Exchange)
     (why : Served) : Type 0 where
-  pub before : Stand
-  pub first : Drained (stand a []) before
+  pub before : DrainState
+  pub first : Drained (drain_start a []) before
   pub more : List Exchange
-  pub second : BreaksOff (stepped before.leader bytes) b more why
+  pub second : BreaksInDrain (stepped before.leader bytes) b more why
   pub all : made ≡ before.made ++ more
 
 -- one of the two drains broke off; where it was the first, the leader took no step
 abbrev pub BreaksDown : Leader → List ℕ → Leader → List Exchange → Served → Type 0
-BreaksDown a bytes b made why = BreaksOff (stand a []) b made why ⊎ BreaksLate a bytes b made why
+BreaksDown a bytes b made why = BreaksInDrain (drain_start a []) b made why ⊎ BreaksLate a bytes b made why
 
 -- the client is told that the link failed, with the net's count of faults
 abbrev pub link_down : PlainFrame → ℕ → PlainFrame
 link_down f count = answer f (frame.Refused (refusal.LinkDown count))
 
 -- bytes that are no frame that a leader takes from clients get their refusal, and no exchange is made
-pub record Refuses (a : Leader) (bytes : List ℕ) (b : Leader) (reply : List ℕ)
+pub record RefusesBytes (a : Leader) (bytes : List ℕ) (b : Leader) (reply : List ℕ)
     (made : List Exchange) : Type 0 where
   pub leader : b ≡ (on_client a bytes).leader
   pub reply_is : reply ≡ reply_to (on_client a bytes).answer
@@ -89,7 +89,7 @@ IsSent other = ⊥
 -- What a leader did, by the client's frame if the bytes are one, and by the answer: made are its exchanges,
 -- count is the net's count of faults, reply what the client is to get.
 abbrev pub Leads : Option PlainFrame → Leader → List ℕ → Leader → List Exchange → ℕ → Served → List ℕ → Type 0
-Leads None a bytes b made count why reply = IsSent why × Refuses a bytes b reply made
+Leads None a bytes b made count why reply = IsSent why × RefusesBytes a bytes b reply made
 Leads (Some f) a bytes b made count served.Answered reply = Handles a bytes b reply made
 Leads (Some f) a bytes b made count (served.ConnFault faults) reply = Handles a bytes b reply made
 Leads (Some f) a bytes b made count served.Ended reply = ⊥

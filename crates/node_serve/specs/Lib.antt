@@ -2,6 +2,7 @@ pub mod Helping
 pub mod Draining
 pub mod Leading
 pub mod Serving
+pub mod Moved
 pub mod Logs
 pub mod NoLog
 pub mod JournalLog
@@ -9,6 +10,7 @@ pub mod Handing
 pub mod Handling
 pub mod Stopping
 pub mod Responding
+pub mod Outcomes
 pub mod Opening
 pub mod KeptOpening
 pub mod Visits

@@ -1,13 +1,11 @@
 -- What one connection comes to at a server with a log.
 use Rattle.std.specs.Prelude.{◌≡◌, ℕ, List, [], ◌∷◌, Option, Some, None}
-use Rattle.express_words.specs.Calls.{Call}
 use Rattle.express_words.specs.Seen.{Seen}
 use Rattle.frame_rules.specs.Frames.{PlainFrame}
 use Rattle.frame_rules.specs.Whole.{whole}
 use Rattle.step_rules.specs.Leader.{Leader}
 use Rattle.node_serve.specs.Helping.{helper_step}
-use Rattle.node_exchange.specs.Exchanging.{Exchange}
-use Rattle.node_exchange.specs.Exchanging.{ExchangesOn}
+use Rattle.node_exchange.specs.Exchanging.{Exchange, ExchangesOn}
 use Rattle.node_serve.specs.Leading.{taken_in, IsSent, Leads}
 use Rattle.node_serve.specs.declared.node.Served.{Served}
 use Rattle.node_serve.specs.declared.node.Served.TheVariants as served
@@ -17,31 +15,9 @@ use Rattle.node_restart.specs.declared.frames.Sender.TheVariants.{Client}
 use Rattle.node_restart.specs.Frames.{Handed, handed}
 use Rattle.node_serve.specs.Handling.{frames_handled, frames_broken}
 use Rattle.node_serve.specs.Logs.{Log}
+use Rattle.node_serve.specs.Moved.{Moved, Stretch, stretch}
 use Rattle.node_serve.specs.Serving.{WritesReply}
 use Rattle.node_serve.specs.Stopping.{sender_at_helper, Stops}
-
--- ---- before and after
-
--- a value before a call and after it
-pub record Moved (A : Type 0) : Type 0 where
-  pub old : A
-  pub new : A
-
-abbrev pub moved : {A : Type 0} → A → A → Moved A
-moved old new = record { old = old; new = new }
-
--- the calls on a net before and after, and its count of faults then
-pub record Stretch : Type 0 where
-  pub before : Option (List Call)
-  pub now : Option (List Call)
-  pub count : ℕ
-
-abbrev pub stretch : Seen → Seen → Stretch
-stretch old new = record { before = old.calls; now = new.calls; count = new.faults }
-
--- these calls alone, and the count of faults then
-abbrev pub meanwhile : List Call → ℕ → Stretch
-meanwhile calls count = record { before = Some []; now = Some calls; count = count }
 
 -- ---- what a server did
 
@@ -73,18 +49,18 @@ Responds peer (Lead a) bytes new frames net why reply =
 
 -- A server with a log answered what a connection brought: its reply was written to the connection, and the
 -- log took each frame that it was handed on the way before its step.
-pub record Answers {S F : Type 0} (log : Log S F) (peer bytes : List ℕ) (server : Moved S) (net : Stretch)
-    (conn : Moved Seen) (why : Served) : Type 0 where
+pub record Answers {S F : Type 0} (log : Log S F) (peer bytes : List ℕ) (server : Moved S)
+    (net conn : Moved Seen) (why : Served) : Type 0 where
   pub reply : List ℕ
   pub frames : List Handed
-  pub responds : Responds peer (log.core server.old) bytes (log.core server.new) frames net why reply
+  pub responds : Responds peer (log.core server.old) bytes (log.core server.new) frames (stretch net) why reply
   pub writes : WritesReply why conn.old conn.new reply
   pub takes : log.takes server.old server.new frames
 
 -- Or the log refused one of these frames, and the server took no step from then on.
 pub record StopsShort {S F : Type 0} (log : Log S F) (peer bytes : List ℕ) (server : Moved S)
-    (net : Stretch) (fault : F) : Type 0 where
+    (net : Moved Seen) (fault : F) : Type 0 where
   pub frames : List Handed
   pub refused : Handed
-  pub far : Stops peer (log.core server.old) bytes (log.core server.new) frames refused net.before net.now
+  pub far : Stops peer (log.core server.old) bytes (log.core server.new) frames refused (stretch net)
   pub stops : log.stops server.old server.new frames refused fault

@@ -1,17 +1,19 @@
 -- One connection of a server.
-use Rattle.std.specs.Prelude.{◌≡◌, ◌⊎◌, ℕ, List, [], Option}
+use Rattle.std.specs.Prelude.{◌≡◌, ◌≢◌, ◌⊎◌, ℕ, List, [], Option, Err}
 use Rattle.express_words.specs.Causes.{Rose}
 use Rattle.express_words.specs.Seen.{Seen}
 use Rattle.express_words.specs.Streams.{Stream, Gave, IsAtEnd, Took, TookPrefix}
 use Rattle.express_words.specs.Calls.{Call}
 use Rattle.frame_rules.specs.Gathering.{gathered}
+use Rattle.frame_rules.specs.Reading.{decoded}
+use Rattle.frame_rules.specs.declared.fault.FrameFault.TheVariants.{Short}
 use Rattle.frame_rules.specs.Whole.{whole}
 use Rattle.step_rules.specs.Leader.{Leader}
 use Rattle.node_exchange.specs.Taking.{IsWanted}
 use Rattle.node_serve.specs.Helping.{helper_step}
-use Rattle.node_exchange.specs.Exchanging.{Exchange}
-use Rattle.node_exchange.specs.Exchanging.{ExchangesOn}
+use Rattle.node_exchange.specs.Exchanging.{Exchange, ExchangesOn}
 use Rattle.node_serve.specs.Leading.{taken_in, IsSent, Leads}
+use Rattle.node_serve.specs.Moved.{Moved}
 use Rattle.node_serve.specs.declared.node.Node.{Node}
 use Rattle.node_serve.specs.declared.node.Node.TheVariants as node
 use Rattle.node_serve.specs.declared.node.Served.{Served}
@@ -69,3 +71,14 @@ NoneFailed before now = Rose before now → ⊥
 abbrev pub IsComplete : Node → Served → Type 0
 IsComplete (node.Help h) why = why ≡ served.Answered
 IsComplete (node.Lead a peer) why = (why ≡ served.Answered) ⊎ (why ≡ served.LinkBad)
+
+-- what a node did once a connection gave a frame, or bytes known to be none, and what was written of the reply
+abbrev pub NodeServes : List ℕ → Served → (old new : Node) → (net conn : Moved Seen) → Type 0
+NodeServes held why old new net conn = decoded held ≢ Err Short → (reply : List ℕ)
+    × Serves old held new net.old.calls net.new.calls net.new.faults why reply
+    × WritesReply why conn.old conn.new reply
+
+-- and what became of that where no call of the connection or of the net failed
+abbrev pub Completes : List ℕ → Served → Node → (net conn : Moved Seen) → Type 0
+Completes held why old net conn = decoded held ≢ Err Short → NoneFailed conn.old.faults conn.new.faults
+    → NoneFailed net.old.faults net.new.faults → IsComplete old why

@@ -4,10 +4,8 @@ use Rattle.express_words.specs.Calls.{Call}
 use Rattle.frame_rules.specs.Frames.{PlainFrame}
 use Rattle.frame_rules.specs.Whole.{whole}
 use Rattle.step_rules.specs.Leader.{Leader}
-use Rattle.node_exchange.specs.Exchanging.{Exchange}
-use Rattle.node_serve.specs.Draining.{Stand, stand, IsOldest, Drained}
-use Rattle.node_exchange.specs.Exchanging.{ExchangeOn, ExchangesOn}
-use Rattle.node_serve.specs.Draining as draining
+use Rattle.node_exchange.specs.Exchanging.{Exchange, ExchangeOn, ExchangesOn}
+use Rattle.node_serve.specs.Draining.{DrainState, drain_start, IsOldest, Drained, DrainsOn}
 use Rattle.node_serve.specs.Helping.{is_from_leader}
 use Rattle.node_serve.specs.Leading.{taken_in, stepped}
 use Rattle.node_restart.specs.declared.server.Core.{Core}
@@ -16,6 +14,7 @@ use Rattle.node_restart.specs.declared.frames.Sender.{Sender}
 use Rattle.node_restart.specs.declared.frames.Sender.TheVariants.{Client, Peer}
 use Rattle.node_restart.specs.Frames.{Handed, handed}
 use Rattle.node_serve.specs.Handing.{answers_in, around}
+use Rattle.node_serve.specs.Moved.{Stretch}
 
 -- these bytes were sent, and the helper's answer wasn't kept
 pub record Unkept (peer : List ℕ) (old new : Core) (sent : List ℕ) (frames : List Handed) (refused : Handed)
@@ -27,9 +26,10 @@ pub record Unkept (peer : List ℕ) (old new : Core) (sent : List ℕ) (frames :
   pub calls : ExchangeOn peer (record { sent = sent; answer = Ok bytes }) before now
 
 -- a drain up to an answer that wasn't kept
-pub record StopsAt (start : Stand) (end : Leader) (made : List Exchange) (refused : Handed) : Type 0 where
-  pub last : Stand
-  pub drains : draining.Drains start last
+pub record StopsInDrain (start : DrainState) (end : Leader) (made : List Exchange) (refused : Handed)
+    : Type 0 where
+  pub last : DrainState
+  pub drains : DrainsOn start last
   pub stays : end ≡ last.leader
   pub sent : List ℕ
   pub oldest : IsOldest end sent
@@ -41,20 +41,20 @@ abbrev pub DrainStops : List ℕ → Core → List ℕ → Core → List Handed 
     (before now : Option (List Call)) → Type 0
 DrainStops peer (Lead a) told new frames refused before now =
     (b : Leader) × (new ≡ Lead b) × ((made : List Exchange) × ExchangesOn peer made before now
-    × ((s : StopsAt (stand a told) b made refused) × (frames ≡ answers_in s.last.made)))
+    × ((s : StopsInDrain (drain_start a told) b made refused) × (frames ≡ answers_in s.last.made)))
 DrainStops peer (Help h) told new frames refused before now = ⊥
 
 -- in the first drain
 pub record StopsEarly (a : Leader) (bytes : List ℕ) (b : Leader) (made : List Exchange) (frames : List Handed)
     (refused : Handed) : Type 0 where
-  pub at : StopsAt (stand a []) b made refused
+  pub at : StopsInDrain (drain_start a []) b made refused
   pub frames_are : frames ≡ answers_in at.last.made
 
 -- at the client's frame
 pub record StopsBetween (a : Leader) (bytes : List ℕ) (b : Leader) (made : List Exchange)
     (frames : List Handed) (refused : Handed) : Type 0 where
-  pub before : Stand
-  pub first : Drained (stand a []) before
+  pub before : DrainState
+  pub first : Drained (drain_start a []) before
   pub stays : b ≡ before.leader
   pub all : made ≡ before.made
   pub frames_are : frames ≡ answers_in made
@@ -63,10 +63,10 @@ pub record StopsBetween (a : Leader) (bytes : List ℕ) (b : Leader) (made : Lis
 -- in the second drain
 pub record StopsLate (a : Leader) (bytes : List ℕ) (b : Leader) (made : List Exchange) (frames : List Handed)
     (refused : Handed) : Type 0 where
-  pub before : Stand
-  pub first : Drained (stand a []) before
+  pub before : DrainState
+  pub first : Drained (drain_start a []) before
   pub more : List Exchange
-  pub second : StopsAt (stepped before.leader bytes) b more refused
+  pub second : StopsInDrain (stepped before.leader bytes) b more refused
   pub all : made ≡ before.made ++ more
   pub frames_are : frames ≡ around before.made bytes second.last.made
 
@@ -90,12 +90,12 @@ HandleStops peer (Help h) bytes new frames refused before now = ⊥
 
 -- a leader stops at one of the frames that it is handed, by whether the connection's is one that it takes
 -- from clients
-abbrev pub LeadStops : Option PlainFrame → List ℕ → Leader → List ℕ → Core → List Handed → Handed →
-    (before now : Option (List Call)) → Type 0
-LeadStops None peer a bytes new frames refused before now =
-    (now ≡ before) × StopsAtOnce (Lead a) new frames refused (handed Client bytes)
-LeadStops (Some f) peer a bytes new frames refused before now =
-    HandleStops peer (Lead a) bytes new frames refused before now
+abbrev pub LeadStops : Option PlainFrame → List ℕ → Leader → List ℕ → Core → List Handed → Handed → Stretch
+    → Type 0
+LeadStops None peer a bytes new frames refused net =
+    (net.now ≡ net.before) × StopsAtOnce (Lead a) new frames refused (handed Client bytes)
+LeadStops (Some f) peer a bytes new frames refused net =
+    HandleStops peer (Lead a) bytes new frames refused net.before net.now
 
 -- whose frame a helper takes it for
 abbrev pub sender_by : Bool → Sender
@@ -107,9 +107,8 @@ sender_at_helper bytes = sender_by (is_from_leader (whole bytes))
 
 -- What a server did with these bytes up to a frame that wasn't kept: the frames before it, and the calls on
 -- the net.
-abbrev pub Stops : List ℕ → Core → List ℕ → Core → List Handed → Handed → (before now : Option (List Call)) →
-    Type 0
-Stops peer (Help h) bytes new frames refused before now =
+abbrev pub Stops : List ℕ → Core → List ℕ → Core → List Handed → Handed → Stretch → Type 0
+Stops peer (Help h) bytes new frames refused net =
     StopsAtOnce (Help h) new frames refused (handed (sender_at_helper bytes) bytes)
-Stops peer (Lead a) bytes new frames refused before now =
-    LeadStops (taken_in (whole bytes)) peer a bytes new frames refused before now
+Stops peer (Lead a) bytes new frames refused net =
+    LeadStops (taken_in (whole bytes)) peer a bytes new frames refused net

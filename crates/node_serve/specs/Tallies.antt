@@ -1,5 +1,5 @@
 -- How many visits had each answer.
-use Rattle.std.specs.Prelude.{ℕ, ◌+◌, Bool, true, false, List, ◌++◌, count_by, codes, decimal}
+use Rattle.std.specs.Prelude.{◌≡◌, ℕ, ◌+◌, Bool, true, false, List, [], ◌∷◌, ◌++◌, count_by, codes, decimal}
 use Rattle.node_serve.specs.declared.node.Served.{Served}
 use Rattle.node_serve.specs.declared.node.Served.TheVariants as served
 use Rattle.node_serve.specs.declared.tally.Tally.{Tally}
@@ -40,6 +40,14 @@ tally_of visits = record {
 -- how many there are in all
 abbrev pub total : Tally → ℕ
 total t = t.answered + t.ended + t.connection_faults + t.link_faults + t.bad_links
+
+-- one more has this answer
+pub record CountsMore (old new : Tally) (answer : Served) : Type 0 where
+  pub answered : new.answered ≡ old.answered + count_by is_answered (answer ∷ [])
+  pub ended : new.ended ≡ old.ended + count_by is_ended (answer ∷ [])
+  pub connection_faults : new.connection_faults ≡ old.connection_faults + count_by is_connection_fault (answer ∷ [])
+  pub link_faults : new.link_faults ≡ old.link_faults + count_by is_link_fault (answer ∷ [])
+  pub bad_links : new.bad_links ≡ old.bad_links + count_by is_bad_link (answer ∷ [])
 
 -- the line that is printed of them, without its end
 abbrev pub tally_text : Tally → List ℕ

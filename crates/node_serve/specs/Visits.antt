@@ -14,7 +14,8 @@ use Rattle.node_restart.specs.Frames.{Handed}
 use Rattle.node_serve.specs.Draining.{FaultIn}
 use Rattle.node_serve.specs.Handling.{IsHelp}
 use Rattle.node_serve.specs.Logs.{Log}
-use Rattle.node_serve.specs.Responding.{Responds, meanwhile}
+use Rattle.node_serve.specs.Moved.{meanwhile}
+use Rattle.node_serve.specs.Responding.{Responds}
 use Rattle.node_serve.specs.Serving.{IsCut, WritesTold}
 use Rattle.node_serve.specs.Stopping.{Stops}
 use Rattle.node_serve.specs.declared.node.Served.{Served}
@@ -55,17 +56,18 @@ Shown {C} shows seen = (conn : C) × (shows conn ≡ seen)
 
 -- ---- the connection
 
--- It was a connection of this content at its close, which took these bytes and had this count of faults.
--- Where the net doesn't tell its calls now nothing is said.
-abbrev pub IsOfTold : Option (List Call) → Visit → Option Stream → Option (List ℕ) → ℕ → Type 0
-IsOfTold None v content written faults = Unit {0}
-IsOfTold (Some calls) v content written faults =
-    (content ≡ Some (record { given = v.given; left = v.left })) × (written ≡ Some v.taken)
-    × (faults ≡ v.faults)
+-- A connection was of this content at its close, took these bytes and had this count of faults. Where the net
+-- doesn't tell its calls now nothing is said.
+abbrev pub ClosedAs : Option (List Call) → (given left taken : List ℕ) → ℕ → Option Stream → Option (List ℕ)
+    → ℕ → Type 0
+ClosedAs None given left taken count content written faults = Unit {0}
+ClosedAs (Some calls) given left taken count content written faults =
+    (content ≡ Some (record { given = given; left = left })) × (written ≡ Some taken) × (faults ≡ count)
 
 -- it was a connection that showed this at its close
 abbrev pub IsOf : Option (List Call) → Visit → Seen → Type 0
-IsOf calls v conn = IsOfTold calls v conn.content conn.written conn.faults
+IsOf calls v conn =
+    ClosedAs calls v.given v.left v.taken v.faults conn.content conn.written conn.faults
 
 -- the net's calls up to the close of the visit, which isn't among them; where it tells them now
 abbrev pub up_to_close : (before now : Option (List Call)) → Visit → Option (List Call)
@@ -144,39 +146,32 @@ pub record DoorFails {S : Type 0} (old new : Standing S) : Type 0 where
 
 -- A visit that ended at a frame that the log refused: the bytes that the connection gave, those that it had
 -- left at its close, and the calls that the server made on the net meanwhile.
-pub record Broken : Type 0 where
+pub record RefusedVisit : Type 0 where
   pub given : List ℕ
   pub left : List ℕ
   pub calls : List Call
 
 -- it took nothing, and had no fault
-abbrev pub broken_calls : Broken → List Call
-broken_calls v = Accepted false ∷ v.calls ++ Closed v.given [] true ∷ []
+abbrev pub refused_calls : RefusedVisit → List Call
+refused_calls v = Accepted false ∷ v.calls ++ Closed v.given [] true ∷ []
 
--- It was a connection of this content at its close, which took nothing and had no fault.
-abbrev pub IsOfBrokenTold : Option (List Call) → Broken → Option Stream → Option (List ℕ) → ℕ → Type 0
-IsOfBrokenTold None v content written faults = Unit {0}
-IsOfBrokenTold (Some calls) v content written faults =
-    (content ≡ Some (record { given = v.given; left = v.left })) × (written ≡ Some []) × (faults ≡ 0)
-
--- it was a connection that showed this at its close
-abbrev pub IsOfBroken : Option (List Call) → Broken → Seen → Type 0
-IsOfBroken calls v conn = IsOfBrokenTold calls v conn.content conn.written conn.faults
+abbrev pub IsOfRefused : Option (List Call) → RefusedVisit → Seen → Type 0
+IsOfRefused calls v conn = ClosedAs calls v.given v.left [] 0 conn.content conn.written conn.faults
 
 -- the frames that the server was handed before the one that the log refused for this fault
-pub record IsBroken {S F : Type 0} (log : Log S F) (peer : List ℕ) (shown : Seen → Type 0) (v : Broken)
-    (fault : F) (old new : Standing S) : Type 0 where
+pub record IsRefusedVisit {S F : Type 0} (log : Log S F) (peer : List ℕ) (shown : Seen → Type 0)
+    (v : RefusedVisit) (fault : F) (old new : Standing S) : Type 0 where
   pub frames : List Handed
   pub refused : Handed
   pub wanted : IsWanted v.given
   pub far : Stops peer (log.core old.server) (gathered [] v.given) (log.core new.server) frames refused
-      (Some []) (Some v.calls)
+      (meanwhile v.calls new.net.faults)
   pub stops : log.stops old.server new.server frames refused fault
   pub alone : IsHelp (log.core old.server) → v.calls ≡ []
   pub faults : new.net.faults ≡ old.net.faults
-  pub calls : Makes old.net.calls new.net.calls (broken_calls v)
+  pub calls : Makes old.net.calls new.net.calls (refused_calls v)
   pub doors : new.net.doors ≡ old.net.doors
-  pub there : (conn : Seen) × shown conn × IsOfBroken new.net.calls v conn
+  pub there : (conn : Seen) × shown conn × IsOfRefused new.net.calls v conn
 
 -- ---- by how it ended
 
@@ -187,7 +182,7 @@ VisitEnds log peer shown (Ok answer) old new =
     (v : Visit) × (v.answer ≡ answer) × ((frames : List Handed) × IsVisit log peer shown v frames old new)
 VisitEnds log peer shown (Err halt.Door) old new = DoorFails old new
 VisitEnds log peer shown (Err (halt.Log fault)) old new =
-    (last : Broken) × IsBroken log peer shown last fault old new
+    (last : RefusedVisit) × IsRefusedVisit log peer shown last fault old new
 
 -- the count at the net's door rose where an accept failed, and stayed else
 abbrev pub DoorBy : {T F : Type 0} → Result T (Halt F) → (before now : ℕ) → Type 0

@@ -1,13 +1,13 @@
 //! The server takes its step at what a connection brought, and its reply is written.
-ghost use Rattle.std.specs.Prelude.{◌≡◌, List, ℕ, None, IfOk, IfErr, OnErr};
-ghost use Rattle.express_words.specs.Seen.{Seen};
+ghost use Rattle.std.specs.Prelude.{◌≡◌, None, IfOk, OnErr};
 ghost use Rattle.frame_rules.specs.Whole.{whole};
 ghost use Rattle.node_serve.specs.Draining.{FaultIn};
 ghost use Rattle.node_exchange.specs.Exchanging.{EarlyAtEnd};
 ghost use Rattle.node_serve.specs.Handling.{IsHelp, IsLead};
 ghost use Rattle.node_serve.specs.Leading.{taken_in, IsSent};
 ghost use Rattle.node_serve.specs.Logs.{CountsLog};
-ghost use Rattle.node_serve.specs.Responding.{Answers, StopsShort, moved, stretch};
+ghost use Rattle.node_serve.specs.Moved.{shown};
+ghost use Rattle.node_serve.specs.Outcomes.{AnswerEnds, AnswersAlone};
 ghost use Rattle.node_serve.specs.Serving.{WritesReply};
 
 use crate::broke::Broke;
@@ -40,10 +40,7 @@ fn serve_helper<C: Conn, S: Logged>(
     conn: &mut C,
 ) -> Result<Served, S::Fault>
     requires help { IsHelp (S.log.core server.old) }
-    ensures answers { (peer : List ℕ) (net : Seen) → IfOk result (Answers S.log peer frame.now
-        (moved server.old server.new) (stretch net net) (moved (C.seen conn.old) (C.seen conn.new))) }
-    ensures stops { (peer : List ℕ) (net : Seen) → IfErr result (StopsShort S.log peer frame.now
-        (moved server.old server.new) (stretch net net)) }
+    ensures ends { AnswersAlone S.log frame.now result server.old server.new (shown C.seen conn.old conn.new) }
     ensures sent { IfOk result IsSent }
     ensures untouched { OnErr result (conn.new ≡ conn.old) }
     ensures content { (C.seen conn.new).content ≡ (C.seen conn.old).content }
@@ -64,10 +61,7 @@ fn refuse<C: Conn, S: Logged>(
 ) -> Result<Served, S::Fault>
     requires lead { IsLead (S.log.core server.old) }
     requires none { None ≡ taken_in (whole frame.now) }
-    ensures answers { (peer : List ℕ) (net : Seen) → IfOk result (Answers S.log peer frame.now
-        (moved server.old server.new) (stretch net net) (moved (C.seen conn.old) (C.seen conn.new))) }
-    ensures stops { (peer : List ℕ) (net : Seen) → IfErr result (StopsShort S.log peer frame.now
-        (moved server.old server.new) (stretch net net)) }
+    ensures ends { AnswersAlone S.log frame.now result server.old server.new (shown C.seen conn.old conn.new) }
     ensures sent { IfOk result IsSent }
     ensures untouched { OnErr result (conn.new ≡ conn.old) }
     ensures content { (C.seen conn.new).content ≡ (C.seen conn.old).content }
@@ -88,10 +82,8 @@ fn serve_leader<C: Conn, N: Net, S: Logged>(
     net: &mut N,
 ) -> Result<Served, S::Fault>
     requires lead { IsLead (S.log.core server.old) }
-    ensures answers { IfOk result (Answers S.log peer.now frame.now (moved server.old server.new)
-        (stretch (N.seen net.old) (N.seen net.new)) (moved (C.seen conn.old) (C.seen conn.new))) }
-    ensures stops { IfErr result (StopsShort S.log peer.now frame.now (moved server.old server.new)
-        (stretch (N.seen net.old) (N.seen net.new))) }
+    ensures ends { AnswerEnds S.log peer.now frame.now result server.old server.new
+        (shown N.seen net.old net.new) (shown C.seen conn.old conn.new) }
     ensures early { IfOk result (λ why. why ≡ Served.LinkBad → EarlyAtEnd (N.seen net.new).calls N.Conn.seen) }
     ensures fault { IfOk result (λ why. FaultIn why (N.seen net.old).faults (N.seen net.new).faults) }
     ensures unfailed { OnErr result ((N.seen net.new).faults ≡ (N.seen net.old).faults) }
@@ -124,10 +116,8 @@ pub(crate) fn answer<C: Conn, N: Net, S: Logged>(
     conn: &mut C,
     net: &mut N,
 ) -> Result<Served, S::Fault>
-    ensures answers { IfOk result (Answers S.log peer.now frame.now (moved server.old server.new)
-        (stretch (N.seen net.old) (N.seen net.new)) (moved (C.seen conn.old) (C.seen conn.new))) }
-    ensures stops { IfErr result (StopsShort S.log peer.now frame.now (moved server.old server.new)
-        (stretch (N.seen net.old) (N.seen net.new))) }
+    ensures ends { AnswerEnds S.log peer.now frame.now result server.old server.new
+        (shown N.seen net.old net.new) (shown C.seen conn.old conn.new) }
     ensures early { IfOk result (λ why. why ≡ Served.LinkBad → EarlyAtEnd (N.seen net.new).calls N.Conn.seen) }
     ensures fault { IfOk result (λ why. FaultIn why (N.seen net.old).faults (N.seen net.new).faults) }
     ensures unfailed { OnErr result ((N.seen net.new).faults ≡ (N.seen net.old).faults) }

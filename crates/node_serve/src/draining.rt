@@ -1,14 +1,11 @@
 //! The leader exchanges its outstanding commands with the helper.
-ghost use Rattle.std.specs.Prelude.{◌≡◌, ◌<◌, ◌≤◌, List, ℕ, length, take, option_map, Some, IfOk};
-ghost use Rattle.frame_rules.specs.Spelling.{spelling};
+ghost use Rattle.std.specs.Prelude.{◌≡◌, ◌<◌, ◌≤◌, length, take, IfOk, OnOk};
 ghost use Rattle.frame_rules.specs.Room.{HasRoom};
-ghost use Rattle.node_restart.specs.Frames.{Handed};
-ghost use Rattle.node_restart.specs.Steps.{resent_by};
 ghost use Rattle.node_exchange.specs.Exchanging.{EarlyAtEnd};
-ghost use Rattle.node_serve.specs.Handing.{IfLink, IfKeep, LogFault, NetFault};
-ghost use Rattle.node_serve.specs.Handling.{IsLead, rounds_of, Replies, Fails, Drains, DrainBreaks};
-ghost use Rattle.node_serve.specs.Logs.{TakesThrough, StopsUpTo};
-ghost use Rattle.node_serve.specs.Stopping.{Unkept, DrainStops};
+ghost use Rattle.node_serve.specs.Handing.{IfLink, LogFault, NetFault};
+ghost use Rattle.node_serve.specs.Handling.{IsLead, rounds_of};
+ghost use Rattle.node_serve.specs.Moved.{shown};
+ghost use Rattle.node_serve.specs.Outcomes.{DrainEnds, ExchangeEnds};
 
 use crate::broke::Broke;
 use crate::handing::{is_ignored, told};
@@ -32,17 +29,10 @@ fn exchange_one<N: Net, S: Logged>(
     requires answer_room { HasRoom answer.old }
     requires within { size ≤ length out.old }
     requires lead { IsLead (S.log.core server.old) }
-    ensures replied { IfOk result (λ n. TakesThrough S.log server.old server.new (λ frames. Replies peer.now
-        (S.log.core server.old) (S.log.core server.new) (take size out.old) (take n out.new) frames
-        (N.seen net.old).calls (N.seen net.new).calls)) }
+    ensures ends { ExchangeEnds S.log peer.now (take size out.old) out.new result server.old server.new
+        (shown N.seen net.old net.new) }
     ensures within { IfOk result (λ n. n ≤ length out.new) }
-    ensures nearer { IfOk result (λ n. rounds_of (S.log.core server.new) < rounds_of (S.log.core server.old)) }
-    ensures failed { IfLink result (λ why. TakesThrough S.log server.old server.new (λ frames. Fails peer.now
-        (S.log.core server.old) (S.log.core server.new) (take size out.old) frames
-        (N.seen net.old).calls (N.seen net.new).calls why)) }
-    ensures unkept { IfKeep result (λ fault. StopsUpTo S.log server.old server.new fault (λ frames refused. Unkept
-        peer.now (S.log.core server.old) (S.log.core server.new) (take size out.old) frames refused
-        (N.seen net.old).calls (N.seen net.new).calls)) }
+    ensures nearer { OnOk result (rounds_of (S.log.core server.new) < rounds_of (S.log.core server.old)) }
     ensures early { IfLink result (λ why. why ≡ Served.LinkBad → EarlyAtEnd (N.seen net.new).calls N.Conn.seen) }
     ensures fault { NetFault result (N.seen net.old).faults (N.seen net.new).faults }
     ensures counts { LogFault S.rises (S.failures server.old) (S.failures server.new) result }
@@ -81,16 +71,9 @@ pub(crate) fn drain<N: Net, S: Logged>(
     requires answer_room { HasRoom answer.old }
     requires within { told ≤ length out.old }
     requires lead { IsLead (S.log.core server.old) }
-    ensures drained { IfOk result (λ n. TakesThrough S.log server.old server.new (λ frames. Drains peer.now
-        (S.log.core server.old) (take told out.old) (S.log.core server.new) frames (take n out.new)
-        (N.seen net.old).calls (N.seen net.new).calls)) }
+    ensures ends { DrainEnds S.log peer.now (take told out.old) out.new result server.old server.new
+        (shown N.seen net.old net.new) }
     ensures within { IfOk result (λ n. n ≤ length out.new) }
-    ensures broken { IfLink result (λ why. TakesThrough S.log server.old server.new (λ frames. DrainBreaks peer.now
-        (S.log.core server.old) (take told out.old) (S.log.core server.new) frames
-        (N.seen net.old).calls (N.seen net.new).calls why)) }
-    ensures stopped { IfKeep result (λ fault. StopsUpTo S.log server.old server.new fault (λ frames refused.
-        DrainStops peer.now (S.log.core server.old) (take told out.old) (S.log.core server.new) frames refused
-        (N.seen net.old).calls (N.seen net.new).calls)) }
     ensures early { IfLink result (λ why. why ≡ Served.LinkBad → EarlyAtEnd (N.seen net.new).calls N.Conn.seen) }
     ensures fault { NetFault result (N.seen net.old).faults (N.seen net.new).faults }
     ensures counts { LogFault S.rises (S.failures server.old) (S.failures server.new) result }

@@ -1,5 +1,5 @@
 //! One connection is served by a server whose frames go nowhere, or to its journal.
-ghost use Rattle.std.specs.Prelude.{◌≡◌, ◌≢◌, List, ℕ, Err, IsOk, IfOk, IfErr, OnErr};
+ghost use Rattle.std.specs.Prelude.{◌≡◌, Err, IfOk, OnErr};
 ghost use Rattle.frame_rules.specs.Reading.{decoded};
 ghost use Rattle.frame_rules.specs.declared.fault.FrameFault.TheVariants.{Short};
 ghost use Rattle.node_restart.specs.Faults.{Counts};
@@ -7,8 +7,9 @@ ghost use Rattle.node_serve.specs.Draining.{FaultIn};
 ghost use Rattle.node_exchange.specs.Exchanging.{EarlyAtEnd};
 ghost use Rattle.node_serve.specs.Handling.{IsHelp};
 ghost use Rattle.node_serve.specs.JournalLog.{journal_log};
-ghost use Rattle.node_serve.specs.Responding.{Answers, StopsShort, moved, stretch};
-ghost use Rattle.node_serve.specs.Serving.{Brings, IsComplete, IsCut, IsHelper, NoneFailed, Serves, WritesReply};
+ghost use Rattle.node_serve.specs.Moved.{shown};
+ghost use Rattle.node_serve.specs.Outcomes.{NothingMoves, ServeEnds};
+ghost use Rattle.node_serve.specs.Serving.{Brings, Completes, IsCut, IsHelper, NodeServes};
 
 use crate::never::Never;
 use crate::node::{Node, Served};
@@ -45,18 +46,15 @@ pub fn serve_one<C: Conn, N: Net>(
     ensures writes_nothing { decoded gather.new ≡ Err Short
         → (C.seen conn.new).written ≡ (C.seen conn.old).written }
     // Else the server takes its step, and its reply is written.
-    ensures serves { decoded gather.new ≢ Err Short → (reply : List ℕ)
-        × Serves node.old gather.new node.new (N.seen net.old).calls (N.seen net.new).calls
-        (N.seen net.new).faults result reply
-        × WritesReply result (C.seen conn.old) (C.seen conn.new) reply }
+    ensures serves { NodeServes gather.new result node.old node.new
+        (shown N.seen net.old net.new) (shown C.seen conn.old conn.new) }
     // LinkBad for an answer that ended early comes only where its connection has nothing left.
     ensures early { result ≡ Served.LinkBad → EarlyAtEnd (N.seen net.new).calls N.Conn.seen }
     ensures helper_rests { IsHelper node.old → net.new ≡ net.old }
     // Where no call of the connection or the net failed, its frame is answered, unless a helper answered its leader
     // with what is no reply that fits.
-    ensures completes { decoded gather.new ≢ Err Short
-        → NoneFailed (C.seen conn.old).faults (C.seen conn.new).faults
-        → NoneFailed (N.seen net.old).faults (N.seen net.new).faults → IsComplete node.old result }
+    ensures completes { Completes gather.new result node.old
+        (shown N.seen net.old net.new) (shown C.seen conn.old conn.new) }
     // The net's count rose exactly where its fault is told.
     ensures fault { FaultIn result (N.seen net.old).faults (N.seen net.new).faults }
     ensures door { (N.seen net.new).doors ≡ (N.seen net.old).doors }
@@ -82,25 +80,13 @@ pub fn serve_kept<C: Conn, N: Net, D: Disk>(
     ensures brings { Brings (C.seen conn.old).content (C.seen conn.new).content gather.new }
 
     // Where it ended or failed before that, nothing moves and nothing is written.
-    ensures cut { decoded gather.new ≡ Err Short → IfOk result (λ why. IsCut why (C.seen conn.new).content
-        (C.seen conn.old).faults (C.seen conn.new).faults) }
-    ensures cut_is_ok { decoded gather.new ≡ Err Short → IsOk result }
-    ensures stays { decoded gather.new ≡ Err Short → kept.new ≡ kept.old }
-    ensures net_rests { decoded gather.new ≡ Err Short → net.new ≡ net.old }
-    ensures writes_nothing { decoded gather.new ≡ Err Short
-        → (C.seen conn.new).written ≡ (C.seen conn.old).written }
+    ensures cut { decoded gather.new ≡ Err Short → NothingMoves result kept.old kept.new net.old net.new
+        (shown C.seen conn.old conn.new) }
 
     // Else the server takes its step, and its reply is written. All frames that it was handed on the way were kept,
-    // each before its step.
-    ensures serves { decoded gather.new ≢ Err Short → IfOk result (Answers (journal_log D.disk) peer.now
-        gather.new (moved kept.old kept.new) (stretch (N.seen net.old) (N.seen net.new))
-        (moved (C.seen conn.old) (C.seen conn.new))) }
-
-    // Or a frame that it was handed on the way wasn't kept: then it took no step at it, and nothing is written.
-    ensures stops { IfErr result (StopsShort (journal_log D.disk) peer.now gather.new
-        (moved kept.old kept.new) (stretch (N.seen net.old) (N.seen net.new))) }
-    ensures unanswered { OnErr result (((C.seen conn.new).written ≡ (C.seen conn.old).written)
-        × ((C.seen conn.new).faults ≡ (C.seen conn.old).faults)) }
+    // each before its step. Or one wasn't kept: then it took no step at it, and nothing is written.
+    ensures serves { ServeEnds (journal_log D.disk) peer.now gather.new result kept.old kept.new
+        (shown N.seen net.old net.new) (shown C.seen conn.old conn.new) }
 
     // LinkBad for an answer that ended early comes only where its connection has nothing left.
     ensures early { IfOk result (λ why. why ≡ Served.LinkBad → EarlyAtEnd (N.seen net.new).calls N.Conn.seen) }

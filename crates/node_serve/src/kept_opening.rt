@@ -1,8 +1,8 @@
 //! A server is opened, from its settings or from its journal.
-ghost use Rattle.std.specs.Prelude.{◌≡◌, ◌≢◌, ◌≤◌, ◌⊎◌, ℕ, List, [], IfOk, IfErr};
+ghost use Rattle.std.specs.Prelude.{◌≡◌, ◌≢◌, ◌≤◌, ℕ, List, [], IfOk, IfErr};
 ghost use Rattle.express_words.specs.Limits.{KeepsLimits};
 ghost use Rattle.node_journal.specs.Disk.{IsUntouched};
-ghost use Rattle.node_serve.specs.KeptOpening.{opening_of, IsCreated, IsReopened};
+ghost use Rattle.node_serve.specs.KeptOpening.{opening_of, IsOpenedOn, IsReopened};
 ghost use Rattle.node_serve.specs.KeptOpening.{IsOfOpening, IsCauseOf, LeavesDisk, CountsOpen};
 
 use crate::key::first_difference;
@@ -65,9 +65,7 @@ pub fn open_kept<D: Disk>(
     requires limits { KeepsLimits settings.now.settings.width settings.now.settings.boxes
         settings.now.settings.lanes settings.now.settings.window }
     // A disk with no byte gives a new server, and another one its journal's.
-    ensures opened { IfOk result (λ k.
-        IsCreated D.disk JOURNAL_LIMIT (opening_of settings.now seed.now) disk k
-        ⊎ IsReopened D.disk JOURNAL_LIMIT (opening_of settings.now seed.now) disk k) }
+    ensures opened { IfOk result (IsOpenedOn D.disk JOURNAL_LIMIT (opening_of settings.now seed.now) disk) }
 
     ensures cause { IfErr result (λ x. IsOfOpening x.0) }
     ensures why { IfErr result (λ x. IsCauseOf x.0 JOURNAL_LIMIT (opening_of settings.now seed.now)

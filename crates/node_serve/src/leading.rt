@@ -7,11 +7,12 @@ ghost use Rattle.frame_rules.specs.Room.{HasRoom};
 ghost use Rattle.node_restart.specs.declared.frames.Sender.TheVariants.{Client};
 ghost use Rattle.node_restart.specs.Frames.{handed};
 ghost use Rattle.node_exchange.specs.Exchanging.{EarlyAtEnd};
-ghost use Rattle.node_serve.specs.Handing.{IfLink, IfKeep, LogFault, NetFault};
-ghost use Rattle.node_serve.specs.Handling.{IsLead, Steps, HandlesAll, HandleBreaks};
+ghost use Rattle.node_serve.specs.Handing.{IfLink, LogFault, NetFault};
+ghost use Rattle.node_serve.specs.Handling.{IsLead, Steps};
 ghost use Rattle.node_serve.specs.Leading.{is_taken, taken_in, link_down};
-ghost use Rattle.node_serve.specs.Logs.{CountsLog, TakesThrough, StopsUpTo};
-ghost use Rattle.node_serve.specs.Stopping.{HandleStops};
+ghost use Rattle.node_serve.specs.Logs.{CountsLog};
+ghost use Rattle.node_serve.specs.Moved.{shown};
+ghost use Rattle.node_serve.specs.Outcomes.{HandleEnds};
 
 use crate::broke::Broke;
 use crate::draining::drain;
@@ -91,16 +92,9 @@ pub(crate) fn handle<N: Net, S: Logged>(
 ) -> Result<usize, Broke<S::Fault>>
     requires room { HasRoom out.old }
     requires lead { IsLead (S.log.core server.old) }
-    ensures handled { IfOk result (λ n. TakesThrough S.log server.old server.new (λ frames. HandlesAll peer.now
-        (S.log.core server.old) frame.now (S.log.core server.new) frames (take n out.new)
-        (N.seen net.old).calls (N.seen net.new).calls)) }
+    ensures ends { HandleEnds S.log peer.now frame.now out.new result server.old server.new
+        (shown N.seen net.old net.new) }
     ensures within { IfOk result (λ n. n ≤ length out.new) }
-    ensures broken { IfLink result (λ why. TakesThrough S.log server.old server.new (λ frames. HandleBreaks peer.now
-        (S.log.core server.old) frame.now (S.log.core server.new) frames
-        (N.seen net.old).calls (N.seen net.new).calls why)) }
-    ensures stopped { IfKeep result (λ fault. StopsUpTo S.log server.old server.new fault (λ frames refused.
-        HandleStops peer.now (S.log.core server.old) frame.now (S.log.core server.new) frames refused
-        (N.seen net.old).calls (N.seen net.new).calls)) }
     ensures early { IfLink result (λ why. why ≡ Served.LinkBad → EarlyAtEnd (N.seen net.new).calls N.Conn.seen) }
     ensures fault { NetFault result (N.seen net.old).faults (N.seen net.new).faults }
     ensures counts { LogFault S.rises (S.failures server.old) (S.failures server.new) result }

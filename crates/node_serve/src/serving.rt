@@ -1,5 +1,5 @@
 //! One connection is served, over whatever log.
-ghost use Rattle.std.specs.Prelude.{◌≡◌, ◌≢◌, Err, IsOk, IfOk, IfErr, OnErr};
+ghost use Rattle.std.specs.Prelude.{◌≡◌, ◌≢◌, Err, IfOk, OnErr};
 ghost use Rattle.express_words.specs.Causes.{Rose};
 ghost use Rattle.express_words.specs.Streams.{IsAtEnd};
 ghost use Rattle.frame_rules.specs.Reading.{decoded};
@@ -8,8 +8,9 @@ ghost use Rattle.node_serve.specs.Draining.{FaultIn};
 ghost use Rattle.node_exchange.specs.Exchanging.{EarlyAtEnd};
 ghost use Rattle.node_serve.specs.Handling.{IsHelp};
 ghost use Rattle.node_serve.specs.Logs.{CountsLog};
-ghost use Rattle.node_serve.specs.Responding.{Answers, StopsShort, moved, stretch};
-ghost use Rattle.node_serve.specs.Serving.{Brings, IsCut};
+ghost use Rattle.node_serve.specs.Moved.{shown};
+ghost use Rattle.node_serve.specs.Outcomes.{NothingMoves, ServeEnds};
+ghost use Rattle.node_serve.specs.Serving.{Brings};
 ghost use Rattle.node_exchange.specs.Taking.{EndsBy};
 
 use crate::answering::answer;
@@ -52,24 +53,13 @@ pub fn serve<C: Conn, N: Net, S: Logged>(
     ensures brings { Brings (C.seen conn.old).content (C.seen conn.new).content gather.new }
 
     // Where it ended or failed before that, nothing moves and nothing is written.
-    ensures cut { decoded gather.new ≡ Err Short → IfOk result (λ why. IsCut why (C.seen conn.new).content
-        (C.seen conn.old).faults (C.seen conn.new).faults) }
-    ensures cut_is_ok { decoded gather.new ≡ Err Short → IsOk result }
-    ensures stays { decoded gather.new ≡ Err Short → server.new ≡ server.old }
-    ensures net_rests { decoded gather.new ≡ Err Short → net.new ≡ net.old }
-    ensures writes_nothing { decoded gather.new ≡ Err Short
-        → (C.seen conn.new).written ≡ (C.seen conn.old).written }
+    ensures cut { decoded gather.new ≡ Err Short → NothingMoves result server.old server.new net.old net.new
+        (shown C.seen conn.old conn.new) }
 
-    // Else the server takes its step, and its reply is written.
-    ensures serves { decoded gather.new ≢ Err Short → IfOk result (Answers S.log peer.now gather.new
-        (moved server.old server.new) (stretch (N.seen net.old) (N.seen net.new))
-        (moved (C.seen conn.old) (C.seen conn.new))) }
-
-    // Or the log refused a frame that it was handed on the way: it took no step at it, and nothing is written.
-    ensures stops { IfErr result (StopsShort S.log peer.now gather.new (moved server.old server.new)
-        (stretch (N.seen net.old) (N.seen net.new))) }
-    ensures unanswered { OnErr result (((C.seen conn.new).written ≡ (C.seen conn.old).written)
-        × ((C.seen conn.new).faults ≡ (C.seen conn.old).faults)) }
+    // Else the server takes its step, and its reply is written. Or the log refused a frame that it was handed on
+    // the way: it took no step at it, and nothing is written.
+    ensures serves { ServeEnds S.log peer.now gather.new result server.old server.new
+        (shown N.seen net.old net.new) (shown C.seen conn.old conn.new) }
 
     // LinkBad for an answer that ended early comes only where its connection has nothing left.
     ensures early { IfOk result (λ why. why ≡ Served.LinkBad → EarlyAtEnd (N.seen net.new).calls N.Conn.seen) }

@@ -1,6 +1,6 @@
 //! How many connections had each answer.
-ghost use Rattle.std.specs.Prelude.{◌≡◌, ◌+◌, ◌-◌, ◌<◌, ◌^◌, [], ◌∷◌, Some, count_by};
-ghost use Rattle.node_serve.specs.Tallies.{is_answered, is_ended, is_connection_fault, is_link_fault, is_bad_link, total, tally_text};
+ghost use Rattle.std.specs.Prelude.{◌≡◌, ◌+◌, ◌-◌, ◌<◌, ◌^◌, Some};
+ghost use Rattle.node_serve.specs.Tallies.{CountsMore, total, tally_text};
 
 use crate::node::Served;
 use std::fmt;
@@ -43,12 +43,8 @@ impl Tally {
     /// Counts one connection more.
     pub fn count(&mut self, answer: Served)
         requires room { total self.old < 2 ^ 32 - 1 }
-        ensures answered { self.new.answered ≡ self.old.answered + count_by is_answered (answer ∷ []) }
-        ensures ended { self.new.ended ≡ self.old.ended + count_by is_ended (answer ∷ []) }
-        ensures connection_faults { self.new.connection_faults ≡ self.old.connection_faults + count_by is_connection_fault (answer ∷ []) }
-        ensures link_faults { self.new.link_faults ≡ self.old.link_faults + count_by is_link_fault (answer ∷ []) }
+        ensures counts { CountsMore self.old self.new answer }
         ensures one_more { total self.new ≡ total self.old + 1 }
-        ensures bad_links { self.new.bad_links ≡ self.old.bad_links + count_by is_bad_link (answer ∷ []) }
     {
         match answer {
             Served::Answered => self.answered += 1,

@@ -21,7 +21,7 @@ draining-init g c = record {
 pub draining-preserved : goal.draining-preserved
 draining-preserved g c =
     let s = c.draining.invariant.stands in
-    let r = c.in-Ok.ensures.replied in
+    let r = c.in-Ok.ensures.ends.replied in
     record {
       room = omega (arith, c.draining.invariant.room, c.oldest.auto.out, c.exchange_one.auto.out);
       answer_room = omega (arith, c.draining.invariant.answer_room, c.exchange_one.auto.answer);
@@ -36,23 +36,23 @@ draining-preserved g c =
       door = c.exchange_one.ensures.door ∙ c.draining.invariant.door;
     }
 
-pub returns-in-Err-clause-broken : goal.returns-in-Err-clause-broken
-returns-in-Err-clause-broken g c =
+pub returns-in-Err-clause-ends : goal.returns-in-Err-clause-ends
+returns-in-Err-clause-ends g c =
     let s = c.draining.invariant.stands in
-    if_link {T = ℕ} (Err c.in-Err.why) _ _ (λ why h. (
-      s.0 ++ h.0,
-      stands_broken _ _ _ _ _ _ _ _ _ _ _ _ why s.1 c.in-Some.ensures.written h.1,
-      g.met.S.Logged.both _ _ _ s.0 h.0 s.2 h.2,
-    )) c.in-Err.ensures.failed
-
-pub returns-in-Err-clause-stopped : goal.returns-in-Err-clause-stopped
-returns-in-Err-clause-stopped g c =
-    let s = c.draining.invariant.stands in
-    if_keep {T = ℕ} (Err c.in-Err.why) _ _ (λ fault h. (
-      s.0 ++ h.0,
-      (
-        h.1.0,
-        stands_stopped _ _ _ _ _ _ _ s.0 h.0 h.1.0 _ _ _ s.1 c.in-Some.ensures.written h.1.1,
-        g.met.S.Logged.halts _ _ _ s.0 h.0 h.1.0 fault s.2 h.1.2,
-      ),
-    )) c.in-Err.ensures.unkept
+    let off = c.in-Err.ensures.ends in
+    record {
+      drained = tt;
+      broken = if_link {T = ℕ} (Err c.in-Err.why) _ _ (λ why h. (
+        s.0 ++ h.0,
+        stands_broken _ _ _ _ _ _ _ _ _ _ _ _ why s.1 c.in-Some.ensures.written h.1,
+        g.met.S.Logged.both _ _ _ s.0 h.0 s.2 h.2,
+      )) off.failed;
+      stopped = if_keep {T = ℕ} (Err c.in-Err.why) _ _ (λ fault h. (
+        s.0 ++ h.0,
+        (
+          h.1.0,
+          stands_stopped _ _ _ _ _ _ _ s.0 h.0 h.1.0 _ _ _ s.1 c.in-Some.ensures.written h.1.1,
+          g.met.S.Logged.halts _ _ _ s.0 h.0 h.1.0 fault s.2 h.1.2,
+        ),
+      )) off.unkept;
+    }

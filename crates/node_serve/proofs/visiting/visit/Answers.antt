@@ -1,5 +1,5 @@
 use Rattle.std.proofs.Common.{ap}
-use Rattle.node_serve.proofs.VisitLaws.{visited, broken}
+use Rattle.node_serve.proofs.VisitLaws.{visited, refused}
 use Rattle.node_serve.proofs.visiting.visit.Goals as goal
 
 pub returns-in-Ok-answer-clause-ends : goal.returns-in-Ok-answer-clause-ends
@@ -12,11 +12,11 @@ returns-in-Ok-answer-clause-ends g c =
     let e = c.close.ensures in
     visited g.S.Logged.log c.args.peer.now shows c.args.server.now c.serve-answer.new.server c.in-Ok-answer.answer
     (net c.args.net.now) (net c.accept.new.self) (net c.serve-answer.new.net) (net c.close.new.self) (shows c.in-Ok.conn) c.serve-answer.new.conn _ h.brings (record {
-      cut = k.cut;
-      stays = h.stays;
-      rests = λ short. ap (λ x. (net x).calls) (h.net_rests short);
-      untold = h.writes_nothing;
-      serves = k.serves;
+      cut = λ short. (k.cut short).cut;
+      stays = λ short. (k.cut short).stays;
+      rests = λ short. ap (λ x. (net x).calls) (k.cut short).net_rests;
+      untold = λ short. (k.cut short).writes_nothing;
+      serves = k.serves.serves;
       early = k.early;
       alone = λ is. ap (λ x. (net x).calls) (h.helper_rests is);
       fault = k.fault;
@@ -32,12 +32,12 @@ returns-in-Err-answer-clause-ends g c =
     let h = c.serve-answer.ensures in
     let k = c.in-Err-answer.ensures in
     let e = c.close.ensures in
-    broken g.S.Logged.log c.args.peer.now shows c.args.server.now c.serve-answer.new.server c.in-Err-answer.fault
+    refused g.S.Logged.log c.args.peer.now shows c.args.server.now c.serve-answer.new.server c.in-Err-answer.fault
     (net c.args.net.now) (net c.accept.new.self) (net c.serve-answer.new.net) (net c.close.new.self) (shows c.in-Ok.conn) c.serve-answer.new.conn _ h.brings (record {
-      stops = k.stops;
+      stops = k.serves.stops;
       alone = λ is. ap (λ x. (net x).calls) (h.helper_rests is);
-      untold = k.unanswered.0;
-      unfailed = k.unanswered.1;
+      untold = k.serves.unanswered.0;
+      unfailed = k.serves.unanswered.1;
       faults = k.unfailed;
       doors = h.door;
     }) (record { whole = d.whole; blank = d.unwritten; tells = d.tells; call = d.call; faults = d.counts.unfailed; doors = d.door.kept })
