@@ -13,7 +13,7 @@ use Rattle.node_client.specs.declared.peers.Peers.{Peers}
 use Rattle.node_client.specs.Talks.{Talk, TalksOn}
 use Rattle.node_client.specs.Work.{line}
 use Rattle.node_client.proofs.WorkLaws.{Working}
-use Rattle.client_run.specs.declared.carrying.Halt.TheVariants.{Broken}
+use Rattle.client_run.specs.declared.carrying.CarryHalt.TheVariants.{Broken}
 use Rattle.client_run.specs.Carrying.{AllCarry, CarriesOff}
 use Rattle.client_run.specs.Telling.{carries, IsLast}
 use Rattle.client_run.specs.Carries.{is_message, AreWhole}

@@ -7,13 +7,13 @@ use Rattle.step_rules.specs.Client.{Client}
 use Rattle.node_client.specs.declared.finished.Finished.{Finished}
 use Rattle.node_client.specs.declared.peers.Peers.{Peers}
 use Rattle.node_client.specs.Talks.{Talk, TalksOn}
-use Rattle.node_client.specs.Work.{Stand, stand, Works, none}
+use Rattle.node_client.specs.Work.{WorkState, work_start, WorksAll, none}
 use Rattle.settings_text.specs.declared.carry.CarryJob.{CarryJob}
 use Rattle.settings_text.specs.declared.carry.CarryJob.TheVariants.{Send, Fetch}
 use Rattle.settings_text.specs.declared.carry.CarrySettings.{CarrySettings}
 use Rattle.settings_text.specs.declared.client.ClientSettings.{ClientSettings}
-use Rattle.client_run.specs.declared.carrying.Halt.{Halt}
-use Rattle.client_run.specs.declared.carrying.Halt.TheVariants as halt
+use Rattle.client_run.specs.declared.carrying.CarryHalt.{CarryHalt}
+use Rattle.client_run.specs.declared.carrying.CarryHalt.TheVariants as halt
 use Rattle.client_run.specs.declared.cut.Cut.{Cut}
 use Rattle.client_run.specs.declared.cut.Cut.TheVariants as cuts
 use Rattle.client_run.specs.declared.cut.Untold.{Untold}
@@ -26,7 +26,7 @@ use Rattle.client_run.specs.declared.telling.Until.TheVariants as until
 use Rattle.client_run.specs.Accounts.{AreAt}
 use Rattle.client_run.specs.Carrying.{CarriesOff, AllCarry}
 use Rattle.client_run.specs.Carries.{CarryRuns, CarryComes, ComesBy, Fetches, FetchComes, SendComes, carry_plan, carry_text, send_end}
-use Rattle.client_run.specs.Runs.{Plan, IsNext, between, outcome, ended, CameTo, EndsWith, BreaksOff, Comes, ClientEnded, ClientComes, client_plan, plan_at, end_of}
+use Rattle.client_run.specs.Runs.{EndSaid, Plan, IsNext, between, outcome, ended, CameTo, EndsWith, BreaksInLine, Comes, ClientEnded, ClientComes, client_plan, plan_at, end_of}
 use Rattle.client_run.specs.Saying.{said, whole_text, SaidSo}
 use Rattle.client_run.specs.Telling.{Moment, Passed, PassedPart, TellsOff, IsLast, lines_of}
 use Rattle.client_run.specs.Texts.{outcome_line, end_line}
@@ -34,17 +34,17 @@ use Rattle.client_run.proofs.PassedLaws.{took_nothing}
 
 -- ---- a text that wasn't told
 
-untold_comes : (plan : Plan) (Ended : Stand → List Finished → List ℕ → RunEnd → Type 0) (until : Until) (peers : Peers) (why : Untold) (result : Result Ran Untold) (a b : Moment)
+untold_comes : (plan : Plan) (Ended : EndSaid) (until : Until) (peers : Peers) (why : Untold) (result : Result Ran Untold) (a b : Moment)
     → AreAt peers plan.leader plan.helper → TellsOff peers until plan.start plan.requests (Err (cuts.Untold why)) a b → result ≡ Err why → Comes plan Ended result a b
 untold_comes plan Ended until peers untold.NoMemory result a b at (s, others, last, is_last, goes, passed) is =
     let came : CameTo plan Ended others (outcome_line last) a.calls b.calls = record { stand = s; is_next = outcome others last is_last; peers = peers; at = at; calls = passed.calls } in
     subst (λ (r : Result Ran Untold). Comes plan Ended r a b) (sym is) (others, outcome_line last, came, passed.written)
 untold_comes plan Ended until peers untold.Unwritten result a b at (s, others, last, is_last, goes, passed) is =
-    let off : BreaksOff plan a b = record { stand = s; told = others; last = last; is_last = is_last; peers = peers; at = at; passed = passed } in
+    let off : BreaksInLine plan a b = record { stand = s; told = others; last = last; is_last = is_last; peers = peers; at = at; passed = passed } in
     subst (λ (r : Result Ran Untold). Comes plan Ended r a b) (sym is) off
 
 -- what is said of the end, or memory is wanting for it
-ends_so : (plan : Plan) (Ended : Stand → List Finished → List ℕ → RunEnd → Type 0) (peers : Peers) (s : Stand) (told : List Finished) (text : List ℕ) (end : RunEnd) (result : Result Ran Untold) (a b : Moment)
+ends_so : (plan : Plan) (Ended : EndSaid) (peers : Peers) (s : WorkState) (told : List Finished) (text : List ℕ) (end : RunEnd) (result : Result Ran Untold) (a b : Moment)
     → AreAt peers plan.leader plan.helper → Ended s told text end → Passed peers s.made (lines_of told) a b → SaidSo (Ok (text, end)) result → Comes plan Ended result a b
 ends_so plan Ended peers s told text end (Ok ran) a b at is passed so =
     let with_text : Ended s told ran.text end = subst (λ (t : List ℕ). Ended s told t end) (sym so.0) is in
@@ -65,11 +65,11 @@ wants_memory : {A : Type 0} (r : Result A Untold) → IsErrAnd r (λ why. why �
 wants_memory (Ok x) h = absurd h
 wants_memory (Err why) h = ap Err h
 
-first_wants : (plan : Plan) (Ended : Stand → List Finished → List ℕ → RunEnd → Type 0) (peers : Peers) (a : Moment)
+first_wants : (plan : Plan) (Ended : EndSaid) (peers : Peers) (a : Moment)
     → AreAt peers plan.leader plan.helper → Comes plan Ended (Err untold.NoMemory) a a
 first_wants plan Ended peers a at =
     let came : CameTo plan Ended [] [] a.calls a.calls = record {
-      stand = stand plan.start;
+      stand = work_start plan.start;
       is_next = between [] plan.requests refl none;
       peers = peers;
       at = at;
@@ -112,12 +112,12 @@ pub send_comes : (count : ℕ) (plan : Plan) (peers : Peers) (end : Result Unit 
 send_comes count plan peers (Ok done) result a b at (s, works, goes, passed) so =
     ends_so plan _ peers s s.finished (whole_text (Some count)) Done result a b at (s.finished, Ok tt, works, goes, refl, refl, refl) passed so
 send_comes count plan peers (Err cuts.Broken) result a b at (s, others, last, is_last, goes, breaks, passed) so =
-    let stops : Result Unit Halt = Err (halt.Broken last) in
+    let stops : Result Unit CarryHalt = Err (halt.Broken last) in
     let last_is : IsLast plan.start plan.requests (record { client = s.client; finished = others ++ last ∷ []; made = s.made }) others last = record {
       asked = is_last.asked;
       behind = is_last.behind;
       all = is_last.all;
-      works = subst (λ (x : List Finished). Works plan.start is_last.asked (record { client = s.client; finished = x; made = s.made })) is_last.finished is_last.works;
+      works = subst (λ (x : List Finished). WorksAll plan.start is_last.asked (record { client = s.client; finished = x; made = s.made })) is_last.finished is_last.works;
       finished = refl;
     } in
     ends_so plan _ peers s s.finished (send_end count stops) Done result a b at (others, stops, (last_is, breaks), goes, is_last.finished, refl, refl) passed so

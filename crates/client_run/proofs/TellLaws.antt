@@ -14,7 +14,7 @@ use Rattle.node_client.specs.declared.peers.Peers.{Peers}
 use Rattle.node_client.specs.declared.stop.Stop.{Stop}
 use Rattle.node_client.specs.Talks.{Talk, TalksOn}
 use Rattle.node_client.specs.Steps.{Ending, told_in, IsMessage, MessageBy}
-use Rattle.node_client.specs.Work.{Comes, Came, line_of, line, Stand, Works, none, then, StopsAt}
+use Rattle.node_client.specs.Work.{Comes, Came, line_of, line, WorkState, WorksAll, none, then, StopsAt}
 use Rattle.node_client.proofs.WorkLaws.{end_told, stop_told, line_is, length_before}
 use Rattle.client_run.specs.declared.cut.Cut.{Cut}
 use Rattle.client_run.specs.declared.cut.Cut.TheVariants as cuts
@@ -82,7 +82,7 @@ tells_stop peers number old r new message why a b w came =
 pub record Telling (peers : Peers) (until : Until) (start : Client) (requests : List Request) (number : ℕ) (c : Client) (a b : Moment) : Type 0 where
   pub finished : List Finished
   pub made : List Talk
-  pub works : Works start (take number requests) (record { client = c; finished = finished; made = made })
+  pub works : WorksAll start (take number requests) (record { client = c; finished = finished; made = made })
   pub carried : AllGoOn until finished
   pub passed : Passed peers made (lines_of finished) a b
 
@@ -96,15 +96,15 @@ telling_first peers until start requests a = record {
 }
 
 works_on : (start old new : Client) (requests : List Request) (number : ℕ) (r : Request) (before : List Finished) (made more : List Talk) (end : Ending)
-    → Works start (take number requests) (record { client = old; finished = before; made = made }) → number < length requests → get_or requests number r ≡ r
+    → WorksAll start (take number requests) (record { client = old; finished = before; made = made }) → number < length requests → get_or requests number r ≡ r
     → Comes old r new more (Ok end)
-    → Works start (take (number + 1) requests) (record { client = new; finished = before ++ line_of number end ∷ []; made = made ++ more })
+    → WorksAll start (take (number + 1) requests) (record { client = new; finished = before ++ line_of number end ∷ []; made = made ++ more })
 works_on start old new requests number r before made more end w less at comes =
     let all : take number requests ++ r ∷ [] ≡ take (number + 1) requests
     = sym (take_more requests number r less ∙ ap (λ (x : Request). take number requests ++ x ∷ []) at) in
     let next = then (take number requests) (record { client = old; finished = before; made = made }) r new more end w comes in
-    subst (λ (x : List Request). Works start x (record { client = new; finished = before ++ line_of number end ∷ []; made = made ++ more })) all
-    (subst (λ n. Works start (take number requests ++ r ∷ []) (record { client = new; finished = before ++ line_of n end ∷ []; made = made ++ more })) (length_before number requests less) next)
+    subst (λ (x : List Request). WorksAll start x (record { client = new; finished = before ++ line_of number end ∷ []; made = made ++ more })) all
+    (subst (λ n. WorksAll start (take number requests ++ r ∷ []) (record { client = new; finished = before ++ line_of n end ∷ []; made = made ++ more })) (length_before number requests less) next)
 
 pub telling_more : (peers other : Peers) (until : Until) (start old new : Client) (requests : List Request) (number : ℕ) (r : Request) (told : Told) (a b c : Moment) → other ≡ peers
     → Telling peers until start requests number old a b → number < length requests → get_or requests number r ≡ r
@@ -124,7 +124,7 @@ telling_more peers other until start old new requests number r told a b c same t
 
 -- the request of this number is the last of those that came to their ends
 last_of : (start old new : Client) (requests : List Request) (number : ℕ) (r : Request) (before : List Finished) (made more : List Talk) (end : Ending)
-    → Works start (take number requests) (record { client = old; finished = before; made = made }) → number < length requests → get_or requests number r ≡ r
+    → WorksAll start (take number requests) (record { client = old; finished = before; made = made }) → number < length requests → get_or requests number r ≡ r
     → Comes old r new more (Ok end)
     → IsLast start requests (record { client = new; finished = before ++ line_of number end ∷ []; made = made ++ more }) before (line_of number end)
 last_of start old new requests number r before made more end w less at comes = record {
@@ -141,7 +141,7 @@ pub telling_breaks : (peers other : Peers) (until : Until) (start old new : Clie
 telling_breaks peers other until start old new requests number r told a b c same t less at one broken =
     let (made, end, comes, is, passed) = subst (λ (p : Peers). TellsOne p number old r new (Ok told) b c) same one in
     let f : Finished = line_of number end in
-    let s : Stand = record { client = new; finished = t.finished ++ f ∷ []; made = t.made ++ made } in (
+    let s : WorkState = record { client = new; finished = t.finished ++ f ∷ []; made = t.made ++ made } in (
       s,
       t.finished,
       f,
@@ -157,7 +157,7 @@ cut_at : (peers : Peers) (until : Until) (start old new : Client) (requests : Li
     → TellsOne peers number old r new (Err why) b c → TellsOff peers until start requests (Err why) a c
 cut_at peers until start old new requests number r cuts.Broken a b c t less at never = absurd never
 cut_at peers until start old new requests number r (cuts.Stopped why) a b c t less at (made, comes, passed) =
-    let s : Stand = record { client = new; finished = t.finished; made = t.made ++ made } in
+    let s : WorkState = record { client = new; finished = t.finished; made = t.made ++ made } in
     let stops : StopsAt start requests s why = record {
       before = take number requests;
       s = record { client = old; finished = t.finished; made = t.made };
@@ -173,7 +173,7 @@ cut_at peers until start old new requests number r (cuts.Stopped why) a b c t le
     (s, stops, t.carried, passed_silent peers t.made made (lines_of t.finished) a b c t.passed passed)
 cut_at peers until start old new requests number r (cuts.Untold untold.NoMemory) a b c t less at (made, end, comes, passed) =
     let f : Finished = line_of number end in
-    let s : Stand = record { client = new; finished = t.finished ++ f ∷ []; made = t.made ++ made } in (
+    let s : WorkState = record { client = new; finished = t.finished ++ f ∷ []; made = t.made ++ made } in (
       s,
       t.finished,
       f,
@@ -183,7 +183,7 @@ cut_at peers until start old new requests number r (cuts.Untold untold.NoMemory)
     )
 cut_at peers until start old new requests number r (cuts.Untold untold.Unwritten) a b c t less at (made, end, comes, passed) =
     let f : Finished = line_of number end in
-    let s : Stand = record { client = new; finished = t.finished ++ f ∷ []; made = t.made ++ made } in (
+    let s : WorkState = record { client = new; finished = t.finished ++ f ∷ []; made = t.made ++ made } in (
       s,
       t.finished,
       f,
@@ -201,5 +201,5 @@ telling_cut peers other until start old new requests number r why a b c same t l
 pub telling_all : (peers : Peers) (until : Until) (start c : Client) (requests : List Request) (number : ℕ) (a b : Moment)
     → Telling peers until start requests number c a b → take number requests ≡ requests → TellsOff peers until start requests (Ok tt) a b
 telling_all peers until start c requests number a b t all =
-    let s : Stand = record { client = c; finished = t.finished; made = t.made } in
-    (s, subst (λ (x : List Request). Works start x s) all t.works, t.carried, t.passed)
+    let s : WorkState = record { client = c; finished = t.finished; made = t.made } in
+    (s, subst (λ (x : List Request). WorksAll start x s) all t.works, t.carried, t.passed)

@@ -13,13 +13,13 @@ use Rattle.node_client.specs.declared.finished.Told.{Told}
 use Rattle.node_client.specs.declared.finished.Told.TheVariants as told
 use Rattle.node_client.specs.declared.peers.Peers.{Peers}
 use Rattle.node_client.specs.Talks.{Talk, TalksOn}
-use Rattle.node_client.specs.Work.{Stand}
+use Rattle.node_client.specs.Work.{WorkState}
 use Rattle.settings_text.specs.declared.carry.CarryJob.{CarryJob}
 use Rattle.settings_text.specs.declared.carry.CarryJob.TheVariants.{Send, Fetch}
 use Rattle.settings_text.specs.declared.carry.CarrySettings.{CarrySettings}
 use Rattle.client_run.specs.declared.ran.RunEnd.{RunEnd}
-use Rattle.client_run.specs.declared.carrying.Halt.{Halt}
-use Rattle.client_run.specs.declared.carrying.Halt.TheVariants.{Broken, Stopped}
+use Rattle.client_run.specs.declared.carrying.CarryHalt.{CarryHalt}
+use Rattle.client_run.specs.declared.carrying.CarryHalt.TheVariants.{Broken, Stopped}
 use Rattle.client_run.specs.Accounts.{opened, request_of, AreAt}
 use Rattle.client_run.specs.Carrying.{carry_account, askings_of, AllCarry, CarriesOff, carry_end}
 use Rattle.client_run.specs.declared.cut.Untold.{Untold}
@@ -32,17 +32,17 @@ use Rattle.client_run.specs.Texts.{outcome_line, end_line}
 -- ---- the text of a file that is sent
 
 -- the outcomes that are told, with that of the part with which a carrier doesn't go on
-abbrev pub told_by : List Finished → Result Unit Halt → List Finished
+abbrev pub told_by : List Finished → Result Unit CarryHalt → List Finished
 told_by finished (Err (Broken broken)) = finished ++ broken ∷ []
 told_by finished other = finished
 
 -- what is said of how the work ended, where the file has so many parts
-abbrev pub send_end : ℕ → Result Unit Halt → List ℕ
+abbrev pub send_end : ℕ → Result Unit CarryHalt → List ℕ
 send_end count (Ok done) = codes "sent " ++ (decimal count ++ codes "\nend\n")
 send_end count (Err (Broken broken)) = codes "stopped outcome\n"
 send_end count (Err (Stopped why)) = end_line (Err why)
 
-abbrev pub send_text : ℕ → List Finished → Result Unit Halt → List ℕ
+abbrev pub send_text : ℕ → List Finished → Result Unit CarryHalt → List ℕ
 send_text count finished end = lines_of (told_by finished end) ++ send_end count end
 
 -- ---- the text of a file that is fetched
@@ -73,7 +73,7 @@ abbrev pub joined_text : List Finished → Result (List ℕ) ℕ → List ℕ
 joined_text finished (Ok file) = codes "file " ++ (encode_lower file ++ codes "\n")
 joined_text finished (Err index) = codes "missing " ++ (decimal index ++ (codes "\n" ++ box_lines finished))
 
-unfoldable pub fetch_text : List Finished → Result Unit Halt → List ℕ
+unfoldable pub fetch_text : List Finished → Result Unit CarryHalt → List ℕ
 fetch_text finished (Ok done) = joined_text finished (join (boxes_of finished)) ++ codes "end\n"
 fetch_text finished (Err (Broken broken)) =
     outcome_line broken ++ (box_lines finished ++ codes "stopped outcome\n")
@@ -81,7 +81,7 @@ fetch_text finished (Err (Stopped why)) = box_lines finished ++ end_line (Err wh
 
 -- ---- a carrier
 
-abbrev pub carry_text : CarryJob → List Finished → Result Unit Halt → List ℕ
+abbrev pub carry_text : CarryJob → List Finished → Result Unit CarryHalt → List ℕ
 carry_text (Send id file addresses) finished end = send_text (length addresses) finished end
 carry_text Fetch finished end = fetch_text finished end
 
@@ -93,7 +93,7 @@ pub record CarryRuns (settings : CarrySettings) (seed : List ℕ) (before now : 
   pub client : Client
   pub finished : List Finished
   pub made : List Talk
-  pub worked : Result Unit Halt
+  pub worked : Result Unit CarryHalt
   pub carries : CarriesOff (opened (carry_account settings seed))
       (map request_of (askings_of settings.width settings.owned settings.job)) client finished made worked
   pub carried : AllCarry finished
@@ -114,9 +114,9 @@ carry_plan settings seed = record {
 }
 
 -- each part of so many that came to its end is told, and this is said of how the work ended
-abbrev pub SendEnded : ℕ → Plan → Stand → List Finished → List ℕ → RunEnd → Type 0
+abbrev pub SendEnded : ℕ → Plan → WorkState → List Finished → List ℕ → RunEnd → Type 0
 SendEnded count plan s told text end =
-    (finished : List Finished) × (worked : Result Unit Halt)
+    (finished : List Finished) × (worked : Result Unit CarryHalt)
     × CarriesOff plan.start plan.requests s.client finished s.made worked × AllCarry finished
     × (told ≡ told_by finished worked) × (text ≡ send_end count worked) × (end ≡ carry_end worked)
 
@@ -142,7 +142,7 @@ CarryComes settings seed result before now = ComesBy settings.job settings seed 
 -- the boxes of a client at these servers were read so far, and this is what is printed of it
 abbrev pub Fetches : Plan → Ran → Option (List Call) → Option (List Call) → Type 0
 Fetches plan ran before now =
-    (new : Client) × (finished : List Finished) × (made : List Talk) × (worked : Result Unit Halt)
+    (new : Client) × (finished : List Finished) × (made : List Talk) × (worked : Result Unit CarryHalt)
     × CarriesOff plan.start plan.requests new finished made worked × AllCarry finished
     × ((peers : Peers) × AreAt peers plan.leader plan.helper × TalksOn peers made before now)
     × (ran.text ≡ fetch_text finished worked) × (ran.end ≡ carry_end worked)

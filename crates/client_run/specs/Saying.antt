@@ -1,5 +1,5 @@
 -- What is said of how work ended that was told as it went.
-use Rattle.std.specs.Prelude.{◌≡◌, ◌⊎◌, ℕ, List, ◌++◌, codes, Option, Some, None, Result, Ok, Err}
+use Rattle.std.specs.Prelude.{◌≡◌, ℕ, List, ◌++◌, codes, Option, Some, None, Result, Ok, Err}
 use Rattle.std.specs.Fmt.{decimal}
 use Rattle.client_run.specs.declared.cut.Cut.{Cut}
 use Rattle.client_run.specs.declared.cut.Cut.TheVariants as cuts

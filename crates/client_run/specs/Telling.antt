@@ -1,5 +1,5 @@
 -- Work that is told as it goes: the line of each request is out before the next one is asked.
-use Rattle.std.specs.Prelude.{◌≡◌, ℕ, Bool, true, false, List, [], ◌∷◌, ◌++◌, length, flat_map}
+use Rattle.std.specs.Prelude.{◌≡◌, ℕ, Bool, true, false, List, [], ◌∷◌, ◌++◌, length, map, flat_map}
 use Rattle.std.specs.Prelude.{Option, None, Result, Ok, Err}
 use Rattle.std.specs.List.{AllPass}
 use Rattle.express_words.specs.Seen.{Seen}
@@ -14,8 +14,10 @@ use Rattle.node_client.specs.declared.peers.Peers.{Peers}
 use Rattle.node_client.specs.declared.stop.Stop.TheVariants as stop
 use Rattle.node_client.specs.Talks.{Talk, TalksOn}
 use Rattle.node_client.specs.Steps.{Ending, told_in}
-use Rattle.node_client.specs.Work.{Comes, line_of, Stand, Works, StopsAt}
+use Rattle.node_client.specs.Work.{Comes, line_of, WorkState, WorksAll, StopsAt}
 use Rattle.client_core.specs.declared.progress.Outcome.TheVariants as outcome
+use Rattle.client_core.specs.declared.request.Request.{Request as Asked}
+use Rattle.client_core.specs.Requests.{plain_request}
 use Rattle.node_client.specs.declared.finished.Told.TheVariants as told
 use Rattle.client_run.specs.declared.cut.Cut.{Cut}
 use Rattle.client_run.specs.declared.cut.Cut.TheVariants as cuts
@@ -82,6 +84,10 @@ TellsOne peers number old r new (Err (cuts.Untold untold.Unwritten)) before now 
     (made : List Talk) × (end : Ending) × Comes old r new made (Ok end)
     × PassedPart peers made [] (outcome_line (line_of number end)) before now
 
+abbrev pub TellsNext : (old new : Worker) → ℕ → Asked → Result Told Cut → Moment → Moment → Type 0
+TellsNext old new number r result before now =
+    TellsOne old.peers number old.client (plain_request r) new.client result before now
+
 -- ---- faults
 
 -- the net's count rose where a fault of it stopped the work, and only there
@@ -118,29 +124,33 @@ abbrev pub lines_of : List Finished → List ℕ
 lines_of finished = flat_map outcome_line finished
 
 -- requests came to their ends one after another, of which this was told of the last
-pub record IsLast (start : Client) (requests : List Request) (s : Stand) (others : List Finished)
+pub record IsLast (start : Client) (requests : List Request) (s : WorkState) (others : List Finished)
     (last : Finished) : Type 0 where
   pub asked : List Request
   pub behind : List Request
   pub all : requests ≡ asked ++ behind
-  pub works : Works start asked s
+  pub works : WorksAll start asked s
   pub finished : s.finished ≡ others ++ last ∷ []
 
 -- By how it ended, what was done and told of these requests.
 abbrev pub TellsOff : Peers → Until → Client → List Request → Result Unit Cut → Moment → Moment → Type 0
 TellsOff peers until start requests (Ok done) before now =
-    (s : Stand) × Works start requests s × AllGoOn until s.finished
+    (s : WorkState) × WorksAll start requests s × AllGoOn until s.finished
     × Passed peers s.made (lines_of s.finished) before now
 TellsOff peers until start requests (Err cuts.Broken) before now =
-    (s : Stand) × (others : List Finished) × (last : Finished) × IsLast start requests s others last
+    (s : WorkState) × (others : List Finished) × (last : Finished) × IsLast start requests s others last
     × AllGoOn until others × (goes_on until last.told ≡ false)
     × Passed peers s.made (lines_of s.finished) before now
 TellsOff peers until start requests (Err (cuts.Stopped why)) before now =
-    (s : Stand) × StopsAt start requests s why × AllGoOn until s.finished
+    (s : WorkState) × StopsAt start requests s why × AllGoOn until s.finished
     × Passed peers s.made (lines_of s.finished) before now
 TellsOff peers until start requests (Err (cuts.Untold untold.NoMemory)) before now =
-    (s : Stand) × (others : List Finished) × (last : Finished) × IsLast start requests s others last
+    (s : WorkState) × (others : List Finished) × (last : Finished) × IsLast start requests s others last
     × AllGoOn until others × Passed peers s.made (lines_of others) before now
 TellsOff peers until start requests (Err (cuts.Untold untold.Unwritten)) before now =
-    (s : Stand) × (others : List Finished) × (last : Finished) × IsLast start requests s others last
+    (s : WorkState) × (others : List Finished) × (last : Finished) × IsLast start requests s others last
     × AllGoOn until others × PassedPart peers s.made (lines_of others) (outcome_line last) before now
+
+abbrev pub TellsAll : Worker → Until → List Asked → Result Unit Cut → Moment → Moment → Type 0
+TellsAll worker until requests result before now =
+    TellsOff worker.peers until worker.client (map plain_request requests) result before now

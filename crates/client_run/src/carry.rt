@@ -1,17 +1,17 @@
 //! The run of a carrier.
-ghost use Rattle.std.specs.Prelude.{◌≡◌, ◌≤◌, ◌⊎◌, length, map, All, IfOk};
+ghost use Rattle.std.specs.Prelude.{◌≡◌, ◌≤◌, ◌⊎◌, length, All, IfOk};
 ghost use Rattle.client_core.specs.Requests.{plain_request};
 ghost use Rattle.node_exchange.specs.Exchanging.{EarlyAtEnd};
 ghost use Rattle.node_client.specs.Work.{Fits};
 ghost use Rattle.settings_text.specs.declared.carry.CarryJob.TheVariants.{Fetch};
 ghost use Rattle.client_run.specs.Carrying.{IsCarrier, carry_end};
 ghost use Rattle.client_run.specs.Carries.{AreWhole, Fetches, SendComes, CarryComes, fetch_text};
-ghost use Rattle.client_run.specs.Runs.{RunFault, plan_at};
+ghost use Rattle.client_run.specs.Runs.{RunFault, plan_of};
 ghost use Rattle.client_run.specs.Telling.{moment, IsReady, PutSink};
 
 use crate::account::carry_account;
 use crate::asking::requests_of;
-use crate::carrying::{Carried, Halt, carry_off};
+use crate::carrying::{CarriedOff, CarryHalt, carry_off};
 use crate::client::end_of;
 use crate::cut::Untold;
 use crate::fetched::fetch_text;
@@ -27,17 +27,17 @@ use node_client::Peers;
 use settings_text::{CarryJob, CarrySettings};
 use std::alloc::Global;
 
-fn carry_end(end: &Result<(), Halt>) -> RunEnd
+fn carry_end(end: &Result<(), CarryHalt>) -> RunEnd
     ensures { result ≡ carry_end end.now }
 {
     match end {
-        Err(Halt::Stopped(why)) => end_of(Err(*why)),
+        Err(CarryHalt::Stopped(why)) => end_of(Err(*why)),
         _ => RunEnd::Done,
     }
 }
 
 // What a fetch that was carried so far prints, and how it ends.
-fn fetched(alloc: Global, settings: &CarrySettings, carried: &Carried) -> Result<Ran, NoMemory>
+fn fetched(alloc: Global, settings: &CarrySettings, carried: &CarriedOff) -> Result<Ran, NoMemory>
     requires settings { IsCarrier settings.now }
     requires job { settings.now.job ≡ Fetch }
     requires few { length carried.now.finished.items ≤ length settings.now.owned }
@@ -67,8 +67,8 @@ fn fetch<N: Net>(
     requires width { worker.old.client.width ≡ settings.now.width }
     requires ready { IsReady worker.old }
     requires fits { All (λ r. Fits worker.old.client.width (plain_request r)) requests.now }
-    ensures fetches { IfOk result (λ ran. Fetches
-        (plan_at worker.old.peers worker.old.client (map plain_request requests.now)) ran (N.seen net.old).calls (N.seen net.new).calls) }
+    ensures fetches { IfOk result (λ ran. Fetches (plan_of worker.old requests.now) ran
+        (N.seen net.old).calls (N.seen net.new).calls) }
     ensures fault { IfOk result (λ ran. RunFault ran.end (N.seen net.old).faults (N.seen net.new).faults) }
     ensures early { (net.new ≡ net.old) ⊎ EarlyAtEnd (N.seen net.new).calls N.Conn.seen }
     ensures door { (N.seen net.new).doors ≡ (N.seen net.old).doors }
@@ -95,7 +95,7 @@ fn send<K: Sink, N: Net>(
 ) -> Result<Ran, Untold>
     requires ready { IsReady worker.old }
     requires fits { All (λ r. Fits worker.old.client.width (plain_request r)) requests.now }
-    ensures sends { SendComes parts (plan_at worker.old.peers worker.old.client (map plain_request requests.now)) result
+    ensures sends { SendComes parts (plan_of worker.old requests.now) result
         (moment (N.seen net.old) (K.seen out.old)) (moment (N.seen net.new) (K.seen out.new)) }
     ensures fault { IfOk result (λ ran. RunFault ran.end (N.seen net.old).faults (N.seen net.new).faults) }
     ensures sink { PutSink result (K.seen out.old).faults (K.seen out.new).faults }

@@ -1,10 +1,9 @@
 //! A carrier's requests, worked off up to the first that doesn't carry.
-ghost use Rattle.std.specs.Prelude.{◌≡◌, ◌≤◌, ◌⊎◌, List, None, length, map, All, IfOk};
+ghost use Rattle.std.specs.Prelude.{◌≡◌, ◌≤◌, ◌⊎◌, None, length, map, All, IfOk};
 ghost use Rattle.node_exchange.specs.Exchanging.{EarlyAtEnd};
 ghost use Rattle.client_core.specs.Requests.{plain_request};
-ghost use Rattle.node_client.specs.Talks.{Talk, TalksOn};
 ghost use Rattle.node_client.specs.Work.{Fits};
-ghost use Rattle.client_run.specs.Carrying.{AllCarry, CarriesOff, carry_end};
+ghost use Rattle.client_run.specs.Carrying.{AllCarry, CarriesOn, carry_end};
 ghost use Rattle.client_run.specs.Carries.{AreWhole};
 ghost use Rattle.client_run.specs.Runs.{RunFault};
 
@@ -17,7 +16,7 @@ use std::alloc::Global;
 
 /// Why a carrier doesn't go on.
 #[derive(Drop)]
-pub enum Halt {
+pub enum CarryHalt {
     /// A request came to another end than an accepted write or a message.
     Broken(Finished),
     /// What stops any client's work.
@@ -27,9 +26,9 @@ pub enum Halt {
 /// What was told of the requests that carried, in order, and how the work on them ended: with the last, or
 /// halted at the one behind those.
 #[derive(Drop)]
-pub struct Carried {
+pub struct CarriedOff {
     pub finished: Vec<Finished>,
-    pub end: Result<(), Halt>,
+    pub end: Result<(), CarryHalt>,
 }
 
 /// Works off a client's requests in order, up to the first that comes to another end than an accepted write
@@ -41,13 +40,12 @@ pub fn carry_off<N: Net>(
     peers: &Peers<'_>,
     net: &mut N,
     message: &mut [u8],
-) -> Result<Carried, NoMemory>
+) -> Result<CarriedOff, NoMemory>
     requires idle { client.old.current ≡ None }
     requires width { length message.old ≡ client.old.width }
     requires fits { All (λ r. Fits client.old.width (plain_request r)) requests.now }
-    ensures works { IfOk result (λ c. (made : List Talk)
-        × CarriesOff client.old (map plain_request requests.now) client.new c.finished.items made c.end
-        × TalksOn peers.now made (N.seen net.old).calls (N.seen net.new).calls) }
+    ensures works { IfOk result (CarriesOn peers.now client.old (map plain_request requests.now) client.new
+        (N.seen net.old).calls (N.seen net.new).calls) }
     ensures carried { IfOk result (λ c. AllCarry c.finished.items) }
     ensures whole { IfOk result (λ c. AreWhole client.old.width c.finished.items) }
     ensures few { IfOk result (λ c. length c.finished.items ≤ length requests.now) }
@@ -61,22 +59,22 @@ pub fn carry_off<N: Net>(
         let told = match one_request(client, request, peers, net, message) {
             Ok(told) => told,
             Err(why) => {
-                return Ok(Carried {
+                return Ok(CarriedOff {
                     finished,
-                    end: Err(Halt::Stopped(why)),
+                    end: Err(CarryHalt::Stopped(why)),
                 });
             }
         };
         let one = line(alloc, number, told, message)?;
         if !carries(told) {
-            return Ok(Carried {
+            return Ok(CarriedOff {
                 finished,
-                end: Err(Halt::Broken(one)),
+                end: Err(CarryHalt::Broken(one)),
             });
         }
         finished.push(one)?;
     }
-    Ok(Carried {
+    Ok(CarriedOff {
         finished,
         end: Ok(()),
     })

@@ -5,7 +5,7 @@ ghost use Rattle.file_carry.specs.Boxes.{join};
 ghost use Rattle.client_run.specs.Carries.{is_message, box_line, box_lines, boxes_of, AreWhole};
 ghost use Rattle.client_run.specs.Carries.{joined_text, fetch_text};
 
-use crate::carrying::{Carried, Halt};
+use crate::carrying::{CarriedOff, CarryHalt};
 use crate::texts::{end_line, outcome_line};
 use client_core::Outcome;
 use express_words::NoMemory;
@@ -95,7 +95,7 @@ fn add_joined(
 #[tactic(auto, unfolding(crate::specs::Carries::fetch_text))]
 pub fn fetch_text(
     alloc: Global,
-    carried: &Carried,
+    carried: &CarriedOff,
     boxes: u32,
     width: u32,
 ) -> Result<String, NoMemory>
@@ -114,13 +114,13 @@ pub fn fetch_text(
             add_joined(alloc, &mut text, finished, boxes, width)?;
             text.push_str("end\n")?;
         }
-        Err(Halt::Broken(broken)) => {
+        Err(CarryHalt::Broken(broken)) => {
             let line = outcome_line(alloc, broken)?;
             text.push_str(line.as_str())?;
             add_boxes(alloc, &mut text, finished)?;
             text.push_str("stopped outcome\n")?;
         }
-        Err(Halt::Stopped(why)) => {
+        Err(CarryHalt::Stopped(why)) => {
             add_boxes(alloc, &mut text, finished)?;
             let line = end_line(alloc, Err(*why))?;
             text.push_str(line.as_str())?;

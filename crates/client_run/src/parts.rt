@@ -1,9 +1,9 @@
 //! What a carrier asks.
-ghost use Rattle.std.specs.Prelude.{◌≡◌, ◌<◌, ◌≤◌, ◌-◌, length, map, slice_index, IfOk};
+ghost use Rattle.std.specs.Prelude.{◌≡◌, ◌<◌, ◌≤◌, ◌-◌, length, map, IfOk};
 ghost use Rattle.std.specs.List.{range_with_len};
 ghost use Rattle.file_carry.specs.Parts.{IsPartWidth, count_of, part_of};
-ghost use Rattle.settings_text.specs.declared.requests.Asking.TheVariants.{Write, Read};
-ghost use Rattle.client_run.specs.Carrying.{IsCarrier, askings_of};
+ghost use Rattle.settings_text.specs.declared.requests.Asking.TheVariants.{Read};
+ghost use Rattle.client_run.specs.Carrying.{IsCarrier, askings_of, writes_of};
 
 use express_words::{List, NoMemory};
 use file_carry::cut_into;
@@ -39,9 +39,7 @@ fn writes_of(
     requires width { IsPartWidth width }
     requires count { length addresses.now ≡ count_of (length file.now) (width - 16) }
     requires few { length addresses.now ≤ 4096 }
-    ensures { IfOk result (λ askings. askings.items ≡ map
-        (λ i. Write (slice_index addresses.now i) (part_of file.now id width i))
-        (range_with_len 0 (length addresses.now))) }
+    ensures { IfOk result (λ askings. askings.items ≡ writes_of width id file.now addresses.now) }
 {
     let mut askings = Vec::new(alloc);
     for (index, address) in addresses.iter().enumerate() {

@@ -1,9 +1,9 @@
 //! Requests worked off and told one by one.
-ghost use Rattle.std.specs.Prelude.{◌≡◌, ◌⊎◌, length, map, All, Err, OnOk};
+ghost use Rattle.std.specs.Prelude.{◌≡◌, ◌⊎◌, length, All, Err, OnOk};
 ghost use Rattle.client_core.specs.Requests.{plain_request};
 ghost use Rattle.node_exchange.specs.Exchanging.{EarlyAtEnd};
 ghost use Rattle.node_client.specs.Work.{Fits};
-ghost use Rattle.client_run.specs.Telling.{carries, goes_on, moment, IsReady, TellsOff, CutFault, CutSink};
+ghost use Rattle.client_run.specs.Telling.{carries, goes_on, moment, IsReady, TellsAll, CutFault, CutSink};
 
 use crate::cut::Cut;
 use crate::worker::Worker;
@@ -52,7 +52,7 @@ pub fn tell_off<K: Sink, N: Net>(
 ) -> Result<(), Cut>
     requires ready { IsReady worker.old }
     requires fits { All (λ r. Fits worker.old.client.width (plain_request r)) requests.now }
-    ensures tells { TellsOff worker.old.peers until worker.old.client (map plain_request requests.now) result
+    ensures tells { TellsAll worker.old until requests.now result
         (moment (N.seen net.old) (K.seen out.old)) (moment (N.seen net.new) (K.seen out.new)) }
     ensures fault { CutFault result (N.seen net.old).faults (N.seen net.new).faults }
     ensures sink { CutSink result (K.seen out.old).faults (K.seen out.new).faults }

@@ -6,7 +6,7 @@ ghost use Rattle.node_exchange.specs.Exchanging.{EarlyAtEnd};
 ghost use Rattle.node_client.specs.Work.{Fits, line};
 ghost use Rattle.client_run.specs.Accounts.{account_in, opened};
 ghost use Rattle.client_run.specs.Texts.{outcome_line};
-ghost use Rattle.client_run.specs.Telling.{moment, IsReady, PutsLine, TellsOne, CutFault, CutSink, PutSink};
+ghost use Rattle.client_run.specs.Telling.{moment, IsReady, PutsLine, TellsNext, CutFault, CutSink, PutSink};
 
 use crate::account::{Account, open};
 use crate::cut::{Cut, Untold};
@@ -87,8 +87,7 @@ impl<'a> Worker<'a> {
     ) -> Result<Told, Cut>
         requires ready { IsReady self.old }
         requires fits { Fits self.old.client.width (plain_request request.now) }
-        ensures tells { TellsOne self.old.peers number self.old.client
-            (plain_request request.now) self.new.client result
+        ensures tells { TellsNext self.old self.new number request.now result
             (moment (N.seen net.old) (K.seen out.old)) (moment (N.seen net.new) (K.seen out.new)) }
         ensures ready { OnOk result (IsReady self.new) }
         ensures peers { self.new.peers ≡ self.old.peers }

@@ -5,7 +5,7 @@ use Rattle.express_words.specs.Calls.{Call}
 use Rattle.clap.specs.Words.{Text}
 use Rattle.express_words.specs.Streams.{Stream, Took, TookPrefix}
 use Rattle.node_client.specs.declared.finished.Finished.{Finished}
-use Rattle.node_client.specs.Work.{Stand}
+use Rattle.node_client.specs.Work.{WorkState}
 use Rattle.settings_text.specs.declared.client.ClientSettings.{ClientSettings}
 use Rattle.settings_text.specs.declared.carry.CarryJob.{CarryJob}
 use Rattle.settings_text.specs.declared.carry.CarryJob.TheVariants.{Send, Fetch}
@@ -15,7 +15,7 @@ use Rattle.client_run.specs.declared.cut.Untold.TheVariants as untold
 use Rattle.client_run.specs.declared.ran.Ran.{Ran}
 use Rattle.client_run.specs.declared.ran.RunEnd.{RunEnd}
 use Rattle.client_run.specs.Carries.{CarryComes, ComesBy, SendEnded, CarryRuns, carry_plan, carry_text, told_by}
-use Rattle.client_run.specs.Runs.{Plan, between, outcome, ended, CameTo, EndsWith, BreaksOff as BrokeOff, Comes, ClientEnded, ClientComes, ClientRuns, RunFault, client_plan}
+use Rattle.client_run.specs.Runs.{Plan, between, outcome, ended, CameTo, EndsWith, BreaksInLine as BrokeOff, Comes, ClientEnded, ClientComes, ClientRuns, RunFault, client_plan}
 use Rattle.client_run.specs.Telling.{Moment, TookPart, PutSink, lines_of}
 use Rattle.client_run.specs.Texts.{outcome_line}
 use Rattle.client_run.proofs.PassedLaws.{lines_more, part_behind, took_nothing, took_part}
@@ -37,18 +37,18 @@ at calls written = record { calls = calls; written = written }
 
 -- ---- any plan
 
-came_ended : (plan : Plan) (Ended : Stand → List Finished → List ℕ → RunEnd → Type 0) (ran : Ran) (a b : Moment) (e : EndsWith plan Ended ran a b)
+came_ended : (plan : Plan) (Ended : WorkState → List Finished → List ℕ → RunEnd → Type 0) (ran : Ran) (a b : Moment) (e : EndsWith plan Ended ran a b)
     → CameTo plan Ended e.told ran.text a.calls b.calls
 came_ended plan Ended ran a b e =
     record { stand = e.stand; is_next = ended e.told ran.text ran.end e.is_ended; peers = e.peers; at = e.at; calls = e.passed.calls }
 
-came_broken : (plan : Plan) (Ended : Stand → List Finished → List ℕ → RunEnd → Type 0) (a b : Moment) (e : BrokeOff plan a b)
+came_broken : (plan : Plan) (Ended : WorkState → List Finished → List ℕ → RunEnd → Type 0) (a b : Moment) (e : BrokeOff plan a b)
     → CameTo plan Ended e.told (outcome_line e.last) a.calls b.calls
 came_broken plan Ended a b e =
     record { stand = e.stand; is_next = outcome e.told e.last e.is_last; peers = e.peers; at = e.at; calls = e.passed.calls }
 
 -- as if all had been told that came to their ends
-came_whole : (plan : Plan) (Ended : Stand → List Finished → List ℕ → RunEnd → Type 0) (a b : Moment) (e : BrokeOff plan a b)
+came_whole : (plan : Plan) (Ended : WorkState → List Finished → List ℕ → RunEnd → Type 0) (a b : Moment) (e : BrokeOff plan a b)
     → CameTo plan Ended e.stand.finished [] a.calls b.calls
 came_whole plan Ended a b e = record {
   stand = e.stand;
@@ -86,7 +86,7 @@ says May end_is text told old mid new before middle now end may took same said =
     (λ x t is. subst (λ (y : End). May y (told ++ t)) (sym is.0) (subst (λ (y : List ℕ). May end_is (told ++ y)) (sym is.1) may)) said
 
 -- what a plan's work comes to that isn't told to its end
-untold_says : (May : End → List ℕ → Type 0) (plan : Plan) (Ended : Stand → List Finished → List ℕ → RunEnd → Type 0) (net : Around) (why : Untold) (old mid new : Option (List ℕ)) (before middle now : ℕ) (end : End)
+untold_says : (May : End → List ℕ → Type 0) (plan : Plan) (Ended : WorkState → List Finished → List ℕ → RunEnd → Type 0) (net : Around) (why : Untold) (old mid new : Option (List ℕ)) (before middle now : ℕ) (end : End)
     → ((text : List ℕ) → Wants plan Ended net text → May ends.OutOfMemory text)
     → Comes plan Ended (Err why) (at net.before.calls old) (at net.now.calls mid)
     → PutSink {A = Ran} (Err why) before middle → SaysUntold why end mid new middle now → PrintsBy May old new before now end
@@ -98,13 +98,13 @@ untold_says May plan Ended net untold.Unwritten old mid new before middle now en
     let risen : Rose before now = subst (λ n. Rose before n) (sym still) rose in
     subst (λ (x : End). PrintsBy May old new before now x) (sym is) (risen, (ends.OutOfMemory, text, may text (e.stand.finished, [], came_whole plan Ended _ _ e, refl), prefix))
 
-ended_breaks : (plan : Plan) (Ended : Stand → List Finished → List ℕ → RunEnd → Type 0) (net : Around) (ran : Ran) (said_end : End) (old mid new : Option (List ℕ)) (middle now : ℕ) (end : End)
+ended_breaks : (plan : Plan) (Ended : WorkState → List Finished → List ℕ → RunEnd → Type 0) (net : Around) (ran : Ran) (said_end : End) (old mid new : Option (List ℕ)) (middle now : ℕ) (end : End)
     → EndsWith plan Ended ran (at net.before.calls old) (at net.now.calls mid)
     → PrintsBy (Said said_end ran.text) mid new middle now end → end ≡ ends.WriteFault → Breaks plan Ended net old new
 ended_breaks plan Ended net ran said_end old mid new middle now end e said failed =
     (e.told, ran.text, came_ended plan Ended ran _ _ e, inl (said_part said_end ran.text (lines_of e.told) old mid new middle now end e.passed.written said failed))
 
-untold_breaks : (plan : Plan) (Ended : Stand → List Finished → List ℕ → RunEnd → Type 0) (net : Around) (why : Untold) (old mid new : Option (List ℕ)) (middle now : ℕ) (end : End)
+untold_breaks : (plan : Plan) (Ended : WorkState → List Finished → List ℕ → RunEnd → Type 0) (net : Around) (why : Untold) (old mid new : Option (List ℕ)) (middle now : ℕ) (end : End)
     → Comes plan Ended (Err why) (at net.before.calls old) (at net.now.calls mid)
     → SaysUntold why end mid new middle now → end ≡ ends.WriteFault → Breaks plan Ended net old new
 untold_breaks plan Ended net untold.NoMemory old mid new middle now end (told, next, came, took) said failed =

@@ -17,7 +17,7 @@ use Rattle.node_serve.specs.Opening.{IsOpened}
 use Rattle.node_exchange.specs.Exchanging.{ClosedAtEnd, EndsShort}
 use Rattle.node_serve.specs.Visits.{standing}
 use Rattle.node_client.specs.declared.finished.Finished.{Finished}
-use Rattle.node_client.specs.Work.{Stand}
+use Rattle.node_client.specs.Work.{WorkState}
 use Rattle.client_run.specs.Runs.{ClientRuns, RunFault, Plan, CameTo, ClientEnded, client_plan}
 use Rattle.client_run.specs.Carries.{CarryRuns, SendEnded, carry_plan}
 use Rattle.client_run.specs.Telling.{TookPart, lines_of}
@@ -86,7 +86,7 @@ ServeMay settings net end text = AtDoor settings net end text
 
 -- Memory was wanting for the text that was next of a plan's work: that is told, behind all that was told
 -- before.
-abbrev pub Wants : (plan : Plan) → (Stand → List Finished → List ℕ → RunEnd → Type 0) → Around → List ℕ
+abbrev pub Wants : (plan : Plan) → (WorkState → List Finished → List ℕ → RunEnd → Type 0) → Around → List ℕ
     → Type 0
 Wants plan Ended net text =
     (told : List Finished) × (next : List ℕ) × CameTo plan Ended told next net.before.calls net.now.calls
@@ -94,7 +94,7 @@ Wants plan Ended net text =
 
 -- The sink failed after a front of the text that was next, or of that memory was wanting for it; all that was
 -- told before went out.
-abbrev pub Breaks : (plan : Plan) → (Stand → List Finished → List ℕ → RunEnd → Type 0) → Around
+abbrev pub Breaks : (plan : Plan) → (WorkState → List Finished → List ℕ → RunEnd → Type 0) → Around
     → (old new : Option (List ℕ)) → Type 0
 Breaks plan Ended net old new =
     (told : List Finished) × (next : List ℕ) × CameTo plan Ended told next net.before.calls net.now.calls

@@ -1,8 +1,7 @@
 -- The calls of an exchange whose answer didn't end early don't end short.
 use Rattle.std.proofs.Common.{◌≡◌, ◌⊎◌, inl, inr, ℕ, Bool, true, false, List, [], ◌∷◌, ◌++◌, Option, Some, None, Err, refl, sym, ap, ◌∙◌, subst, append_assoc}
 use Rattle.express_words.specs.Calls.{Call, Dialled, Closed}
-use Rattle.node_exchange.specs.Exchanging.{ExchangeOn}
-use Rattle.node_exchange.specs.Exchanging.{EndsShort, Exchange, IsExchange}
+use Rattle.node_exchange.specs.Exchanging.{ExchangeOn, EndsShort, Exchange, IsExchange}
 use Rattle.node_exchange.specs.declared.exchanging.Broken.{Broken}
 use Rattle.node_exchange.specs.declared.exchanging.Broken.TheVariants as broken
 use Rattle.node_exchange.proofs.EarlyLaws.{IsDecided, exchange_long, last_is}

@@ -9,7 +9,7 @@ use Rattle.step_rules.specs.ClientAsks.{Sent, sends}
 use Rattle.client_core.specs.Answers.{addressed, bytes_of, progress_in, message_or}
 use Rattle.client_core.specs.declared.progress.Progress.{Progress}
 use Rattle.client_core.specs.declared.progress.Progress.TheVariants as progress
-use Rattle.node_exchange.specs.Exchanging.{Makes, Exchange, IsExchange}
+use Rattle.node_exchange.specs.Exchanging.{Exchange, ExchangeOn}
 use Rattle.node_exchange.specs.declared.exchanging.Broken.{Broken}
 use Rattle.node_client.specs.declared.finished.Told.{Told}
 use Rattle.node_client.specs.declared.finished.Told.TheVariants as told
@@ -17,7 +17,7 @@ use Rattle.node_client.specs.declared.peers.Peers.{Peers}
 use Rattle.node_client.specs.declared.stop.Stop.{Stop}
 use Rattle.node_client.specs.declared.stop.Stop.TheVariants as stop
 use Rattle.node_client.specs.Talks.{address_of}
-use Rattle.node_client.specs.Steps.{dispatched, heard, said, said_of, stop_at, told_step, Stepped}
+use Rattle.node_client.specs.Steps.{dispatched, heard, said, said_of, stop_at, told_step, StepsOn}
 
 some_same : {A : Type 0} (x y : A) → Some x ≡ Some y → x ≡ y
 some_same x y e = cc
@@ -57,10 +57,10 @@ pub stepped : (peers : Peers) (old new : Client) (message kept : List ℕ) (resu
     (server size : ℕ) (out address : List ℕ) (answer : Result (List ℕ) Broken)
     → Some (server, size) ≡ option_map addressed (sends old) → take (length (bytes_of (sends old))) out ≡ bytes_of (sends old)
     → address ≡ address_of peers server
-    → ((calls : List Call) × Makes a b calls × IsExchange address (record { sent = take size out; answer = answer }) calls)
+    → ExchangeOn address (record { sent = take size out; answer = answer }) a b
     → new ≡ (heard old answer).client → result ≡ told_step (said old answer)
     → kept ≡ message_or message (heard old answer).progress
-    → Stepped peers old new message kept result a b
+    → StepsOn peers old new message kept result a b
 stepped peers old new message kept result a b server size out address answer sent written at calls new_is told_is kept_is =
     let e : Exchange = record { sent = take size out; answer = answer } in
     record {
@@ -69,5 +69,5 @@ stepped peers old new message kept result a b server size out address answer sen
       client = new_is;
       told = told_is;
       message_is = kept_is;
-      calls = subst (λ (x : List ℕ). (calls : List Call) × Makes a b calls × IsExchange x e calls) at calls;
+      calls = subst (λ (x : List ℕ). ExchangeOn x e a b) at calls;
     }

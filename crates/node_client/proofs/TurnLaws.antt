@@ -55,12 +55,7 @@ refusal_fares c step (refusal.BadToken n) = ended_fares c step _
 refusal_fares c step refusal.NoDeposit = ended_fares c step _
 refusal_fares c step refusal.NotProved = ended_fares c step _
 refusal_fares c step (refusal.Rejected o0 o1 t0 t1) = ended_fares c step _
-refusal_fares c step (refusal.Stale serial) = tt
-refusal_fares c step (refusal.Phase phase) = tt
-refusal_fares c step (refusal.Again number) = tt
-refusal_fares c step (refusal.LinkDown count) = tt
-refusal_fares c step (refusal.Malformed place) = tt
-refusal_fares c step (refusal.Version version) = tt
+refusal_fares c step r = tt
 
 -- ---- the frame of the step behind
 
@@ -86,10 +81,8 @@ submits c now (Retire own) n = reads c (record c { current = now }) frame.Retire
 
 proves : (c : Client) (now : Option Current) (request : Request) (ckey : List ℕ) → proof_of c request ckey 1 ≢ None → proof_of (record c { current = now }) request ckey 0 ≢ None
 unfolding proof_of
-proves c now (Register address) ckey n = λ e. n refl
 proves c now (Write target message) ckey n = λ e. absurd (cc e)
-proves c now (Read own) ckey n = λ e. n refl
-proves c now (Retire own) ckey n = λ e. n refl
+proves c now r ckey n = λ e. n refl
 
 -- ---- the present step
 

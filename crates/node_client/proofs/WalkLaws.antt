@@ -12,7 +12,7 @@ use Rattle.node_client.specs.declared.finished.Told.{Told}
 use Rattle.node_client.specs.declared.peers.Peers.{Peers}
 use Rattle.node_client.specs.declared.stop.Stop.{Stop}
 use Rattle.node_client.specs.Talks.{Talk, TalksOn}
-use Rattle.node_client.specs.Steps.{Ending, Done, told_in, IsMessage, dispatched, IsStep, heard, said, said_of, told_step, Stepped, GoesOn, none, then, last_said, Walks, told_as, MessageBy, Walked}
+use Rattle.node_client.specs.Steps.{Ending, Done, told_in, IsMessage, dispatched, IsStep, heard, said, said_of, told_step, StepsOn, WalksOn, none, then, last_said, Walks, told_as, MessageBy, Walked}
 use Rattle.node_client.proofs.TalkLaws.{talks_more}
 use Rattle.node_client.proofs.TurnLaws.{steps_left, FaresBy, fares}
 
@@ -61,14 +61,14 @@ walks_idle start new made end w =
 
 pub record Standing (peers : Peers) (start now : Client) (a b : Option (List Call)) : Type 0 where
   pub made : List Talk
-  pub goes_on : GoesOn start now made
+  pub goes_on : WalksOn start now made
   pub calls : TalksOn peers made a b
 
 pub standing : (peers : Peers) (start : Client) (a : Option (List Call)) → Standing peers start start a a
 standing peers start a = record { made = []; goes_on = none; calls = refl }
 
 pub stands_more : (peers : Peers) (start old new : Client) (message kept : List ℕ) (a b c : Option (List Call))
-    → Standing peers start old a b → Stepped peers old new message kept (Ok None) b c
+    → Standing peers start old a b → StepsOn peers old new message kept (Ok None) b c
     → Standing peers start new a c × (sends new ≢ None) × (steps_left new < steps_left old)
 stands_more peers start old new message kept a b c s t =
     let on = some_told _ (sym t.told) in
@@ -109,7 +109,7 @@ kept_is c (Ok bytes) message kept end e is =
     subst (λ (x : Ending). IsMessage x kept) (sym f.2) (read_is message kept f.0 (is ∙ ap (message_or message) f.1))
 
 ended : (peers : Peers) (start old new : Client) (message kept : List ℕ) (a b c : Option (List Call)) (end : Result Ending Stop) (r : Result (Option Told) Stop)
-    → (s : Standing peers start old a b) → (t : Stepped peers old new message kept r b c)
+    → (s : Standing peers start old a b) → (t : StepsOn peers old new message kept r b c)
     → said old t.talk.exchange.answer ≡ last_said end → MessageBy end kept → Walked peers start new kept (told_as end) a c
 ended peers start old new message kept a b c end r s t last read =
     let w : Walks start new (s.made ++ t.talk ∷ []) end = record {
@@ -132,13 +132,13 @@ ended peers start old new message kept a b c end r s t last read =
     }
 
 pub ends_so : (peers : Peers) (start old new : Client) (message kept : List ℕ) (a b c : Option (List Call)) (told : Told)
-    → Standing peers start old a b → Stepped peers old new message kept (Ok (Some told)) b c → Walked peers start new kept (Ok told) a c
+    → Standing peers start old a b → StepsOn peers old new message kept (Ok (Some told)) b c → Walked peers start new kept (Ok told) a c
 ends_so peers start old new message kept a b c told s t =
     let e = end_told _ told t.told in
     let read = kept_is old t.talk.exchange.answer message kept e.0 e.1 t.message_is in
     subst (λ (x : Told). Walked peers start new kept (Ok x) a c) (sym e.2) (ended peers start old new message kept a b c (Ok e.0) _ s t e.1 read)
 
 pub stops_so : (peers : Peers) (start old new : Client) (message kept : List ℕ) (a b c : Option (List Call)) (why : Stop)
-    → Standing peers start old a b → Stepped peers old new message kept (Err why) b c → Walked peers start new kept (Err why) a c
+    → Standing peers start old a b → StepsOn peers old new message kept (Err why) b c → Walked peers start new kept (Err why) a c
 stops_so peers start old new message kept a b c why s t =
     ended peers start old new message kept a b c (Err why) _ s t (stop_told _ why t.told) tt

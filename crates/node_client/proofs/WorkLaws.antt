@@ -13,13 +13,13 @@ use Rattle.node_client.specs.declared.peers.Peers.{Peers}
 use Rattle.node_client.specs.declared.stop.Stop.{Stop}
 use Rattle.node_client.specs.Talks.{Talk, TalksOn}
 use Rattle.node_client.specs.Steps.{Ending, Done, NoOwn, told_in, IsMessage, told_as, MessageBy}
-use Rattle.node_client.specs.Work.{Comes, Came, line_of, line, Works, none, then, StopsAt}
+use Rattle.node_client.specs.Work.{Comes, Came, line_of, line, WorksAll, none, then, StopsAt}
 use Rattle.node_client.proofs.TalkLaws.{talks_both}
 
 -- where the work stands before the request of this number
 pub record Working (peers : Peers) (start : Client) (requests : List Request) (number : ℕ) (c : Client) (finished : List Finished) (a b : Option (List Call)) : Type 0 where
   pub made : List Talk
-  pub works : Works start (take number requests) (record { client = c; finished = finished; made = made })
+  pub works : WorksAll start (take number requests) (record { client = c; finished = finished; made = made })
   pub calls : TalksOn peers made a b
 
 pub working : (peers : Peers) (start : Client) (requests : List Request) (finished : List Finished) (a : Option (List Call))
@@ -70,12 +70,12 @@ works_more peers start old new requests number r before after f message told a b
     let lines : before ++ line_of (length (take number requests)) e.0 ∷ [] ≡ after
     = ap (λ n. before ++ line_of n e.0 ∷ []) (length_before number requests less)
     ∙ ap (λ (x : Finished). before ++ x ∷ []) (sym (of ∙ ap (line number message) e.2 ∙ line_is number e.0 message read)) ∙ sym is in
-    let more : Works start (take number requests ++ r ∷ []) (record { client = new; finished = before ++ line_of (length (take number requests)) e.0 ∷ []; made = w.made ++ came.made })
+    let more : WorksAll start (take number requests ++ r ∷ []) (record { client = new; finished = before ++ line_of (length (take number requests)) e.0 ∷ []; made = w.made ++ came.made })
     = then (take number requests) (record { client = old; finished = before; made = w.made }) r new came.made e.0 w.works comes in
     record {
       made = w.made ++ came.made;
-      works = subst (λ (x : List Request). Works start x (record { client = new; finished = after; made = w.made ++ came.made })) all
-          (subst (λ (x : List Finished). Works start (take number requests ++ r ∷ []) (record { client = new; finished = x; made = w.made ++ came.made })) lines more);
+      works = subst (λ (x : List Request). WorksAll start x (record { client = new; finished = after; made = w.made ++ came.made })) all
+          (subst (λ (x : List Finished). WorksAll start (take number requests ++ r ∷ []) (record { client = new; finished = x; made = w.made ++ came.made })) lines more);
       calls = talks_both peers w.made came.made a b c w.calls came.calls;
     }
 

@@ -74,7 +74,7 @@ told_step (Ok end) = Ok (option_map told_in end)
 told_step (Err why) = Err why
 
 -- One step on a net. A message that is read goes where `message` stood, and else that is kept.
-pub record Stepped (peers : Peers) (old new : Client) (message kept : List ℕ)
+pub record StepsOn (peers : Peers) (old new : Client) (message kept : List ℕ)
     (result : Result (Option Told) Stop) (before now : Option (List Call)) : Type 0 where
   pub talk : Talk
   pub is_step : IsStep old talk
@@ -86,11 +86,11 @@ pub record Stepped (peers : Peers) (old new : Client) (message kept : List ℕ)
 -- ---- all steps
 
 -- steps one after another, after each of which the request goes on
-pub data GoesOn (start : Client) : Client → List Talk → Type 0 where
-  none : GoesOn start start []
+pub data WalksOn (start : Client) : Client → List Talk → Type 0 where
+  none : WalksOn start start []
   then : (c : Client) (made : List Talk) (t : Talk) →
-      GoesOn start c made → IsStep c t → said c t.exchange.answer ≡ Ok None →
-      GoesOn start (heard c t.exchange.answer).client (made ++ t ∷ [])
+      WalksOn start c made → IsStep c t → said c t.exchange.answer ≡ Ok None →
+      WalksOn start (heard c t.exchange.answer).client (made ++ t ∷ [])
 
 -- how a request ends, as its last step says it
 abbrev pub last_said : Result Ending Stop → Result (Option Ending) Stop
@@ -101,7 +101,7 @@ last_said (Err why) = Err why
 pub record Walks (start new : Client) (made : List Talk) (end : Result Ending Stop) : Type 0 where
   pub last : Client
   pub before : List Talk
-  pub goes_on : GoesOn start last before
+  pub goes_on : WalksOn start last before
   pub talk : Talk
   pub is_step : IsStep last talk
   pub said_last : said last talk.exchange.answer ≡ last_said end

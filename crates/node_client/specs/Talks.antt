@@ -1,7 +1,7 @@
 -- Exchanges with two servers, one after another.
 use Rattle.std.specs.Prelude.{◌≡◌, ℕ, zero, suc, List, [], ◌∷◌, Option}
 use Rattle.express_words.specs.Calls.{Call}
-use Rattle.node_exchange.specs.Exchanging.{Makes, Exchange, IsExchange}
+use Rattle.node_exchange.specs.Exchanging.{Exchange, ExchangeOn}
 use Rattle.node_client.specs.declared.peers.Peers.{Peers}
 
 -- the leader is 0, the helper 1
@@ -16,8 +16,7 @@ pub record Talk : Type 0 where
 
 -- from one state of a net to another this exchange was made, and nothing else
 abbrev pub TalkOn : Peers → Talk → Option (List Call) → Option (List Call) → Type 0
-TalkOn peers t before now =
-    (calls : List Call) × Makes before now calls × IsExchange (address_of peers t.server) t.exchange calls
+TalkOn peers t before now = ExchangeOn (address_of peers t.server) t.exchange before now
 
 -- these exchanges were made in order, and nothing else
 abbrev pub TalksOn : Peers → List Talk → Option (List Call) → Option (List Call) → Type 0

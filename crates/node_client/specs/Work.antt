@@ -65,16 +65,16 @@ line number message t = record { request = number; told = t; message = read_mess
 -- ---- all requests
 
 -- where the work stands: the client, what was told of its requests, and the exchanges so far
-pub record Stand : Type 0 where
+pub record WorkState : Type 0 where
   pub client : Client
   pub finished : List Finished
   pub made : List Talk
 
-abbrev pub stand : Client → Stand
-stand c = record { client = c; finished = []; made = [] }
+abbrev pub work_start : Client → WorkState
+work_start c = record { client = c; finished = []; made = [] }
 
 -- one request more has come to its end
-abbrev pub worked : Stand → ℕ → Client → List Talk → Ending → Stand
+abbrev pub worked : WorkState → ℕ → Client → List Talk → Ending → WorkState
 worked s number new made end = record {
   client = new;
   finished = s.finished ++ line_of number end ∷ [];
@@ -82,17 +82,18 @@ worked s number new made end = record {
 }
 
 -- requests that came to their ends one after another
-pub data Works (start : Client) : List Request → Stand → Type 0 where
-  none : Works start [] (stand start)
-  then : (before : List Request) (s : Stand) (r : Request) (new : Client) (made : List Talk) (end : Ending) →
-      Works start before s → Comes s.client r new made (Ok end) →
-      Works start (before ++ r ∷ []) (worked s (length before) new made end)
+pub data WorksAll (start : Client) : List Request → WorkState → Type 0 where
+  none : WorksAll start [] (work_start start)
+  then : (before : List Request) (s : WorkState) (r : Request) (new : Client) (made : List Talk)
+      (end : Ending) →
+      WorksAll start before s → Comes s.client r new made (Ok end) →
+      WorksAll start (before ++ r ∷ []) (worked s (length before) new made end)
 
 -- one request stopped the work, and none behind it was taken
-pub record StopsAt (start : Client) (requests : List Request) (now : Stand) (why : Stop) : Type 0 where
+pub record StopsAt (start : Client) (requests : List Request) (now : WorkState) (why : Stop) : Type 0 where
   pub before : List Request
-  pub s : Stand
-  pub works : Works start before s
+  pub s : WorkState
+  pub works : WorksAll start before s
   pub r : Request
   pub behind : List Request
   pub all : requests ≡ before ++ r ∷ behind
@@ -102,6 +103,6 @@ pub record StopsAt (start : Client) (requests : List Request) (now : Stand) (why
   pub exchanges : now.made ≡ s.made ++ made
 
 -- by how the work ended
-abbrev pub WorksOff : Client → List Request → Stand → Result Unit Stop → Type 0
-WorksOff start requests now (Ok done) = Works start requests now
+abbrev pub WorksOff : Client → List Request → WorkState → Result Unit Stop → Type 0
+WorksOff start requests now (Ok done) = WorksAll start requests now
 WorksOff start requests now (Err why) = StopsAt start requests now why

@@ -2,7 +2,7 @@
 ghost use Rattle.std.specs.Prelude.{◌≡◌, ◌≢◌, None, length};
 ghost use Rattle.step_rules.specs.ClientAsks.{sends};
 ghost use Rattle.node_exchange.specs.Exchanging.{EarlyAtEnd};
-ghost use Rattle.node_client.specs.Steps.{Stepped, Walked, FaultBy};
+ghost use Rattle.node_client.specs.Steps.{StepsOn, Walked, FaultBy};
 
 use crate::finished::Told;
 use crate::peers::{Peers, address_of};
@@ -22,7 +22,7 @@ fn one_step<N: Net>(
 ) -> Result<Option<Told>, Stop>
     requires width { length message.old ≡ client.old.width }
     requires sends { sends client.old ≢ None }
-    ensures step { Stepped peers.now client.old client.new message.old message.new result
+    ensures step { StepsOn peers.now client.old client.new message.old message.new result
         (N.seen net.old).calls (N.seen net.new).calls }
     ensures width { client.new.width ≡ client.old.width }
     ensures early { EarlyAtEnd (N.seen net.new).calls N.Conn.seen }
