@@ -75,7 +75,25 @@ left_after arriving first (Synced ∷ before) = bytes_after first before
 abbrev pub left_of : List ℕ → History → List ℕ
 left_of arriving h = left_after arriving h.first h.changes
 
--- a write of the gate behind these records is torn, before a whole record and the gate after it
-abbrev pub TornGate : (records : List (List ℕ)) → (added : List ℕ) → (gate after : ℕ) → (tail c : List ℕ) → Type 0
-TornGate records added gate after tail c =
-    Torn (length (opened records)) 1 (opened records ++ gate ∷ (body added ++ after ∷ tail)) c
+-- records, the gate behind them, and the rest
+pub record Gated : Type 0 where
+  pub records : List (List ℕ)
+  pub gate : ℕ
+  pub tail : List ℕ
+
+-- a write of n bytes behind the gate is torn
+abbrev pub TornBehind : Gated → ℕ → List ℕ → Type 0
+TornBehind g n c = Torn (length (opened g.records) + 1) n (opened g.records ++ g.gate ∷ g.tail) c
+
+-- records and the gate behind them, a record that is staged there and the gate after it, and the rest
+pub record Staged : Type 0 where
+  pub records : List (List ℕ)
+  pub gate : ℕ
+  pub added : List ℕ
+  pub after : ℕ
+  pub tail : List ℕ
+
+-- a write of the gate before the staged record is torn
+abbrev pub TornGate : Staged → List ℕ → Type 0
+TornGate s c =
+    Torn (length (opened s.records)) 1 (opened s.records ++ s.gate ∷ (body s.added ++ s.after ∷ s.tail)) c

@@ -1,8 +1,8 @@
 -- What a journal knows of its disk.
 use Rattle.std.specs.Prelude.{◌≡◌, ℕ, ◌+◌, ◌-◌, ◌^◌, ◌<◌, ◌≤◌, min, nat_lt, ◌||◌, Bool, true, List, Result}
-use Rattle.std.specs.Prelude.{Ok, Err}
-use Rattle.node_journal.specs.Disk.{DiskSeen, Within}
-use Rattle.node_journal.specs.Records.{IsBehind, EndsAt}
+use Rattle.std.specs.Prelude.{Ok, Err, IsErrOf}
+use Rattle.node_journal.specs.Disk.{DiskSeen, LeavesOnly, Within}
+use Rattle.node_journal.specs.Records.{IsBehind, EndsAt, LeavesBeforeOrAfter}
 use Rattle.node_journal.specs.declared.fault.JournalFault.{JournalFault}
 use Rattle.node_journal.specs.declared.fault.JournalFault.TheVariants.{Closed, NotEmpty, Full, Disk, Damaged}
 
@@ -50,6 +50,25 @@ IsOkDiskOrDamaged (Err (Full end)) = ⊥
 IsOkDiskOrDamaged (Err (Disk faults)) = Unit {0}
 IsOkDiskOrDamaged (Err (Damaged at)) = Unit {0}
 
+-- P of the byte, where the answer is Damaged
+abbrev pub IfDamaged : {T : Type 0} → Result T JournalFault → (ℕ → Type 0) → Type 0
+IfDamaged result P = (n : ℕ) → IsErrOf result (Damaged n) → P n
+
+-- the answer is this fault, and journal and disk stay as they were
+abbrev pub OnlyAnswers : {T D : Type 0} → Result T JournalFault → JournalFault → (old new : JournalState)
+    → (disk disk_new : D) → Type 0
+OnlyAnswers result fault old new disk disk_new = (result ≡ Err fault) × (new ≡ old) × (disk_new ≡ disk)
+
+-- it is Full, at the journal's end
+abbrev pub OnlyAnswersFull : {T D : Type 0} → Result T JournalFault → (old new : JournalState)
+    → (disk disk_new : D) → Type 0
+OnlyAnswersFull result old new disk disk_new = OnlyAnswers result (Full old.end) old new disk disk_new
+
+-- A crash at any moment from old to new leaves the records from before, with this one or without, and nothing
+-- that a journal under this limit would find damaged.
+abbrev pub LeavesWithOrWithout : ℕ → (old new : DiskSeen) → List ℕ → Type 0
+LeavesWithOrWithout limit old new bytes = LeavesOnly old new (LeavesBeforeOrAfter limit old.reads bytes)
+
 -- after a call that passed a record of so many bytes, appended or read
 abbrev pub longer : ℕ → JournalState → JournalState
 longer bytes j = record { end = j.end + 5 + bytes; limit = j.limit; ready = j.ready; closed = j.closed }
@@ -62,6 +81,14 @@ at_end j = record { end = j.end; limit = j.limit; ready = j.ready || nat_lt 0 j.
 abbrev pub broken : JournalState → JournalState
 broken j = record { end = j.end; limit = j.limit; ready = j.ready; closed = true }
 
--- the record and a closed gate behind it pass the limit
-abbrev pub Passes : ℕ → ℕ → ℕ → Type 0
+-- a record of so many bytes and a closed gate behind it pass the limit
+abbrev pub Passes : (end bytes limit : ℕ) → Type 0
 Passes end bytes limit = limit < end + 5 + bytes + 1
+
+-- it passes the limit of this journal
+abbrev pub LacksSpace : JournalState → ℕ → Type 0
+LacksSpace j bytes = Passes j.end bytes j.limit
+
+-- it is within the limit, with the closed gate behind it
+abbrev pub HasSpace : JournalState → ℕ → Type 0
+HasSpace j bytes = j.end + 5 + bytes + 1 ≤ j.limit

@@ -1,7 +1,7 @@
 -- A disk in memory.
 use Rattle.std.specs.Prelude.{ℕ, ◌+◌, ◌-◌, ◌<◌, ◌⊎◌, List, [], ◌∷◌, length, take, drop}
-use Rattle.express_words.specs.Memory.{Tally}
-use Rattle.node_journal.specs.History.{History, wrote, synced}
+use Rattle.express_words.specs.Memory.{Tally, started, passed, failed}
+use Rattle.node_journal.specs.History.{History, began, wrote, synced}
 use Rattle.node_journal.specs.declared.disk_log.Step.{Step}
 use Rattle.node_journal.specs.declared.disk_log.Step.TheVariants.{Write, Sync}
 
@@ -29,6 +29,22 @@ pub record DiskState : Type 0 where
   pub arriving : List ℕ
   pub log : LogState
   pub tally : Tally
+
+-- a disk that is made with these bytes, all of them synced
+abbrev pub disk_made : (bytes arriving : List ℕ) → (calls room : ℕ) → (failing : List ℕ) → DiskState
+disk_made bytes arriving calls room failing = record {
+  arriving = arriving;
+  log = record { history = began bytes; calls = calls; room = room };
+  tally = started failing;
+}
+
+-- after a call that went well and left this log
+abbrev pub call_passed : LogState → DiskState → DiskState
+call_passed log d = record { arriving = d.arriving; log = log; tally = passed d.tally }
+
+-- after a call that failed
+abbrev pub call_failed : DiskState → DiskState
+call_failed d = record { arriving = d.arriving; log = d.log; tally = failed d.tally }
 
 -- what these steps did, whose bytes stand one after another, after what was done before
 abbrev pub replay : History → List Step → List ℕ → History

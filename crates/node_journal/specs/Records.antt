@@ -34,6 +34,15 @@ content bytes = first_records (length bytes) bytes
 abbrev pub records_from : ℕ → List ℕ → List (List ℕ)
 records_from end bytes = content (drop end bytes)
 
+-- no record stands from this byte on
+abbrev pub HasNoMore : ℕ → (List ℕ → Type 0) → Type 0
+HasNoMore end reads = (c : List ℕ) → reads c → records_from end c ≡ []
+
+-- this record stands from the one byte to the other
+abbrev pub HoldsRecord : (start end : ℕ) → List ℕ → (List ℕ → Type 0) → Type 0
+HoldsRecord start end record_bytes reads =
+    (c : List ℕ) → reads c → records_from start c ≡ record_bytes ∷ records_from end c
+
 -- a record behind its gate: its length, then its bytes
 abbrev pub body : List ℕ → List ℕ
 body record_bytes = to_be_bytes w32 (length record_bytes) ++ record_bytes
@@ -76,12 +85,21 @@ pub record IsUndamaged (limit end : ℕ) (bytes : List ℕ) : Type 0 where
   pub split : drop end bytes ≡ opened records ++ gate ∷ tail
   pub fits : end + length (opened records) + 1 ≤ limit
 
+-- where nothing is damaged from the one byte on, nothing is from the other on
+abbrev pub StaysUndamaged : (limit start end : ℕ) → (List ℕ → Type 0) → Type 0
+StaysUndamaged limit start end reads =
+    (c : List ℕ) → reads c → IsUndamaged limit start c → IsUndamaged limit end c
+
 -- Whole records up to byte `end` and a closed gate, with the records of one content that was read before;
 -- or one more and its end.
 abbrev pub RestsBeforeOrAfter : (List ℕ → Type 0) → ℕ → List ℕ → List ℕ → Type 0
 RestsBeforeOrAfter reads end added bytes = (d : List ℕ) × reads d
     × ((EndsAt end bytes × (content bytes ≡ content d))
     ⊎ (EndsAt (end + 5 + length added) bytes × (content bytes ≡ content d ++ added ∷ [])))
+
+-- a read gives no byte
+abbrev pub GivesNoByte : (List ℕ → Type 0) → Type 0
+GivesNoByte reads = (bytes : List ℕ) → reads bytes → bytes ≡ []
 
 -- A crash leaves no byte.
 abbrev pub LeavesNoByte : (List ℕ → Type 0) → Type 0

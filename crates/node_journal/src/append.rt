@@ -1,7 +1,7 @@
 //! One record more behind the closed gate, and then the gate opened.
 ghost use Rattle.std.specs.Prelude.{◌≡◌, ◌≤◌, ◌+◌, ◌^◌, ◌++◌, ◌∷◌, [], List, ℕ, length, OnOk};
 ghost use Rattle.node_journal.specs.Disk.{CountsFault, Within, LeavesOnly};
-ghost use Rattle.node_journal.specs.Records.{body, content, IsSized, EndsAt, LeavesNoByte, RestsBeforeOrAfter, RestsNoneOrFirst, Appended};
+ghost use Rattle.node_journal.specs.Records.{body, content, IsSized, EndsAt, GivesNoByte, LeavesNoByte, RestsBeforeOrAfter, RestsNoneOrFirst, Appended};
 
 use crate::{Disk, HEAD_LEN, RECORD_MAX};
 use express_words::outside::Failed;
@@ -26,9 +26,8 @@ pub(crate) fn put_record<D: Disk>(disk: &mut D, end: u64, bytes: &[u8]) -> Resul
     requires bound { end ≤ 2 ^ 62 }
     requires ends { (c : List ℕ) → (D.disk disk.old).reads c → EndsAt end c }
     requires durable { Within (D.disk disk.old).may_leave (D.disk disk.old).reads }
-    ensures added { OnOk result ((c : List ℕ) → (D.disk disk.new).reads c
-        → EndsAt (end + 5 + length bytes.now) c
-        × Appended (D.disk disk.old).reads bytes.now c) }
+    ensures added { OnOk result (Within (D.disk disk.new).reads
+        (λ c. EndsAt (end + 5 + length bytes.now) c × Appended (D.disk disk.old).reads bytes.now c)) }
     ensures durable { OnOk result (Within (D.disk disk.new).may_leave (D.disk disk.new).reads) }
     ensures any_moment { LeavesOnly (D.disk disk.old) (D.disk disk.new)
         (RestsBeforeOrAfter (D.disk disk.old).reads end bytes.now) }
@@ -46,10 +45,9 @@ pub(crate) fn put_record<D: Disk>(disk: &mut D, end: u64, bytes: &[u8]) -> Resul
 /// The first record, on a disk with no byte. Its closed gate is on the disk before the record is written.
 pub(crate) fn put_first<D: Disk>(disk: &mut D, bytes: &[u8]) -> Result<(), Failed>
     requires sized { IsSized bytes.now }
-    requires empty { (c : List ℕ) → (D.disk disk.old).reads c → c ≡ [] }
-    ensures added { OnOk result ((c : List ℕ) → (D.disk disk.new).reads c
-        → EndsAt (0 + 5 + length bytes.now) c
-        × (content c ≡ bytes.now ∷ [])) }
+    requires empty { GivesNoByte (D.disk disk.old).reads }
+    ensures added { OnOk result (Within (D.disk disk.new).reads
+        (λ c. EndsAt (0 + 5 + length bytes.now) c × (content c ≡ bytes.now ∷ []))) }
     ensures durable { OnOk result (Within (D.disk disk.new).may_leave (D.disk disk.new).reads) }
     ensures any_moment { LeavesNoByte (D.disk disk.old).may_leave
         → LeavesOnly (D.disk disk.old) (D.disk disk.new) (RestsNoneOrFirst bytes.now) }

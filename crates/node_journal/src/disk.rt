@@ -25,7 +25,8 @@ pub trait Disk: Counted {
     /// bytes in the range.
     fn write(&mut self, at: u64, bytes: &[u8]) -> Result<(), Failed>
         requires { (c : List ℕ) → (disk self.old).reads c → at ≤ length c }
-        ensures written { OnOk result (Follows (Holds at bytes.now) (disk self.old).reads (disk self.new).reads) }
+        ensures written { OnOk result
+            (Follows (Holds at bytes.now) (disk self.old).reads (disk self.new).reads) }
         ensures crash { Follows (Torn at (length bytes.now)) (disk self.old).may_leave
             (disk self.new).may_leave }
         ensures time { Elapses (disk self.old) (disk self.new) }

@@ -1,9 +1,9 @@
 //! What stands at a journal's place: the gate, the length and the record.
-ghost use Rattle.std.specs.Prelude.{◌≡◌, ◌≤◌, ◌+◌, ◌^◌, ◌∷◌, [], List, ℕ, length, drop, Option, Some, None, Ok, Err, OnOk, IsErrOf, take};
+ghost use Rattle.std.specs.Prelude.{◌≡◌, ◌≤◌, ◌+◌, ◌^◌, ◌∷◌, [], List, ℕ, length, drop, Option, Some, None, Ok, Err, OnOk, take};
 ghost use Rattle.std.specs.Int.{w32, from_be_bytes, to_be_bytes};
 ghost use Rattle.node_journal.specs.Disk.{IsUntouched};
-ghost use Rattle.node_journal.specs.Journal.{CountsDisk, IsOkDiskOrDamaged};
-ghost use Rattle.node_journal.specs.Next.{found, judged};
+ghost use Rattle.node_journal.specs.Journal.{CountsDisk, IfDamaged, IsOkDiskOrDamaged};
+ghost use Rattle.node_journal.specs.Next.{Finds, FindsDamage, FindsOpen, FindsUnderAny, Judges};
 ghost use Rattle.node_journal.specs.Records.{record_max};
 
 use crate::{Disk, HEAD_LEN, JournalFault, RECORD_MAX};
@@ -19,15 +19,12 @@ fn length_in(first: u8, second: u8, third: u8, fourth: u8) -> u32
 /// The length behind an open gate, None at a gate that is missing or closed.
 fn read_head<D: Disk>(disk: &mut D, end: u64) -> Result<Option<u32>, JournalFault>
     requires { end ≤ 2 ^ 62 }
-    ensures none { result ≡ Ok None → (c : List ℕ) → (D.disk disk.old).reads c → (limit : ℕ)
-        → found end limit (drop end c) ≡ Ok None }
-    ensures some { (n : ℕ) → result ≡ Ok (Some n) → (c : List ℕ) → (D.disk disk.old).reads c → (limit : ℕ)
-        → found end limit (drop end c) ≡ judged end limit n (drop 5 (drop end c)) }
+    ensures none { result ≡ Ok None → FindsUnderAny end (D.disk disk.old).reads (Ok None) }
+    ensures some { (n : ℕ) → result ≡ Ok (Some n) → FindsOpen end n (D.disk disk.old).reads }
     ensures spelled { (n : ℕ) → result ≡ Ok (Some n) → (c : List ℕ) → (D.disk disk.old).reads c
         → take 4 (drop 1 (drop end c)) ≡ to_be_bytes w32 n }
-    ensures damaged { (n : ℕ) → IsErrOf result (JournalFault.Damaged n) → (n ≡ end)
-        × ((c : List ℕ) → (D.disk disk.old).reads c → (limit : ℕ)
-        → found end limit (drop end c) ≡ Err (JournalFault.Damaged end)) }
+    ensures damaged { IfDamaged result (λ n. (n ≡ end)
+        × FindsUnderAny end (D.disk disk.old).reads (Err (JournalFault.Damaged end))) }
     ensures only { IsOkDiskOrDamaged result }
     ensures counts { CountsDisk (D.Counted.seen disk.old).faults (D.Counted.seen disk.new).faults result }
     ensures untouched { IsUntouched (D.disk disk.old) (D.disk disk.new) }
@@ -57,14 +54,12 @@ fn read_record<D: Disk>(
 ) -> Result<(), JournalFault>
     requires limits { (end ≤ limit) × (limit ≤ 2 ^ 62) }
     requires room { record_max ≤ length out.old }
-    ensures some { OnOk result ((c : List ℕ) → (D.disk disk.old).reads c
-        → judged end limit len (drop (end + 5) c) ≡ Ok (Some (take len out.new))) }
+    ensures some { OnOk result (Judges end limit len (D.disk disk.old).reads (Ok (Some (take len out.new)))) }
     ensures fits { OnOk result (end + 5 + len + 1 ≤ limit) }
     ensures sized { OnOk result ((1 ≤ len) × (len ≤ record_max)) }
     ensures length { length out.new ≡ length out.old }
-    ensures damaged { (n : ℕ) → IsErrOf result (JournalFault.Damaged n) → (n ≡ end)
-        × ((c : List ℕ) → (D.disk disk.old).reads c
-        → judged end limit len (drop (end + 5) c) ≡ Err (JournalFault.Damaged end)) }
+    ensures damaged { IfDamaged result (λ n. (n ≡ end)
+        × Judges end limit len (D.disk disk.old).reads (Err (JournalFault.Damaged end))) }
     ensures only { IsOkDiskOrDamaged result }
     ensures counts { CountsDisk (D.Counted.seen disk.old).faults (D.Counted.seen disk.new).faults result }
     ensures untouched { IsUntouched (D.disk disk.old) (D.disk disk.new) }
@@ -99,18 +94,15 @@ pub(crate) fn find<D: Disk>(
 ) -> Result<Option<u32>, JournalFault>
     requires limits { (end ≤ limit) × (limit ≤ 2 ^ 62) }
     requires room { record_max ≤ length out.old }
-    ensures none { result ≡ Ok None → (c : List ℕ) → (D.disk disk.old).reads c
-        → found end limit (drop end c) ≡ Ok None }
-    ensures some { (n : ℕ) → result ≡ Ok (Some n) → (c : List ℕ) → (D.disk disk.old).reads c
-        → found end limit (drop end c) ≡ Ok (Some (take n out.new)) }
+    ensures none { result ≡ Ok None → Finds end limit (D.disk disk.old).reads (Ok None) }
+    ensures some { (n : ℕ) → result ≡ Ok (Some n)
+        → Finds end limit (D.disk disk.old).reads (Ok (Some (take n out.new))) }
     ensures spelled { (n : ℕ) → result ≡ Ok (Some n) → (c : List ℕ) → (D.disk disk.old).reads c
         → take 4 (drop 1 (drop end c)) ≡ to_be_bytes w32 n }
     ensures fits { (n : ℕ) → result ≡ Ok (Some n) → end + 5 + n + 1 ≤ limit }
     ensures sized { (n : ℕ) → result ≡ Ok (Some n) → (1 ≤ n) × (n ≤ record_max) }
     ensures length { length out.new ≡ length out.old }
-    ensures damaged { (n : ℕ) → IsErrOf result (JournalFault.Damaged n) → (n ≡ end)
-        × ((c : List ℕ) → (D.disk disk.old).reads c
-        → found end limit (drop end c) ≡ Err (JournalFault.Damaged end)) }
+    ensures damaged { IfDamaged result (λ n. (n ≡ end) × FindsDamage end limit (D.disk disk.old).reads) }
     ensures only { IsOkDiskOrDamaged result }
     ensures counts { CountsDisk (D.Counted.seen disk.old).faults (D.Counted.seen disk.new).faults result }
     ensures untouched { IsUntouched (D.disk disk.old) (D.disk disk.new) }

@@ -1,9 +1,9 @@
 //! A journal of records, each of them on the disk before its append answers Ok.
-ghost use Rattle.std.specs.Prelude.{◌≡◌, ◌≢◌, ◌≤◌, ◌+◌, ◌^◌, ◌++◌, ◌∷◌, [], true, false, List, ℕ, length, OnOk, OnErr, IsErrOf, Err, Ok, Some, None, take, drop, IfOk};
+ghost use Rattle.std.specs.Prelude.{◌≡◌, ◌≢◌, ◌≤◌, ◌+◌, ◌^◌, ◌∷◌, [], true, false, List, ℕ, length, OnOk, OnErr, IsErrOf, Err, Ok, Some, None, take, IfOk};
 ghost use Rattle.node_journal.specs.Disk.{IsUntouched, LeavesOnly};
-ghost use Rattle.node_journal.specs.Records.{record_max, IsSized, IsUndamaged, LeavesBeforeOrAfter, LeavesNoByte, LeavesNoneOrFirst, Appended, content, records_from};
-ghost use Rattle.node_journal.specs.Next.{found};
-ghost use Rattle.node_journal.specs.Journal.{JournalState, IsInPlace, CountsDisk, IsOkOrDisk, IsOkDiskOrDamaged, longer, at_end, broken, Passes};
+ghost use Rattle.node_journal.specs.Records.{record_max, IsSized, IsUndamaged, GivesNoByte, LeavesNoByte, LeavesNoneOrFirst, Appended, HasNoMore, HoldsRecord, StaysUndamaged, content};
+ghost use Rattle.node_journal.specs.Next.{Finds, FindsDamage};
+ghost use Rattle.node_journal.specs.Journal.{JournalState, IsInPlace, CountsDisk, IsOkOrDisk, IsOkDiskOrDamaged, IfDamaged, OnlyAnswers, OnlyAnswersFull, LeavesWithOrWithout, longer, at_end, broken, HasSpace, LacksSpace, Passes};
 
 use crate::append::{put_first, put_record};
 use crate::head::find;
@@ -41,14 +41,14 @@ impl Journal {
             → c ≢ [] }
         ensures not_empty_stays { IsErrOf result JournalFault.NotEmpty
             → IsUntouched (D.disk disk.old) (D.disk disk.new) }
-        ensures empty { OnOk result ((c : List ℕ) → (D.disk disk.old).reads c → c ≡ []) }
+        ensures empty { OnOk result (GivesNoByte (D.disk disk.old).reads) }
         ensures full { (n : ℕ) → IsErrOf result (JournalFault.Full n) → (n ≡ 0)
-            × Passes 0 (length first.now) limit × ((c : List ℕ) → (D.disk disk.old).reads c → c ≡ []) }
+            × Passes 0 (length first.now) limit × GivesNoByte (D.disk disk.old).reads }
         ensures full_stays { (n : ℕ) → IsErrOf result (JournalFault.Full n)
             → IsUntouched (D.disk disk.old) (D.disk disk.new) }
         ensures fits { OnOk result (0 + 5 + length first.now + 1 ≤ limit) }
         ensures counts { CountsDisk (D.Counted.seen disk.old).faults (D.Counted.seen disk.new).faults result }
-        ensures not_damaged { (n : ℕ) → IsErrOf result (JournalFault.Damaged n) → ⊥ }
+        ensures not_damaged { IfDamaged result (λ n. ⊥) }
         ensures not_closed { IsErrOf result JournalFault.Closed → ⊥ }
         ensures made { IfOk result (λ j.
             j ≡ record { end = 5 + length first.now; limit = limit; ready = true; closed = false }) }
@@ -114,8 +114,8 @@ impl Journal {
         requires room { record_max ≤ length out.old }
         requires in_place { self.old.closed ≡ false
             → IsInPlace self.old (D.disk disk.old) }
-        ensures closed { self.old.closed ≡ true → (result ≡ Err JournalFault.Closed)
-            × (self.new ≡ self.old) × (disk.new ≡ disk.old) }
+        ensures closed { self.old.closed ≡ true
+            → OnlyAnswers result JournalFault.Closed self.old self.new disk.old disk.new }
         ensures cause { self.old.closed ≡ false → IsOkDiskOrDamaged result }
         ensures counts { CountsDisk (D.Counted.seen disk.old).faults (D.Counted.seen disk.new).faults result }
         ensures untouched { IsUntouched (D.disk disk.old) (D.disk disk.new) }
@@ -123,29 +123,26 @@ impl Journal {
         ensures sized { (n : ℕ) → result ≡ Ok (Some n) → (1 ≤ n) × (n ≤ record_max) }
 
         // What stands at the journal's end, which is the first of the records from there on.
-        ensures none { result ≡ Ok None → (c : List ℕ) → (D.disk disk.old).reads c
-            → found self.old.end self.old.limit (drop self.old.end c) ≡ Ok None }
-        ensures no_more { result ≡ Ok None → (c : List ℕ) → (D.disk disk.old).reads c
-            → records_from self.old.end c ≡ [] }
-        ensures some { (n : ℕ) → result ≡ Ok (Some n) → (c : List ℕ) → (D.disk disk.old).reads c
-            → found self.old.end self.old.limit (drop self.old.end c) ≡ Ok (Some (take n out.new)) }
-        ensures first_of_more { (n : ℕ) → result ≡ Ok (Some n) → (c : List ℕ) → (D.disk disk.old).reads c
-            → records_from self.old.end c ≡ take n out.new ∷ records_from self.new.end c }
-        ensures damaged { (n : ℕ) → IsErrOf result (JournalFault.Damaged n) → (n ≡ self.old.end)
-            × ((c : List ℕ) → (D.disk disk.old).reads c
-            → found self.old.end self.old.limit (drop self.old.end c) ≡ Err
-            (JournalFault.Damaged self.old.end)) }
+        ensures none { result ≡ Ok None
+            → Finds self.old.end self.old.limit (D.disk disk.old).reads (Ok None) }
+        ensures no_more { result ≡ Ok None → HasNoMore self.old.end (D.disk disk.old).reads }
+        ensures some { (n : ℕ) → result ≡ Ok (Some n)
+            → Finds self.old.end self.old.limit (D.disk disk.old).reads (Ok (Some (take n out.new))) }
+        ensures first_of_more { (n : ℕ) → result ≡ Ok (Some n)
+            → HoldsRecord self.old.end self.new.end (take n out.new) (D.disk disk.old).reads }
+        ensures damaged { IfDamaged result (λ n. (n ≡ self.old.end)
+            × FindsDamage self.old.end self.old.limit (D.disk disk.old).reads) }
 
         // `Damaged` never comes where nothing is damaged, and then the rest isn't either.
-        ensures never_damaged { (n : ℕ) → IsErrOf result (JournalFault.Damaged n) → (c : List ℕ)
-            → (D.disk disk.old).reads c → IsUndamaged self.old.limit self.old.end c → ⊥ }
-        ensures still_undamaged { (n : ℕ) → result ≡ Ok (Some n) → (c : List ℕ) → (D.disk disk.old).reads c
-            → IsUndamaged self.old.limit self.old.end c → IsUndamaged self.old.limit self.new.end c }
+        ensures never_damaged { IfDamaged result (λ n. (c : List ℕ) → (D.disk disk.old).reads c
+            → IsUndamaged self.old.limit self.old.end c → ⊥) }
+        ensures still_undamaged { (n : ℕ) → result ≡ Ok (Some n)
+            → StaysUndamaged self.old.limit self.old.end self.new.end (D.disk disk.old).reads }
 
         ensures moved { (n : ℕ) → result ≡ Ok (Some n) → self.new ≡ longer n self.old }
         ensures fits { (n : ℕ) → result ≡ Ok (Some n) → self.old.end + 5 + n + 1 ≤ self.old.limit }
         ensures ended { result ≡ Ok None → self.new ≡ at_end self.old }
-        ensures stays { (n : ℕ) → IsErrOf result (JournalFault.Damaged n) → self.new ≡ self.old }
+        ensures stays { IfDamaged result (λ n. self.new ≡ self.old) }
         ensures broken { (n : ℕ) → IsErrOf result (JournalFault.Disk n) → self.new ≡ broken self.old }
         ensures in_place { self.new.closed ≡ false
             → IsInPlace self.new (D.disk disk.new) }
@@ -180,12 +177,11 @@ impl Journal {
         requires ready { self.old.ready ≡ true }
         requires in_place { self.old.closed ≡ false
             → IsInPlace self.old (D.disk disk.old) }
-        ensures closed { self.old.closed ≡ true → (result ≡ Err JournalFault.Closed)
-            × (self.new ≡ self.old) × (disk.new ≡ disk.old) }
-        ensures full { self.old.closed ≡ false → Passes self.old.end (length bytes.now) self.old.limit
-            → (result ≡ Err (JournalFault.Full self.old.end)) × (self.new ≡ self.old)
-            × (disk.new ≡ disk.old) }
-        ensures fits { self.old.closed ≡ false → self.old.end + 5 + length bytes.now + 1 ≤ self.old.limit
+        ensures closed { self.old.closed ≡ true
+            → OnlyAnswers result JournalFault.Closed self.old self.new disk.old disk.new }
+        ensures full { self.old.closed ≡ false → LacksSpace self.old (length bytes.now)
+            → OnlyAnswersFull result self.old self.new disk.old disk.new }
+        ensures fits { self.old.closed ≡ false → HasSpace self.old (length bytes.now)
             → IsOkOrDisk result × OnErr result (self.new ≡ broken self.old) }
         ensures counts { CountsDisk (D.Counted.seen disk.old).faults (D.Counted.seen disk.new).faults result }
         ensures longer { OnOk result (self.new ≡ longer (length bytes.now) self.old) }
@@ -199,8 +195,7 @@ impl Journal {
         // A crash at any moment of the call leaves the records from before it, with the new one or without,
         // and nothing that a journal under the same limit would find damaged.
         ensures any_moment { self.old.closed ≡ false
-            → LeavesOnly (D.disk disk.old) (D.disk disk.new)
-            (LeavesBeforeOrAfter self.old.limit (D.disk disk.old).reads bytes.now) }
+            → LeavesWithOrWithout self.old.limit (D.disk disk.old) (D.disk disk.new) bytes.now }
     {
         // A closed journal writes nothing.
         if self.closed {

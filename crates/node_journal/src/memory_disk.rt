@@ -3,11 +3,11 @@ ghost use Rattle.std.specs.Prelude.{◌≡◌, ℕ, List, ◌≤◌, ◌↔◌, 
 ghost use Rattle.std.proofs.Common.{sym, subst, ◌∙◌};
 ghost use Rattle.express_words.specs.Causes.{HasCause};
 ghost use Rattle.express_words.specs.Seen.{silent};
-ghost use Rattle.express_words.specs.Memory.{IsListed, started, passed, failed};
+ghost use Rattle.express_words.specs.Memory.{IsListed};
 ghost use Rattle.node_journal.specs.Disk.{CountsFault, Holds, Torn, Copies, Follows, Within, IsUntouched, Elapses};
-ghost use Rattle.node_journal.specs.History.{began, bytes_of, left_of, seen_of, Reads, MayLeave, MayLeaveAfter, moment_of};
+ghost use Rattle.node_journal.specs.History.{bytes_of, left_of, seen_of, Reads, MayLeave, MayLeaveAfter, moment_of};
 ghost use Rattle.std.proofs.Math.Nat.{sub_self, sub-eq-zero_of_le};
-ghost use Rattle.node_journal.specs.Memory.{DiskState, LacksRoom, write_noted, sync_noted};
+ghost use Rattle.node_journal.specs.Memory.{DiskState, LacksRoom, call_failed, call_passed, disk_made, write_noted, sync_noted};
 
 use crate::Disk;
 use crate::disk_log::DiskLog;
@@ -74,11 +74,7 @@ impl MemoryDisk {
         room: usize,
         failing: &[u64],
     ) -> Result<MemoryDisk, NoMemory>
-        ensures { IfOk result (λ d. d ≡ record {
-          arriving = arriving.now;
-          log = record { history = began bytes.now; calls = calls; room = room };
-          tally = started failing.now;
-        }) }
+        ensures { IfOk result (λ d. d ≡ disk_made bytes.now arriving.now calls room failing.now) }
     {
         let Ok(arriving) = Vec::from_slice(alloc, arriving) else {
             return Err(NoMemory);
@@ -142,16 +138,8 @@ impl Disk for MemoryDisk {
         ensures cause { HasCause self.old.tally.faults self.new.tally.faults result }
         ensures counts { CountsFault self.old.tally.faults self.new.tally.faults result }
         ensures fails { IsErr result ↔ IsListed self.old.tally }
-        ensures after { OnOk result (self.new ≡ record {
-          arriving = self.old.arriving;
-          log = self.old.log;
-          tally = passed self.old.tally;
-        }) }
-        ensures stays { OnErr result ((self.new ≡ record {
-          arriving = self.old.arriving;
-          log = self.old.log;
-          tally = failed self.old.tally;
-        }) × (out.new ≡ out.old)) }
+        ensures after { OnOk result (self.new ≡ call_passed self.old.log self.old) }
+        ensures stays { OnErr result ((self.new ≡ call_failed self.old) × (out.new ≡ out.old)) }
     {
         if self.calls.begin() {
             self.calls.fail();
@@ -170,16 +158,9 @@ impl Disk for MemoryDisk {
         ensures cause { HasCause self.old.tally.faults self.new.tally.faults result }
         ensures counts { CountsFault self.old.tally.faults self.new.tally.faults result }
         ensures fails { IsErr result ↔ (IsListed self.old.tally ⊎ LacksRoom self.old.log (length bytes.now)) }
-        ensures after { OnOk result (self.new ≡ record {
-          arriving = self.old.arriving;
-          log = write_noted at bytes.now self.old.log;
-          tally = passed self.old.tally;
-        }) }
-        ensures stays { OnErr result (self.new ≡ record {
-          arriving = self.old.arriving;
-          log = self.old.log;
-          tally = failed self.old.tally;
-        }) }
+        ensures after { OnOk result
+            (self.new ≡ call_passed (write_noted at bytes.now self.old.log) self.old) }
+        ensures stays { OnErr result (self.new ≡ call_failed self.old) }
     {
         if self.calls.begin() || self.log.lacks_room(bytes.len()) {
             self.calls.fail();
@@ -199,16 +180,8 @@ impl Disk for MemoryDisk {
         ensures cause { HasCause self.old.tally.faults self.new.tally.faults result }
         ensures counts { CountsFault self.old.tally.faults self.new.tally.faults result }
         ensures fails { IsErr result ↔ (IsListed self.old.tally ⊎ LacksRoom self.old.log 0) }
-        ensures after { OnOk result (self.new ≡ record {
-          arriving = self.old.arriving;
-          log = sync_noted self.old.log;
-          tally = passed self.old.tally;
-        }) }
-        ensures stays { OnErr result (self.new ≡ record {
-          arriving = self.old.arriving;
-          log = self.old.log;
-          tally = failed self.old.tally;
-        }) }
+        ensures after { OnOk result (self.new ≡ call_passed (sync_noted self.old.log) self.old) }
+        ensures stays { OnErr result (self.new ≡ call_failed self.old) }
     {
         if self.calls.begin() || self.log.lacks_room(0) {
             self.calls.fail();
