@@ -7,6 +7,7 @@ use Rattle.client_core.specs.declared.progress.Outcome.TheVariants as outcome
 use Rattle.client_restart.specs.declared.ended.Ended.{Ended}
 use Rattle.client_restart.specs.declared.ended.KeptOutcome.{KeptOutcome}
 use Rattle.client_restart.specs.declared.ended.KeptOutcome.TheVariants as kept
+use Rattle.client_restart.specs.declared.errand.Errand.{Errand}
 use Rattle.client_restart.specs.declared.owned_box.OwnedBox.{OwnedBox}
 use Rattle.client_restart.specs.declared.standing.Core.{Core}
 use Rattle.client_restart.specs.Notes.{Noted, Heard, Owned, Remark}
@@ -24,6 +25,11 @@ with_message (outcome.Registered number) message = steps.Registered number
 with_message outcome.Accepted message = steps.Accepted
 with_message outcome.Message message = steps.Message message
 with_message (outcome.Refused refusal) message = steps.Refused refusal
+
+-- a request that ended, with this message where it is a read
+abbrev pub ended_by : ℕ → Errand → Outcome → List ℕ → EndedRequest
+ended_by serial errand outcome message =
+    record { serial = serial; errand = errand; outcome = with_message outcome message }
 
 -- behind the others the box, where one was registered
 abbrev pub boxes_of : List OwnedBox → ℕ → Outcome → List OwnedBox

@@ -1,18 +1,33 @@
 -- What a call does that notes something before its step.
-use Rattle.std.specs.Prelude.{◌≡◌, ℕ, ◌+◌, ◌≤◌, List, [], ◌∷◌, ◌++◌, true, false}
+use Rattle.std.specs.Prelude.{◌≡◌, ℕ, List, [], ◌∷◌, ◌++◌, true, false}
 use Rattle.std.specs.Prelude.{Result, IsErrOf, OnOk, OnErr}
 use Rattle.express_words.specs.Seen.{Seen}
 use Rattle.node_journal.specs.Disk.{DiskSeen, LeavesOnly, Within}
-use Rattle.node_journal.specs.Journal.{JournalState, Passes, longer, broken}
+use Rattle.node_journal.specs.Records.{Appended}
+use Rattle.node_journal.specs.Journal.{JournalState, HasSpace, LacksSpace, IsOkOrDisk, OnlyAnswers}
+use Rattle.node_journal.specs.Journal.{OnlyAnswersFull, LeavesWithOrWithout, longer, broken}
+use Rattle.node_journal.specs.declared.fault.JournalFault.{JournalFault}
 use Rattle.node_journal.specs.declared.fault.JournalFault.TheVariants.{Closed, Full}
 use Rattle.client_restart.specs.declared.fault.KeepFault.{KeepFault}
 use Rattle.client_restart.specs.declared.fault.KeepFault.TheVariants.{Journal, NoMemory}
 use Rattle.client_restart.specs.declared.opening.ClientOpening.{ClientOpening}
 use Rattle.client_restart.specs.Faults.{Counts, IsOkOrDiskFault}
 use Rattle.client_restart.specs.Cores.{TakesMemory}
-use Rattle.client_restart.specs.Notes.{Noted, size_of}
+use Rattle.client_restart.specs.Notes.{Noted, note_record, size_of}
 use Rattle.client_restart.specs.Steps.{CoreState, step_of}
 use Rattle.client_restart.specs.Kept.{KeptState, HoldsNotes, LeavesNotes, Stands}
+
+-- The record of a note goes behind a journal's end.
+pub record WritesNote {D : Type 0} (shows : D → DiskSeen) (note : Noted) (old new : JournalState)
+    (disk disk_new : D) (r : Result (Unit {0}) JournalFault) : Type 0 where
+  pub closed : old.closed ≡ true → OnlyAnswers r Closed old new disk disk_new
+  pub full : old.closed ≡ false → LacksSpace old (size_of note) → OnlyAnswersFull r old new disk disk_new
+  pub fits : old.closed ≡ false → HasSpace old (size_of note) → IsOkOrDisk r × OnErr r (new ≡ broken old)
+  pub longer : OnOk r (new ≡ longer (size_of note) old)
+  pub added : OnOk r ((c : List ℕ) → (shows disk_new).reads c
+      → Appended (shows disk).reads (note_record note) c)
+  pub any_moment : old.closed ≡ false
+      → LeavesWithOrWithout old.limit (shows disk) (shows disk_new) (note_record note)
 
 -- what is seen of a kept client
 pub record Sight : Type 1 where
@@ -35,9 +50,9 @@ sight shows counts k = record {
 pub record IsJudged {T : Type 0} (note : Noted) (j now : JournalState) (r : Result T KeepFault) : Type 0 where
   pub memory : IsErrOf r NoMemory → TakesMemory note
   pub closed : (IsErrOf r NoMemory → ⊥) → j.closed ≡ true → IsErrOf r (Journal Closed)
-  pub full : (IsErrOf r NoMemory → ⊥) → j.closed ≡ false → Passes j.end (size_of note) j.limit
+  pub full : (IsErrOf r NoMemory → ⊥) → j.closed ≡ false → LacksSpace j (size_of note)
       → IsErrOf r (Journal (Full j.end))
-  pub fits : (IsErrOf r NoMemory → ⊥) → j.closed ≡ false → j.end + 5 + size_of note + 1 ≤ j.limit
+  pub fits : (IsErrOf r NoMemory → ⊥) → j.closed ≡ false → HasSpace j (size_of note)
       → IsOkOrDiskFault r × OnErr r (now ≡ broken j)
 
 -- Where the answer is Ok the note is on the disk and its step was taken, and where it is a fault no step was
@@ -56,3 +71,8 @@ pub record Keeps {T : Type 0} (note : Noted) (old new : Sight) (r : Result T Kee
       → LeavesOnly old.disk new.disk (LeavesNotes old.journal.limit old.opening notes note)
   pub judged : IsJudged note old.journal new.journal r
   pub counts : Counts old.faults new.faults r
+
+-- from the one client to the other a call does it
+abbrev pub CallKeeps : {D T : Type 0} → (D → DiskSeen) → (D → Seen) → Noted → (old new : KeptState D)
+    → Result T KeepFault → Type 0
+CallKeeps shows seen note old new r = Keeps note (sight shows seen old) (sight shows seen new) r

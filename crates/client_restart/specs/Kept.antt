@@ -1,10 +1,12 @@
 -- A client with its journal, and what stands on its disk.
-use Rattle.std.specs.Prelude.{◌≡◌, ◌⊎◌, ℕ, ◌≤◌, List, [], ◌∷◌, ◌++◌, length, drop, true, false, Err}
+use Rattle.std.specs.Prelude.{◌≡◌, ◌⊎◌, ℕ, ◌≤◌, List, [], ◌∷◌, ◌++◌, length, drop, true, false, Result, Err}
+use Rattle.std.specs.Prelude.{MatchResult}
 use Rattle.node_journal.specs.Disk.{DiskSeen, LeavesOnly}
 use Rattle.node_journal.specs.Records.{content, records_from, IsUndamaged, LeavesNoByte}
 use Rattle.node_journal.specs.Next.{found}
 use Rattle.node_journal.specs.Journal.{JournalState, IsInPlace}
 use Rattle.node_journal.specs.declared.fault.JournalFault.TheVariants.{Damaged}
+use Rattle.client_restart.specs.declared.fault.KeepFault.{KeepFault}
 use Rattle.client_restart.specs.declared.opening.ClientOpening.{ClientOpening}
 use Rattle.client_restart.specs.declared.standing.Core.{Core}
 use Rattle.client_restart.specs.Cores.{core_in, IsCore}
@@ -23,6 +25,16 @@ pub record KeptState (D : Type 0) : Type 0 where
 -- the disk's content is the records of the opening and of these notes
 abbrev pub HoldsNotes : ClientOpening → List Noted → (List ℕ → Type 0) → Type 0
 HoldsNotes o notes reads = (c : List ℕ) → reads c → content c ≡ records_of o notes
+
+-- Where the disk's content is the records of an opening and of notes, this is that opening and their fold.
+abbrev pub IsToldBy : (List ℕ → Type 0) → ClientOpening → CoreState → Type 0
+IsToldBy reads opening core = (o : ClientOpening) (notes : List Noted) (c : List ℕ) → reads c → IsOpening o
+    → AllNotes notes → HoldsNotes o notes reads → (opening ≡ o) × (core ≡ fold o notes)
+
+-- the disk's content is not the records of an opening and of notes
+abbrev pub HoldsNoNotes : (List ℕ → Type 0) → Type 0
+HoldsNoNotes reads = (o : ClientOpening) (notes : List Noted) (c : List ℕ) → reads c → IsOpening o
+    → AllNotes notes → HoldsNotes o notes reads → ⊥
 
 -- The client is the fold of the opening and of the notes that stand on the disk.
 pub record Stands (o : ClientOpening) (core : CoreState) (reads : List ℕ → Type 0) : Type 0 where
@@ -47,6 +59,10 @@ LeavesOpening limit o c =
 -- Where a crash before leaves no byte, one at any moment since then leaves just this.
 unfoldable pub MakesOnly : ℕ → ClientOpening → (old new : DiskSeen) → Type 0
 MakesOnly limit o old new = LeavesNoByte old.may_leave → LeavesOnly old new (LeavesOpening limit o)
+
+-- P of the disk that comes back, with the client or beside a fault
+abbrev pub OnDisk : {D : Type 0} → Result (KeptState D) (KeepFault × D) → (D → Type 0) → Type 0
+OnDisk result P = MatchResult result (λ k. P k.disk) (λ x. P x.1)
 
 -- until a call on the disk fails, the journal is in place and what stands on its disk gives the client
 pub record IsKept (o : ClientOpening) (core : Core) (journal : JournalState) (disk : DiskSeen) : Type 0 where

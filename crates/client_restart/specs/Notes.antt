@@ -4,6 +4,7 @@ use Rattle.std.specs.Int.{w32, w128, to_be_bytes}
 use Rattle.frame_rules.specs.Whole.{whole}
 use Rattle.mailbox_rules.specs.Requests.{Request, Register, Write, Read, Retire}
 use Rattle.client_core.specs.Requests.{plain_request}
+use Rattle.client_core.specs.declared.request.Request.{Request as Given}
 use Rattle.client_restart.specs.declared.note.Note.{Note}
 use Rattle.client_restart.specs.declared.note.Note.TheVariants as note
 
@@ -25,6 +26,10 @@ plain_note note.Told = Told
 plain_note note.GivenUp = GivenUp
 plain_note (note.Owned b) = Owned b.number b.serial
 plain_note (note.Remark words) = Remark words.now
+
+-- the note that a request was asked
+abbrev pub asked_note : Given → Noted
+asked_note request = Asked (plain_request request)
 
 -- a tag for each kind, and behind it an address of 16 bytes, with the message of a write; the number of an
 -- own box in four bytes; the frame; a box's number and serial in four bytes each; or the words

@@ -34,6 +34,11 @@ pub record StepsThrough (notes : List Noted) (start end : ℕ) (before now : Cor
   pub folded : now ≡ fold_from before notes
   pub split : (c : List ℕ) → reads c → records_from start c ≡ map note_record notes ++ records_from end c
 
+-- Notes stand from this byte to the end, and their steps were taken.
+abbrev pub StepsToEnd : ℕ → (before now : CoreState) → (List ℕ → Type 0) → Type 0
+StepsToEnd start before now reads = (notes : List Noted) × AllNotes notes × (now ≡ fold_from before notes)
+    × ((c : List ℕ) → reads c → records_from start c ≡ map note_record notes)
+
 -- the record at this byte is no note's
 abbrev pub StandsForeign : ℕ → (List ℕ → Type 0) → Type 0
 StandsForeign end reads = (r : List ℕ) × IsNoNote r

@@ -5,8 +5,8 @@ ghost use Rattle.client_restart.specs.Steps.{errand_of};
 
 use client_core::Request;
 
-/// A request without the message of a write. A read or a retire names one of the client's own boxes, counted from 0
-/// in the order in which it got them.
+/// A request without the message of a write. A read or a retire names one of the client's own boxes, counted
+/// from 0 in the order in which it got them.
 #[derive(Clone, Copy, Debug, PartialEq, Eq)]
 pub enum Errand {
     Register(u128),

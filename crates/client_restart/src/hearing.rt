@@ -1,9 +1,8 @@
 //! Which requests and replies are kept.
 ghost use Rattle.std.specs.Prelude.{◌≡◌, ◌≤◌, ◌<◌, ◌^◌, ◌↔◌, IsTrue, IsOk, length};
 ghost use Rattle.frame_rules.specs.Whole.{whole as whole_of};
-ghost use Rattle.client_core.specs.Requests.{plain_request};
 ghost use Rattle.client_restart.specs.Hears.{makes_step};
-ghost use Rattle.client_restart.specs.Notes.{Asked, IsNote, plain_note};
+ghost use Rattle.client_restart.specs.Notes.{IsNote, asked_note, plain_note};
 
 use crate::note::Note;
 use client_core::{Progress, Request};
@@ -48,7 +47,7 @@ fn own_of(number: u32) -> u32
 
 /// The note that a request was asked.
 pub(crate) fn asked_note<'a>(request: &Request<'a>) -> Note<'a>
-    ensures note { plain_note result ≡ Asked (plain_request request.now) }
+    ensures note { plain_note result ≡ asked_note request.now }
     ensures is { IsNote (plain_note result) }
 {
     match *request {

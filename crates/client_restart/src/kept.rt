@@ -1,5 +1,5 @@
 //! A client that writes each request and each reply to a journal before it acts on it.
-ghost use Rattle.std.specs.Prelude.{◌≡◌, ◌≢◌, ◌↔◌, ◌≤◌, ◌<◌, ◌+◌, ◌^◌, ℕ, List, [], ◌∷◌, ◌++◌, true, false, length, take, drop, map, nat_le, is_none, Some, None, Ok, Err, IfOk, IfErr, OnOk, OnErr, IsOk, MatchResult, option_map};
+ghost use Rattle.std.specs.Prelude.{◌≡◌, ◌≢◌, ◌↔◌, ◌≤◌, ◌<◌, ◌+◌, ◌^◌, ℕ, List, [], ◌∷◌, ◌++◌, true, false, length, take, drop, map, nat_le, is_none, Some, None, Ok, Err, IfOk, IfErr, OnOk, OnErr, IsOk, option_map};
 ghost use Rattle.frame_rules.specs.Room.{HasRoom};
 ghost use Rattle.step_rules.specs.ClientAsks.{asked, sends};
 ghost use Rattle.step_rules.specs.ClientReplies.{on_reply};
@@ -7,13 +7,13 @@ ghost use Rattle.client_core.specs.Requests.{plain_request, fault_in};
 ghost use Rattle.client_core.specs.Answers.{addressed, bytes_of, progress_in};
 ghost use Rattle.client_core.specs.LastProof.{at_last_proof};
 ghost use Rattle.node_journal.specs.Disk.{IsUntouched, Within};
-ghost use Rattle.node_journal.specs.Records.{content, IsUndamaged};
+ghost use Rattle.node_journal.specs.Records.{content, GivesNoByte, IsUndamaged};
 ghost use Rattle.client_restart.specs.Cores.{ended_in};
 ghost use Rattle.client_restart.specs.Faults.{OnForeign, OnDamaged, OnNotEmpty, OnFull, OnNoMemory, OnStill, IsOfCreate, IsOfReopen, CountsFault};
-ghost use Rattle.client_restart.specs.Hears.{makes_step};
-ghost use Rattle.client_restart.specs.Notes.{Asked, FitsRecord, GivenUp, Heard, IsNote, Noted, Owned, Remark, Told, plain_note};
+ghost use Rattle.client_restart.specs.Hears.{IsTaken, makes_step_at};
+ghost use Rattle.client_restart.specs.Notes.{FitsRecord, GivenUp, Heard, IsNote, Owned, Remark, Told, asked_note, plain_note};
 ghost use Rattle.client_restart.specs.Openings.{IsOpening};
-ghost use Rattle.client_restart.specs.Records.{AllNotes, IsForeign};
+ghost use Rattle.client_restart.specs.Records.{IsForeign};
 ghost use Rattle.client_restart.specs.Steps.{fold};
 
 use crate::ended::Ended;
@@ -53,11 +53,11 @@ impl<D: Disk> Model for KeptClient<D> {
 }
 
 impl<D: Disk> KeptClient<D> {
-    ghost use Rattle.client_restart.specs.Kept.{HoldsNotes, IsDamagedAt, MakesOnly, Stands};
-    ghost use Rattle.client_restart.specs.Keeps.{Keeps, sight};
+    ghost use Rattle.client_restart.specs.Kept.{HoldsNoNotes, HoldsNotes, IsDamagedAt, IsToldBy, MakesOnly, OnDisk, Stands};
+    ghost use Rattle.client_restart.specs.Keeps.{CallKeeps};
 
-    /// A client before its first request, on a disk with no byte. No more than `limit` bytes of the disk will be
-    /// used.
+    /// A client before its first request, on a disk with no byte. No more than `limit` bytes of the disk will
+    /// be used.
     pub fn create(
         alloc: Global,
         opening: &ClientOpening,
@@ -74,25 +74,25 @@ impl<D: Disk> KeptClient<D> {
         ensures undamaged { IfOk result (λ k. (c : List ℕ) → (D.disk k.disk).reads c
             → IsUndamaged limit 0 c) }
         ensures durable { IfOk result (λ k. Within (D.disk k.disk).may_leave (D.disk k.disk).reads) }
-        ensures empty { OnOk result ((c : List ℕ) → (D.disk disk).reads c → c ≡ []) }
+        ensures empty { OnOk result (GivesNoByte (D.disk disk).reads) }
         ensures fits { OnOk result (53 ≤ limit) }
 
         ensures cause { IfErr result (λ x. IsOfCreate x.0) }
         ensures not_empty { IfErr result (λ x. OnNotEmpty x.0 ((c : List ℕ) → (D.disk disk).reads c
             → c ≢ [])) }
         ensures full { IfErr result (λ x. OnFull x.0 (λ n. (n ≡ 0) × (limit < 53)
-            × ((c : List ℕ) → (D.disk disk).reads c → c ≡ []))) }
-        ensures not_empty_stays { IfErr result (λ x. OnNotEmpty x.0 (IsUntouched (D.disk disk) (D.disk x.1))) }
+            × GivesNoByte (D.disk disk).reads)) }
+        ensures not_empty_stays { IfErr result
+            (λ x. OnNotEmpty x.0 (IsUntouched (D.disk disk) (D.disk x.1))) }
         ensures full_stays { IfErr result (λ x. OnFull x.0 (λ n. IsUntouched (D.disk disk) (D.disk x.1))) }
         ensures no_memory_stays { IfErr result (λ x. OnNoMemory x.0 (x.1 ≡ disk)) }
         ensures counts_ok { IfOk result (λ k. (D.Counted.seen k.disk).faults ≡ (D.Counted.seen disk).faults) }
-        ensures counts { IfErr result (λ x. CountsFault (D.Counted.seen disk).faults (D.Counted.seen x.1).faults x.0) }
+        ensures counts { IfErr result
+            (λ x. CountsFault (D.Counted.seen disk).faults (D.Counted.seen x.1).faults x.0) }
 
-        // Where a crash before the call leaves no byte, a crash at any moment of it leaves no record, or exactly
-        // the opening's.
-        ensures any_moment { MatchResult result
-            (λ k. MakesOnly limit opening.now (D.disk disk) (D.disk k.disk))
-            (λ x. MakesOnly limit opening.now (D.disk disk) (D.disk x.1)) }
+        // Where a crash before the call leaves no byte, a crash at any moment of it leaves no record, or
+        // exactly the opening's.
+        ensures any_moment { OnDisk result (λ d. MakesOnly limit opening.now (D.disk disk) (D.disk d)) }
     {
         let Ok(core) = Core::open(alloc, opening) else {
             return Err((KeepFault::NoMemory, disk));
@@ -116,9 +116,7 @@ impl<D: Disk> KeptClient<D> {
         // What stands on the disk is an opening and notes, and the client is their fold.
         ensures is_opening { IfOk result (λ k. IsOpening k.opening) }
         ensures stands { IfOk result (λ k. Stands k.opening k.core (D.disk disk).reads) }
-        ensures told { IfOk result (λ k. (o : ClientOpening) (notes : List Noted) (c : List ℕ)
-            → (D.disk disk).reads c → IsOpening o → AllNotes notes → HoldsNotes o notes (D.disk disk).reads
-            → (k.opening ≡ o) × (k.core ≡ fold o notes)) }
+        ensures told { IfOk result (λ k. IsToldBy (D.disk disk).reads k.opening k.core) }
         ensures undamaged { IfOk result (λ k. (c : List ℕ) → (D.disk k.disk).reads c
             → IsUndamaged limit 0 c) }
         ensures durable { IfOk result (λ k. Within (D.disk k.disk).may_leave (D.disk k.disk).reads) }
@@ -129,16 +127,15 @@ impl<D: Disk> KeptClient<D> {
         ensures cause { IfErr result (λ x. IsOfReopen x.0) }
         ensures foreign { IfErr result (λ x. OnForeign x.0 (λ n. (c : List ℕ) → (D.disk disk).reads c
             → IsForeign n (content c))) }
-        ensures never_foreign { IfErr result (λ x. OnForeign x.0 (λ n. (o : ClientOpening)
-            (notes : List Noted) (c : List ℕ) → (D.disk disk).reads c → IsOpening o → AllNotes notes
-            → HoldsNotes o notes (D.disk disk).reads → ⊥)) }
+        ensures never_foreign { IfErr result (λ x. OnForeign x.0 (λ n. HoldsNoNotes (D.disk disk).reads)) }
         ensures damaged { IfErr result (λ x. OnDamaged x.0 (λ n. (c : List ℕ) → (D.disk disk).reads c
             → IsDamagedAt limit n c)) }
         ensures never_damaged { IfErr result (λ x. OnDamaged x.0 (λ n. (c : List ℕ) → (D.disk disk).reads c
             → IsUndamaged limit 0 c → ⊥)) }
         ensures untouched { IfErr result (λ x. IsUntouched (D.disk disk) (D.disk x.1)) }
         ensures counts_ok { IfOk result (λ k. (D.Counted.seen k.disk).faults ≡ (D.Counted.seen disk).faults) }
-        ensures counts { IfErr result (λ x. CountsFault (D.Counted.seen disk).faults (D.Counted.seen x.1).faults x.0) }
+        ensures counts { IfErr result
+            (λ x. CountsFault (D.Counted.seen disk).faults (D.Counted.seen x.1).faults x.0) }
     {
         let mut disk = disk;
         match find(alloc, &mut disk, limit) {
@@ -164,8 +161,7 @@ impl<D: Disk> KeptClient<D> {
     fn take(&mut self, note: &Note<'_>) -> Result<(), KeepFault>
         requires is_note { IsNote (plain_note note.now) }
         requires fits { FitsRecord (plain_note note.now) }
-        ensures keeps { Keeps (plain_note note.now) (sight D.disk D.Counted.seen self.old)
-            (sight D.disk D.Counted.seen self.new) result }
+        ensures keeps { CallKeeps D.disk D.Counted.seen (plain_note note.now) self.old self.new result }
         ensures stays { OnStill result (self.new ≡ self.old) }
     {
         let Ok(room) = self.core.room_for(self.alloc, note) else {
@@ -180,18 +176,17 @@ impl<D: Disk> KeptClient<D> {
         }
     }
 
-    /// Takes a request, which is on the disk before its first frame can be had. `Ok(Err(_))` is the refusal of
-    /// `Client::ask`, and then nothing is kept.
+    /// Takes a request, which is on the disk before its first frame can be had. `Ok(Err(_))` is the refusal
+    /// of `Client::ask`, and then nothing is kept.
     pub fn ask(&mut self, request: &Request<'_>) -> Result<Result<(), AskFault>, KeepFault>
         ensures refused { IfOk result (λ taken. IfErr taken (λ fault.
             asked self.old.core.client (plain_request request.now) ≡ Err (fault_in fault))) }
         ensures refused_stays { IfOk result (λ taken. OnErr taken (self.new ≡ self.old)) }
-        ensures taken { IfOk result (λ taken. OnOk taken
-            (IsOk (asked self.old.core.client (plain_request request.now)))) }
-        ensures not_kept { OnErr result (IsOk (asked self.old.core.client (plain_request request.now))) }
-        ensures keeps { IsOk (asked self.old.core.client (plain_request request.now))
-            → Keeps (Asked (plain_request request.now)) (sight D.disk D.Counted.seen self.old)
-            (sight D.disk D.Counted.seen self.new) result }
+        ensures taken { IfOk result
+            (λ taken. OnOk taken (IsTaken self.old.core (plain_request request.now))) }
+        ensures not_kept { OnErr result (IsTaken self.old.core (plain_request request.now)) }
+        ensures keeps { IsTaken self.old.core (plain_request request.now)
+            → CallKeeps D.disk D.Counted.seen (asked_note request.now) self.old self.new result }
         ensures stays { OnStill result (self.new ≡ self.old) }
     {
         match self.core.client.fault_at(request) {
@@ -203,9 +198,9 @@ impl<D: Disk> KeptClient<D> {
         }
     }
 
-    /// Writes the frame of the present step to the front of `out`, and gives the server that it goes to, the leader 0
-    /// or the helper 1, and its length in bytes. None exactly where no request is current. The frame is the same each
-    /// time, also after a reopening.
+    /// Writes the frame of the present step to the front of `out`, and gives the server that it goes to, the
+    /// leader 0 or the helper 1, and its length in bytes. None exactly where no request is current. The frame
+    /// is the same each time, also after a reopening.
     pub fn send(&self, out: &mut [u8]) -> Option<(u8, usize)>
         requires room { HasRoom out.old }
         ensures none { (result ≡ None) ↔ (self.now.core.client.current ≡ None) }
@@ -223,17 +218,16 @@ impl<D: Disk> KeptClient<D> {
         self.core.client.send(out)
     }
 
-    /// Takes a server's bytes, which may be any, as a reply to the present step. A reply that makes a step is on the
-    /// disk before it; one that is ignored or comes too early isn't kept, since it changes nothing. An outcome stands
-    /// among those that weren't told from then on.
+    /// Takes a server's bytes, which may be any, as a reply to the present step. A reply that makes a step is
+    /// on the disk before it; one that is ignored or comes too early isn't kept, since it changes nothing. An
+    /// outcome stands among those that weren't told from then on.
     pub fn hear(&mut self, frame: &[u8]) -> Result<Progress, KeepFault>
         ensures progress { IfOk result (λ p.
             p ≡ progress_in (on_reply self.old.core.client frame.now).progress) }
-        ensures no_step { makes_step (progress_in (on_reply self.old.core.client frame.now).progress) ≡ false
+        ensures no_step { makes_step_at self.old.core frame.now ≡ false
             → IsOk result × (self.new ≡ self.old) }
-        ensures keeps { makes_step (progress_in (on_reply self.old.core.client frame.now).progress) ≡ true
-            → Keeps (Heard frame.now) (sight D.disk D.Counted.seen self.old)
-            (sight D.disk D.Counted.seen self.new) result }
+        ensures keeps { makes_step_at self.old.core frame.now ≡ true
+            → CallKeeps D.disk D.Counted.seen (Heard frame.now) self.old self.new result }
         ensures stays { OnStill result (self.new ≡ self.old) }
     {
         let progress = self.core.client.progress_at(frame);
@@ -270,12 +264,11 @@ impl<D: Disk> KeptClient<D> {
         &self.core.untold
     }
 
-    /// The oldest of those that weren't told was told: it is with the user. Until then it is told again after each
-    /// reopening.
+    /// The oldest of those that weren't told was told: it is with the user. Until then it is told again after
+    /// each reopening.
     pub fn told(&mut self) -> Result<(), KeepFault>
         requires some { self.old.core.untold ≢ [] }
-        ensures keeps { Keeps Told (sight D.disk D.Counted.seen self.old)
-            (sight D.disk D.Counted.seen self.new) result }
+        ensures keeps { CallKeeps D.disk D.Counted.seen Told self.old self.new result }
         ensures stays { OnStill result (self.new ≡ self.old) }
     {
         self.take(&Note::Told)
@@ -284,19 +277,18 @@ impl<D: Disk> KeptClient<D> {
     /// Gives up the current request, as one whose answer can't come any more. Its serial never comes again.
     pub fn give_up(&mut self) -> Result<(), KeepFault>
         requires busy { self.old.core.client.current ≢ None }
-        ensures keeps { Keeps GivenUp (sight D.disk D.Counted.seen self.old)
-            (sight D.disk D.Counted.seen self.new) result }
+        ensures keeps { CallKeeps D.disk D.Counted.seen GivenUp self.old self.new result }
         ensures stays { OnStill result (self.new ≡ self.old) }
     {
         self.take(&Note::GivenUp)
     }
 
-    /// Owns the box of this number, which this serial registered in an earlier journal of the same seed and lane.
+    /// Owns the box of this number, which this serial registered in an earlier journal of the same seed and
+    /// lane.
     pub fn own(&mut self, number: u32, serial: u32) -> Result<(), KeepFault>
         requires idle { self.old.core.client.current ≡ None }
         requires room { nat_le self.old.core.client.capacity (length self.old.core.client.owned) ≡ false }
-        ensures keeps { Keeps (Owned number serial) (sight D.disk D.Counted.seen self.old)
-            (sight D.disk D.Counted.seen self.new) result }
+        ensures keeps { CallKeeps D.disk D.Counted.seen (Owned number serial) self.old self.new result }
         ensures stays { OnStill result (self.new ≡ self.old) }
     {
         self.take(&Note::Owned(OwnedBox { number, serial }))
@@ -305,8 +297,7 @@ impl<D: Disk> KeptClient<D> {
     /// Keeps words of the program above, which mean nothing to the client.
     pub fn remark(&mut self, words: &[u8]) -> Result<(), KeepFault>
         requires few { length words.now ≤ 8213 }
-        ensures keeps { Keeps (Remark words.now) (sight D.disk D.Counted.seen self.old)
-            (sight D.disk D.Counted.seen self.new) result }
+        ensures keeps { CallKeeps D.disk D.Counted.seen (Remark words.now) self.old self.new result }
         ensures stays { OnStill result (self.new ≡ self.old) }
     {
         self.take(&Note::Remark(words))
@@ -328,7 +319,8 @@ impl<D: Disk> KeptClient<D> {
 
     /// The current request.
     pub fn request(&self) -> Option<Request<'_>>
-        ensures { option_map plain_request result ≡ option_map (λ now. now.request) self.now.core.client.current }
+        ensures { option_map plain_request result
+            ≡ option_map (λ now. now.request) self.now.core.client.current }
     {
         self.core.client.request()
     }
@@ -347,8 +339,8 @@ impl<D: Disk> KeptClient<D> {
         self.core.client.is_full()
     }
 
-    /// The serial of the current request, or else of the next one; 2^32 where all are spent. A journal that follows
-    /// this one begins with it.
+    /// The serial of the current request, or else of the next one; 2^32 where all are spent. A journal that
+    /// follows this one begins with it.
     pub fn serial(&self) -> u64
         ensures { result ≡ self.now.core.client.serial }
     {

@@ -1,4 +1,5 @@
-//! The records of a client's journal: how it was opened, what it was asked, and what it heard, told and gave up.
+//! The records of a client's journal: how it was opened, what it was asked, and what it heard, told and gave
+//! up.
 #![tactic(auto)]
 
 mod ended;

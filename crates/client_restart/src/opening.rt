@@ -12,8 +12,8 @@ pub const OPENING_LEN: usize = 47;
 /// A client has room for at most so many boxes: as many as there are, and one more that is asked for.
 const MOST_CAPACITY: u32 = 4097;
 
-/// How a client is opened: its lane, the width of its messages in bytes, for how many boxes it has room, at most
-/// 4,097, its first serial, from 1, and the seed of what it draws.
+/// How a client is opened: its lane, the width of its messages in bytes, for how many boxes it has room, at
+/// most 4,097, its first serial, from 1, and the seed of what it draws.
 #[derive(Clone, Copy, Debug, PartialEq, Eq)]
 pub struct ClientOpening {
     pub lane: u16,

@@ -2,7 +2,7 @@
 ghost use Rattle.std.specs.Prelude.{◌≡◌, ◌<◌, ◌++◌, ◌∷◌, [], length, map, Some, IfOk, IsErr, option_map, vec_capacity};
 ghost use Rattle.express_words.specs.Limits.{IsWidth};
 ghost use Rattle.client_core.specs.Requests.{plain_request};
-ghost use Rattle.client_restart.specs.Cores.{boxes_of, core_in, ended_in, with_message, IsCore, HasRoomFor, TakesMemory};
+ghost use Rattle.client_restart.specs.Cores.{boxes_of, core_in, ended_by, ended_in, IsCore, HasRoomFor, TakesMemory};
 ghost use Rattle.client_restart.specs.Notes.{plain_note, Told};
 ghost use Rattle.client_restart.specs.Openings.{IsOpening};
 ghost use Rattle.client_restart.specs.Steps.{asked, errand_of, heard, opened, owned, step_of};
@@ -152,7 +152,7 @@ impl Core {
         ensures client { self.new.client ≡ self.old.client }
         ensures width { self.new.width ≡ self.old.width }
         ensures untold { map ended_in self.new.untold.items ≡ map ended_in self.old.untold.items
-            ++ record { serial = serial; errand = errand; outcome = with_message outcome message.items } ∷ [] }
+            ++ ended_by serial errand outcome message.items ∷ [] }
         ensures boxes { self.new.boxes.items ≡ boxes_of self.old.boxes.items serial outcome }
         ensures remarks { self.new.remarks ≡ self.old.remarks }
     {

@@ -19,8 +19,8 @@ invariant_of-self-in-Ok-keep g c =
       ready = c.keep.ensures.ready;
       in_place = c.keep.ensures.in_place;
       stands = stands_after c.self.inside.opening (core_in c.self.inside.core) (core_in c.step.new.self) n c.self.inside.journal c.keep.new.journal
-          (D.disk c.self.inside.disk).reads (D.disk c.keep.new.disk).reads stepped (ap (λ (j : JournalState). j.closed) c.in-Ok-keep.ensures.longer)
-          c.requires.is_note c.in-Ok-keep.ensures.added c.self.invariant.stands;
+          (D.disk c.self.inside.disk).reads (D.disk c.keep.new.disk).reads stepped (ap (λ (j : JournalState). j.closed) c.in-Ok-keep.ensures.writes.longer)
+          c.requires.is_note c.in-Ok-keep.ensures.writes.added c.self.invariant.stands;
     }
 
 pub returns-in-Ok-keep-clause-keeps : goal.returns-in-Ok-keep-clause-keeps
@@ -38,19 +38,19 @@ returns-in-Ok-keep-clause-keeps g c =
       opening = refl;
       step = stepped;
       no_step = tt;
-      added = λ notes held. holds_push o notes n reads (D.disk c.keep.new.disk).reads held c.in-Ok-keep.ensures.added;
-      longer = c.in-Ok-keep.ensures.longer;
+      added = λ notes held. holds_push o notes n reads (D.disk c.keep.new.disk).reads held c.in-Ok-keep.ensures.writes.added;
+      longer = c.in-Ok-keep.ensures.writes.longer;
       stands = stands_after o (core_in c.self.inside.core) (core_in c.step.new.self) n old c.keep.new.journal
-          reads (D.disk c.keep.new.disk).reads stepped (ap (λ (j : JournalState). j.closed) c.in-Ok-keep.ensures.longer)
-          c.requires.is_note c.in-Ok-keep.ensures.added c.self.invariant.stands;
+          reads (D.disk c.keep.new.disk).reads stepped (ap (λ (j : JournalState). j.closed) c.in-Ok-keep.ensures.writes.longer)
+          c.requires.is_note c.in-Ok-keep.ensures.writes.added c.self.invariant.stands;
       durable = λ still. (c.keep.ensures.in_place still).durable;
       any_moment = λ still notes held.
           leaves_only (D.disk c.self.inside.disk) (D.disk c.keep.new.disk) _ _
-          (leaves_notes old.limit o notes n reads held) (c.keep.ensures.any_moment still);
+          (leaves_notes old.limit o notes n reads held) (c.keep.ensures.writes.any_moment still);
       judged = record {
         memory = λ e. absurd (cc e);
-        closed = λ some closed. let no = (c.in-Ok-keep.ensures.closed closed).0 in absurd (cc no);
-        full = λ some still passes. let no = (c.in-Ok-keep.ensures.full still passes).0 in absurd (cc no);
+        closed = λ some closed. let no = (c.in-Ok-keep.ensures.writes.closed closed).0 in absurd (cc no);
+        full = λ some still passes. let no = (c.in-Ok-keep.ensures.writes.full still passes).0 in absurd (cc no);
         fits = λ some still fits. (tt, tt);
       };
       counts = c.in-Ok-keep.ensures.counts;
