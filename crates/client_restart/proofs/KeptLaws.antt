@@ -8,7 +8,7 @@ use Rattle.client_restart.specs.Openings.{IsOpening, opening_record}
 use Rattle.client_restart.specs.Notes.{Noted, IsNote, note_record}
 use Rattle.client_restart.specs.Records.{AllNotes, records_of, IsForeign}
 use Rattle.client_restart.specs.Steps.{CoreState, fold, fold_from, opened, step_of}
-use Rattle.client_restart.specs.Kept.{HoldsNotes, Stands, LeavesNotes, IsDamagedAt}
+use Rattle.client_restart.specs.Kept.{HoldsNotes, Stands, LeavesNotes, IsDamagedBehindNotes}
 use Rattle.client_restart.specs.Replays.{EndsForeign, EndsDamaged}
 use Rattle.client_restart.proofs.NoteLaws.{all_push, records_push, one_list}
 use Rattle.client_restart.proofs.OpeningLaws.{one_opening}
@@ -45,7 +45,7 @@ ends_foreign n end o reads is_opening first ends d read = inr (record {
 })
 
 pub ends_damaged : (limit n end : ℕ) (o : ClientOpening) (reads : List ℕ → Type 0) → IsOpening o → StandsFirst o end reads → EndsDamaged limit n end reads
-    → (d : List ℕ) → reads d → IsDamagedAt limit n d
+    → (d : List ℕ) → reads d → IsDamagedBehindNotes limit n d
 ends_damaged limit n end o reads is_opening first ends d read = record {
   found = (ends.2 d read).1;
   before = inr (record {

@@ -5,7 +5,7 @@ use Rattle.node_journal.specs.Records.{records_from, IsUndamaged}
 use Rattle.node_journal.specs.Journal.{JournalState}
 use Rattle.client_restart.specs.Notes.{Noted, note_record}
 use Rattle.client_restart.specs.Steps.{CoreState, step_of}
-use Rattle.client_restart.specs.Replays.{IsReading, StepsBy, StepsOnce, StepsThrough, StandsForeign, StandsDamaged, EndsForeign, EndsDamaged}
+use Rattle.client_restart.specs.Replays.{IsReadingNotes, StepsByNote, StepsOnce, StepsByNotes, StandsForeign, StandsDamaged, EndsForeign, EndsDamaged}
 use Rattle.client_restart.proofs.NoteLaws.{all_push, map_push}
 use Rattle.client_restart.proofs.StepLaws.{fold_push}
 
@@ -20,15 +20,15 @@ untouched_trans first second = record {
 -- so far these notes were read and their steps taken
 pub record Replays (limit start number : ℕ) (j : JournalState) (before now : CoreState) (disk disk_now : DiskSeen) : Type 0 where
   pub notes : List Noted
-  pub steps : StepsThrough notes start j.end before now disk.reads
+  pub steps : StepsByNotes notes start j.end before now disk.reads
   pub place : number ≡ length notes + 1
-  pub reading : IsReading limit j disk_now
+  pub reading : IsReadingNotes limit j disk_now
   pub untouched : IsUntouched disk disk_now
   pub undamaged : (d : List ℕ) → disk.reads d → IsUndamaged limit start d → IsUndamaged limit j.end d
   pub below : number ≤ j.end
 
 pub replays_start : (j : JournalState) (before : CoreState) (disk : DiskSeen)
-    → IsReading j.limit j disk → 1 ≤ j.end → Replays j.limit j.end 1 j before before disk disk
+    → IsReadingNotes j.limit j disk → 1 ≤ j.end → Replays j.limit j.end 1 j before before disk disk
 replays_start j before disk reading some = record {
   notes = [];
   steps = record { whole = tt; folded = refl; split = λ d read. refl };
@@ -40,9 +40,9 @@ replays_start j before disk reading some = record {
 }
 
 push_through : (notes : List Noted) (start end more : ℕ) (before then now : CoreState) (reads : List ℕ → Type 0)
-    → StepsThrough notes start end before then reads → (r : List ℕ) → (s : StepsBy r then now)
+    → StepsByNotes notes start end before then reads → (r : List ℕ) → (s : StepsByNote r then now)
     → ((d : List ℕ) → reads d → records_from end d ≡ r ∷ records_from more d)
-    → StepsThrough (notes ++ s.note ∷ []) start more before now reads
+    → StepsByNotes (notes ++ s.note ∷ []) start more before now reads
 push_through notes start end more before then now reads through r s split =
     let h = s.note in
     record {
@@ -57,7 +57,7 @@ push_through notes start end more before then now reads through r s split =
 
 pub replays_on : (limit start number : ℕ) (j k : JournalState) (before then now : CoreState) (disk disk_then disk_now : DiskSeen)
     → Replays limit start number j before then disk disk_then
-    → StepsOnce j.end k.end then now disk_then.reads → IsReading j.limit k disk_now
+    → StepsOnce j.end k.end then now disk_then.reads → IsReadingNotes j.limit k disk_now
     → IsUntouched disk_then disk_now
     → ((d : List ℕ) → disk_then.reads d → IsUndamaged j.limit j.end d → IsUndamaged j.limit k.end d)
     → j.end < k.end

@@ -9,7 +9,7 @@ use Rattle.client_restart.specs.declared.ended.KeptOutcome.{KeptOutcome}
 use Rattle.client_restart.specs.declared.ended.KeptOutcome.TheVariants as kept
 use Rattle.client_restart.specs.declared.errand.Errand.{Errand}
 use Rattle.client_restart.specs.declared.owned_box.OwnedBox.{OwnedBox}
-use Rattle.client_restart.specs.declared.standing.Core.{Core}
+use Rattle.client_restart.specs.declared.standing.ClientCore.{ClientCore}
 use Rattle.client_restart.specs.Notes.{Noted, Heard, Owned, Remark}
 use Rattle.client_restart.specs.Steps.{CoreState, EndedRequest}
 
@@ -39,7 +39,7 @@ boxes_of boxes serial other = boxes
 abbrev pub ended_in : Ended → EndedRequest
 ended_in e = record { serial = e.serial; errand = e.errand; outcome = outcome_in e.outcome }
 
-abbrev pub core_in : Core → CoreState
+abbrev pub core_in : ClientCore → CoreState
 core_in k = record {
   client = k.client;
   untold = map ended_in k.untold.items;
@@ -48,14 +48,14 @@ core_in k = record {
 }
 
 -- the width is the client's and within the limits, and a current request has a serial
-pub record IsCore (k : Core) : Type 0 where
+pub record IsCore (k : ClientCore) : Type 0 where
   pub limits : IsWidth k.width
   pub width : k.client.width ≡ k.width
   pub unspent : k.client.current ≢ None → k.client.serial < 2 ^ 32
 
 -- room for a note: of a reply that may end a request, one message, one outcome and one box; of a remark the
 -- words and one place for them, of a box one place
-abbrev pub HasRoomFor : Core → Noted → List ℕ → Type 0
+abbrev pub HasRoomFor : ClientCore → Noted → List ℕ → Type 0
 HasRoomFor k (Heard frame) room =
     (length room ≡ k.width) × (length k.untold.items < vec_capacity k.untold)
     × (length k.boxes.items < vec_capacity k.boxes)

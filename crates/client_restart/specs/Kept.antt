@@ -8,7 +8,7 @@ use Rattle.node_journal.specs.Journal.{JournalState, IsInPlace}
 use Rattle.node_journal.specs.declared.fault.JournalFault.TheVariants.{Damaged}
 use Rattle.client_restart.specs.declared.fault.KeepFault.{KeepFault}
 use Rattle.client_restart.specs.declared.opening.ClientOpening.{ClientOpening}
-use Rattle.client_restart.specs.declared.standing.Core.{Core}
+use Rattle.client_restart.specs.declared.standing.ClientCore.{ClientCore}
 use Rattle.client_restart.specs.Cores.{core_in, IsCore}
 use Rattle.client_restart.specs.Openings.{IsOpening}
 use Rattle.client_restart.specs.Notes.{Noted}
@@ -65,7 +65,8 @@ abbrev pub OnDisk : {D : Type 0} → Result (KeptState D) (KeepFault × D) → (
 OnDisk result P = MatchResult result (λ k. P k.disk) (λ x. P x.1)
 
 -- until a call on the disk fails, the journal is in place and what stands on its disk gives the client
-pub record IsKept (o : ClientOpening) (core : Core) (journal : JournalState) (disk : DiskSeen) : Type 0 where
+pub record IsKeptClient (o : ClientOpening) (core : ClientCore) (journal : JournalState) (disk : DiskSeen)
+    : Type 0 where
   pub is_opening : IsOpening o
   pub is_core : IsCore core
   pub ready : journal.ready ≡ true
@@ -73,7 +74,7 @@ pub record IsKept (o : ClientOpening) (core : Core) (journal : JournalState) (di
   pub stands : journal.closed ≡ false → Stands o (core_in core) disk.reads
 
 -- Records of the form stand before byte n.
-pub record HasBefore (n : ℕ) (c : List ℕ) : Type 0 where
+pub record HasNotesBefore (n : ℕ) (c : List ℕ) : Type 0 where
   pub opening : ClientOpening
   pub is_opening : IsOpening opening
   pub notes : List Noted
@@ -82,6 +83,6 @@ pub record HasBefore (n : ℕ) (c : List ℕ) : Type 0 where
 
 -- The gate at byte n is open with no whole record within the limit behind it, and every record before it is
 -- of the form.
-pub record IsDamagedAt (limit n : ℕ) (c : List ℕ) : Type 0 where
+pub record IsDamagedBehindNotes (limit n : ℕ) (c : List ℕ) : Type 0 where
   pub found : found n limit (drop n c) ≡ Err (Damaged n)
-  pub before : (n ≡ 0) ⊎ HasBefore n c
+  pub before : (n ≡ 0) ⊎ HasNotesBefore n c

@@ -20,7 +20,7 @@ LacksOpening records =
     (o : ClientOpening) (rest : List (List ℕ)) → IsOpening o → records ≡ opening_record o ∷ rest → ⊥
 
 -- Those before record n are an opening's and notes', and record n is no note's.
-pub record HasForeign (n : ℕ) (records : List (List ℕ)) : Type 0 where
+pub record HasForeignNote (n : ℕ) (records : List (List ℕ)) : Type 0 where
   pub opening : ClientOpening
   pub is_opening : IsOpening opening
   pub notes : List Noted
@@ -33,4 +33,4 @@ pub record HasForeign (n : ℕ) (records : List (List ℕ)) : Type 0 where
 
 -- record n is the first that isn't of the form, or is record 0 and missing
 abbrev pub IsForeign : ℕ → List (List ℕ) → Type 0
-IsForeign n records = ((n ≡ 0) × LacksOpening records) ⊎ HasForeign n records
+IsForeign n records = ((n ≡ 0) × LacksOpening records) ⊎ HasForeignNote n records

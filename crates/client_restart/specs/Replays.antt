@@ -10,13 +10,13 @@ use Rattle.client_restart.specs.Notes.{Noted, IsNote, IsNoNote, note_record}
 use Rattle.client_restart.specs.Records.{AllNotes}
 
 -- no call on the disk has failed, and the journal is in place
-pub record IsReading (limit : ℕ) (j : JournalState) (disk : DiskSeen) : Type 0 where
+pub record IsReadingNotes (limit : ℕ) (j : JournalState) (disk : DiskSeen) : Type 0 where
   pub still_open : j.closed ≡ false
   pub same_limit : j.limit ≡ limit
   pub in_place : IsInPlace j disk
 
 -- The record is a note's, and its step was taken.
-pub record StepsBy (r : List ℕ) (before now : CoreState) : Type 0 where
+pub record StepsByNote (r : List ℕ) (before now : CoreState) : Type 0 where
   pub note : Noted
   pub whole : IsNote note
   pub is : r ≡ note_record note
@@ -24,11 +24,11 @@ pub record StepsBy (r : List ℕ) (before now : CoreState) : Type 0 where
 
 -- One note stands from this byte on to that, and its step was taken.
 abbrev pub StepsOnce : ℕ → ℕ → CoreState → CoreState → (List ℕ → Type 0) → Type 0
-StepsOnce start end before now reads = (r : List ℕ) × StepsBy r before now
+StepsOnce start end before now reads = (r : List ℕ) × StepsByNote r before now
     × ((c : List ℕ) → reads c → records_from start c ≡ r ∷ records_from end c)
 
 -- These notes stand from this byte on to that, and their steps were taken.
-pub record StepsThrough (notes : List Noted) (start end : ℕ) (before now : CoreState)
+pub record StepsByNotes (notes : List Noted) (start end : ℕ) (before now : CoreState)
     (reads : List ℕ → Type 0) : Type 0 where
   pub whole : AllNotes notes
   pub folded : now ≡ fold_from before notes

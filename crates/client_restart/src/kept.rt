@@ -1,5 +1,5 @@
 //! A client that writes each request and each reply to a journal before it acts on it.
-ghost use Rattle.std.specs.Prelude.{◌≡◌, ◌≢◌, ◌↔◌, ◌≤◌, ◌<◌, ◌+◌, ◌^◌, ℕ, List, [], ◌∷◌, ◌++◌, true, false, length, take, drop, map, nat_le, is_none, Some, None, Ok, Err, IfOk, IfErr, OnOk, OnErr, IsOk, option_map};
+ghost use Rattle.std.specs.Prelude.{◌≡◌, ◌≢◌, ◌↔◌, ◌≤◌, ◌<◌, ◌^◌, ℕ, List, [], true, false, length, take, drop, map, nat_le, is_none, Some, None, Ok, Err, IfOk, IfErr, OnOk, OnErr, IsOk, option_map};
 ghost use Rattle.frame_rules.specs.Room.{HasRoom};
 ghost use Rattle.step_rules.specs.ClientAsks.{asked, sends};
 ghost use Rattle.step_rules.specs.ClientReplies.{on_reply};
@@ -23,8 +23,8 @@ use crate::keeping::keep;
 use crate::note::Note;
 use crate::opening::ClientOpening;
 use crate::owned_box::OwnedBox;
-use crate::reopening::{Found, find};
-use crate::standing::Core;
+use crate::reopening::{FoundClient, find};
+use crate::standing::ClientCore;
 use client_core::{AskFault, Progress, Request};
 use node_journal::{Disk, Journal};
 use std::alloc::Global;
@@ -35,25 +35,25 @@ use std::marker::Model;
 pub struct KeptClient<D: Disk> {
     alloc: Global,
     opening: ClientOpening,
-    core: Core,
+    core: ClientCore,
     journal: Journal,
     disk: D,
 }
 
 impl<D: Disk> Model for KeptClient<D> {
     ghost use Rattle.client_restart.specs.Cores.{core_in};
-    ghost use Rattle.client_restart.specs.Kept.{KeptState, IsKept};
+    ghost use Rattle.client_restart.specs.Kept.{KeptState, IsKeptClient};
 
     ghost Value = { KeptState D };
 
     ghost view = { λ k.
         record { opening = k.opening; core = core_in k.core; journal = k.journal; disk = k.disk } };
 
-    ghost invariant = { λ k. IsKept k.opening k.core k.journal (D.disk k.disk) };
+    ghost invariant = { λ k. IsKeptClient k.opening k.core k.journal (D.disk k.disk) };
 }
 
 impl<D: Disk> KeptClient<D> {
-    ghost use Rattle.client_restart.specs.Kept.{HoldsNoNotes, HoldsNotes, IsDamagedAt, IsToldBy, MakesOnly, OnDisk, Stands};
+    ghost use Rattle.client_restart.specs.Kept.{HoldsNoNotes, HoldsNotes, IsDamagedBehindNotes, IsToldBy, MakesOnly, OnDisk, Stands};
     ghost use Rattle.client_restart.specs.Keeps.{CallKeeps};
 
     /// A client before its first request, on a disk with no byte. No more than `limit` bytes of the disk will
@@ -94,7 +94,7 @@ impl<D: Disk> KeptClient<D> {
         // exactly the opening's.
         ensures any_moment { OnDisk result (λ d. MakesOnly limit opening.now (D.disk disk) (D.disk d)) }
     {
-        let Ok(core) = Core::open(alloc, opening) else {
+        let Ok(core) = ClientCore::open(alloc, opening) else {
             return Err((KeepFault::NoMemory, disk));
         };
         let mut disk = disk;
@@ -129,7 +129,7 @@ impl<D: Disk> KeptClient<D> {
             → IsForeign n (content c))) }
         ensures never_foreign { IfErr result (λ x. OnForeign x.0 (λ n. HoldsNoNotes (D.disk disk).reads)) }
         ensures damaged { IfErr result (λ x. OnDamaged x.0 (λ n. (c : List ℕ) → (D.disk disk).reads c
-            → IsDamagedAt limit n c)) }
+            → IsDamagedBehindNotes limit n c)) }
         ensures never_damaged { IfErr result (λ x. OnDamaged x.0 (λ n. (c : List ℕ) → (D.disk disk).reads c
             → IsUndamaged limit 0 c → ⊥)) }
         ensures untouched { IfErr result (λ x. IsUntouched (D.disk disk) (D.disk x.1)) }
@@ -140,7 +140,7 @@ impl<D: Disk> KeptClient<D> {
         let mut disk = disk;
         match find(alloc, &mut disk, limit) {
             Ok(found) => {
-                let Found {
+                let FoundClient {
                     opening,
                     core,
                     journal,

@@ -6,37 +6,37 @@ ghost use Rattle.client_restart.specs.Openings.{IsOpening};
 ghost use Rattle.client_restart.specs.Cores.{core_in, IsCore};
 ghost use Rattle.client_restart.specs.Records.{IsForeign};
 ghost use Rattle.client_restart.specs.Faults.{IfForeign, IfDamaged, IsOfReopen, Counts};
-ghost use Rattle.client_restart.specs.Replays.{IsReading};
-ghost use Rattle.client_restart.specs.Kept.{Stands, IsDamagedAt};
+ghost use Rattle.client_restart.specs.Replays.{IsReadingNotes};
+ghost use Rattle.client_restart.specs.Kept.{Stands, IsDamagedBehindNotes};
 
 use crate::fault::KeepFault;
 use crate::opening::ClientOpening;
 use crate::replaying::{first_opening, replay};
-use crate::standing::Core;
+use crate::standing::ClientCore;
 use node_journal::{Disk, Journal};
 use std::alloc::Global;
 
 /// A client, how it was opened, and the journal at its end.
 #[derive(Drop)]
-pub(crate) struct Found {
+pub(crate) struct FoundClient {
     pub(crate) opening: ClientOpening,
-    pub(crate) core: Core,
+    pub(crate) core: ClientCore,
     pub(crate) journal: Journal,
 }
 
 /// The client that the records on a disk give.
-pub(crate) fn find<D: Disk>(alloc: Global, disk: &mut D, limit: u64) -> Result<Found, KeepFault>
+pub(crate) fn find<D: Disk>(alloc: Global, disk: &mut D, limit: u64) -> Result<FoundClient, KeepFault>
     requires limit { limit ≤ 2 ^ 62 }
     ensures is_opening { IfOk result (λ f. IsOpening f.opening) }
     ensures is_core { IfOk result (λ f. IsCore f.core) }
     ensures stands { IfOk result (λ f. Stands f.opening (core_in f.core) (D.disk disk.old).reads) }
     ensures ready { IfOk result (λ f. f.journal.ready ≡ true) }
-    ensures reading { IfOk result (λ f. IsReading limit f.journal (D.disk disk.new)) }
+    ensures reading { IfOk result (λ f. IsReadingNotes limit f.journal (D.disk disk.new)) }
     ensures cause { IfErr result IsOfReopen }
     ensures foreign { IfForeign result (λ n. (c : List ℕ) → (D.disk disk.old).reads c
         → IsForeign n (content c)) }
     ensures damaged { IfDamaged result (λ n. (c : List ℕ) → (D.disk disk.old).reads c
-        → IsDamagedAt limit n c) }
+        → IsDamagedBehindNotes limit n c) }
     ensures never_damaged { IfDamaged result (λ n. (c : List ℕ) → (D.disk disk.old).reads c
         → IsUndamaged limit 0 c → ⊥) }
     ensures untouched { IsUntouched (D.disk disk.old) (D.disk disk.new) }
@@ -50,11 +50,11 @@ pub(crate) fn find<D: Disk>(alloc: Global, disk: &mut D, limit: u64) -> Result<F
         Ok(opening) => opening,
         Err(fault) => return Err(fault),
     };
-    let Ok(mut core) = Core::open(alloc, &opening) else {
+    let Ok(mut core) = ClientCore::open(alloc, &opening) else {
         return Err(KeepFault::NoMemory);
     };
     match replay(alloc, &mut journal, disk, &mut core) {
-        Ok(()) => Ok(Found {
+        Ok(()) => Ok(FoundClient {
             opening,
             core,
             journal,

@@ -8,12 +8,12 @@ ghost use Rattle.client_restart.specs.Cores.{core_in, IsCore};
 ghost use Rattle.client_restart.specs.Notes.{IsNoNote};
 ghost use Rattle.client_restart.specs.Records.{LacksOpening};
 ghost use Rattle.client_restart.specs.Faults.{IfForeign, IfDamaged, IsNoMemoryOrForeign, IsOfReopen, Counts};
-ghost use Rattle.client_restart.specs.Replays.{IsReading, StepsBy, StepsOnce, StepsToEnd, StandsForeign, StandsDamaged, EndsForeign, EndsDamaged};
+ghost use Rattle.client_restart.specs.Replays.{IsReadingNotes, StepsByNote, StepsOnce, StepsToEnd, StandsForeign, StandsDamaged, EndsForeign, EndsDamaged};
 
 use crate::fault::KeepFault;
 use crate::note::{NOTE_MAX, Note};
 use crate::opening::ClientOpening;
-use crate::standing::Core;
+use crate::standing::ClientCore;
 use node_journal::{Disk, Journal};
 use std::alloc::Global;
 
@@ -22,7 +22,7 @@ pub(crate) fn first_opening<D: Disk>(
     journal: &mut Journal,
     disk: &mut D,
 ) -> Result<ClientOpening, KeepFault>
-    requires reading { IsReading journal.old.limit journal.old (D.disk disk.old) }
+    requires reading { IsReadingNotes journal.old.limit journal.old (D.disk disk.old) }
     requires front { journal.old.end ≡ 0 }
     ensures opening { IfOk result IsOpening }
     ensures first { IfOk result (λ o. (c : List ℕ) → (D.disk disk.old).reads c
@@ -30,7 +30,7 @@ pub(crate) fn first_opening<D: Disk>(
     ensures undamaged { OnOk result
         (StaysUndamaged journal.old.limit 0 journal.new.end (D.disk disk.old).reads) }
     ensures behind { OnOk result (1 ≤ journal.new.end) }
-    ensures reading { OnOk result (IsReading journal.old.limit journal.new (D.disk disk.new)) }
+    ensures reading { OnOk result (IsReadingNotes journal.old.limit journal.new (D.disk disk.new)) }
     ensures foreign { IfForeign result (λ n. (n ≡ 0)
         × ((c : List ℕ) → (D.disk disk.old).reads c → LacksOpening (content c))) }
     ensures damaged { IfDamaged result (λ n. (n ≡ 0)
@@ -51,9 +51,9 @@ pub(crate) fn first_opening<D: Disk>(
 }
 
 // The step of a record, whose number this is, if it is a note's.
-fn step_record(alloc: Global, core: &mut Core, bytes: &[u8], number: u64) -> Result<(), KeepFault>
+fn step_record(alloc: Global, core: &mut ClientCore, bytes: &[u8], number: u64) -> Result<(), KeepFault>
     requires is { IsCore core.old }
-    ensures ok { OnOk result (StepsBy bytes.now (core_in core.old) (core_in core.new)) }
+    ensures ok { OnOk result (StepsByNote bytes.now (core_in core.old) (core_in core.new)) }
     ensures foreign { IfForeign result (λ n. (n ≡ number) × IsNoNote bytes.now) }
     ensures cause { IfErr result IsNoMemoryOrForeign }
     ensures is { IsCore core.new }
@@ -75,10 +75,10 @@ fn replay_next<D: Disk>(
     alloc: Global,
     journal: &mut Journal,
     disk: &mut D,
-    core: &mut Core,
+    core: &mut ClientCore,
     number: u64,
 ) -> Result<bool, KeepFault>
-    requires reading { IsReading journal.old.limit journal.old (D.disk disk.old) }
+    requires reading { IsReadingNotes journal.old.limit journal.old (D.disk disk.old) }
     requires is { IsCore core.old }
     ensures stepped { result ≡ Ok true
         → StepsOnce journal.old.end journal.new.end (core_in core.old) (core_in core.new)
@@ -90,7 +90,7 @@ fn replay_next<D: Disk>(
     ensures ended { result ≡ Ok false
         → (core_in core.new ≡ core_in core.old) × (journal.new ≡ at_end journal.old) }
     ensures no_more { result ≡ Ok false → HasNoMore journal.old.end (D.disk disk.old).reads }
-    ensures reading { OnOk result (IsReading journal.old.limit journal.new (D.disk disk.new)) }
+    ensures reading { OnOk result (IsReadingNotes journal.old.limit journal.new (D.disk disk.new)) }
     ensures foreign { IfForeign result (λ n. (n ≡ number)
         × StandsForeign journal.old.end (D.disk disk.old).reads) }
     ensures damaged { IfDamaged result (λ n. (n ≡ journal.old.end)
@@ -116,16 +116,16 @@ pub(crate) fn replay<D: Disk>(
     alloc: Global,
     journal: &mut Journal,
     disk: &mut D,
-    core: &mut Core,
+    core: &mut ClientCore,
 ) -> Result<(), KeepFault>
-    requires reading { IsReading journal.old.limit journal.old (D.disk disk.old) }
+    requires reading { IsReadingNotes journal.old.limit journal.old (D.disk disk.old) }
     requires behind { 1 ≤ journal.old.end }
     requires limit { journal.old.limit ≤ 2 ^ 62 }
     requires is { IsCore core.old }
     ensures all { OnOk result
         (StepsToEnd journal.old.end (core_in core.old) (core_in core.new) (D.disk disk.old).reads) }
     ensures ready { OnOk result (journal.new.ready ≡ true) }
-    ensures reading { OnOk result (IsReading journal.old.limit journal.new (D.disk disk.new)) }
+    ensures reading { OnOk result (IsReadingNotes journal.old.limit journal.new (D.disk disk.new)) }
     ensures foreign { IfForeign result (λ n.
         EndsForeign n journal.old.end (D.disk disk.old).reads) }
     ensures damaged { IfDamaged result (λ n.

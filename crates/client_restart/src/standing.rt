@@ -18,7 +18,7 @@ use std::alloc::Global;
 
 /// A client with the outcomes that weren't told yet, its boxes, and the words of the program above.
 #[derive(Drop)]
-pub(crate) struct Core {
+pub(crate) struct ClientCore {
     pub(crate) client: Client,
     pub(crate) width: u32,
     pub(crate) untold: Vec<Ended>,
@@ -44,9 +44,9 @@ fn copy_of(alloc: Global, words: &[u8]) -> Result<Vec<u8>, NoMemory>
     }
 }
 
-impl Core {
+impl ClientCore {
     /// The client before its first note.
-    pub(crate) fn open(alloc: Global, opening: &ClientOpening) -> Result<Core, NoMemory>
+    pub(crate) fn open(alloc: Global, opening: &ClientOpening) -> Result<ClientCore, NoMemory>
         requires is { IsOpening opening.now }
         ensures opened { IfOk result (λ k. core_in k ≡ opened opening.now) }
         ensures is { IfOk result IsCore }
@@ -59,7 +59,7 @@ impl Core {
             opening.capacity,
             opening.first_serial,
         )?;
-        Ok(Core {
+        Ok(ClientCore {
             client,
             width: opening.width,
             untold: Vec::new(alloc),

@@ -13,8 +13,8 @@ use express_words::outside::Net;
 use node_client::{Peers, Stop};
 use node_journal::Disk;
 
-/// Works the current request off to its end; its outcome is among those that weren't told then. Where the work halts
-/// the client stands at the step that it had come to, and may be worked on again.
+/// Works the current request off to its end; its outcome is among those that weren't told then. Where the
+/// work halts the client stands at the step that it had come to, and may be worked on again.
 pub fn finish<D: Disk, N: Net>(
     client: &mut KeptClient<D>,
     peers: &Peers<'_>,

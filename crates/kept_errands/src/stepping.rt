@@ -13,8 +13,9 @@ use frame_rules::FRAME_MAX;
 use node_client::Peers;
 use node_journal::Disk;
 
-/// The frame of the present step goes to its server, and the client hears the answer: a reply that makes a step is on
-/// the disk before it. Where no frame came, or the disk didn't take it, the client stands where it stood.
+/// The frame of the present step goes to its server, and the client hears the answer: a reply that makes a
+/// step is on the disk before it. Where no frame came, or the disk didn't take it, the client stands where it
+/// stood.
 pub fn one_step<D: Disk, N: Net>(
     client: &mut KeptClient<D>,
     peers: &Peers<'_>,

@@ -14,8 +14,8 @@ use node_client::{Peers, address_of};
 use node_exchange::{Broken, exchange};
 use node_journal::Disk;
 
-/// Sends the frame of the present step to its server, and takes one frame of the answer into the front of `reply`.
-/// Gives that frame's length. The client doesn't hear it.
+/// Sends the frame of the present step to its server, and takes one frame of the answer into the front of
+/// `reply`. Gives that frame's length. The client doesn't hear it.
 pub fn talk<D: Disk, N: Net>(
     client: &KeptClient<D>,
     peers: &Peers<'_>,

@@ -1,7 +1,7 @@
 use Rattle.std.proofs.Common.{◌≡◌, ℕ, inl, sym, ◌∙◌, ap, subst}
 use Rattle.node_journal.specs.Journal.{JournalState}
 use Rattle.node_journal.specs.Records.{IsUndamaged}
-use Rattle.client_restart.specs.Kept.{IsDamagedAt}
+use Rattle.client_restart.specs.Kept.{IsDamagedBehindNotes}
 use Rattle.client_restart.proofs.FaultLaws.{on_foreign, on_damaged}
 use Rattle.client_restart.proofs.KeptLaws.{StandsFirst, ends_foreign, ends_damaged}
 use Rattle.client_restart.proofs.reopening.find.Goals as goal
@@ -32,7 +32,7 @@ returns-in-Err-replay-clause-damaged g c =
     c.in-Ok-first_opening.ensures.reading.same_limit ∙ ap (λ (j : JournalState). j.limit) c.in-Ok.ensures.made in
     on_damaged c.in-Err-replay.fault _ _
     (λ n ends d read.
-    subst (λ (limit : ℕ). IsDamagedAt limit n d) same
+    subst (λ (limit : ℕ). IsDamagedBehindNotes limit n d) same
     (ends_damaged c.first_opening.new.journal.limit n c.first_opening.new.journal.end c.in-Ok-first_opening.opening reads c.in-Ok-first_opening.ensures.opening first ends d
     (c.first_opening.ensures.untouched.still d (c.open.ensures.untouched.still d read))))
     c.in-Err-replay.ensures.damaged

@@ -1,7 +1,7 @@
 use Rattle.client_restart.proofs.CoreLaws.{ask_unspent}
 use Rattle.client_core.specs.Requests.{plain_request}
 use Rattle.std.proofs.Common.{◌∙◌}
-use Rattle.client_restart.proofs.standing.Core.ask.Goals as goal
+use Rattle.client_restart.proofs.standing.ClientCore.ask.Goals as goal
 
 pub returns-clause-is : goal.returns-clause-is
 returns-clause-is c =

@@ -2,7 +2,7 @@ use Rattle.std.proofs.Common.{◌∙◌, ap, sym, subst}
 use Rattle.express_words.specs.Limits.{IsWidth}
 use Rattle.step_rules.specs.Client.{Client}
 use Rattle.client_restart.proofs.CoreLaws.{reply_unspent, IsUnspent}
-use Rattle.client_restart.proofs.standing.Core.hear_for.Goals as goal
+use Rattle.client_restart.proofs.standing.ClientCore.hear_for.Goals as goal
 
 pub returns-in-Finished-clause-is : goal.returns-in-Finished-clause-is
 returns-in-Finished-clause-is c =
