@@ -1,45 +1,24 @@
 -- What one call of a server whose frames are kept says of the frame.
 use Rattle.std.proofs.Common.{◌≡◌, ◌⊎◌, inl, inr, ℕ, ◌+◌, ◌<◌, ◌≤◌, nat_le, Bool, true, false, cond, List, [], ◌∷◌, ◌++◌, length, Result, Ok, Err, refl, sym, ap, ◌∙◌, subst, arith}
-use Rattle.std.specs.Prelude.{is_ok, IsOk, IfOk, IfErr, OnOk, OnErr}
+use Rattle.std.specs.Prelude.{is_ok, IsOk, IfErr, OnOk}
 use Rattle.std.proofs.lemmas.List.{append-nil}
 use Rattle.std.proofs.lemmas.Bool.Decides.{nat_tests}
 use Rattle.frame_rules.specs.Whole.{whole}
+use Rattle.express_words.specs.Seen.{Seen}
 use Rattle.node_journal.specs.Disk.{DiskSeen, Within, LeavesOnly}
-use Rattle.node_journal.specs.Journal.{JournalState, Passes, longer, broken}
+use Rattle.node_journal.specs.Journal.{JournalState, longer, broken}
 use Rattle.node_journal.specs.declared.fault.JournalFault.TheVariants.{Closed, NotEmpty, Full, Disk, Damaged}
 use Rattle.node_restart.specs.declared.opening.Opening.{Opening}
 use Rattle.node_restart.specs.declared.did.Did.{Did}
-use Rattle.node_restart.specs.declared.frames.Sender.{Sender}
 use Rattle.node_restart.specs.declared.fault.KeepFault.{KeepFault}
 use Rattle.node_restart.specs.declared.fault.KeepFault.TheVariants.{Journal, NoMemory, Foreign}
+use Rattle.node_restart.specs.Calls.{KeepsFrame}
 use Rattle.node_restart.specs.Faults.{IsOkOrDiskFault}
-use Rattle.node_restart.specs.Frames.{Handed, handed, IsOneFrame, records_of}
-use Rattle.node_restart.specs.Steps.{step_of, Takes}
+use Rattle.node_restart.specs.Frames.{Handed, IsOneFrame, records_of}
 use Rattle.node_restart.specs.Kept.{KeptState, HoldsFrames, LeavesFrames}
 use Rattle.node_restart.proofs.FrameLaws.{one_or_not}
 use Rattle.node_restart.specs.Keeping.{kept_of, journal_after, LeavesFirst, Keeps, IsCause, Refuses}
 use Rattle.node_restart.proofs.KeepLaws.{leaves_more}
-
--- the clauses of the call
-pub record IsHanded {D : Type 0} (shows : D → DiskSeen)
-    (old new : KeptState D) (sender : Sender) (frame out_old out_new : List ℕ) (r : Result Did KeepFault) : Type 0 where
-  pub step : IfOk r (λ did. Takes (step_of old.core sender frame) new.core did out_old out_new)
-  pub no_step : OnErr r ((new.core ≡ old.core) × (out_new ≡ out_old))
-  pub opening : new.opening ≡ old.opening
-  pub no_frame : (IsOneFrame frame → ⊥) → IsOk r × (new ≡ old)
-  pub added : IsOneFrame frame → OnOk r ((frames : List Handed) → HoldsFrames old.opening frames (shows old.disk).reads
-      → HoldsFrames new.opening (frames ++ handed sender frame ∷ []) (shows new.disk).reads)
-  pub longer : IsOneFrame frame → OnOk r (new.journal ≡ longer (length frame + 1) old.journal)
-  pub durable : new.journal.closed ≡ false → Within (shows new.disk).may_leave (shows new.disk).reads
-  pub any_moment : IsOneFrame frame → old.journal.closed ≡ false → (frames : List Handed)
-      → HoldsFrames old.opening frames (shows old.disk).reads
-      → LeavesOnly (shows old.disk) (shows new.disk) (LeavesFrames old.journal.limit old.opening frames (handed sender frame))
-  pub closed : IsOneFrame frame → old.journal.closed ≡ true → (r ≡ Err (Journal Closed)) × (new ≡ old)
-  pub full : IsOneFrame frame → old.journal.closed ≡ false → Passes old.journal.end (length frame + 1) old.journal.limit
-      → (r ≡ Err (Journal (Full old.journal.end))) × (new ≡ old)
-  pub fits : IsOneFrame frame → old.journal.closed ≡ false → old.journal.end + 5 + (length frame + 1) + 1 ≤ old.journal.limit → IsOkOrDiskFault r
-  pub broken : IsOneFrame frame → old.journal.closed ≡ false → old.journal.end + 5 + (length frame + 1) + 1 ≤ old.journal.limit
-      → OnErr r (new.journal ≡ broken old.journal)
 
 -- ---- whether it is kept
 
@@ -72,10 +51,10 @@ first_frames limit o before h c (inl same, undamaged) = record {
 }
 first_frames limit o before h c (inr more, undamaged) = record { first = h ∷ []; rest = []; split = refl; content = more; undamaged = undamaged }
 
-still : {D : Type 0} (shows : D → DiskSeen)
-    (old new : KeptState D) (sender : Sender) (frame out_old out_new : List ℕ) (did : Did)
-    → IsHanded shows old new sender frame out_old out_new (Ok did) → IsOneFrame frame → old.journal.closed ≡ false
-still shows old new sender frame out_old out_new did h one = elim (true_or_false old.journal.closed) [
+still : {D : Type 0} (shows : D → DiskSeen) (seen : D → Seen)
+    (x : Handed) (old new : KeptState D) (out out_new : List ℕ) (did : Did)
+    → KeepsFrame shows seen x old new out out_new (Ok did) → IsOneFrame x.frame → old.journal.closed ≡ false
+still shows seen x old new out out_new did h one = elim (true_or_false old.journal.closed) [
   | inl is ↦ absurd (clash (h.closed one is).0)
   | inr is ↦ is
 ]
@@ -83,15 +62,14 @@ still shows old new sender frame out_old out_new did h one = elim (true_or_false
     clash : (let r : Result Did KeepFault = Ok did in r) ≡ Err (Journal Closed) → ⊥
     clash e = cc
 
-keeps_frame : {D : Type 0} (shows : D → DiskSeen)
-    (old new : KeptState D) (sender : Sender) (frame out_old out_new : List ℕ) (did : Did)
-    → IsHanded shows old new sender frame out_old out_new (Ok did) → IsOneFrame frame
-    → Keeps shows old new (handed sender frame ∷ [])
-keeps_frame shows old new sender frame out_old out_new did h one =
-    let x : Handed = handed sender frame in
+keeps_frame : {D : Type 0} (shows : D → DiskSeen) (seen : D → Seen)
+    (x : Handed) (old new : KeptState D) (out out_new : List ℕ) (did : Did)
+    → KeepsFrame shows seen x old new out out_new (Ok did) → IsOneFrame x.frame
+    → Keeps shows old new (x ∷ [])
+keeps_frame shows seen x old new out out_new did h one =
     let k : kept_of (x ∷ []) ≡ x ∷ [] = kept_one x one in
-    let unclosed : old.journal.closed ≡ false = still shows old new sender frame out_old out_new did h one in
-    let more : new.journal ≡ longer (length frame + 1) old.journal = h.longer one in
+    let unclosed : old.journal.closed ≡ false = still shows seen x old new out out_new did h one in
+    let more : new.journal ≡ longer (length x.frame + 1) old.journal = h.longer one in
     record {
       opening = h.opening;
       steps = h.step.core;
@@ -107,12 +85,11 @@ keeps_frame shows old new sender frame out_old out_new did h one =
           (leaves_more shows old.disk new.disk _ _ (first_frames old.journal.limit old.opening before x) (h.any_moment one unclosed before holds));
     }
 
-keeps_apart : {D : Type 0} (shows : D → DiskSeen)
-    (old new : KeptState D) (sender : Sender) (frame out_old out_new : List ℕ) (did : Did)
-    → IsHanded shows old new sender frame out_old out_new (Ok did) → (IsOneFrame frame → ⊥)
-    → Keeps shows old new (handed sender frame ∷ [])
-keeps_apart {D} shows old new sender frame out_old out_new did h apart =
-    let x : Handed = handed sender frame in
+keeps_apart : {D : Type 0} (shows : D → DiskSeen) (seen : D → Seen)
+    (x : Handed) (old new : KeptState D) (out out_new : List ℕ) (did : Did)
+    → KeepsFrame shows seen x old new out out_new (Ok did) → (IsOneFrame x.frame → ⊥)
+    → Keeps shows old new (x ∷ [])
+keeps_apart {D} shows seen x old new out out_new did h apart =
     let k : kept_of (x ∷ []) ≡ [] = kept_apart x apart in
     let same : new ≡ old = (h.no_frame apart).1 in
     record {
@@ -128,15 +105,15 @@ keeps_apart {D} shows old new sender frame out_old out_new did h apart =
       any_moment = λ n. absurd (n k);
     }
 
-pub keeps_handed : {D : Type 0} (shows : D → DiskSeen)
-    (old new : KeptState D) (sender : Sender) (frame out_old out_new : List ℕ) (r : Result Did KeepFault)
-    → IsHanded shows old new sender frame out_old out_new r
-    → OnOk r (Keeps shows old new (handed sender frame ∷ []))
-keeps_handed shows old new sender frame out_old out_new (Ok did) h = elim (one_or_not frame) [
-  | inl one ↦ keeps_frame shows old new sender frame out_old out_new did h one
-  | inr apart ↦ keeps_apart shows old new sender frame out_old out_new did h apart
+pub keeps_handed : {D : Type 0} (shows : D → DiskSeen) (seen : D → Seen)
+    (x : Handed) (old new : KeptState D) (out out_new : List ℕ) (r : Result Did KeepFault)
+    → KeepsFrame shows seen x old new out out_new r
+    → OnOk r (Keeps shows old new (x ∷ []))
+keeps_handed shows seen x old new out out_new (Ok did) h = elim (one_or_not x.frame) [
+  | inl one ↦ keeps_frame shows seen x old new out out_new did h one
+  | inr apart ↦ keeps_apart shows seen x old new out out_new did h apart
 ]
-keeps_handed shows old new sender frame out_old out_new (Err fault) h = tt
+keeps_handed shows seen x old new out out_new (Err fault) h = tt
 
 -- ---- where it didn't
 
@@ -163,14 +140,14 @@ le_or_more a b = either (nat_le a b) refl
     either true e = inl (grind (arith, nat_tests))
     either false e = inr (grind (arith, nat_tests))
 
-pub refuses_handed : {D : Type 0} (shows : D → DiskSeen)
-    (old new : KeptState D) (sender : Sender) (frame out_old out_new : List ℕ) (r : Result Did KeepFault)
-    → IsHanded shows old new sender frame out_old out_new r
-    → IfErr r (Refuses shows old new (handed sender frame))
-refuses_handed shows old new sender frame out_old out_new (Ok did) h = tt
-refuses_handed {D} shows old new sender frame out_old out_new (Err fault) h =
-    let bytes : ℕ = length frame + 1 in
-    let one : IsOneFrame frame = is_frame frame fault (λ apart. (h.no_frame apart).0) in
+pub refuses_handed : {D : Type 0} (shows : D → DiskSeen) (seen : D → Seen)
+    (x : Handed) (old new : KeptState D) (out out_new : List ℕ) (r : Result Did KeepFault)
+    → KeepsFrame shows seen x old new out out_new r
+    → IfErr r (Refuses shows old new x)
+refuses_handed shows seen x old new out out_new (Ok did) h = tt
+refuses_handed {D} shows seen x old new out out_new (Err fault) h =
+    let bytes : ℕ = length x.frame + 1 in
+    let one : IsOneFrame x.frame = is_frame x.frame fault (λ apart. (h.no_frame apart).0) in
     let cause : IsCause fault bytes old new = elim (true_or_false old.journal.closed) [
       | inl is ↦ let all = h.closed one is in subst (λ (why : KeepFault). IsCause why bytes old new) (same_fault fault (Journal Closed) all.0) (is, all.1)
       | inr is ↦ elim (le_or_more (old.journal.end + 5 + bytes + 1) old.journal.limit) [

@@ -2,6 +2,7 @@
 use Rattle.std.proofs.Common.{◌≡◌, ◌≢◌, ◌⊎◌, inl, inr, ℕ, List, [], ◌∷◌, ◌++◌, Result, Ok, Err, sym, ap, ◌∙◌, subst}
 use Rattle.std.specs.Prelude.{IfErr}
 use Rattle.std.proofs.lemmas.List.{append-nil}
+use Rattle.express_words.specs.Seen.{Seen}
 use Rattle.node_journal.specs.Disk.{DiskSeen, LeavesOnly}
 use Rattle.node_journal.specs.Journal.{JournalState}
 use Rattle.node_journal.specs.declared.fault.JournalFault.TheVariants.{Closed, NotEmpty, Full, Disk, Damaged}
@@ -9,12 +10,12 @@ use Rattle.node_restart.specs.declared.opening.Opening.{Opening}
 use Rattle.node_restart.specs.declared.fault.KeepFault.{KeepFault}
 use Rattle.node_restart.specs.declared.fault.KeepFault.TheVariants.{Journal, NoMemory, Foreign}
 use Rattle.node_restart.specs.declared.did.Did.{Did}
-use Rattle.node_restart.specs.declared.frames.Sender.{Sender}
-use Rattle.node_restart.specs.Frames.{Handed, handed}
+use Rattle.node_restart.specs.Calls.{KeepsFrame}
+use Rattle.node_restart.specs.Frames.{Handed}
 use Rattle.node_restart.specs.Kept.{KeptState, HoldsFrames}
 use Rattle.node_restart.specs.Keeping.{kept_of, begun, LeavesFirst, Keeps, IsCause, Refuses, KeepsUpTo}
 use Rattle.node_restart.proofs.KeepLaws.{keeps_none, nil_or_not, both_nil, journal_limit, leaves_both, leaves_more, first_of, then_of, keeps_both}
-use Rattle.node_restart.proofs.HandLaws.{IsHanded, first_frames, refuses_handed}
+use Rattle.node_restart.proofs.HandLaws.{first_frames, refuses_handed}
 
 unmoved : {D : Type 0} (fault : KeepFault) (bytes : ℕ) (old new : KeptState D) (h : Handed) → IsCause fault bytes old new → begun fault h ≡ [] → new ≡ old
 unmoved (Journal Closed) bytes old new h cause none = cause.1
@@ -89,8 +90,9 @@ keeps_then shows a b c f g refused fault one two =
 
 -- ---- one frame
 
-pub stops_handed : {D : Type 0} (shows : D → DiskSeen) (old new : KeptState D) (sender : Sender) (frame out_old out_new : List ℕ) (r : Result Did KeepFault)
-    → IsHanded shows old new sender frame out_old out_new r → IfErr r (KeepsUpTo shows old new [] (handed sender frame))
-stops_handed shows old new sender frame out_old out_new (Ok did) h = tt
-stops_handed shows old new sender frame out_old out_new (Err fault) h =
-    keeps_up_to shows old old new [] (handed sender frame) fault (keeps_none shows old) (refuses_handed shows old new sender frame out_old out_new (Err fault) h)
+pub stops_handed : {D : Type 0} (shows : D → DiskSeen) (seen : D → Seen)
+    (x : Handed) (old new : KeptState D) (out out_new : List ℕ) (r : Result Did KeepFault)
+    → KeepsFrame shows seen x old new out out_new r → IfErr r (KeepsUpTo shows old new [] x)
+stops_handed shows seen x old new out out_new (Ok did) h = tt
+stops_handed shows seen x old new out out_new (Err fault) h =
+    keeps_up_to shows old old new [] x fault (keeps_none shows old) (refuses_handed shows seen x old new out out_new (Err fault) h)

@@ -1,5 +1,5 @@
 -- What is said of a fault, by its kind.
-use Rattle.std.specs.Prelude.{◌≡◌, ℕ, Result, Err, Ok}
+use Rattle.std.specs.Prelude.{◌≡◌, ℕ, Result, Err, Ok, IfErr}
 use Rattle.node_journal.specs.Journal.{CountsDisk}
 use Rattle.node_journal.specs.declared.fault.JournalFault.TheVariants.{Closed, NotEmpty, Full, Disk, Damaged}
 use Rattle.node_restart.specs.declared.fault.KeepFault.{KeepFault}
@@ -20,6 +20,14 @@ OnDamaged (Journal (Full end)) P = Unit {0}
 OnDamaged (Journal (Disk faults)) P = Unit {0}
 OnDamaged NoMemory P = Unit {0}
 OnDamaged (Foreign n) P = Unit {0}
+
+-- P of the number, where the answer is Foreign
+abbrev pub IfForeign : {T : Type 0} → Result T KeepFault → (ℕ → Type 0) → Type 0
+IfForeign result P = IfErr result (λ why. OnForeign why P)
+
+-- P of the byte, where the answer is the journal's Damaged
+abbrev pub IfDamaged : {T : Type 0} → Result T KeepFault → (ℕ → Type 0) → Type 0
+IfDamaged result P = IfErr result (λ why. OnDamaged why P)
 
 -- P, where the fault is the journal's NotEmpty
 abbrev pub OnNotEmpty : KeepFault → Type 0 → Type 0

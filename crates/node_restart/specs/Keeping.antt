@@ -1,9 +1,9 @@
 -- Frames that a server was handed one after another, each on its disk before its step.
-use Rattle.std.specs.Prelude.{◌≡◌, ◌≢◌, ℕ, ◌+◌, ◌≤◌, true, false, List, [], ◌∷◌, ◌++◌, length, filter, is_ok}
+use Rattle.std.specs.Prelude.{◌≡◌, ◌≢◌, ℕ, ◌+◌, true, false, List, [], ◌∷◌, ◌++◌, length, filter, is_ok}
 use Rattle.frame_rules.specs.Whole.{whole}
 use Rattle.node_journal.specs.Disk.{DiskSeen, Within, LeavesOnly}
 use Rattle.node_journal.specs.Records.{content, IsUndamaged}
-use Rattle.node_journal.specs.Journal.{JournalState, Passes, longer, broken}
+use Rattle.node_journal.specs.Journal.{JournalState, HasSpace, LacksSpace, longer, broken}
 use Rattle.node_journal.specs.declared.fault.JournalFault.TheVariants.{Closed, NotEmpty, Full, Disk, Damaged}
 use Rattle.node_restart.specs.declared.opening.Opening.{Opening}
 use Rattle.node_restart.specs.declared.fault.KeepFault.{KeepFault}
@@ -53,11 +53,9 @@ pub record Keeps {D : Type 0} (shows : D → DiskSeen) (old new : KeptState D) (
 abbrev pub IsCause : {D : Type 0} → KeepFault → ℕ → (old new : KeptState D) → Type 0
 IsCause (Journal Closed) bytes old new = (old.journal.closed ≡ true) × (new ≡ old)
 IsCause (Journal (Full end)) bytes old new =
-    (old.journal.closed ≡ false) × Passes old.journal.end bytes old.journal.limit × (end ≡ old.journal.end)
-    × (new ≡ old)
+    (old.journal.closed ≡ false) × LacksSpace old.journal bytes × (end ≡ old.journal.end) × (new ≡ old)
 IsCause (Journal (Disk faults)) bytes old new =
-    (old.journal.closed ≡ false) × (old.journal.end + 5 + bytes + 1 ≤ old.journal.limit)
-    × (new.journal ≡ broken old.journal)
+    (old.journal.closed ≡ false) × HasSpace old.journal bytes × (new.journal ≡ broken old.journal)
 IsCause (Journal NotEmpty) bytes old new = ⊥
 IsCause (Journal (Damaged at)) bytes old new = ⊥
 IsCause NoMemory bytes old new = ⊥

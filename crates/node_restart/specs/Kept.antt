@@ -1,10 +1,12 @@
 -- A server with its journal, and what stands on its disk.
-use Rattle.std.specs.Prelude.{◌≡◌, ◌⊎◌, ℕ, ◌≤◌, List, [], ◌∷◌, ◌++◌, length, drop, true, false, Err}
+use Rattle.std.specs.Prelude.{◌≡◌, ◌⊎◌, ℕ, ◌≤◌, List, [], ◌∷◌, ◌++◌, length, drop, true, false, Result, Err}
+use Rattle.std.specs.Prelude.{MatchResult}
 use Rattle.node_journal.specs.Disk.{DiskSeen, LeavesOnly}
 use Rattle.node_journal.specs.Records.{content, records_from, IsUndamaged, LeavesNoByte}
 use Rattle.node_journal.specs.Next.{found}
 use Rattle.node_journal.specs.Journal.{JournalState, IsInPlace}
 use Rattle.node_journal.specs.declared.fault.JournalFault.TheVariants.{Damaged}
+use Rattle.node_restart.specs.declared.fault.KeepFault.{KeepFault}
 use Rattle.node_restart.specs.declared.server.Core.{Core}
 use Rattle.node_restart.specs.declared.opening.Opening.{Opening}
 use Rattle.node_restart.specs.Openings.{IsOpening}
@@ -21,6 +23,16 @@ pub record KeptState (D : Type 0) : Type 0 where
 -- the disk's content is the records of the opening and of these frames
 abbrev pub HoldsFrames : Opening → List Handed → (List ℕ → Type 0) → Type 0
 HoldsFrames o frames reads = (c : List ℕ) → reads c → content c ≡ records_of o frames
+
+-- Where the disk's content is the records of an opening and of frames, this is that opening and their fold.
+abbrev pub IsToldBy : (List ℕ → Type 0) → Opening → Core → Type 0
+IsToldBy reads opening core = (o : Opening) (frames : List Handed) (c : List ℕ) → reads c → IsOpening o
+    → HoldsFrames o frames reads → (opening ≡ o) × (core ≡ fold o frames)
+
+-- the disk's content is not the records of an opening and of frames
+abbrev pub HoldsNoFrames : (List ℕ → Type 0) → Type 0
+HoldsNoFrames reads = (o : Opening) (frames : List Handed) (c : List ℕ) → reads c → IsOpening o
+    → AllFrames frames → HoldsFrames o frames reads → ⊥
 
 -- The server is the fold of the opening and of the frames that stand on the disk.
 pub record Stands (o : Opening) (core : Core) (reads : List ℕ → Type 0) : Type 0 where
@@ -52,6 +64,10 @@ LeavesAround disk old new h = old.journal.closed ≡ false → (frames : List Ha
 -- Where a crash before leaves no byte, one at any moment since then leaves just this.
 unfoldable pub MakesOnly : ℕ → Opening → (old new : DiskSeen) → Type 0
 MakesOnly limit o old new = LeavesNoByte old.may_leave → LeavesOnly old new (LeavesOpening limit o)
+
+-- P of the disk that comes back, with the server or beside a fault
+abbrev pub OnDisk : {D : Type 0} → Result (KeptState D) (KeepFault × D) → (D → Type 0) → Type 0
+OnDisk result P = MatchResult result (λ k. P k.disk) (λ x. P x.1)
 
 -- until a call on the disk fails, the journal is in place and what stands on its disk gives the server
 pub record IsKept (o : Opening) (core : Core) (journal : JournalState) (disk : DiskSeen) : Type 0 where

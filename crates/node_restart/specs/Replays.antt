@@ -34,6 +34,12 @@ pub record StepsThrough (frames : List Handed) (start end : ℕ) (before now : C
   pub folded : now ≡ fold_from before frames
   pub split : (c : List ℕ) → reads c → records_from start c ≡ map frame_record frames ++ records_from end c
 
+-- Frames stand from this byte to the end, and their steps were taken.
+abbrev pub StepsToEnd : ℕ → (before now : Core) → (List ℕ → Type 0) → Type 0
+StepsToEnd start before now reads = (frames : List Handed) × AllFrames frames
+    × (now ≡ fold_from before frames)
+    × ((c : List ℕ) → reads c → records_from start c ≡ map frame_record frames)
+
 -- the record at this byte is no frame's
 abbrev pub StandsForeign : ℕ → (List ℕ → Type 0) → Type 0
 StandsForeign end reads = (r : List ℕ) × IsNoFrame r

@@ -1,16 +1,15 @@
 //! A server that writes each frame to a journal before it acts on it.
-ghost use Rattle.std.specs.Prelude.{◌≡◌, ◌≢◌, ◌↔◌, ◌≤◌, ◌<◌, ◌+◌, ◌^◌, ℕ, List, [], ◌∷◌, ◌++◌, true, false, length, take, drop, Some, None, Ok, Err, IfOk, IfErr, OnOk, OnErr, IsOk, IfSome, IsNone, MatchResult, option_map};
+ghost use Rattle.std.specs.Prelude.{◌≡◌, ◌≢◌, ◌↔◌, ◌≤◌, ◌<◌, ◌^◌, ℕ, List, [], true, false, length, take, drop, Some, None, IfOk, IfErr, OnOk, IfSome, IsNone, option_map};
 ghost use Rattle.express_words.specs.Limits.{KeepsLimits};
 ghost use Rattle.frame_rules.specs.Spelling.{spelling};
 ghost use Rattle.leader_core.specs.Told.{sent_length};
 ghost use Rattle.node_journal.specs.Disk.{IsUntouched, Within};
-ghost use Rattle.node_journal.specs.Records.{content, IsUndamaged};
-ghost use Rattle.node_journal.specs.Journal.{Passes, longer, broken};
+ghost use Rattle.node_journal.specs.Records.{content, GivesNoByte, IsUndamaged};
 ghost use Rattle.frame_rules.specs.Room.{HasRoom};
 ghost use Rattle.node_restart.specs.Openings.{IsOpening};
-ghost use Rattle.node_restart.specs.Frames.{Handed, AllFrames, IsForeign, IsOneFrame, handed, records_of};
-ghost use Rattle.node_restart.specs.Steps.{fold, share_in, resent_by, IsOldest, settings_of, role_of, step_of, Takes};
-ghost use Rattle.node_restart.specs.Faults.{OnForeign, OnDamaged, OnNotEmpty, OnFull, OnNoMemory, IsOfCreate, IsOfReopen, IsOkOrDiskFault, CountsFault, Counts};
+ghost use Rattle.node_restart.specs.Frames.{IsForeign, handed};
+ghost use Rattle.node_restart.specs.Steps.{fold, share_in, resent_by, IsOldest, settings_of, role_of};
+ghost use Rattle.node_restart.specs.Faults.{OnForeign, OnDamaged, OnNotEmpty, OnFull, OnNoMemory, IsOfCreate, IsOfReopen, CountsFault};
 
 use crate::did::Did;
 use crate::fault::KeepFault;
@@ -19,7 +18,7 @@ use crate::keeping::keep;
 use crate::opening::Opening;
 use crate::reopening::{Found, find};
 use crate::server::Core;
-use node_journal::{Disk, Journal, JournalFault};
+use node_journal::{Disk, Journal};
 use std::alloc::Global;
 use std::marker::Model;
 
@@ -43,7 +42,8 @@ impl<D: Disk> Model for Kept<D> {
 }
 
 impl<D: Disk> Kept<D> {
-    ghost use Rattle.node_restart.specs.Kept.{HoldsFrames, Stands, LeavesAround, MakesOnly, IsDamagedAt};
+    ghost use Rattle.node_restart.specs.Calls.{KeepsFrame};
+    ghost use Rattle.node_restart.specs.Kept.{HoldsFrames, HoldsNoFrames, IsDamagedAt, IsToldBy, MakesOnly, OnDisk, Stands};
 
     /// A server before its first frame, on a disk with no byte. No more than `limit` bytes of the disk will
     /// be used.
@@ -64,25 +64,25 @@ impl<D: Disk> Kept<D> {
         ensures undamaged { IfOk result (λ k. (c : List ℕ) → (D.disk k.disk).reads c
             → IsUndamaged limit 0 c) }
         ensures durable { IfOk result (λ k. Within (D.disk k.disk).may_leave (D.disk k.disk).reads) }
-        ensures empty { OnOk result ((c : List ℕ) → (D.disk disk).reads c → c ≡ []) }
+        ensures empty { OnOk result (GivesNoByte (D.disk disk).reads) }
         ensures fits { OnOk result (51 ≤ limit) }
 
         ensures cause { IfErr result (λ x. IsOfCreate x.0) }
         ensures not_empty { IfErr result (λ x. OnNotEmpty x.0 ((c : List ℕ) → (D.disk disk).reads c
             → c ≢ [])) }
         ensures full { IfErr result (λ x. OnFull x.0 (λ n. (n ≡ 0) × (limit < 51)
-            × ((c : List ℕ) → (D.disk disk).reads c → c ≡ []))) }
-        ensures not_empty_stays { IfErr result (λ x. OnNotEmpty x.0 (IsUntouched (D.disk disk) (D.disk x.1))) }
+            × GivesNoByte (D.disk disk).reads)) }
+        ensures not_empty_stays { IfErr result
+            (λ x. OnNotEmpty x.0 (IsUntouched (D.disk disk) (D.disk x.1))) }
         ensures full_stays { IfErr result (λ x. OnFull x.0 (λ n. IsUntouched (D.disk disk) (D.disk x.1))) }
         ensures no_memory_stays { IfErr result (λ x. OnNoMemory x.0 (x.1 ≡ disk)) }
         ensures counts_ok { IfOk result (λ k. (D.Counted.seen k.disk).faults ≡ (D.Counted.seen disk).faults) }
-        ensures counts { IfErr result (λ x. CountsFault (D.Counted.seen disk).faults (D.Counted.seen x.1).faults x.0) }
+        ensures counts { IfErr result
+            (λ x. CountsFault (D.Counted.seen disk).faults (D.Counted.seen x.1).faults x.0) }
 
-        // Where a crash before the call leaves no byte, a crash at any moment of it leaves no record, or exactly
-        // the opening's.
-        ensures any_moment { MatchResult result
-            (λ k. MakesOnly limit opening.now (D.disk disk) (D.disk k.disk))
-            (λ x. MakesOnly limit opening.now (D.disk disk) (D.disk x.1)) }
+        // Where a crash before the call leaves no byte, a crash at any moment of it leaves no record, or
+        // exactly the opening's.
+        ensures any_moment { OnDisk result (λ d. MakesOnly limit opening.now (D.disk disk) (D.disk d)) }
     {
         let Ok(core) = Core::open(alloc, opening) else {
             return Err((KeepFault::NoMemory, disk));
@@ -105,10 +105,7 @@ impl<D: Disk> Kept<D> {
         // What stands on the disk is an opening and frames, and the server is their fold.
         ensures is_opening { IfOk result (λ k. IsOpening k.opening) }
         ensures stands { IfOk result (λ k. Stands k.opening k.core (D.disk disk).reads) }
-        ensures told { IfOk result (λ k. (o : Opening) (frames : List Handed) (c : List ℕ)
-            → (D.disk disk).reads c
-            → IsOpening o → HoldsFrames o frames (D.disk disk).reads
-            → (k.opening ≡ o) × (k.core ≡ fold o frames)) }
+        ensures told { IfOk result (λ k. IsToldBy (D.disk disk).reads k.opening k.core) }
         ensures undamaged { IfOk result (λ k. (c : List ℕ) → (D.disk k.disk).reads c
             → IsUndamaged limit 0 c) }
         ensures durable { IfOk result (λ k. Within (D.disk k.disk).may_leave (D.disk k.disk).reads) }
@@ -119,16 +116,15 @@ impl<D: Disk> Kept<D> {
         ensures cause { IfErr result (λ x. IsOfReopen x.0) }
         ensures foreign { IfErr result (λ x. OnForeign x.0 (λ n. (c : List ℕ) → (D.disk disk).reads c
             → IsForeign n (content c))) }
-        ensures never_foreign { IfErr result (λ x. OnForeign x.0 (λ n. (o : Opening) (frames : List Handed)
-            (c : List ℕ) → (D.disk disk).reads c → IsOpening o → AllFrames frames
-            → HoldsFrames o frames (D.disk disk).reads → ⊥)) }
+        ensures never_foreign { IfErr result (λ x. OnForeign x.0 (λ n. HoldsNoFrames (D.disk disk).reads)) }
         ensures damaged { IfErr result (λ x. OnDamaged x.0 (λ n. (c : List ℕ) → (D.disk disk).reads c
             → IsDamagedAt limit n c)) }
         ensures never_damaged { IfErr result (λ x. OnDamaged x.0 (λ n. (c : List ℕ) → (D.disk disk).reads c
             → IsUndamaged limit 0 c → ⊥)) }
         ensures untouched { IfErr result (λ x. IsUntouched (D.disk disk) (D.disk x.1)) }
         ensures counts_ok { IfOk result (λ k. (D.Counted.seen k.disk).faults ≡ (D.Counted.seen disk).faults) }
-        ensures counts { IfErr result (λ x. CountsFault (D.Counted.seen disk).faults (D.Counted.seen x.1).faults x.0) }
+        ensures counts { IfErr result
+            (λ x. CountsFault (D.Counted.seen disk).faults (D.Counted.seen x.1).faults x.0) }
     {
         let mut disk = disk;
         match find(alloc, &mut disk, limit) {
@@ -152,48 +148,8 @@ impl<D: Disk> Kept<D> {
     /// A client's frame. Where the bytes are exactly one frame they are on the disk before the server's step.
     pub fn on_client(&mut self, frame: &[u8], out: &mut [u8]) -> Result<Did, KeepFault>
         requires room { HasRoom out.old }
-        // The step is that of the tables. Where the answer is a fault no step was taken and nothing written.
-        ensures step { IfOk result (λ did. Takes (step_of self.old.core Sender.Client frame.now)
-            self.new.core did out.old out.new) }
-        ensures no_step { OnErr result ((self.new.core ≡ self.old.core) × (out.new ≡ out.old)) }
-        ensures opening { self.new.opening ≡ self.old.opening }
-
-        // Bytes that aren't exactly one frame aren't kept, and change nothing.
-        ensures no_frame { (IsOneFrame frame.now → ⊥) → IsOk result × (self.new ≡ self.old) }
-
-        // Before its step the frame is on the disk, and a crash from then on leaves it there.
-        ensures added { IsOneFrame frame.now → OnOk result ((frames : List Handed)
-            → HoldsFrames self.old.opening frames (D.disk self.old.disk).reads
-            → HoldsFrames self.new.opening (frames ++ handed Sender.Client frame.now ∷ [])
-            (D.disk self.new.disk).reads) }
-        ensures longer { IsOneFrame frame.now
-            → OnOk result (self.new.journal ≡ longer (length frame.now + 1) self.old.journal) }
-        ensures stands { self.new.journal.closed ≡ false
-            → Stands self.new.opening self.new.core (D.disk self.new.disk).reads }
-        ensures durable { self.new.journal.closed ≡ false
-            → Within (D.disk self.new.disk).may_leave (D.disk self.new.disk).reads }
-        // Until a call on the disk fails a journal under the same limit finds nothing damaged.
-        ensures undamaged { self.new.journal.closed ≡ false → (c : List ℕ) → (D.disk self.new.disk).reads c
-            → IsUndamaged self.new.journal.limit 0 c }
-
-        // A crash at any moment of the call leaves the frames from before it, with its own or without.
-        ensures any_moment { IsOneFrame frame.now
-            → LeavesAround D.disk self.old self.new (handed Sender.Client frame.now) }
-
-        // The faults of a frame, in the order in which they are judged. Closed and Full change nothing.
-        ensures closed { IsOneFrame frame.now → self.old.journal.closed ≡ true
-            → (result ≡ Err (KeepFault.Journal JournalFault.Closed)) × (self.new ≡ self.old) }
-        ensures full { IsOneFrame frame.now → self.old.journal.closed ≡ false
-            → Passes self.old.journal.end (length frame.now + 1) self.old.journal.limit
-            → (result ≡ Err (KeepFault.Journal (JournalFault.Full self.old.journal.end)))
-            × (self.new ≡ self.old) }
-        ensures fits { IsOneFrame frame.now → self.old.journal.closed ≡ false
-            → self.old.journal.end + 5 + (length frame.now + 1) + 1 ≤ self.old.journal.limit
-            → IsOkOrDiskFault result }
-        ensures broken { IsOneFrame frame.now → self.old.journal.closed ≡ false
-            → self.old.journal.end + 5 + (length frame.now + 1) + 1 ≤ self.old.journal.limit
-            → OnErr result (self.new.journal ≡ broken self.old.journal) }
-        ensures counts { Counts (D.Counted.seen self.old.disk).faults (D.Counted.seen self.new.disk).faults result }
+        ensures keeps { KeepsFrame D.disk D.Counted.seen (handed Sender.Client frame.now)
+            self.old self.new out.old out.new result }
     {
         self.take(Sender::Client, frame, out)
     }
@@ -201,97 +157,18 @@ impl<D: Disk> Kept<D> {
     /// Bytes of the other server. Where they are exactly one frame they are on the disk before the step.
     pub fn on_peer(&mut self, frame: &[u8], out: &mut [u8]) -> Result<Did, KeepFault>
         requires room { HasRoom out.old }
-        // The step is that of the tables. Where the answer is a fault no step was taken and nothing written.
-        ensures step { IfOk result (λ did. Takes (step_of self.old.core Sender.Peer frame.now)
-            self.new.core did out.old out.new) }
-        ensures no_step { OnErr result ((self.new.core ≡ self.old.core) × (out.new ≡ out.old)) }
-        ensures opening { self.new.opening ≡ self.old.opening }
-
-        // Bytes that aren't exactly one frame aren't kept, and change nothing.
-        ensures no_frame { (IsOneFrame frame.now → ⊥) → IsOk result × (self.new ≡ self.old) }
-
-        // Before its step the frame is on the disk, and a crash from then on leaves it there.
-        ensures added { IsOneFrame frame.now → OnOk result ((frames : List Handed)
-            → HoldsFrames self.old.opening frames (D.disk self.old.disk).reads
-            → HoldsFrames self.new.opening (frames ++ handed Sender.Peer frame.now ∷ [])
-            (D.disk self.new.disk).reads) }
-        ensures longer { IsOneFrame frame.now
-            → OnOk result (self.new.journal ≡ longer (length frame.now + 1) self.old.journal) }
-        ensures stands { self.new.journal.closed ≡ false
-            → Stands self.new.opening self.new.core (D.disk self.new.disk).reads }
-        ensures durable { self.new.journal.closed ≡ false
-            → Within (D.disk self.new.disk).may_leave (D.disk self.new.disk).reads }
-        // Until a call on the disk fails a journal under the same limit finds nothing damaged.
-        ensures undamaged { self.new.journal.closed ≡ false → (c : List ℕ) → (D.disk self.new.disk).reads c
-            → IsUndamaged self.new.journal.limit 0 c }
-
-        // A crash at any moment of the call leaves the frames from before it, with its own or without.
-        ensures any_moment { IsOneFrame frame.now
-            → LeavesAround D.disk self.old self.new (handed Sender.Peer frame.now) }
-
-        // The faults of a frame, in the order in which they are judged. Closed and Full change nothing.
-        ensures closed { IsOneFrame frame.now → self.old.journal.closed ≡ true
-            → (result ≡ Err (KeepFault.Journal JournalFault.Closed)) × (self.new ≡ self.old) }
-        ensures full { IsOneFrame frame.now → self.old.journal.closed ≡ false
-            → Passes self.old.journal.end (length frame.now + 1) self.old.journal.limit
-            → (result ≡ Err (KeepFault.Journal (JournalFault.Full self.old.journal.end)))
-            × (self.new ≡ self.old) }
-        ensures fits { IsOneFrame frame.now → self.old.journal.closed ≡ false
-            → self.old.journal.end + 5 + (length frame.now + 1) + 1 ≤ self.old.journal.limit
-            → IsOkOrDiskFault result }
-        ensures broken { IsOneFrame frame.now → self.old.journal.closed ≡ false
-            → self.old.journal.end + 5 + (length frame.now + 1) + 1 ≤ self.old.journal.limit
-            → OnErr result (self.new.journal ≡ broken self.old.journal) }
-        ensures counts { Counts (D.Counted.seen self.old.disk).faults (D.Counted.seen self.new.disk).faults result }
+        ensures keeps { KeepsFrame D.disk D.Counted.seen (handed Sender.Peer frame.now)
+            self.old self.new out.old out.new result }
     {
         self.take(Sender::Peer, frame, out)
     }
 
-    /// A frame, of whichever sender. Where the bytes are exactly one frame they are on the disk before the step.
+    /// A frame, of whichever sender. Where the bytes are exactly one frame they are on the disk before the
+    /// step.
     pub fn take(&mut self, sender: Sender, frame: &[u8], out: &mut [u8]) -> Result<Did, KeepFault>
         requires room { HasRoom out.old }
-        // The step is that of the tables. Where the answer is a fault no step was taken and nothing written.
-        ensures step { IfOk result (λ did. Takes (step_of self.old.core sender frame.now)
-            self.new.core did out.old out.new) }
-        ensures no_step { OnErr result ((self.new.core ≡ self.old.core) × (out.new ≡ out.old)) }
-        ensures opening { self.new.opening ≡ self.old.opening }
-
-        // Bytes that aren't exactly one frame aren't kept, and change nothing.
-        ensures no_frame { (IsOneFrame frame.now → ⊥) → IsOk result × (self.new ≡ self.old) }
-
-        // Before its step the frame is on the disk, and a crash from then on leaves it there.
-        ensures added { IsOneFrame frame.now → OnOk result ((frames : List Handed)
-            → HoldsFrames self.old.opening frames (D.disk self.old.disk).reads
-            → HoldsFrames self.new.opening (frames ++ handed sender frame.now ∷ [])
-            (D.disk self.new.disk).reads) }
-        ensures longer { IsOneFrame frame.now
-            → OnOk result (self.new.journal ≡ longer (length frame.now + 1) self.old.journal) }
-        ensures stands { self.new.journal.closed ≡ false
-            → Stands self.new.opening self.new.core (D.disk self.new.disk).reads }
-        ensures durable { self.new.journal.closed ≡ false
-            → Within (D.disk self.new.disk).may_leave (D.disk self.new.disk).reads }
-        // Until a call on the disk fails a journal under the same limit finds nothing damaged.
-        ensures undamaged { self.new.journal.closed ≡ false → (c : List ℕ) → (D.disk self.new.disk).reads c
-            → IsUndamaged self.new.journal.limit 0 c }
-
-        // A crash at any moment of the call leaves the frames from before it, with its own or without.
-        ensures any_moment { IsOneFrame frame.now
-            → LeavesAround D.disk self.old self.new (handed sender frame.now) }
-
-        // The faults of a frame, in the order in which they are judged. Closed and Full change nothing.
-        ensures closed { IsOneFrame frame.now → self.old.journal.closed ≡ true
-            → (result ≡ Err (KeepFault.Journal JournalFault.Closed)) × (self.new ≡ self.old) }
-        ensures full { IsOneFrame frame.now → self.old.journal.closed ≡ false
-            → Passes self.old.journal.end (length frame.now + 1) self.old.journal.limit
-            → (result ≡ Err (KeepFault.Journal (JournalFault.Full self.old.journal.end)))
-            × (self.new ≡ self.old) }
-        ensures fits { IsOneFrame frame.now → self.old.journal.closed ≡ false
-            → self.old.journal.end + 5 + (length frame.now + 1) + 1 ≤ self.old.journal.limit
-            → IsOkOrDiskFault result }
-        ensures broken { IsOneFrame frame.now → self.old.journal.closed ≡ false
-            → self.old.journal.end + 5 + (length frame.now + 1) + 1 ≤ self.old.journal.limit
-            → OnErr result (self.new.journal ≡ broken self.old.journal) }
-        ensures counts { Counts (D.Counted.seen self.old.disk).faults (D.Counted.seen self.new.disk).faults result }
+        ensures keeps { KeepsFrame D.disk D.Counted.seen (handed sender frame.now)
+            self.old self.new out.old out.new result }
     {
         match keep(&mut self.journal, &mut self.disk, sender, frame) {
             Ok(()) => Ok(self.core.step(sender, frame, out)),

@@ -11,6 +11,6 @@ pub fn records_tell()
         → records_of a frames ≡ records_of b others → a ≡ b }
     ensures frames { (a b : Opening) (frames others : List Handed) → records_of a frames ≡ records_of b others
         → frames ≡ others }
-    ensures foreign { (n : ℕ) (o : Opening) (frames : List Handed) (records : List (List ℕ)) → IsOpening o
-        → AllFrames frames → records ≡ records_of o frames → IsForeign n records → ⊥ }
+    ensures foreign { (n : ℕ) (o : Opening) (frames : List Handed) → IsOpening o → AllFrames frames
+        → IsForeign n (records_of o frames) → ⊥ }
 {}

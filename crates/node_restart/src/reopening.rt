@@ -5,7 +5,7 @@ ghost use Rattle.node_journal.specs.Records.{content, IsUndamaged};
 ghost use Rattle.node_restart.specs.Openings.{IsOpening};
 ghost use Rattle.node_restart.specs.Frames.{IsForeign};
 ghost use Rattle.node_restart.specs.Steps.{settings_of, role_of};
-ghost use Rattle.node_restart.specs.Faults.{OnForeign, OnDamaged, IsOfReopen, Counts};
+ghost use Rattle.node_restart.specs.Faults.{IfForeign, IfDamaged, IsOfReopen, Counts};
 ghost use Rattle.node_restart.specs.Replays.{IsReading};
 ghost use Rattle.node_restart.specs.Kept.{Stands, IsDamagedAt};
 
@@ -34,12 +34,12 @@ pub(crate) fn find<D: Disk>(alloc: Global, disk: &mut D, limit: u64) -> Result<F
     ensures ready { IfOk result (λ f. f.journal.ready ≡ true) }
     ensures reading { IfOk result (λ f. IsReading limit f.journal (D.disk disk.new)) }
     ensures cause { IfErr result IsOfReopen }
-    ensures foreign { IfErr result (λ why. OnForeign why (λ n. (c : List ℕ) → (D.disk disk.old).reads c
-        → IsForeign n (content c))) }
-    ensures damaged { IfErr result (λ why. OnDamaged why (λ n. (c : List ℕ) → (D.disk disk.old).reads c
-        → IsDamagedAt limit n c)) }
-    ensures never_damaged { IfErr result (λ why. OnDamaged why (λ n. (c : List ℕ) → (D.disk disk.old).reads c
-        → IsUndamaged limit 0 c → ⊥)) }
+    ensures foreign { IfForeign result (λ n. (c : List ℕ) → (D.disk disk.old).reads c
+        → IsForeign n (content c)) }
+    ensures damaged { IfDamaged result (λ n. (c : List ℕ) → (D.disk disk.old).reads c
+        → IsDamagedAt limit n c) }
+    ensures never_damaged { IfDamaged result (λ n. (c : List ℕ) → (D.disk disk.old).reads c
+        → IsUndamaged limit 0 c → ⊥) }
     ensures untouched { IsUntouched (D.disk disk.old) (D.disk disk.new) }
     ensures counts { Counts (D.Counted.seen disk.old).faults (D.Counted.seen disk.new).faults result }
 {

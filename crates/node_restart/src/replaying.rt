@@ -1,13 +1,13 @@
 //! The frames of a journal, each taken as it was before.
-ghost use Rattle.std.specs.Prelude.{◌≡◌, ◌≤◌, ◌<◌, ◌^◌, ℕ, List, [], ◌∷◌, map, true, false, Ok, IfOk, OnOk, IfErr, IsSome, IsNone};
+ghost use Rattle.std.specs.Prelude.{◌≡◌, ◌≤◌, ◌<◌, ◌^◌, ℕ, List, ◌∷◌, true, false, Ok, IfOk, OnOk, IfErr, IsSome, IsNone};
 ghost use Rattle.node_journal.specs.Disk.{IsUntouched};
-ghost use Rattle.node_journal.specs.Records.{content, records_from, IsUndamaged};
+ghost use Rattle.node_journal.specs.Records.{content, records_from, HasNoMore, StaysUndamaged};
 ghost use Rattle.node_journal.specs.Journal.{at_end};
 ghost use Rattle.node_restart.specs.Openings.{IsOpening, opening_record};
-ghost use Rattle.node_restart.specs.Frames.{Handed, AllFrames, LacksOpening, IsNoFrame, frame_record};
-ghost use Rattle.node_restart.specs.Steps.{fold_from, settings_of, role_of};
-ghost use Rattle.node_restart.specs.Faults.{OnForeign, OnDamaged, IsOfReopen, Counts};
-ghost use Rattle.node_restart.specs.Replays.{IsReading, StepsBy, StepsOnce, StandsForeign, StandsDamaged, EndsForeign, EndsDamaged};
+ghost use Rattle.node_restart.specs.Frames.{LacksOpening, IsNoFrame};
+ghost use Rattle.node_restart.specs.Steps.{settings_of, role_of};
+ghost use Rattle.node_restart.specs.Faults.{IfForeign, IfDamaged, IsOfReopen, Counts};
+ghost use Rattle.node_restart.specs.Replays.{IsReading, StepsBy, StepsOnce, StepsToEnd, StandsForeign, StandsDamaged, EndsForeign, EndsDamaged};
 
 use crate::fault::KeepFault;
 use crate::frames::{RECORD_MAX, frame_in};
@@ -26,16 +26,14 @@ pub(crate) fn first_opening<D: Disk>(
     ensures opening { IfOk result IsOpening }
     ensures first { IfOk result (λ o. (c : List ℕ) → (D.disk disk.old).reads c
         → content c ≡ opening_record o ∷ records_from journal.new.end c) }
-    ensures undamaged { OnOk result ((c : List ℕ) → (D.disk disk.old).reads c
-        → IsUndamaged journal.old.limit 0 c
-        → IsUndamaged journal.old.limit journal.new.end c) }
+    ensures undamaged { OnOk result
+        (StaysUndamaged journal.old.limit 0 journal.new.end (D.disk disk.old).reads) }
     ensures behind { OnOk result (1 ≤ journal.new.end) }
     ensures reading { OnOk result (IsReading journal.old.limit journal.new (D.disk disk.new)) }
-    ensures foreign { IfErr result (λ why. OnForeign why (λ n. (n ≡ 0) × ((c : List ℕ)
-        → (D.disk disk.old).reads c
-        → LacksOpening (content c)))) }
-    ensures damaged { IfErr result (λ why. OnDamaged why (λ n. (n ≡ 0)
-        × StandsDamaged journal.old.limit 0 (D.disk disk.old).reads)) }
+    ensures foreign { IfForeign result (λ n. (n ≡ 0)
+        × ((c : List ℕ) → (D.disk disk.old).reads c → LacksOpening (content c))) }
+    ensures damaged { IfDamaged result (λ n. (n ≡ 0)
+        × StandsDamaged journal.old.limit 0 (D.disk disk.old).reads) }
     ensures cause { IfErr result IsOfReopen }
     ensures counts { Counts (D.Counted.seen disk.old).faults (D.Counted.seen disk.new).faults result }
     ensures untouched { IsUntouched (D.disk disk.old) (D.disk disk.new) }
@@ -76,15 +74,15 @@ fn replay_next<D: Disk>(
         → StepsOnce journal.old.end journal.new.end core.old core.new (D.disk disk.old).reads }
     ensures longer { result ≡ Ok true → journal.old.end < journal.new.end }
     ensures within { result ≡ Ok true → journal.new.end < journal.old.limit }
-    ensures undamaged { result ≡ Ok true → (c : List ℕ) → (D.disk disk.old).reads c
-        → IsUndamaged journal.old.limit journal.old.end c → IsUndamaged journal.old.limit journal.new.end c }
-    ensures ended { result ≡ Ok false → (core.new ≡ core.old) × (journal.new ≡ at_end journal.old)
-        × ((c : List ℕ) → (D.disk disk.old).reads c → records_from journal.old.end c ≡ []) }
+    ensures undamaged { result ≡ Ok true
+        → StaysUndamaged journal.old.limit journal.old.end journal.new.end (D.disk disk.old).reads }
+    ensures ended { result ≡ Ok false → (core.new ≡ core.old) × (journal.new ≡ at_end journal.old) }
+    ensures no_more { result ≡ Ok false → HasNoMore journal.old.end (D.disk disk.old).reads }
     ensures reading { OnOk result (IsReading journal.old.limit journal.new (D.disk disk.new)) }
-    ensures foreign { IfErr result (λ why. OnForeign why (λ n. (n ≡ number)
-        × StandsForeign journal.old.end (D.disk disk.old).reads)) }
-    ensures damaged { IfErr result (λ why. OnDamaged why (λ n. (n ≡ journal.old.end)
-        × StandsDamaged journal.old.limit journal.old.end (D.disk disk.old).reads)) }
+    ensures foreign { IfForeign result (λ n. (n ≡ number)
+        × StandsForeign journal.old.end (D.disk disk.old).reads) }
+    ensures damaged { IfDamaged result (λ n. (n ≡ journal.old.end)
+        × StandsDamaged journal.old.limit journal.old.end (D.disk disk.old).reads) }
     ensures cause { IfErr result IsOfReopen }
     ensures counts { Counts (D.Counted.seen disk.old).faults (D.Counted.seen disk.new).faults result }
     ensures untouched { IsUntouched (D.disk disk.old) (D.disk disk.new) }
@@ -111,15 +109,13 @@ pub(crate) fn replay<D: Disk>(
     requires reading { IsReading journal.old.limit journal.old (D.disk disk.old) }
     requires behind { 1 ≤ journal.old.end }
     requires limit { journal.old.limit ≤ 2 ^ 62 }
-    ensures all { OnOk result ((frames : List Handed) × AllFrames frames
-        × (core.new ≡ fold_from core.old frames) × ((c : List ℕ) → (D.disk disk.old).reads c
-        → records_from journal.old.end c ≡ map frame_record frames)) }
+    ensures all { OnOk result (StepsToEnd journal.old.end core.old core.new (D.disk disk.old).reads) }
     ensures ready { OnOk result (journal.new.ready ≡ true) }
     ensures reading { OnOk result (IsReading journal.old.limit journal.new (D.disk disk.new)) }
-    ensures foreign { IfErr result (λ why. OnForeign why (λ n.
-        EndsForeign n journal.old.end (D.disk disk.old).reads)) }
-    ensures damaged { IfErr result (λ why. OnDamaged why (λ n.
-        EndsDamaged journal.old.limit n journal.old.end (D.disk disk.old).reads)) }
+    ensures foreign { IfForeign result (λ n.
+        EndsForeign n journal.old.end (D.disk disk.old).reads) }
+    ensures damaged { IfDamaged result (λ n.
+        EndsDamaged journal.old.limit n journal.old.end (D.disk disk.old).reads) }
     ensures cause { IfErr result IsOfReopen }
     ensures counts { Counts (D.Counted.seen disk.old).faults (D.Counted.seen disk.new).faults result }
     ensures untouched { IsUntouched (D.disk disk.old) (D.disk disk.new) }

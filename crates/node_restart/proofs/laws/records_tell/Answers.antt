@@ -1,4 +1,5 @@
-use Rattle.std.proofs.Common.{◌≡◌, List, ℕ, ap, drop}
+use Rattle.std.proofs.Common.{◌≡◌, List, ℕ, refl, ap, drop}
+use Rattle.node_restart.specs.Frames.{records_of}
 use Rattle.node_restart.specs.Openings.{opening_record}
 use Rattle.node_restart.proofs.OpeningLaws.{one_opening}
 use Rattle.node_restart.proofs.FrameLaws.{one_list, never_foreign}
@@ -13,4 +14,4 @@ returns-clause-frames c a b frames others is =
     one_list frames others (ap (λ (l : List (List ℕ)). drop 1 l) is)
 
 pub returns-clause-foreign : goal.returns-clause-foreign
-returns-clause-foreign c n o frames records io all is f = never_foreign n o frames records io all is f
+returns-clause-foreign c n o frames io all f = never_foreign n o frames (records_of o frames) io all refl f
