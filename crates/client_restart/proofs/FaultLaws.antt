@@ -2,16 +2,16 @@
 use Rattle.std.proofs.Common.{◌≡◌, ℕ, refl}
 use Rattle.node_journal.specs.declared.fault.JournalFault.{JournalFault}
 use Rattle.node_journal.specs.declared.fault.JournalFault.TheVariants.{Closed, NotEmpty, Full, Disk, Damaged}
-use Rattle.client_restart.specs.declared.fault.KeepFault.{KeepFault}
-use Rattle.client_restart.specs.declared.fault.KeepFault.TheVariants.{Journal, NoMemory, Foreign}
+use Rattle.client_restart.specs.declared.fault.NoteFault.{NoteFault}
+use Rattle.client_restart.specs.declared.fault.NoteFault.TheVariants.{Journal, NoMemory, Foreign}
 use Rattle.client_restart.specs.Faults.{OnForeign, OnDamaged, OnFull, OnNotEmpty}
 
-pub on_foreign : (why : KeepFault) (P Q : ℕ → Type 0) → ((n : ℕ) → P n → Q n) → OnForeign why P → OnForeign why Q
+pub on_foreign : (why : NoteFault) (P Q : ℕ → Type 0) → ((n : ℕ) → P n → Q n) → OnForeign why P → OnForeign why Q
 on_foreign (Foreign n) P Q follows p = follows n p
 on_foreign NoMemory P Q follows p = tt
 on_foreign (Journal why) P Q follows p = tt
 
-pub on_damaged : (why : KeepFault) (P Q : ℕ → Type 0) → ((n : ℕ) → P n → Q n) → OnDamaged why P → OnDamaged why Q
+pub on_damaged : (why : NoteFault) (P Q : ℕ → Type 0) → ((n : ℕ) → P n → Q n) → OnDamaged why P → OnDamaged why Q
 on_damaged (Journal (Damaged at)) P Q follows p = follows at p
 on_damaged (Journal Closed) P Q follows p = tt
 on_damaged (Journal NotEmpty) P Q follows p = tt

@@ -4,11 +4,11 @@ use Rattle.node_journal.specs.Disk.{DiskSeen, LeavesOnly}
 use Rattle.node_journal.specs.Records.{content, records_from, EndsAt, IsUndamaged, Appended, LeavesBeforeOrAfter, IsBeforeOrAfter}
 use Rattle.node_journal.specs.Journal.{JournalState, IsInPlace}
 use Rattle.client_restart.specs.declared.opening.ClientOpening.{ClientOpening}
-use Rattle.client_restart.specs.Openings.{IsOpening, opening_record}
+use Rattle.client_restart.specs.Openings.{IsClientOpening, opening_record}
 use Rattle.client_restart.specs.Notes.{Noted, IsNote, note_record}
 use Rattle.client_restart.specs.Records.{AllNotes, records_of, IsForeign}
 use Rattle.client_restart.specs.Steps.{CoreState, fold, fold_from, opened, step_of}
-use Rattle.client_restart.specs.Kept.{HoldsNotes, Stands, LeavesNotes, IsDamagedBehindNotes}
+use Rattle.client_restart.specs.Kept.{HoldsNotes, StandsByNotes, LeavesNotes, IsDamagedBehindNotes}
 use Rattle.client_restart.specs.Replays.{EndsForeign, EndsDamaged}
 use Rattle.client_restart.proofs.NoteLaws.{all_push, records_push, one_list}
 use Rattle.client_restart.proofs.OpeningLaws.{one_opening}
@@ -22,7 +22,7 @@ StandsFirst o end reads = (d : List ℕ) → reads d → content d ≡ opening_r
 
 pub stands_all : (o : ClientOpening) (end : ℕ) (core : CoreState) (reads : List ℕ → Type 0) → StandsFirst o end reads
     → ((notes : List Noted) × AllNotes notes × (core ≡ fold_from (opened o) notes) × ((d : List ℕ) → reads d → records_from end d ≡ map note_record notes))
-    → Stands o core reads
+    → StandsByNotes o core reads
 stands_all o end core reads first all = record {
   notes = all.0;
   whole = all.1;
@@ -30,7 +30,7 @@ stands_all o end core reads first all = record {
   held = λ d read. first d read ∙ ap (λ (l : List (List ℕ)). opening_record o ∷ l) (all.3 d read);
 }
 
-pub ends_foreign : (n end : ℕ) (o : ClientOpening) (reads : List ℕ → Type 0) → IsOpening o → StandsFirst o end reads → EndsForeign n end reads
+pub ends_foreign : (n end : ℕ) (o : ClientOpening) (reads : List ℕ → Type 0) → IsClientOpening o → StandsFirst o end reads → EndsForeign n end reads
     → (d : List ℕ) → reads d → IsForeign n (content d)
 ends_foreign n end o reads is_opening first ends d read = inr (record {
   opening = o;
@@ -44,7 +44,7 @@ ends_foreign n end o reads is_opening first ends d read = inr (record {
   place = ends.2;
 })
 
-pub ends_damaged : (limit n end : ℕ) (o : ClientOpening) (reads : List ℕ → Type 0) → IsOpening o → StandsFirst o end reads → EndsDamaged limit n end reads
+pub ends_damaged : (limit n end : ℕ) (o : ClientOpening) (reads : List ℕ → Type 0) → IsClientOpening o → StandsFirst o end reads → EndsDamaged limit n end reads
     → (d : List ℕ) → reads d → IsDamagedBehindNotes limit n d
 ends_damaged limit n end o reads is_opening first ends d read = record {
   found = (ends.2 d read).1;
@@ -58,8 +58,8 @@ ends_damaged limit n end o reads is_opening first ends d read = record {
 }
 
 -- what stands is the fold of the notes whose records it is
-pub one_fold : (o p : ClientOpening) (notes : List Noted) (core : CoreState) (reads : List ℕ → Type 0) (d : List ℕ) → reads d → IsOpening o → IsOpening p
-    → Stands p core reads → AllNotes notes → HoldsNotes o notes reads → (p ≡ o) × (core ≡ fold o notes)
+pub one_fold : (o p : ClientOpening) (notes : List Noted) (core : CoreState) (reads : List ℕ → Type 0) (d : List ℕ) → reads d → IsClientOpening o → IsClientOpening p
+    → StandsByNotes p core reads → AllNotes notes → HoldsNotes o notes reads → (p ≡ o) × (core ≡ fold o notes)
 one_fold o p notes core reads d read io ip stands all held =
     let both : records_of p stands.notes ≡ records_of o notes = sym (stands.held d read) ∙ held d read in
     let heads : opening_record p ≡ opening_record o = cc both in
@@ -84,8 +84,8 @@ holds_push o notes h reads reads_now held appended d read =
     let now = appended d read in
     now.2 ∙ ap (λ (l : List (List ℕ)). l ++ note_record h ∷ []) (held now.0 now.1) ∙ sym (records_push o notes h)
 
-pub stands_push : (o : ClientOpening) (core : CoreState) (h : Noted) (reads reads_now : List ℕ → Type 0) → Stands o core reads → IsNote h
-    → ((d : List ℕ) → reads_now d → Appended reads (note_record h) d) → Stands o (step_of core h) reads_now
+pub stands_push : (o : ClientOpening) (core : CoreState) (h : Noted) (reads reads_now : List ℕ → Type 0) → StandsByNotes o core reads → IsNote h
+    → ((d : List ℕ) → reads_now d → Appended reads (note_record h) d) → StandsByNotes o (step_of core h) reads_now
 stands_push o core h reads reads_now stands one appended = record {
   notes = stands.notes ++ h ∷ [];
   whole = all_push stands.notes h stands.whole one;
@@ -96,9 +96,9 @@ stands_push o core h reads reads_now stands one appended = record {
 -- after a call that noted it and took its step
 pub stands_after : (o : ClientOpening) (core now : CoreState) (n : Noted) (j k : JournalState) (reads reads_now : List ℕ → Type 0)
     → now ≡ step_of core n → k.closed ≡ j.closed → IsNote n → ((d : List ℕ) → reads_now d → Appended reads (note_record n) d)
-    → (j.closed ≡ false → Stands o core reads) → k.closed ≡ false → Stands o now reads_now
+    → (j.closed ≡ false → StandsByNotes o core reads) → k.closed ≡ false → StandsByNotes o now reads_now
 stands_after o core now n j k reads reads_now stepped same one appended stood still =
-    subst (λ (x : CoreState). Stands o x reads_now) (sym stepped) (stands_push o core n reads reads_now (stood (sym same ∙ still)) one appended)
+    subst (λ (x : CoreState). StandsByNotes o x reads_now) (sym stepped) (stands_push o core n reads reads_now (stood (sym same ∙ still)) one appended)
 
 pub leaves_notes : (limit : ℕ) (o : ClientOpening) (notes : List Noted) (h : Noted) (reads : List ℕ → Type 0) → HoldsNotes o notes reads
     → (d : List ℕ) → LeavesBeforeOrAfter limit reads (note_record h) d → LeavesNotes limit o notes h d

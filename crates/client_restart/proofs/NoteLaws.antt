@@ -8,7 +8,7 @@ use Rattle.mailbox_rules.specs.Requests.{Register, Write, Read, Retire}
 use Rattle.node_journal.specs.Records.{IsSized}
 use Rattle.client_restart.specs.declared.opening.ClientOpening.{ClientOpening}
 use Rattle.client_restart.specs.Notes.{Noted, Asked, Heard, Told, GivenUp, Owned, Remark, FitsRecord, IsNote, IsNoNote, note_record}
-use Rattle.client_restart.specs.Openings.{IsOpening, opening_record}
+use Rattle.client_restart.specs.Openings.{IsClientOpening, opening_record}
 use Rattle.client_restart.specs.Records.{AllNotes, IsForeign, records_of}
 
 noted : ℕ → List ℕ → Noted
@@ -71,7 +71,7 @@ no_foreign (b ∷ before) (x ∷ notes) r rest all apart is =
     let tails : map note_record before ++ r ∷ rest ≡ map note_record notes = cc in
     no_foreign before notes r rest all.1 apart tails
 
-pub never_foreign : (n : ℕ) (o : ClientOpening) (notes : List Noted) (records : List (List ℕ)) → IsOpening o → AllNotes notes → records ≡ records_of o notes → IsForeign n records → ⊥
+pub never_foreign : (n : ℕ) (o : ClientOpening) (notes : List Noted) (records : List (List ℕ)) → IsClientOpening o → AllNotes notes → records ≡ records_of o notes → IsForeign n records → ⊥
 never_foreign n o notes records is_opening all is (inl lacks) = lacks.1 o (map note_record notes) is_opening is
 never_foreign n o notes records is_opening all is (inr f) =
     let both : opening_record f.opening ∷ (map note_record f.notes ++ f.foreign ∷ f.rest) ≡ opening_record o ∷ map note_record notes = sym f.split ∙ is in

@@ -3,7 +3,7 @@ use Rattle.std.proofs.Common.{◌≡◌, ℕ, ◌<◌, ◌^◌, List, take, drop
 use Rattle.std.proofs.lemmas.Nat.{from_be_bytes-to_be_bytes_2, from_be_bytes-to_be_bytes_4}
 use Rattle.std.specs.Int.{w16, w32, to_be_bytes, from_be_bytes}
 use Rattle.client_restart.specs.declared.opening.ClientOpening.{ClientOpening}
-use Rattle.client_restart.specs.Openings.{IsOpening, opening_record}
+use Rattle.client_restart.specs.Openings.{IsClientOpening, opening_record}
 
 wide_one : (a b : ℕ) → a < 2 ^ 32 → b < 2 ^ 32 → to_be_bytes w32 a ≡ to_be_bytes w32 b → a ≡ b
 wide_one a b fa fb is = sym (from_be_bytes-to_be_bytes_4 a fa) ∙ ap (from_be_bytes w32) is ∙ from_be_bytes-to_be_bytes_4 b fb
@@ -14,7 +14,7 @@ short_one a b fa fb is = sym (from_be_bytes-to_be_bytes_2 a fa) ∙ ap (from_be_
 abbrev made : ℕ → ℕ → ℕ → ℕ → List ℕ → ClientOpening
 made lane width capacity first seed = record { lane = lane; width = width; capacity = capacity; first_serial = first; seed = seed }
 
-pub one_opening : (a b : ClientOpening) → IsOpening a → IsOpening b → opening_record a ≡ opening_record b → a ≡ b
+pub one_opening : (a b : ClientOpening) → IsClientOpening a → IsClientOpening b → opening_record a ≡ opening_record b → a ≡ b
 one_opening a b ia ib is =
     let lane = short_one a.lane b.lane ia.lane ib.lane (ap (λ (l : List ℕ). take 2 (drop 1 l)) is) in
     let width = wide_one a.width b.width (omega (arith, ia.width.1)) (omega (arith, ib.width.1)) (ap (λ (l : List ℕ). take 4 (drop 3 l)) is) in

@@ -2,17 +2,17 @@
 use Rattle.std.specs.Prelude.{◌≡◌, ℕ, Result, Err, Ok, IfErr}
 use Rattle.node_journal.specs.Journal.{CountsDisk}
 use Rattle.node_journal.specs.declared.fault.JournalFault.TheVariants.{Closed, NotEmpty, Full, Disk, Damaged}
-use Rattle.client_restart.specs.declared.fault.KeepFault.{KeepFault}
-use Rattle.client_restart.specs.declared.fault.KeepFault.TheVariants.{Journal, NoMemory, Foreign}
+use Rattle.client_restart.specs.declared.fault.NoteFault.{NoteFault}
+use Rattle.client_restart.specs.declared.fault.NoteFault.TheVariants.{Journal, NoMemory, Foreign}
 
 -- P of the number, where the fault is Foreign
-abbrev pub OnForeign : KeepFault → (ℕ → Type 0) → Type 0
+abbrev pub OnForeign : NoteFault → (ℕ → Type 0) → Type 0
 OnForeign (Foreign n) P = P n
 OnForeign NoMemory P = Unit {0}
 OnForeign (Journal why) P = Unit {0}
 
 -- P of the byte, where the fault is the journal's Damaged
-abbrev pub OnDamaged : KeepFault → (ℕ → Type 0) → Type 0
+abbrev pub OnDamaged : NoteFault → (ℕ → Type 0) → Type 0
 OnDamaged (Journal (Damaged at)) P = P at
 OnDamaged (Journal Closed) P = Unit {0}
 OnDamaged (Journal NotEmpty) P = Unit {0}
@@ -22,15 +22,15 @@ OnDamaged NoMemory P = Unit {0}
 OnDamaged (Foreign n) P = Unit {0}
 
 -- P of the number, where the answer is Foreign
-abbrev pub IfForeign : {T : Type 0} → Result T KeepFault → (ℕ → Type 0) → Type 0
+abbrev pub IfForeign : {T : Type 0} → Result T NoteFault → (ℕ → Type 0) → Type 0
 IfForeign result P = IfErr result (λ why. OnForeign why P)
 
 -- P of the byte, where the answer is the journal's Damaged
-abbrev pub IfDamaged : {T : Type 0} → Result T KeepFault → (ℕ → Type 0) → Type 0
+abbrev pub IfDamaged : {T : Type 0} → Result T NoteFault → (ℕ → Type 0) → Type 0
 IfDamaged result P = IfErr result (λ why. OnDamaged why P)
 
 -- P, where the fault is the journal's NotEmpty
-abbrev pub OnNotEmpty : KeepFault → Type 0 → Type 0
+abbrev pub OnNotEmpty : NoteFault → Type 0 → Type 0
 OnNotEmpty (Journal NotEmpty) P = P
 OnNotEmpty (Journal Closed) P = Unit {0}
 OnNotEmpty (Journal (Full end)) P = Unit {0}
@@ -40,7 +40,7 @@ OnNotEmpty NoMemory P = Unit {0}
 OnNotEmpty (Foreign n) P = Unit {0}
 
 -- P of the end, where the fault is the journal's Full
-abbrev pub OnFull : KeepFault → (ℕ → Type 0) → Type 0
+abbrev pub OnFull : NoteFault → (ℕ → Type 0) → Type 0
 OnFull (Journal (Full end)) P = P end
 OnFull (Journal Closed) P = Unit {0}
 OnFull (Journal NotEmpty) P = Unit {0}
@@ -50,13 +50,13 @@ OnFull NoMemory P = Unit {0}
 OnFull (Foreign n) P = Unit {0}
 
 -- P, where no memory was found
-abbrev pub OnNoMemory : KeepFault → Type 0 → Type 0
+abbrev pub OnNoMemory : NoteFault → Type 0 → Type 0
 OnNoMemory NoMemory P = P
 OnNoMemory (Journal why) P = Unit {0}
 OnNoMemory (Foreign n) P = Unit {0}
 
 -- the faults of a client that is made anew
-abbrev pub IsOfCreate : KeepFault → Type 0
+abbrev pub IsOfCreate : NoteFault → Type 0
 IsOfCreate (Journal NotEmpty) = Unit {0}
 IsOfCreate (Journal (Full end)) = Unit {0}
 IsOfCreate (Journal (Disk faults)) = Unit {0}
@@ -66,13 +66,13 @@ IsOfCreate NoMemory = Unit {0}
 IsOfCreate (Foreign n) = ⊥
 
 -- no memory was found, or a record isn't of the form
-abbrev pub IsNoMemoryOrForeign : KeepFault → Type 0
+abbrev pub IsNoMemoryOrForeign : NoteFault → Type 0
 IsNoMemoryOrForeign NoMemory = Unit {0}
 IsNoMemoryOrForeign (Foreign n) = Unit {0}
 IsNoMemoryOrForeign (Journal why) = ⊥
 
 -- the faults of a client that is opened again
-abbrev pub IsOfReopen : KeepFault → Type 0
+abbrev pub IsOfReopen : NoteFault → Type 0
 IsOfReopen (Journal (Disk faults)) = Unit {0}
 IsOfReopen (Journal (Damaged at)) = Unit {0}
 IsOfReopen (Journal Closed) = ⊥
@@ -83,18 +83,18 @@ IsOfReopen (Foreign n) = Unit {0}
 
 -- The disk's count of faults rose by one where the fault is the journal's Disk, which tells it; else it
 -- stayed.
-abbrev pub CountsFault : ℕ → ℕ → KeepFault → Type 0
+abbrev pub CountsFault : ℕ → ℕ → NoteFault → Type 0
 CountsFault before now (Journal why) = CountsDisk {T = ℕ} before now (Err why)
 CountsFault before now NoMemory = now ≡ before
 CountsFault before now (Foreign n) = now ≡ before
 
 -- the same of a call that may answer a fault
-abbrev pub Counts : {T : Type 0} → ℕ → ℕ → Result T KeepFault → Type 0
+abbrev pub Counts : {T : Type 0} → ℕ → ℕ → Result T NoteFault → Type 0
 Counts before now (Ok value) = now ≡ before
 Counts before now (Err fault) = CountsFault before now fault
 
 -- it went well, or a call on the disk failed
-abbrev pub IsOkOrDiskFault : {T : Type 0} → Result T KeepFault → Type 0
+abbrev pub IsOkOrDiskFault : {T : Type 0} → Result T NoteFault → Type 0
 IsOkOrDiskFault (Ok value) = Unit {0}
 IsOkOrDiskFault (Err (Journal (Disk faults))) = Unit {0}
 IsOkOrDiskFault (Err (Journal Closed)) = ⊥
@@ -105,7 +105,7 @@ IsOkOrDiskFault (Err NoMemory) = ⊥
 IsOkOrDiskFault (Err (Foreign n)) = ⊥
 
 -- P, where the journal is closed or full, or no memory was found
-abbrev pub OnStill : {T : Type 0} → Result T KeepFault → Type 0 → Type 0
+abbrev pub OnStill : {T : Type 0} → Result T NoteFault → Type 0 → Type 0
 OnStill (Err (Journal Closed)) P = P
 OnStill (Err (Journal (Full end))) P = P
 OnStill (Err NoMemory) P = P

@@ -8,14 +8,14 @@ use Rattle.node_journal.specs.Journal.{JournalState, HasSpace, LacksSpace, IsOkO
 use Rattle.node_journal.specs.Journal.{OnlyAnswersFull, LeavesWithOrWithout, longer, broken}
 use Rattle.node_journal.specs.declared.fault.JournalFault.{JournalFault}
 use Rattle.node_journal.specs.declared.fault.JournalFault.TheVariants.{Closed, Full}
-use Rattle.client_restart.specs.declared.fault.KeepFault.{KeepFault}
-use Rattle.client_restart.specs.declared.fault.KeepFault.TheVariants.{Journal, NoMemory}
+use Rattle.client_restart.specs.declared.fault.NoteFault.{NoteFault}
+use Rattle.client_restart.specs.declared.fault.NoteFault.TheVariants.{Journal, NoMemory}
 use Rattle.client_restart.specs.declared.opening.ClientOpening.{ClientOpening}
 use Rattle.client_restart.specs.Faults.{Counts, IsOkOrDiskFault}
 use Rattle.client_restart.specs.Cores.{TakesMemory}
 use Rattle.client_restart.specs.Notes.{Noted, note_record, size_of}
 use Rattle.client_restart.specs.Steps.{CoreState, step_of}
-use Rattle.client_restart.specs.Kept.{KeptState, HoldsNotes, LeavesNotes, Stands}
+use Rattle.client_restart.specs.Kept.{ClientState, HoldsNotes, LeavesNotes, StandsByNotes}
 
 -- The record of a note goes behind a journal's end.
 pub record WritesNote {D : Type 0} (shows : D → DiskSeen) (note : Noted) (old new : JournalState)
@@ -37,7 +37,7 @@ pub record Sight : Type 1 where
   pub disk : DiskSeen
   pub faults : ℕ
 
-abbrev pub sight : {D : Type 0} → (D → DiskSeen) → (D → Seen) → KeptState D → Sight
+abbrev pub sight : {D : Type 0} → (D → DiskSeen) → (D → Seen) → ClientState D → Sight
 sight shows counts k = record {
   opening = k.opening;
   core = k.core;
@@ -47,7 +47,7 @@ sight shows counts k = record {
 }
 
 -- the faults of a note, in the order in which they are judged
-pub record IsJudged {T : Type 0} (note : Noted) (j now : JournalState) (r : Result T KeepFault) : Type 0 where
+pub record IsJudged {T : Type 0} (note : Noted) (j now : JournalState) (r : Result T NoteFault) : Type 0 where
   pub memory : IsErrOf r NoMemory → TakesMemory note
   pub closed : (IsErrOf r NoMemory → ⊥) → j.closed ≡ true → IsErrOf r (Journal Closed)
   pub full : (IsErrOf r NoMemory → ⊥) → j.closed ≡ false → LacksSpace j (size_of note)
@@ -57,14 +57,14 @@ pub record IsJudged {T : Type 0} (note : Noted) (j now : JournalState) (r : Resu
 
 -- Where the answer is Ok the note is on the disk and its step was taken, and where it is a fault no step was
 -- taken. A crash at any moment of the call leaves the notes from before it, with this one or without.
-pub record Keeps {T : Type 0} (note : Noted) (old new : Sight) (r : Result T KeepFault) : Type 0 where
+pub record KeepsNote {T : Type 0} (note : Noted) (old new : Sight) (r : Result T NoteFault) : Type 0 where
   pub opening : new.opening ≡ old.opening
   pub step : OnOk r (new.core ≡ step_of old.core note)
   pub no_step : OnErr r (new.core ≡ old.core)
   pub added : OnOk r ((notes : List Noted) → HoldsNotes old.opening notes old.disk.reads
       → HoldsNotes old.opening (notes ++ note ∷ []) new.disk.reads)
   pub longer : OnOk r (new.journal ≡ longer (size_of note) old.journal)
-  pub stands : new.journal.closed ≡ false → Stands old.opening new.core new.disk.reads
+  pub stands : new.journal.closed ≡ false → StandsByNotes old.opening new.core new.disk.reads
   pub durable : new.journal.closed ≡ false → Within new.disk.may_leave new.disk.reads
   pub any_moment : old.journal.closed ≡ false → (notes : List Noted)
       → HoldsNotes old.opening notes old.disk.reads
@@ -73,6 +73,6 @@ pub record Keeps {T : Type 0} (note : Noted) (old new : Sight) (r : Result T Kee
   pub counts : Counts old.faults new.faults r
 
 -- from the one client to the other a call does it
-abbrev pub CallKeeps : {D T : Type 0} → (D → DiskSeen) → (D → Seen) → Noted → (old new : KeptState D)
-    → Result T KeepFault → Type 0
-CallKeeps shows seen note old new r = Keeps note (sight shows seen old) (sight shows seen new) r
+abbrev pub CallKeeps : {D T : Type 0} → (D → DiskSeen) → (D → Seen) → Noted → (old new : ClientState D)
+    → Result T NoteFault → Type 0
+CallKeeps shows seen note old new r = KeepsNote note (sight shows seen old) (sight shows seen new) r

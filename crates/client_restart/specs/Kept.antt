@@ -6,17 +6,17 @@ use Rattle.node_journal.specs.Records.{content, records_from, IsUndamaged, Leave
 use Rattle.node_journal.specs.Next.{found}
 use Rattle.node_journal.specs.Journal.{JournalState, IsInPlace}
 use Rattle.node_journal.specs.declared.fault.JournalFault.TheVariants.{Damaged}
-use Rattle.client_restart.specs.declared.fault.KeepFault.{KeepFault}
+use Rattle.client_restart.specs.declared.fault.NoteFault.{NoteFault}
 use Rattle.client_restart.specs.declared.opening.ClientOpening.{ClientOpening}
 use Rattle.client_restart.specs.declared.standing.ClientCore.{ClientCore}
 use Rattle.client_restart.specs.Cores.{core_in, IsCore}
-use Rattle.client_restart.specs.Openings.{IsOpening}
+use Rattle.client_restart.specs.Openings.{IsClientOpening}
 use Rattle.client_restart.specs.Notes.{Noted}
 use Rattle.client_restart.specs.Records.{AllNotes, records_of}
 use Rattle.client_restart.specs.Steps.{CoreState, fold}
 
 -- how the client was opened, the client, its journal and the journal's disk
-pub record KeptState (D : Type 0) : Type 0 where
+pub record ClientState (D : Type 0) : Type 0 where
   pub opening : ClientOpening
   pub core : CoreState
   pub journal : JournalState
@@ -28,16 +28,16 @@ HoldsNotes o notes reads = (c : List ℕ) → reads c → content c ≡ records_
 
 -- Where the disk's content is the records of an opening and of notes, this is that opening and their fold.
 abbrev pub IsToldBy : (List ℕ → Type 0) → ClientOpening → CoreState → Type 0
-IsToldBy reads opening core = (o : ClientOpening) (notes : List Noted) (c : List ℕ) → reads c → IsOpening o
-    → AllNotes notes → HoldsNotes o notes reads → (opening ≡ o) × (core ≡ fold o notes)
+IsToldBy reads opening core = (o : ClientOpening) (notes : List Noted) (c : List ℕ) → reads c
+    → IsClientOpening o → AllNotes notes → HoldsNotes o notes reads → (opening ≡ o) × (core ≡ fold o notes)
 
 -- the disk's content is not the records of an opening and of notes
 abbrev pub HoldsNoNotes : (List ℕ → Type 0) → Type 0
-HoldsNoNotes reads = (o : ClientOpening) (notes : List Noted) (c : List ℕ) → reads c → IsOpening o
+HoldsNoNotes reads = (o : ClientOpening) (notes : List Noted) (c : List ℕ) → reads c → IsClientOpening o
     → AllNotes notes → HoldsNotes o notes reads → ⊥
 
 -- The client is the fold of the opening and of the notes that stand on the disk.
-pub record Stands (o : ClientOpening) (core : CoreState) (reads : List ℕ → Type 0) : Type 0 where
+pub record StandsByNotes (o : ClientOpening) (core : CoreState) (reads : List ℕ → Type 0) : Type 0 where
   pub notes : List Noted
   pub whole : AllNotes notes
   pub folded : core ≡ fold o notes
@@ -61,22 +61,22 @@ unfoldable pub MakesOnly : ℕ → ClientOpening → (old new : DiskSeen) → Ty
 MakesOnly limit o old new = LeavesNoByte old.may_leave → LeavesOnly old new (LeavesOpening limit o)
 
 -- P of the disk that comes back, with the client or beside a fault
-abbrev pub OnDisk : {D : Type 0} → Result (KeptState D) (KeepFault × D) → (D → Type 0) → Type 0
+abbrev pub OnDisk : {D : Type 0} → Result (ClientState D) (NoteFault × D) → (D → Type 0) → Type 0
 OnDisk result P = MatchResult result (λ k. P k.disk) (λ x. P x.1)
 
 -- until a call on the disk fails, the journal is in place and what stands on its disk gives the client
 pub record IsKeptClient (o : ClientOpening) (core : ClientCore) (journal : JournalState) (disk : DiskSeen)
     : Type 0 where
-  pub is_opening : IsOpening o
+  pub is_opening : IsClientOpening o
   pub is_core : IsCore core
   pub ready : journal.ready ≡ true
   pub in_place : journal.closed ≡ false → IsInPlace journal disk
-  pub stands : journal.closed ≡ false → Stands o (core_in core) disk.reads
+  pub stands : journal.closed ≡ false → StandsByNotes o (core_in core) disk.reads
 
 -- Records of the form stand before byte n.
 pub record HasNotesBefore (n : ℕ) (c : List ℕ) : Type 0 where
   pub opening : ClientOpening
-  pub is_opening : IsOpening opening
+  pub is_opening : IsClientOpening opening
   pub notes : List Noted
   pub whole : AllNotes notes
   pub split : content c ≡ records_of opening notes ++ records_from n c

@@ -11,7 +11,7 @@ opening_record o =
     ++ to_be_bytes w32 o.first_serial ++ o.seed
 
 -- a lane, a width, room for at most 4,097 boxes, a serial, and 32 bytes
-pub record IsOpening (o : ClientOpening) : Type 0 where
+pub record IsClientOpening (o : ClientOpening) : Type 0 where
   pub lane : o.lane < 2 ^ 16
   pub width : IsWidth o.width
   pub capacity : o.capacity ≤ 4097

@@ -1,7 +1,7 @@
 -- The records of a client's journal.
 use Rattle.std.specs.Prelude.{◌≡◌, ℕ, ◌+◌, ◌⊎◌, List, [], ◌∷◌, ◌++◌, length, map}
 use Rattle.client_restart.specs.declared.opening.ClientOpening.{ClientOpening}
-use Rattle.client_restart.specs.Openings.{IsOpening, opening_record}
+use Rattle.client_restart.specs.Openings.{IsClientOpening, opening_record}
 use Rattle.client_restart.specs.Notes.{Noted, IsNote, IsNoNote, note_record}
 
 abbrev pub AllNotes : List Noted → Type 0
@@ -17,12 +17,12 @@ records_of o notes = opening_record o ∷ map note_record notes
 -- no opening stands first
 abbrev pub LacksOpening : List (List ℕ) → Type 0
 LacksOpening records =
-    (o : ClientOpening) (rest : List (List ℕ)) → IsOpening o → records ≡ opening_record o ∷ rest → ⊥
+    (o : ClientOpening) (rest : List (List ℕ)) → IsClientOpening o → records ≡ opening_record o ∷ rest → ⊥
 
 -- Those before record n are an opening's and notes', and record n is no note's.
 pub record HasForeignNote (n : ℕ) (records : List (List ℕ)) : Type 0 where
   pub opening : ClientOpening
-  pub is_opening : IsOpening opening
+  pub is_opening : IsClientOpening opening
   pub notes : List Noted
   pub whole : AllNotes notes
   pub foreign : List ℕ

@@ -8,7 +8,7 @@ use std::fmt;
 
 /// Why a client isn't made, or takes no step.
 #[derive(Clone, Copy, Debug, PartialEq, Eq)]
-pub enum KeepFault {
+pub enum NoteFault {
     /// A call of the journal failed.
     Journal(JournalFault),
     /// No memory was found for it.
@@ -17,14 +17,14 @@ pub enum KeepFault {
     Foreign(u64),
 }
 
-impl fmt::Display for KeepFault {
+impl fmt::Display for NoteFault {
     ghost output = { λ fault. Some (fault_text fault) };
 
     fn fmt<W: fmt::Write>(&self, f: &mut fmt::Formatter<W>) -> fmt::Result {
         match self {
-            KeepFault::Journal(fault) => write!(f, "{fault}"),
-            KeepFault::NoMemory => write!(f, "{}", NoMemory),
-            KeepFault::Foreign(number) => write!(f, "journal foreign {number}"),
+            NoteFault::Journal(fault) => write!(f, "{fault}"),
+            NoteFault::NoMemory => write!(f, "{}", NoMemory),
+            NoteFault::Foreign(number) => write!(f, "journal foreign {number}"),
         }
     }
 }

@@ -12,12 +12,12 @@ ghost use Rattle.client_restart.specs.Cores.{ended_in};
 ghost use Rattle.client_restart.specs.Faults.{OnForeign, OnDamaged, OnNotEmpty, OnFull, OnNoMemory, OnStill, IsOfCreate, IsOfReopen, CountsFault};
 ghost use Rattle.client_restart.specs.Hears.{IsTaken, makes_step_at};
 ghost use Rattle.client_restart.specs.Notes.{FitsRecord, GivenUp, Heard, IsNote, Owned, Remark, Told, asked_note, plain_note};
-ghost use Rattle.client_restart.specs.Openings.{IsOpening};
+ghost use Rattle.client_restart.specs.Openings.{IsClientOpening};
 ghost use Rattle.client_restart.specs.Records.{IsForeign};
 ghost use Rattle.client_restart.specs.Steps.{fold};
 
 use crate::ended::Ended;
-use crate::fault::KeepFault;
+use crate::fault::NoteFault;
 use crate::hearing::{asked_note, is_one_frame, makes_step};
 use crate::keeping::keep;
 use crate::note::Note;
@@ -42,9 +42,9 @@ pub struct KeptClient<D: Disk> {
 
 impl<D: Disk> Model for KeptClient<D> {
     ghost use Rattle.client_restart.specs.Cores.{core_in};
-    ghost use Rattle.client_restart.specs.Kept.{KeptState, IsKeptClient};
+    ghost use Rattle.client_restart.specs.Kept.{ClientState, IsKeptClient};
 
-    ghost Value = { KeptState D };
+    ghost Value = { ClientState D };
 
     ghost view = { λ k.
         record { opening = k.opening; core = core_in k.core; journal = k.journal; disk = k.disk } };
@@ -53,7 +53,7 @@ impl<D: Disk> Model for KeptClient<D> {
 }
 
 impl<D: Disk> KeptClient<D> {
-    ghost use Rattle.client_restart.specs.Kept.{HoldsNoNotes, HoldsNotes, IsDamagedBehindNotes, IsToldBy, MakesOnly, OnDisk, Stands};
+    ghost use Rattle.client_restart.specs.Kept.{HoldsNoNotes, HoldsNotes, IsDamagedBehindNotes, IsToldBy, MakesOnly, OnDisk, StandsByNotes};
     ghost use Rattle.client_restart.specs.Keeps.{CallKeeps};
 
     /// A client before its first request, on a disk with no byte. No more than `limit` bytes of the disk will
@@ -63,8 +63,8 @@ impl<D: Disk> KeptClient<D> {
         opening: &ClientOpening,
         disk: D,
         limit: u64,
-    ) -> Result<KeptClient<D>, (KeepFault, D)>
-        requires opening { IsOpening opening.now }
+    ) -> Result<KeptClient<D>, (NoteFault, D)>
+        requires opening { IsClientOpening opening.now }
         requires limit { limit ≤ 2 ^ 62 }
         ensures opening { IfOk result (λ k. k.opening ≡ opening.now) }
         ensures core { IfOk result (λ k. k.core ≡ fold opening.now []) }
@@ -95,7 +95,7 @@ impl<D: Disk> KeptClient<D> {
         ensures any_moment { OnDisk result (λ d. MakesOnly limit opening.now (D.disk disk) (D.disk d)) }
     {
         let Ok(core) = ClientCore::open(alloc, opening) else {
-            return Err((KeepFault::NoMemory, disk));
+            return Err((NoteFault::NoMemory, disk));
         };
         let mut disk = disk;
         match Journal::create(&mut disk, limit, &opening.record()) {
@@ -106,16 +106,16 @@ impl<D: Disk> KeptClient<D> {
                 journal,
                 disk,
             }),
-            Err(fault) => Err((KeepFault::Journal(fault), disk)),
+            Err(fault) => Err((NoteFault::Journal(fault), disk)),
         }
     }
 
     /// The client that the records on a disk give: it stands at the step at which it stood.
-    pub fn reopen(alloc: Global, disk: D, limit: u64) -> Result<KeptClient<D>, (KeepFault, D)>
+    pub fn reopen(alloc: Global, disk: D, limit: u64) -> Result<KeptClient<D>, (NoteFault, D)>
         requires limit { limit ≤ 2 ^ 62 }
         // What stands on the disk is an opening and notes, and the client is their fold.
-        ensures is_opening { IfOk result (λ k. IsOpening k.opening) }
-        ensures stands { IfOk result (λ k. Stands k.opening k.core (D.disk disk).reads) }
+        ensures is_opening { IfOk result (λ k. IsClientOpening k.opening) }
+        ensures stands { IfOk result (λ k. StandsByNotes k.opening k.core (D.disk disk).reads) }
         ensures told { IfOk result (λ k. IsToldBy (D.disk disk).reads k.opening k.core) }
         ensures undamaged { IfOk result (λ k. (c : List ℕ) → (D.disk k.disk).reads c
             → IsUndamaged limit 0 c) }
@@ -158,27 +158,27 @@ impl<D: Disk> KeptClient<D> {
     }
 
     // A note is on the disk before its step.
-    fn take(&mut self, note: &Note<'_>) -> Result<(), KeepFault>
+    fn take(&mut self, note: &Note<'_>) -> Result<(), NoteFault>
         requires is_note { IsNote (plain_note note.now) }
         requires fits { FitsRecord (plain_note note.now) }
         ensures keeps { CallKeeps D.disk D.Counted.seen (plain_note note.now) self.old self.new result }
         ensures stays { OnStill result (self.new ≡ self.old) }
     {
         let Ok(room) = self.core.room_for(self.alloc, note) else {
-            return Err(KeepFault::NoMemory);
+            return Err(NoteFault::NoMemory);
         };
         match keep(&mut self.journal, &mut self.disk, note) {
             Ok(()) => {
                 self.core.step(note, room);
                 Ok(())
             }
-            Err(fault) => Err(KeepFault::Journal(fault)),
+            Err(fault) => Err(NoteFault::Journal(fault)),
         }
     }
 
     /// Takes a request, which is on the disk before its first frame can be had. `Ok(Err(_))` is the refusal
     /// of `Client::ask`, and then nothing is kept.
-    pub fn ask(&mut self, request: &Request<'_>) -> Result<Result<(), AskFault>, KeepFault>
+    pub fn ask(&mut self, request: &Request<'_>) -> Result<Result<(), AskFault>, NoteFault>
         ensures refused { IfOk result (λ taken. IfErr taken (λ fault.
             asked self.old.core.client (plain_request request.now) ≡ Err (fault_in fault))) }
         ensures refused_stays { IfOk result (λ taken. OnErr taken (self.new ≡ self.old)) }
@@ -211,7 +211,7 @@ impl<D: Disk> KeptClient<D> {
             drop count out.new ≡ drop count out.old }
         // The client that sends is the one that the disk gives, so its request is on the disk.
         ensures stands { self.now.journal.closed ≡ false
-            → Stands self.now.opening self.now.core (D.disk self.now.disk).reads }
+            → StandsByNotes self.now.opening self.now.core (D.disk self.now.disk).reads }
         ensures durable { self.now.journal.closed ≡ false
             → Within (D.disk self.now.disk).may_leave (D.disk self.now.disk).reads }
     {
@@ -221,7 +221,7 @@ impl<D: Disk> KeptClient<D> {
     /// Takes a server's bytes, which may be any, as a reply to the present step. A reply that makes a step is
     /// on the disk before it; one that is ignored or comes too early isn't kept, since it changes nothing. An
     /// outcome stands among those that weren't told from then on.
-    pub fn hear(&mut self, frame: &[u8]) -> Result<Progress, KeepFault>
+    pub fn hear(&mut self, frame: &[u8]) -> Result<Progress, NoteFault>
         ensures progress { IfOk result (λ p.
             p ≡ progress_in (on_reply self.old.core.client frame.now).progress) }
         ensures no_step { makes_step_at self.old.core frame.now ≡ false
@@ -266,7 +266,7 @@ impl<D: Disk> KeptClient<D> {
 
     /// The oldest of those that weren't told was told: it is with the user. Until then it is told again after
     /// each reopening.
-    pub fn told(&mut self) -> Result<(), KeepFault>
+    pub fn told(&mut self) -> Result<(), NoteFault>
         requires some { self.old.core.untold ≢ [] }
         ensures keeps { CallKeeps D.disk D.Counted.seen Told self.old self.new result }
         ensures stays { OnStill result (self.new ≡ self.old) }
@@ -275,7 +275,7 @@ impl<D: Disk> KeptClient<D> {
     }
 
     /// Gives up the current request, as one whose answer can't come any more. Its serial never comes again.
-    pub fn give_up(&mut self) -> Result<(), KeepFault>
+    pub fn give_up(&mut self) -> Result<(), NoteFault>
         requires busy { self.old.core.client.current ≢ None }
         ensures keeps { CallKeeps D.disk D.Counted.seen GivenUp self.old self.new result }
         ensures stays { OnStill result (self.new ≡ self.old) }
@@ -285,7 +285,7 @@ impl<D: Disk> KeptClient<D> {
 
     /// Owns the box of this number, which this serial registered in an earlier journal of the same seed and
     /// lane.
-    pub fn own(&mut self, number: u32, serial: u32) -> Result<(), KeepFault>
+    pub fn own(&mut self, number: u32, serial: u32) -> Result<(), NoteFault>
         requires idle { self.old.core.client.current ≡ None }
         requires room { nat_le self.old.core.client.capacity (length self.old.core.client.owned) ≡ false }
         ensures keeps { CallKeeps D.disk D.Counted.seen (Owned number serial) self.old self.new result }
@@ -295,7 +295,7 @@ impl<D: Disk> KeptClient<D> {
     }
 
     /// Keeps words of the program above, which mean nothing to the client.
-    pub fn remark(&mut self, words: &[u8]) -> Result<(), KeepFault>
+    pub fn remark(&mut self, words: &[u8]) -> Result<(), NoteFault>
         requires few { length words.now ≤ 8213 }
         ensures keeps { CallKeeps D.disk D.Counted.seen (Remark words.now) self.old self.new result }
         ensures stays { OnStill result (self.new ≡ self.old) }
@@ -357,7 +357,7 @@ impl<D: Disk> KeptClient<D> {
     /// How the client was opened.
     pub fn opening(&self) -> &ClientOpening
         ensures value { result.now ≡ self.now.opening }
-        ensures is { IsOpening result.now }
+        ensures is { IsClientOpening result.now }
     {
         &self.opening
     }

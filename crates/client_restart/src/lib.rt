@@ -18,7 +18,7 @@ mod standing;
 
 pub use ended::{Ended, KeptOutcome};
 pub use errand::Errand;
-pub use fault::KeepFault;
+pub use fault::NoteFault;
 pub use kept::KeptClient;
 pub use laws::{client_remembers, records_tell};
 pub use note::{NOTE_MAX, Note};

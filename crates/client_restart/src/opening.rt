@@ -2,7 +2,7 @@
 ghost use Rattle.std.specs.Prelude.{◌≡◌, ◌≤◌, ◌∷◌, [], ◌↔◌, IsTrue, IsNone, IfSome};
 ghost use Rattle.std.specs.Int.{w16, w32, to_be_bytes, from_be_bytes};
 ghost use Rattle.express_words.specs.Limits.{IsWidth};
-ghost use Rattle.client_restart.specs.Openings.{IsOpening, opening_record};
+ghost use Rattle.client_restart.specs.Openings.{IsClientOpening, opening_record};
 
 use express_words::limits::{LEAST_WIDTH, MOST_WIDTH};
 
@@ -64,9 +64,10 @@ impl ClientOpening {
 
     /// The opening that a record is, if it is one.
     pub fn of(bytes: &[u8]) -> Option<ClientOpening>
-        ensures some { IfSome result IsOpening }
+        ensures some { IfSome result IsClientOpening }
         ensures is { IfSome result (λ o. bytes.now ≡ opening_record o) }
-        ensures none { IsNone result → (o : ClientOpening) → IsOpening o → bytes.now ≡ opening_record o → ⊥ }
+        ensures none { IsNone result → (o : ClientOpening) → IsClientOpening o
+            → bytes.now ≡ opening_record o → ⊥ }
     {
         let [
             3,

@@ -2,14 +2,14 @@
 ghost use Rattle.std.specs.Prelude.{◌≡◌, ◌≤◌, ◌^◌, ℕ, List, true, false, IfOk, IfErr};
 ghost use Rattle.node_journal.specs.Disk.{IsUntouched};
 ghost use Rattle.node_journal.specs.Records.{content, IsUndamaged};
-ghost use Rattle.client_restart.specs.Openings.{IsOpening};
+ghost use Rattle.client_restart.specs.Openings.{IsClientOpening};
 ghost use Rattle.client_restart.specs.Cores.{core_in, IsCore};
 ghost use Rattle.client_restart.specs.Records.{IsForeign};
 ghost use Rattle.client_restart.specs.Faults.{IfForeign, IfDamaged, IsOfReopen, Counts};
 ghost use Rattle.client_restart.specs.Replays.{IsReadingNotes};
-ghost use Rattle.client_restart.specs.Kept.{Stands, IsDamagedBehindNotes};
+ghost use Rattle.client_restart.specs.Kept.{StandsByNotes, IsDamagedBehindNotes};
 
-use crate::fault::KeepFault;
+use crate::fault::NoteFault;
 use crate::opening::ClientOpening;
 use crate::replaying::{first_opening, replay};
 use crate::standing::ClientCore;
@@ -25,11 +25,15 @@ pub(crate) struct FoundClient {
 }
 
 /// The client that the records on a disk give.
-pub(crate) fn find<D: Disk>(alloc: Global, disk: &mut D, limit: u64) -> Result<FoundClient, KeepFault>
+pub(crate) fn find<D: Disk>(
+    alloc: Global,
+    disk: &mut D,
+    limit: u64,
+) -> Result<FoundClient, NoteFault>
     requires limit { limit ≤ 2 ^ 62 }
-    ensures is_opening { IfOk result (λ f. IsOpening f.opening) }
+    ensures is_opening { IfOk result (λ f. IsClientOpening f.opening) }
     ensures is_core { IfOk result (λ f. IsCore f.core) }
-    ensures stands { IfOk result (λ f. Stands f.opening (core_in f.core) (D.disk disk.old).reads) }
+    ensures stands { IfOk result (λ f. StandsByNotes f.opening (core_in f.core) (D.disk disk.old).reads) }
     ensures ready { IfOk result (λ f. f.journal.ready ≡ true) }
     ensures reading { IfOk result (λ f. IsReadingNotes limit f.journal (D.disk disk.new)) }
     ensures cause { IfErr result IsOfReopen }
@@ -44,14 +48,14 @@ pub(crate) fn find<D: Disk>(alloc: Global, disk: &mut D, limit: u64) -> Result<F
 {
     let mut journal = match Journal::open(disk, limit) {
         Ok(journal) => journal,
-        Err(fault) => return Err(KeepFault::Journal(fault)),
+        Err(fault) => return Err(NoteFault::Journal(fault)),
     };
     let opening = match first_opening(&mut journal, disk) {
         Ok(opening) => opening,
         Err(fault) => return Err(fault),
     };
     let Ok(mut core) = ClientCore::open(alloc, &opening) else {
-        return Err(KeepFault::NoMemory);
+        return Err(NoteFault::NoMemory);
     };
     match replay(alloc, &mut journal, disk, &mut core) {
         Ok(()) => Ok(FoundClient {

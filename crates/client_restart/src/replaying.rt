@@ -3,14 +3,14 @@ ghost use Rattle.std.specs.Prelude.{◌≡◌, ◌≤◌, ◌<◌, ◌^◌, ℕ,
 ghost use Rattle.node_journal.specs.Disk.{IsUntouched};
 ghost use Rattle.node_journal.specs.Records.{content, records_from, HasNoMore, StaysUndamaged};
 ghost use Rattle.node_journal.specs.Journal.{at_end};
-ghost use Rattle.client_restart.specs.Openings.{IsOpening, opening_record};
+ghost use Rattle.client_restart.specs.Openings.{IsClientOpening, opening_record};
 ghost use Rattle.client_restart.specs.Cores.{core_in, IsCore};
 ghost use Rattle.client_restart.specs.Notes.{IsNoNote};
 ghost use Rattle.client_restart.specs.Records.{LacksOpening};
 ghost use Rattle.client_restart.specs.Faults.{IfForeign, IfDamaged, IsNoMemoryOrForeign, IsOfReopen, Counts};
 ghost use Rattle.client_restart.specs.Replays.{IsReadingNotes, StepsByNote, StepsOnce, StepsToEnd, StandsForeign, StandsDamaged, EndsForeign, EndsDamaged};
 
-use crate::fault::KeepFault;
+use crate::fault::NoteFault;
 use crate::note::{NOTE_MAX, Note};
 use crate::opening::ClientOpening;
 use crate::standing::ClientCore;
@@ -21,10 +21,10 @@ use std::alloc::Global;
 pub(crate) fn first_opening<D: Disk>(
     journal: &mut Journal,
     disk: &mut D,
-) -> Result<ClientOpening, KeepFault>
+) -> Result<ClientOpening, NoteFault>
     requires reading { IsReadingNotes journal.old.limit journal.old (D.disk disk.old) }
     requires front { journal.old.end ≡ 0 }
-    ensures opening { IfOk result IsOpening }
+    ensures opening { IfOk result IsClientOpening }
     ensures first { IfOk result (λ o. (c : List ℕ) → (D.disk disk.old).reads c
         → content c ≡ opening_record o ∷ records_from journal.new.end c) }
     ensures undamaged { OnOk result
@@ -43,15 +43,20 @@ pub(crate) fn first_opening<D: Disk>(
     match journal.next(disk, &mut room) {
         Ok(Some(len)) => match ClientOpening::of(&room[..len]) {
             Some(opening) => Ok(opening),
-            None => Err(KeepFault::Foreign(0)),
+            None => Err(NoteFault::Foreign(0)),
         },
-        Ok(None) => Err(KeepFault::Foreign(0)),
-        Err(fault) => Err(KeepFault::Journal(fault)),
+        Ok(None) => Err(NoteFault::Foreign(0)),
+        Err(fault) => Err(NoteFault::Journal(fault)),
     }
 }
 
 // The step of a record, whose number this is, if it is a note's.
-fn step_record(alloc: Global, core: &mut ClientCore, bytes: &[u8], number: u64) -> Result<(), KeepFault>
+fn step_record(
+    alloc: Global,
+    core: &mut ClientCore,
+    bytes: &[u8],
+    number: u64,
+) -> Result<(), NoteFault>
     requires is { IsCore core.old }
     ensures ok { OnOk result (StepsByNote bytes.now (core_in core.old) (core_in core.new)) }
     ensures foreign { IfForeign result (λ n. (n ≡ number) × IsNoNote bytes.now) }
@@ -59,14 +64,14 @@ fn step_record(alloc: Global, core: &mut ClientCore, bytes: &[u8], number: u64) 
     ensures is { IsCore core.new }
 {
     let Some(note) = Note::of(bytes) else {
-        return Err(KeepFault::Foreign(number));
+        return Err(NoteFault::Foreign(number));
     };
     match core.room_for(alloc, &note) {
         Ok(room) => {
             core.step(&note, room);
             Ok(())
         }
-        Err(_) => Err(KeepFault::NoMemory),
+        Err(_) => Err(NoteFault::NoMemory),
     }
 }
 
@@ -77,7 +82,7 @@ fn replay_next<D: Disk>(
     disk: &mut D,
     core: &mut ClientCore,
     number: u64,
-) -> Result<bool, KeepFault>
+) -> Result<bool, NoteFault>
     requires reading { IsReadingNotes journal.old.limit journal.old (D.disk disk.old) }
     requires is { IsCore core.old }
     ensures stepped { result ≡ Ok true
@@ -107,7 +112,7 @@ fn replay_next<D: Disk>(
             Err(fault) => Err(fault),
         },
         Ok(None) => Ok(false),
-        Err(fault) => Err(KeepFault::Journal(fault)),
+        Err(fault) => Err(NoteFault::Journal(fault)),
     }
 }
 
@@ -117,7 +122,7 @@ pub(crate) fn replay<D: Disk>(
     journal: &mut Journal,
     disk: &mut D,
     core: &mut ClientCore,
-) -> Result<(), KeepFault>
+) -> Result<(), NoteFault>
     requires reading { IsReadingNotes journal.old.limit journal.old (D.disk disk.old) }
     requires behind { 1 ≤ journal.old.end }
     requires limit { journal.old.limit ≤ 2 ^ 62 }

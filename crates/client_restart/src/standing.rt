@@ -4,7 +4,7 @@ ghost use Rattle.express_words.specs.Limits.{IsWidth};
 ghost use Rattle.client_core.specs.Requests.{plain_request};
 ghost use Rattle.client_restart.specs.Cores.{boxes_of, core_in, ended_by, ended_in, IsCore, HasRoomFor, TakesMemory};
 ghost use Rattle.client_restart.specs.Notes.{plain_note, Told};
-ghost use Rattle.client_restart.specs.Openings.{IsOpening};
+ghost use Rattle.client_restart.specs.Openings.{IsClientOpening};
 ghost use Rattle.client_restart.specs.Steps.{asked, errand_of, heard, opened, owned, step_of};
 
 use crate::ended::{Ended, kept_outcome};
@@ -47,7 +47,7 @@ fn copy_of(alloc: Global, words: &[u8]) -> Result<Vec<u8>, NoMemory>
 impl ClientCore {
     /// The client before its first note.
     pub(crate) fn open(alloc: Global, opening: &ClientOpening) -> Result<ClientCore, NoMemory>
-        requires is { IsOpening opening.now }
+        requires is { IsClientOpening opening.now }
         ensures opened { IfOk result (λ k. core_in k ≡ opened opening.now) }
         ensures is { IfOk result IsCore }
     {

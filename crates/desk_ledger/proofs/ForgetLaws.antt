@@ -8,8 +8,8 @@ use Rattle.step_rules.specs.Client.{Current, opened_client}
 use Rattle.step_rules.specs.ClientAsks.{owned_by, owning}
 use Rattle.client_restart.specs.declared.opening.ClientOpening.{ClientOpening}
 use Rattle.client_restart.specs.declared.owned_box.OwnedBox.{OwnedBox}
-use Rattle.client_restart.specs.Keeps.{Keeps, sight}
-use Rattle.client_restart.specs.Kept.{HoldsNotes, KeptState, Stands}
+use Rattle.client_restart.specs.Keeps.{KeepsNote, sight}
+use Rattle.client_restart.specs.Kept.{HoldsNotes, ClientState, StandsByNotes}
 use Rattle.client_restart.specs.Notes.{Noted, Owned, Remark}
 use Rattle.client_restart.specs.Steps.{CoreState, fold, owned, owned_with}
 use Rattle.desk_entries.specs.declared.entry.Entry.{Entry}
@@ -37,19 +37,19 @@ own_by k b idle room =
 
 -- ---- a call that noted something
 
-pub goes_by : {D : Type 0} (shows : D → DiskSeen) (counts : D → Seen) (n : Noted) (old new : KeptState D) (k : CoreState)
-    → Keeps {T = Unit {0}} n (sight shows counts old) (sight shows counts new) (Ok (tt {0})) → new.core ≡ k
+pub goes_by : {D : Type 0} (shows : D → DiskSeen) (counts : D → Seen) (n : Noted) (old new : ClientState D) (k : CoreState)
+    → KeepsNote {T = Unit {0}} n (sight shows counts old) (sight shows counts new) (Ok (tt {0})) → new.core ≡ k
     → k.client.current ≡ None → k.client.serial ≡ old.core.client.serial → k.untold ≡ old.core.untold → GoesOn shows old new
 goes_by shows counts n old new k keeps is idle serial untold = record {
   opening = keeps.opening;
   idle = ap (λ (c : CoreState). c.client.current) is ∙ idle;
   serial = ap (λ (c : CoreState). c.client.serial) is ∙ serial;
   untold = ap (λ (c : CoreState). c.untold) is ∙ untold;
-  stands = inr (λ still. subst (λ (o : ClientOpening). Stands o new.core (shows new.disk).reads) (sym keeps.opening) (keeps.stands still));
+  stands = inr (λ still. subst (λ (o : ClientOpening). StandsByNotes o new.core (shows new.disk).reads) (sym keeps.opening) (keeps.stands still));
 }
 
-pub own_goes : {D : Type 0} (shows : D → DiskSeen) (counts : D → Seen) (b : OwnedBox) (old new : KeptState D)
-    → Keeps {T = Unit {0}} (Owned b.number b.serial) (sight shows counts old) (sight shows counts new) (Ok (tt {0}))
+pub own_goes : {D : Type 0} (shows : D → DiskSeen) (counts : D → Seen) (b : OwnedBox) (old new : ClientState D)
+    → KeepsNote {T = Unit {0}} (Owned b.number b.serial) (sight shows counts old) (sight shows counts new) (Ok (tt {0}))
     → old.core.client.current ≡ None → nat_le old.core.client.capacity (length old.core.client.owned) ≡ false
     → GoesOn shows old new × (new.core.boxes ≡ old.core.boxes ++ b ∷ []) × (new.core.remarks ≡ old.core.remarks)
 own_goes shows counts b old new keeps idle room =
@@ -62,8 +62,8 @@ own_goes shows counts b old new keeps idle room =
 abbrev with_words : CoreState → List ℕ → CoreState
 with_words k words = record k { remarks = k.remarks ++ words ∷ [] }
 
-pub note_goes : {D : Type 0} (shows : D → DiskSeen) (counts : D → Seen) (words : List ℕ) (old new : KeptState D)
-    → Keeps {T = Unit {0}} (Remark words) (sight shows counts old) (sight shows counts new) (Ok (tt {0}))
+pub note_goes : {D : Type 0} (shows : D → DiskSeen) (counts : D → Seen) (words : List ℕ) (old new : ClientState D)
+    → KeepsNote {T = Unit {0}} (Remark words) (sight shows counts old) (sight shows counts new) (Ok (tt {0}))
     → old.core.client.current ≡ None
     → GoesOn shows old new × (new.core.boxes ≡ old.core.boxes) × (new.core.remarks ≡ old.core.remarks ++ words ∷ [])
 note_goes shows counts words old new keeps idle = (
@@ -95,25 +95,25 @@ new_desk p entries olds remarks o made now desk is first told =
       pair = pair_kept p olds desk.pair;
     }) told
 
-pub new_stands : {D : Type 0} (shows : D → DiskSeen) (o : ClientOpening) (made now : KeptState D) → made.opening ≡ o → made.core ≡ fold o []
+pub new_stands : {D : Type 0} (shows : D → DiskSeen) (o : ClientOpening) (made now : ClientState D) → made.opening ≡ o → made.core ≡ fold o []
     → HoldsNotes o [] (shows made.disk).reads → GoesOn shows made now → now.journal.closed ≡ false
-    → Stands now.opening now.core (shows now.disk).reads
+    → StandsByNotes now.opening now.core (shows now.disk).reads
 new_stands shows o made now opened first held goes still = either goes.stands
   where
-    stood : Stands made.opening made.core (shows made.disk).reads
-    stood = subst (λ (p : ClientOpening). Stands p made.core (shows made.disk).reads) (sym opened)
+    stood : StandsByNotes made.opening made.core (shows made.disk).reads
+    stood = subst (λ (p : ClientOpening). StandsByNotes p made.core (shows made.disk).reads) (sym opened)
         (record { notes = []; whole = tt; folded = first; held = held })
 
-    either : (now ≡ made) ⊎ (now.journal.closed ≡ false → Stands now.opening now.core (shows now.disk).reads)
-        → Stands now.opening now.core (shows now.disk).reads
-    either (inl same) = subst (λ (k : KeptState _). Stands k.opening k.core (shows k.disk).reads) (sym same) stood
+    either : (now ≡ made) ⊎ (now.journal.closed ≡ false → StandsByNotes now.opening now.core (shows now.disk).reads)
+        → StandsByNotes now.opening now.core (shows now.disk).reads
+    either (inl same) = subst (λ (k : ClientState _). StandsByNotes k.opening k.core (shows k.disk).reads) (sym same) stood
     either (inr stands) = stands still
 
 pub first_client : (o : ClientOpening) → ((fold o []).client.serial ≡ o.first_serial) × ((fold o []).client.current ≡ None)
 unfolding opened_client
 first_client o = (refl, refl)
 
-pub new_serial : {D : Type 0} (shows : D → DiskSeen) (o : ClientOpening) (made now : KeptState D) → made.core ≡ fold o [] → GoesOn shows made now
+pub new_serial : {D : Type 0} (shows : D → DiskSeen) (o : ClientOpening) (made now : ClientState D) → made.core ≡ fold o [] → GoesOn shows made now
     → (now.core.client.serial ≡ o.first_serial) × (now.core.untold ≡ [])
 new_serial shows o made now first goes = (
   goes.serial ∙ ap (λ (k : CoreState). k.client.serial) first ∙ (first_client o).0,

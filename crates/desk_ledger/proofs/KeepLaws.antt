@@ -2,10 +2,10 @@
 use Rattle.std.proofs.Common.{◌≡◌, inl, inr, ℕ, List, [], ◌∷◌, ◌++◌, Result, Ok, Err, false, refl, sym, ◌∙◌, ap, subst}
 use Rattle.express_words.specs.Seen.{Seen}
 use Rattle.node_journal.specs.Disk.{DiskSeen}
-use Rattle.client_restart.specs.declared.fault.KeepFault.{KeepFault}
+use Rattle.client_restart.specs.declared.fault.NoteFault.{NoteFault}
 use Rattle.client_restart.specs.declared.opening.ClientOpening.{ClientOpening}
-use Rattle.client_restart.specs.Keeps.{Keeps, sight}
-use Rattle.client_restart.specs.Kept.{KeptState, Stands}
+use Rattle.client_restart.specs.Keeps.{KeepsNote, sight}
+use Rattle.client_restart.specs.Kept.{ClientState, StandsByNotes}
 use Rattle.client_restart.specs.Notes.{Noted, Remark}
 use Rattle.client_restart.specs.Steps.{CoreState}
 use Rattle.desk_entries.specs.declared.entry.Entry.{Entry}
@@ -17,32 +17,32 @@ use Rattle.desk_ledger.proofs.DeskLaws.{desk_push}
 
 -- ---- what stands on the disk
 
-pub stands_on : {D T : Type 0} (shows : D → DiskSeen) (counts : D → Seen) (n : Noted) (old new : KeptState D) (r : Result T KeepFault)
-    → Keeps {T = T} n (sight shows counts old) (sight shows counts new) r
-    → new.journal.closed ≡ false → Stands new.opening new.core (shows new.disk).reads
+pub stands_on : {D T : Type 0} (shows : D → DiskSeen) (counts : D → Seen) (n : Noted) (old new : ClientState D) (r : Result T NoteFault)
+    → KeepsNote {T = T} n (sight shows counts old) (sight shows counts new) r
+    → new.journal.closed ≡ false → StandsByNotes new.opening new.core (shows new.disk).reads
 stands_on shows counts n old new r keeps still =
-    subst (λ (o : ClientOpening). Stands o new.core (shows new.disk).reads) (sym keeps.opening) (keeps.stands still)
+    subst (λ (o : ClientOpening). StandsByNotes o new.core (shows new.disk).reads) (sym keeps.opening) (keeps.stands still)
 
 -- ---- a note
 
-pub desk_noted : {D : Type 0} (shows : D → DiskSeen) (counts : D → Seen) (p : Pair) (entries : List Entry) (e : Entry) (words : List ℕ) (old new : KeptState D)
+pub desk_noted : {D : Type 0} (shows : D → DiskSeen) (counts : D → Seen) (p : Pair) (entries : List Entry) (e : Entry) (words : List ℕ) (old new : ClientState D)
     → words ≡ entry_record e → IsEntry e → IsDesk p entries old.core.remarks
-    → Keeps {T = Unit {0}} (Remark words) (sight shows counts old) (sight shows counts new) (Ok (tt {0}))
+    → KeepsNote {T = Unit {0}} (Remark words) (sight shows counts old) (sight shows counts new) (Ok (tt {0}))
     → IsDesk p (entries ++ e ∷ []) new.core.remarks
 desk_noted shows counts p entries e words old new said is desk keeps =
     desk_push p entries old.core.remarks new.core.remarks e is desk
     (ap (λ (c : CoreState). c.remarks) keeps.step ∙ ap (λ (l : List ℕ). old.core.remarks ++ l ∷ []) said)
 
-pub keeps_record : {D T : Type 0} (shows : D → DiskSeen) (counts : D → Seen) (e : Entry) (words : List ℕ) (old new : KeptState D) (r : Result T KeepFault)
-    → words ≡ entry_record e → Keeps {T = T} (Remark words) (sight shows counts old) (sight shows counts new) r
-    → Keeps {T = T} (Remark (entry_record e)) (sight shows counts old) (sight shows counts new) r
+pub keeps_record : {D T : Type 0} (shows : D → DiskSeen) (counts : D → Seen) (e : Entry) (words : List ℕ) (old new : ClientState D) (r : Result T NoteFault)
+    → words ≡ entry_record e → KeepsNote {T = T} (Remark words) (sight shows counts old) (sight shows counts new) r
+    → KeepsNote {T = T} (Remark (entry_record e)) (sight shows counts old) (sight shows counts new) r
 keeps_record shows counts e words old new r said keeps =
-    subst (λ (l : List ℕ). Keeps {T = _} (Remark l) (sight shows counts old) (sight shows counts new) r) said keeps
+    subst (λ (l : List ℕ). KeepsNote {T = _} (Remark l) (sight shows counts old) (sight shows counts new) r) said keeps
 
 pub not_noted : {D : Type 0} (shows : D → DiskSeen) (counts : D → Seen) (e : Entry) (words : List ℕ) (p : Pair) (entries now : List Entry)
-    (was k : KeptState D) (old s : LedgerState D) (f : KeepFault)
+    (was k : ClientState D) (old s : LedgerState D) (f : NoteFault)
     → record { pair = p; entries = entries; client = was } ≡ old → s ≡ record { pair = p; entries = now; client = k } → now ≡ entries → words ≡ entry_record e
-    → Keeps {T = Unit {0}} (Remark words) (sight shows counts was) (sight shows counts k) (Err f)
+    → KeepsNote {T = Unit {0}} (Remark words) (sight shows counts was) (sight shows counts k) (Err f)
     → Notes {T = Unit {0}} shows counts e old s (Err f)
 not_noted shows counts e words p entries now was k old s f old_is s_is same said keeps =
     let before : LedgerState _ = record { pair = p; entries = entries; client = was } in
@@ -60,8 +60,8 @@ entries_rest l = record { pair = refl; opening = refl; boxes = refl; client = re
 pub entries_same : {D : Type 0} (old new : LedgerState D) → new ≡ old → EntriesOnly old new
 entries_same old new same = subst (λ (l : LedgerState _). EntriesOnly old l) (sym same) (entries_rest old)
 
-entries_kept : {D T : Type 0} (shows : D → DiskSeen) (counts : D → Seen) (e : Entry) (old new : LedgerState D) (r : Result T KeepFault)
-    → new.pair ≡ old.pair → Keeps {T = T} (Remark (entry_record e)) (sight shows counts old.client) (sight shows counts new.client) r
+entries_kept : {D T : Type 0} (shows : D → DiskSeen) (counts : D → Seen) (e : Entry) (old new : LedgerState D) (r : Result T NoteFault)
+    → new.pair ≡ old.pair → KeepsNote {T = T} (Remark (entry_record e)) (sight shows counts old.client) (sight shows counts new.client) r
     → EntriesOnly old new
 entries_kept shows counts e old new (Ok done) pair keeps = record {
   pair = pair;
@@ -78,7 +78,7 @@ entries_kept shows counts e old new (Err f) pair keeps = record {
   untold = ap (λ (k : CoreState). k.untold) keeps.no_step;
 }
 
-pub entries_only : {D T : Type 0} (shows : D → DiskSeen) (counts : D → Seen) (e : Entry) (old new : LedgerState D) (r : Result T KeepFault)
+pub entries_only : {D T : Type 0} (shows : D → DiskSeen) (counts : D → Seen) (e : Entry) (old new : LedgerState D) (r : Result T NoteFault)
     → Notes {T = T} shows counts e old new r → EntriesOnly old new
 entries_only shows counts e old new r notes = elim notes.keeps [
   | inl none ↦ entries_same old new none.1

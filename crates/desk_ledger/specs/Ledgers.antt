@@ -6,14 +6,14 @@ use Rattle.desk_entries.specs.Records.{AreEntries, entry_record}
 use Rattle.desk_texts.specs.Spelling.{SpellsSheet}
 use Rattle.desk_texts.specs.declared.sheet.Head.TheVariants as head
 use Rattle.desk_texts.specs.declared.sheet.Sheet.{Sheet}
-use Rattle.client_restart.specs.Kept.{KeptState}
+use Rattle.client_restart.specs.Kept.{ClientState}
 use Rattle.desk_ledger.specs.declared.pair.Pair.{Pair}
 
 -- its pair of servers, its entries, and the client that remembers
 pub record LedgerState (D : Type 0) : Type 0 where
   pub pair : Pair
   pub entries : List Entry
-  pub client : KeptState D
+  pub client : ClientState D
 
 -- the text is a pair file's, of this pair
 pub record SaysPair (p : Pair) (text : List ℕ) : Type 0 where

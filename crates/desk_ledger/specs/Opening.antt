@@ -1,11 +1,11 @@
 -- How a desk is opened, and why it isn't.
 use Rattle.std.specs.Prelude.{◌≡◌, ◌<◌, ℕ, List, length, map}
 use Rattle.node_journal.specs.Disk.{DiskSeen}
-use Rattle.client_restart.specs.declared.fault.KeepFault.TheVariants.{NoMemory}
+use Rattle.client_restart.specs.declared.fault.NoteFault.TheVariants.{NoMemory}
 use Rattle.client_restart.specs.declared.opening.ClientOpening.{ClientOpening}
 use Rattle.client_restart.specs.Kept.{HoldsNotes}
 use Rattle.client_restart.specs.Notes.{Noted}
-use Rattle.client_restart.specs.Openings.{IsOpening}
+use Rattle.client_restart.specs.Openings.{IsClientOpening}
 use Rattle.client_restart.specs.Records.{AllNotes}
 use Rattle.client_restart.specs.Steps.{fold}
 use Rattle.desk_entries.specs.declared.entry.Entry.{Entry}
@@ -55,6 +55,6 @@ OnText (NoEntry number) text P = ⊥
 -- of the notes that a disk holds, whose remarks are these entries, the ledger is the one
 abbrev pub IsAsHeld : {D : Type 0} → DiskSeen → LedgerState D → Type 0
 IsAsHeld disk l = (o : ClientOpening) (notes : List Noted) (c : List ℕ) (entries : List Entry)
-    → disk.reads c → IsOpening o → AllNotes notes → HoldsNotes o notes disk.reads
+    → disk.reads c → IsClientOpening o → AllNotes notes → HoldsNotes o notes disk.reads
     → AreEntries entries → (fold o notes).remarks ≡ map entry_record entries
     → (l.client.opening ≡ o) × (l.client.core ≡ fold o notes) × (l.entries ≡ entries)

@@ -2,7 +2,7 @@
 ghost use Rattle.std.specs.Prelude.{Some};
 ghost use Rattle.desk_ledger.specs.Texts.{forget_text, name_text, open_text};
 
-use client_restart::KeepFault;
+use client_restart::NoteFault;
 use std::fmt;
 
 /// Why no desk is opened.
@@ -15,7 +15,7 @@ pub enum OpenFault {
     /// The text has more than 8,212 bytes.
     TooLong,
     /// The ledger's journal fails.
-    Keep(KeepFault),
+    Keep(NoteFault),
     /// The ledger has no pair: it wasn't made to its end.
     NoPair,
     /// The remark of this number, counted from 0, is no entry.
@@ -76,7 +76,7 @@ pub enum ForgetFault {
     /// More boxes are live than a client has room for.
     NoRoom,
     /// The new ledger's journal fails.
-    Keep(KeepFault),
+    Keep(NoteFault),
 }
 
 impl fmt::Display for ForgetFault {

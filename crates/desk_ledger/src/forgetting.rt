@@ -2,7 +2,7 @@
 ghost use Rattle.std.specs.Prelude.{◌≡◌, ◌≤◌, ◌<◌, ◌^◌, ◌++◌, ◌∷◌, [], List as Listed, ℕ, map, None, IfOk, IfErr, OnOk, length};
 ghost use Rattle.std.specs.List.{filter};
 ghost use Rattle.node_journal.specs.Disk.{IsUntouched};
-ghost use Rattle.client_restart.specs.Openings.{IsOpening};
+ghost use Rattle.client_restart.specs.Openings.{IsClientOpening};
 ghost use Rattle.desk_entries.specs.Forgetting.{kept};
 ghost use Rattle.desk_entries.specs.Records.{AreEntries, IsEntry, entry_record};
 ghost use Rattle.desk_ledger.specs.Forgetting.{GoesOn, IsOfHandOver, OnBusy, OnSpent, next_opening};
@@ -11,7 +11,7 @@ ghost use Rattle.desk_ledger.specs.Tasks.{is_live};
 use crate::fault::ForgetFault;
 use crate::ledger::{Ledger, copy_of, is_live};
 use crate::pair::Pair;
-use client_restart::{ClientOpening, KeepFault, KeptClient, OwnedBox};
+use client_restart::{ClientOpening, KeptClient, NoteFault, OwnedBox};
 use desk_entries::{Entry, kept};
 use express_words::NoMemory;
 use node_journal::Disk;
@@ -89,7 +89,7 @@ fn note_one<D: Disk>(
     ensures fault { IfErr result IsOfHandOver }
 {
     let Ok(record) = entry.record(alloc) else {
-        return Err(ForgetFault::Keep(KeepFault::NoMemory));
+        return Err(ForgetFault::Keep(NoteFault::NoMemory));
     };
     match client.remark(&record) {
         Ok(()) => Ok(()),
@@ -134,7 +134,7 @@ impl<D: Disk> Ledger<D> {
     // How the client of a ledger that follows this one is opened: with its next serial.
     fn next_opening(&self) -> Result<ClientOpening, ForgetFault>
         ensures value { IfOk result (λ o. o ≡ next_opening self.now.client) }
-        ensures is { IfOk result IsOpening }
+        ensures is { IfOk result IsClientOpening }
         ensures idle { OnOk result ((self.now.client.core.client.current ≡ None)
             × (self.now.client.core.untold ≡ [])) }
         ensures busy { IfErr result (OnBusy self.now.client.core) }
@@ -180,10 +180,10 @@ impl<D: Disk> Ledger<D> {
             Err(fault) => return Err((fault, disk)),
         };
         let Ok(entries) = kept(self.alloc, &self.entries) else {
-            return Err((ForgetFault::Keep(KeepFault::NoMemory), disk));
+            return Err((ForgetFault::Keep(NoteFault::NoMemory), disk));
         };
         let Ok(pair) = copy_of_pair(self.alloc, &self.pair) else {
-            return Err((ForgetFault::Keep(KeepFault::NoMemory), disk));
+            return Err((ForgetFault::Keep(NoteFault::NoMemory), disk));
         };
         let mut client = match KeptClient::create(self.alloc, &opening, disk, limit) {
             Ok(client) => client,

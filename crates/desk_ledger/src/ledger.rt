@@ -5,7 +5,7 @@ ghost use Rattle.client_core.specs.Requests.{fault_in};
 ghost use Rattle.step_rules.specs.ClientAsks.{asked};
 ghost use Rattle.client_restart.specs.Cores.{ended_in};
 ghost use Rattle.client_restart.specs.Faults.{OnStill};
-ghost use Rattle.client_restart.specs.Kept.{Stands};
+ghost use Rattle.client_restart.specs.Kept.{StandsByNotes};
 ghost use Rattle.client_restart.specs.Notes.{Asked};
 ghost use Rattle.desk_entries.specs.Desks.{is_retiring, name_of, named, waiting};
 ghost use Rattle.desk_entries.specs.Entries.{AreAddresses};
@@ -15,7 +15,7 @@ ghost use Rattle.desk_entries.specs.Records.{AreEntries, IsEntry, entry_record};
 ghost use Rattle.desk_entries.specs.Standings.{stands};
 ghost use Rattle.desk_ledger.specs.Cards.{IsCardOf, card_addresses};
 ghost use Rattle.desk_ledger.specs.Ledgers.{AddsEntry, EntriesOnly};
-ghost use Rattle.desk_ledger.specs.Notes.{KeepsNote, Notes};
+ghost use Rattle.desk_ledger.specs.Notes.{LedgerKeeps, Notes};
 ghost use Rattle.desk_ledger.specs.Storing.{Misses, OfOldest, Stores, stored_of};
 ghost use Rattle.desk_ledger.specs.Tasks.{TakesTask, fault_at, is_leaving, is_live, live_places, next_task, place_if, place_of, request_of, room};
 
@@ -25,7 +25,7 @@ use crate::stored::Stored;
 use crate::storing::entry_of;
 use crate::task::Task;
 use client_core::AskFault;
-use client_restart::{Ended, KeepFault, KeptClient, OwnedBox};
+use client_restart::{Ended, NoteFault, KeptClient, OwnedBox};
 use desk_entries::{
     Entry, MOST_AT_ONCE, NamedBoxes, Reading, Standing, addresses, are_new, has_outcome, is_name,
     is_retired, is_retiring, letters_of, name_of, named, shown_of, waiting,
@@ -54,7 +54,7 @@ pub(crate) struct Oldest {
 
 impl<D: Disk> Model for Ledger<D> {
     ghost use Rattle.std.specs.Prelude.{◌≡◌, false};
-    ghost use Rattle.client_restart.specs.Kept.{Stands};
+    ghost use Rattle.client_restart.specs.Kept.{StandsByNotes};
     ghost use Rattle.desk_ledger.specs.Ledgers.{IsDesk, LedgerState};
 
     ghost Value = { LedgerState D };
@@ -63,21 +63,21 @@ impl<D: Disk> Model for Ledger<D> {
 
     ghost invariant = { λ l. IsDesk l.pair l.entries.items l.client.core.remarks
         × (l.client.journal.closed ≡ false
-        → Stands l.client.opening l.client.core (D.disk l.client.disk).reads) };
+        → StandsByNotes l.client.opening l.client.core (D.disk l.client.disk).reads) };
 }
 
 impl<D: Disk> Ledger<D> {
     // An entry is on the disk before the desk has it.
-    pub(crate) fn note(&mut self, entry: Entry) -> Result<(), KeepFault>
+    pub(crate) fn note(&mut self, entry: Entry) -> Result<(), NoteFault>
         requires is { IsEntry entry }
         ensures notes { Notes D.disk D.Counted.seen entry self.old self.new result }
         ensures stays { OnStill result (self.new ≡ self.old) }
     {
         if self.entries.reserve(1).is_err() {
-            return Err(KeepFault::NoMemory);
+            return Err(NoteFault::NoMemory);
         }
         let Ok(record) = entry.record(self.alloc) else {
-            return Err(KeepFault::NoMemory);
+            return Err(NoteFault::NoMemory);
         };
         match self.client.remark(&record) {
             Ok(()) => {
@@ -95,7 +95,7 @@ impl<D: Disk> Ledger<D> {
         &mut self,
         name: &str,
         addresses: &[u128],
-    ) -> Result<Result<(), NameFault>, KeepFault>
+    ) -> Result<Result<(), NameFault>, NoteFault>
         ensures refused { IfOk result (λ taken. IfErr taken (λ fault.
             fault_at self.old name.now addresses.now ≡ Some fault)) }
         ensures taken { IfOk result (λ taken. OnOk taken (fault_at self.old name.now addresses.now ≡ None)) }
@@ -109,10 +109,10 @@ impl<D: Disk> Ledger<D> {
         match self.name_fault(name, addresses) {
             Ok(None) => {}
             Ok(Some(fault)) => return Ok(Err(fault)),
-            Err(_) => return Err(KeepFault::NoMemory),
+            Err(_) => return Err(NoteFault::NoMemory),
         }
         let Ok(named) = named_boxes(self.alloc, name, addresses) else {
-            return Err(KeepFault::NoMemory);
+            return Err(NoteFault::NoMemory);
         };
         match self.note(Entry::Named(named)) {
             Ok(()) => Ok(Ok(())),
@@ -159,7 +159,7 @@ impl<D: Disk> Ledger<D> {
     /// The boxes with a name are to be retired: `next_task` has the requests for it. `Ok(false)`, and nothing
     /// noted, where the desk has no such name; nothing is noted either where they are to be retired already.
     #[tactic(auto, using(crate::proofs::NameLaws::retiring_then, crate::proofs::KeepLaws::entries_only, crate::proofs::KeepLaws::entries_rest))]
-    pub fn retire_name(&mut self, name: &str) -> Result<bool, KeepFault>
+    pub fn retire_name(&mut self, name: &str) -> Result<bool, NoteFault>
         ensures unknown { is_some (named self.old.entries name.now) ≡ false
             → (result ≡ Ok false) × (self.new ≡ self.old) }
         ensures known { is_some (named self.old.entries name.now) ≡ true → is_name name.now ≡ true
@@ -184,7 +184,7 @@ impl<D: Disk> Ledger<D> {
                 Err(fault) => Err(fault),
             },
             Ok(None) => Ok(false),
-            Err(_) => Err(KeepFault::NoMemory),
+            Err(_) => Err(NoteFault::NoMemory),
         }
     }
 
@@ -241,13 +241,13 @@ impl<D: Disk> Ledger<D> {
 
     /// Asks the servers for something, which is on the disk before its first frame goes. `Ok(Err(_))` is the
     /// refusal of `KeptClient::ask`, and then nothing is kept.
-    pub fn ask(&mut self, task: Task) -> Result<Result<(), AskFault>, KeepFault>
+    pub fn ask(&mut self, task: Task) -> Result<Result<(), AskFault>, NoteFault>
         ensures refused { IfOk result (λ taken. IfErr taken (λ fault.
             asked self.old.client.core.client (request_of task) ≡ Err (fault_in fault))) }
         ensures refused_stays { IfOk result (λ taken. OnErr taken (self.new ≡ self.old)) }
         ensures taken { IfOk result (λ taken. OnOk taken (TakesTask self.old task)) }
         ensures keeps { TakesTask self.old task
-            → KeepsNote D.disk D.Counted.seen (Asked (request_of task)) self.old self.new result }
+            → LedgerKeeps D.disk D.Counted.seen (Asked (request_of task)) self.old self.new result }
         ensures entries { self.new.entries ≡ self.old.entries }
         ensures pair { self.new.pair ≡ self.old.pair }
         ensures stays { OnStill result (self.new ≡ self.old) }
@@ -261,19 +261,19 @@ impl<D: Disk> Ledger<D> {
     /// Stores the oldest outcome that wasn't stored, at this time, in seconds since 1970 UTC. None where
     /// there is none. Only once its entry is on the disk is the outcome told to the client; where a crash
     /// came between, its serial tells that the entry is there.
-    pub fn store(&mut self, seconds: u64) -> Result<Option<Stored>, KeepFault>
+    pub fn store(&mut self, seconds: u64) -> Result<Option<Stored>, NoteFault>
         ensures none { self.old.client.core.untold ≡ [] → (result ≡ Ok None) × (self.new ≡ self.old) }
         ensures stores { OfOldest self.old (λ e. Stores seconds e self.old self.new result) }
     {
         match self.oldest(seconds) {
             Ok(Some(found)) => self.store_one(found),
             Ok(None) => Ok(None),
-            Err(_) => Err(KeepFault::NoMemory),
+            Err(_) => Err(NoteFault::NoMemory),
         }
     }
 
     // Its entry is there before the oldest outcome is told.
-    fn store_one(&mut self, found: Oldest) -> Result<Option<Stored>, KeepFault>
+    fn store_one(&mut self, found: Oldest) -> Result<Option<Stored>, NoteFault>
         requires is { IfSome found.entry IsEntry }
         requires some { self.old.client.core.untold ≢ [] }
         ensures answer { IfOk result (λ stored. stored ≡ Some found.stored) }
@@ -321,7 +321,7 @@ impl<D: Disk> Ledger<D> {
     }
 
     #[tactic(auto, using(crate::proofs::KeepLaws::entries_only, crate::proofs::KeepLaws::entries_rest))]
-    fn note_missing(&mut self, entry: Option<Entry>) -> Result<(), KeepFault>
+    fn note_missing(&mut self, entry: Option<Entry>) -> Result<(), NoteFault>
         requires is { IfSome entry IsEntry }
         ensures noted { OnOk result (self.new.entries ≡ self.old.entries ++ option_to_list entry) }
         ensures not_noted { OnErr result (self.new.entries ≡ self.old.entries) }
@@ -358,7 +358,7 @@ impl<D: Disk> Ledger<D> {
         ensures letters { IfOk result (λ told. map (λ r. r.now) told.items ≡ letters_of self.now.entries) }
         ensures remarks { self.now.client.core.remarks ≡ map entry_record self.now.entries }
         ensures stands { self.now.client.journal.closed ≡ false
-            → Stands self.now.client.opening self.now.client.core (D.disk self.now.client.disk).reads }
+            → StandsByNotes self.now.client.opening self.now.client.core (D.disk self.now.client.disk).reads }
     {
         letters_of(self.alloc, &self.entries)
     }
@@ -372,7 +372,7 @@ impl<D: Disk> Ledger<D> {
 
     /// So many of the letters were shown.
     #[tactic(auto, using(crate::proofs::KeepLaws::entries_only))]
-    pub fn mark_shown(&mut self, count: u32) -> Result<(), KeepFault>
+    pub fn mark_shown(&mut self, count: u32) -> Result<(), NoteFault>
         ensures notes { Notes D.disk D.Counted.seen (Entry.Shown count) self.old self.new result }
         ensures only { EntriesOnly self.old self.new }
         ensures shown { OnOk result (shown_of self.new.entries ≡ count) }

@@ -1,6 +1,6 @@
 //! How a desk's client is opened, and what its remarks tell.
 ghost use Rattle.std.specs.Prelude.{◌≡◌, ◌≢◌, ◌++◌, ◌∷◌, [], map, Some, IfOk, IfErr, OnOk, length};
-ghost use Rattle.client_restart.specs.Openings.{IsOpening};
+ghost use Rattle.client_restart.specs.Openings.{IsClientOpening};
 ghost use Rattle.desk_entries.specs.Records.{AreEntries, IsEntry, IsNoEntry, entry_record};
 ghost use Rattle.desk_texts.specs.Spelling.{IsPair};
 ghost use Rattle.desk_ledger.specs.Ledgers.{IsDesk, IsOfPair};
@@ -8,7 +8,7 @@ ghost use Rattle.desk_ledger.specs.Opening.{opening_of};
 
 use crate::fault::OpenFault;
 use crate::pair::{Pair, pair_in};
-use client_restart::{ClientOpening, KeepFault};
+use client_restart::{ClientOpening, NoteFault};
 use desk_entries::Entry;
 use desk_texts::PairHead;
 use std::alloc::Global;
@@ -18,7 +18,7 @@ use std::alloc::Global;
 pub(crate) fn opening_of(head: &PairHead, seed: [u8; 32]) -> ClientOpening
     requires { IsPair head.now }
     ensures value { result ≡ opening_of head.now seed }
-    ensures is { IsOpening result }
+    ensures is { IsClientOpening result }
 {
     ClientOpening {
         lane: head.lane,
@@ -36,7 +36,7 @@ fn entry_in(alloc: Global, remark: &[u8], number: usize) -> Result<Entry, OpenFa
     match Entry::of(alloc, remark) {
         Ok(Some(entry)) => Ok(entry),
         Ok(None) => Err(OpenFault::NoEntry(number)),
-        Err(_) => Err(OpenFault::Keep(KeepFault::NoMemory)),
+        Err(_) => Err(OpenFault::Keep(NoteFault::NoMemory)),
     }
 }
 
@@ -45,7 +45,7 @@ fn push_entry(entries: &mut Vec<Entry>, entry: Entry) -> Result<(), OpenFault>
 {
     match entries.push(entry) {
         Ok(()) => Ok(()),
-        Err(_) => Err(OpenFault::Keep(KeepFault::NoMemory)),
+        Err(_) => Err(OpenFault::Keep(NoteFault::NoMemory)),
     }
 }
 

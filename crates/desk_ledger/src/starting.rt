@@ -1,7 +1,7 @@
 //! A desk is opened, and opened again.
 ghost use Rattle.std.specs.Prelude.{◌≡◌, ◌≤◌, ◌^◌, ◌∷◌, [], ℕ, List as Listed, map, IfOk, IfErr, OnOk};
 ghost use Rattle.node_journal.specs.Disk.{IsUntouched};
-ghost use Rattle.client_restart.specs.Kept.{Stands};
+ghost use Rattle.client_restart.specs.Kept.{StandsByNotes};
 ghost use Rattle.client_restart.specs.Notes.{Remark};
 ghost use Rattle.client_restart.specs.Steps.{fold};
 ghost use Rattle.desk_entries.specs.Records.{entry_record};
@@ -12,7 +12,7 @@ use crate::fault::OpenFault;
 use crate::ledger::Ledger;
 use crate::opening::{entries_in, opening_of};
 use crate::pair::pair_in;
-use client_restart::{KeepFault, KeptClient};
+use client_restart::{KeptClient, NoteFault};
 use desk_entries::{Entry, MOST_RECORD};
 use express_words::{List, NoMemory};
 use node_journal::Disk;
@@ -58,7 +58,7 @@ impl<D: Disk> Ledger<D> {
             Err(fault) => return Err((fault, disk)),
         };
         let Ok((entries, record)) = first_entry(alloc, text) else {
-            return Err((OpenFault::Keep(KeepFault::NoMemory), disk));
+            return Err((OpenFault::Keep(NoteFault::NoMemory), disk));
         };
         let mut client = match KeptClient::create(
             alloc,
@@ -83,7 +83,7 @@ impl<D: Disk> Ledger<D> {
     /// The desk that stands on a disk: it is as it was.
     pub fn reopen(alloc: Global, disk: D, limit: u64) -> Result<Ledger<D>, (OpenFault, D)>
         requires limit { limit ≤ 2 ^ 62 }
-        ensures stands { IfOk result (λ l. Stands l.client.opening l.client.core (D.disk disk).reads) }
+        ensures stands { IfOk result (λ l. StandsByNotes l.client.opening l.client.core (D.disk disk).reads) }
         ensures pair { IfOk result (λ l. IsOfPair l.pair l.entries) }
         ensures entries { IfOk result (λ l. l.client.core.remarks ≡ map entry_record l.entries) }
         ensures told { IfOk result (λ l. IsAsHeld (D.disk disk) l) }

@@ -8,10 +8,10 @@ use Rattle.step_rules.specs.Client.{Client, Deposits, Fault, Spent, Width, opene
 use Rattle.step_rules.specs.ClientAsks as asks
 use Rattle.step_rules.specs.ClientAsks.{asked_with, fault_at, own_fault, with_request}
 use Rattle.client_restart.specs.declared.opening.ClientOpening.{ClientOpening}
-use Rattle.client_restart.specs.Keeps.{Keeps, sight}
-use Rattle.client_restart.specs.Kept.{HoldsNotes, KeptState}
+use Rattle.client_restart.specs.Keeps.{KeepsNote, sight}
+use Rattle.client_restart.specs.Kept.{HoldsNotes, ClientState}
 use Rattle.client_restart.specs.Notes.{Asked, Noted, Remark}
-use Rattle.client_restart.specs.Openings.{IsOpening}
+use Rattle.client_restart.specs.Openings.{IsClientOpening}
 use Rattle.client_restart.specs.Steps.{CoreState, client_or, fold, opened, step_of}
 use Rattle.node_journal.specs.Disk.{DiskSeen}
 use Rattle.desk_texts.specs.declared.sheet.Sheet.{Sheet}
@@ -38,7 +38,7 @@ fits : (c : Client) (target : ℕ) (message : List ℕ) (spent wide : Bool) → 
 fits c target message spent wide e f = ap (λ (b : Bool). cond b (Some Spent) (cond wide None (Some (Width c.width)))) e
     ∙ ap (λ (b : Bool). cond b None (Some (Width c.width))) f
 
-pub opened_asks : (o : ClientOpening) (target : ℕ) (message : List ℕ) → IsOpening o → length message ≡ o.width
+pub opened_asks : (o : ClientOpening) (target : ℕ) (message : List ℕ) → IsClientOpening o → length message ≡ o.width
     → IsOk (asks.asked (opened o).client (Write target message))
 unfolding asks.asked opened_client
 opened_asks o target message is e =
@@ -50,7 +50,7 @@ opened_asks o target message is e =
 no_fault : (c : Client) (r : Request) (f : Fault) → IsOk (asks.asked c r) → asks.asked c r ≡ Err f → ⊥
 no_fault c r f is e = let none = subst (λ (x : Result Client Fault). IsOk x) e is in absurd (cc none)
 
-pub never_refused : (o : ClientOpening) (target : ℕ) (message : List ℕ) (c : Client) (f : Fault) → IsOpening o → length message ≡ o.width → c ≡ (opened o).client
+pub never_refused : (o : ClientOpening) (target : ℕ) (message : List ℕ) (c : Client) (f : Fault) → IsClientOpening o → length message ≡ o.width → c ≡ (opened o).client
     → asks.asked c (Write target message) ≡ Err f → ⊥
 never_refused o target message c f is fit same e =
     no_fault (opened o).client (Write target message) f (opened_asks o target message is fit)
@@ -58,37 +58,37 @@ never_refused o target message c f is fit same e =
 
 -- ---- three notes
 
-record Behind {D : Type 0} (shows : D → DiskSeen) (o : ClientOpening) (notes : List Noted) (k : KeptState D) : Type 0 where
+record Behind {D : Type 0} (shows : D → DiskSeen) (o : ClientOpening) (notes : List Noted) (k : ClientState D) : Type 0 where
   opening : k.opening ≡ o
   core : k.core ≡ fold o notes
   held : HoldsNotes o notes (shows k.disk).reads
 
-one_more : {D T : Type 0} (shows : D → DiskSeen) (counts : D → Seen) (o : ClientOpening) (notes : List Noted) (n : Noted) (old new : KeptState D) (x : T)
+one_more : {D T : Type 0} (shows : D → DiskSeen) (counts : D → Seen) (o : ClientOpening) (notes : List Noted) (n : Noted) (old new : ClientState D) (x : T)
     → ((k : CoreState) → k ≡ fold o notes → step_of k n ≡ fold o (notes ++ n ∷ [])) → Behind shows o notes old
-    → Keeps {T = T} n (sight shows counts old) (sight shows counts new) (Ok x) → Behind shows o (notes ++ n ∷ []) new
+    → KeepsNote {T = T} n (sight shows counts old) (sight shows counts new) (Ok x) → Behind shows o (notes ++ n ∷ []) new
 one_more shows counts o notes n old new x folds b keeps = record {
   opening = keeps.opening ∙ b.opening;
   core = keeps.step ∙ folds old.core b.core;
   held = subst (λ (w : ClientOpening). HoldsNotes w notes (shows old.disk).reads → HoldsNotes w (notes ++ n ∷ []) (shows new.disk).reads) b.opening (keeps.added notes) b.held;
 }
 
-pub remarked_client : {D T : Type 0} (shows : D → DiskSeen) (counts : D → Seen) (words : List ℕ) (old new : KeptState D) (x : T)
-    → Keeps {T = T} (Remark words) (sight shows counts old) (sight shows counts new) (Ok x) → new.core.client ≡ old.core.client
+pub remarked_client : {D T : Type 0} (shows : D → DiskSeen) (counts : D → Seen) (words : List ℕ) (old new : ClientState D) (x : T)
+    → KeepsNote {T = T} (Remark words) (sight shows counts old) (sight shows counts new) (Ok x) → new.core.client ≡ old.core.client
 remarked_client shows counts words old new x keeps = ap (λ (k : CoreState). k.client) keeps.step
 
 pub noted : {D T U V : Type 0} (shows : D → DiskSeen) (counts : D → Seen) (card : Sheet) (place : Place) (o : ClientOpening) (target : ℕ) (message text words : List ℕ)
-    (k0 k1 k2 k3 : KeptState D) (x : T) (y : U) (z : V) → IsBegun card place o message → text ≡ printed card → words ≡ place_record place
+    (k0 k1 k2 k3 : ClientState D) (x : T) (y : U) (z : V) → IsBegun card place o message → text ≡ printed card → words ≡ place_record place
     → k0.opening ≡ o → k0.core ≡ fold o [] → HoldsNotes o [] (shows k0.disk).reads
-    → Keeps {T = T} (Remark text) (sight shows counts k0) (sight shows counts k1) (Ok x)
-    → Keeps {T = U} (Remark words) (sight shows counts k1) (sight shows counts k2) (Ok y)
-    → Keeps {T = V} (Asked (Write target message)) (sight shows counts k2) (sight shows counts k3) (Ok z)
+    → KeepsNote {T = T} (Remark text) (sight shows counts k0) (sight shows counts k1) (Ok x)
+    → KeepsNote {T = U} (Remark words) (sight shows counts k1) (sight shows counts k2) (Ok y)
+    → KeepsNote {T = V} (Asked (Write target message)) (sight shows counts k2) (sight shows counts k3) (Ok z)
     → slice_get card.addresses (address_at (length card.addresses) place) ≡ Some target
     → IsNoted shows card place o message k3
 noted {D} {T} {U} {V} shows counts card place o target message text words k0 k1 k2 k3 x y z begun text_is words_is opening core held first second third there =
-    let a : Keeps {T = T} (Remark (printed card)) (sight shows counts k0) (sight shows counts k1) (Ok x)
-    = subst (λ (t : List ℕ). Keeps {T = T} (Remark t) (sight shows counts k0) (sight shows counts k1) (Ok x)) text_is first in
-    let b : Keeps {T = U} (Remark (place_record place)) (sight shows counts k1) (sight shows counts k2) (Ok y)
-    = subst (λ (t : List ℕ). Keeps {T = U} (Remark t) (sight shows counts k1) (sight shows counts k2) (Ok y)) words_is second in
+    let a : KeepsNote {T = T} (Remark (printed card)) (sight shows counts k0) (sight shows counts k1) (Ok x)
+    = subst (λ (t : List ℕ). KeepsNote {T = T} (Remark t) (sight shows counts k0) (sight shows counts k1) (Ok x)) text_is first in
+    let b : KeepsNote {T = U} (Remark (place_record place)) (sight shows counts k1) (sight shows counts k2) (Ok y)
+    = subst (λ (t : List ℕ). KeepsNote {T = U} (Remark t) (sight shows counts k1) (sight shows counts k2) (Ok y)) words_is second in
     let b0 : Behind shows o [] k0 = record { opening = opening; core = core; held = held } in
     let b1 = one_more shows counts o [] (Remark (printed card)) k0 k1 x (λ k e. ap (λ (c : CoreState). step_of c (Remark (printed card))) e) b0 a in
     let b2 = one_more shows counts o (Remark (printed card) ∷ []) (Remark (place_record place)) k1 k2 y (λ k e. ap (λ (c : CoreState). step_of c (Remark (place_record place))) e) b1 b in
@@ -107,7 +107,7 @@ noted {D} {T} {U} {V} shows counts card place o target message text words k0 k1 
 
 -- ---- the try
 
-pub begins : {D : Type 0} (shows : D → DiskSeen) (card : Sheet) (place : Place) (o : ClientOpening) (message : List ℕ) (k : KeptState D)
+pub begins : {D : Type 0} (shows : D → DiskSeen) (card : Sheet) (place : Place) (o : ClientOpening) (message : List ℕ) (k : ClientState D)
     → IsNoted shows card place o message k → Begins shows card place message (record { kept = k; card = card; place = place })
 begins {D} shows card place o message k n = record {
   on_card = refl;
@@ -118,7 +118,7 @@ begins {D} shows card place o message k n = record {
   held = subst (λ (w : ClientOpening). HoldsNotes w (begun_notes card place n.target message) (shows k.disk).reads) (sym n.opening) n.held;
 }
 
-pub begun_try : {D : Type 0} (shows : D → DiskSeen) (card : Sheet) (place : Place) (o : ClientOpening) (message : List ℕ) (k : KeptState D)
+pub begun_try : {D : Type 0} (shows : D → DiskSeen) (card : Sheet) (place : Place) (o : ClientOpening) (message : List ℕ) (k : ClientState D)
     → IsBegun card place o message → IsNoted shows card place o message k → IsTry k.opening card place k.core.client.current
 begun_try {D} shows card place o message k b n =
     subst (λ (w : ClientOpening). IsTry w card place k.core.client.current) (sym n.opening)

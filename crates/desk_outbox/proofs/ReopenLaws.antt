@@ -4,13 +4,13 @@ use Rattle.std.specs.Prelude.{IfOk, IfErr}
 use Rattle.step_rules.specs.Client.{Current}
 use Rattle.std.specs.Prelude.{Option, Some}
 use Rattle.mailbox_rules.specs.Requests.{Write}
-use Rattle.client_restart.specs.declared.fault.KeepFault.{KeepFault}
-use Rattle.client_restart.specs.declared.fault.KeepFault.TheVariants.{Foreign, Journal, NoMemory}
+use Rattle.client_restart.specs.declared.fault.NoteFault.{NoteFault}
+use Rattle.client_restart.specs.declared.fault.NoteFault.TheVariants.{Foreign, Journal, NoMemory}
 use Rattle.client_restart.specs.declared.opening.ClientOpening.{ClientOpening}
 use Rattle.client_restart.specs.Faults.{OnForeign}
 use Rattle.client_restart.specs.Kept.{HoldsNotes}
 use Rattle.client_restart.specs.Notes.{Noted}
-use Rattle.client_restart.specs.Openings.{IsOpening}
+use Rattle.client_restart.specs.Openings.{IsClientOpening}
 use Rattle.client_restart.specs.Records.{AllNotes}
 use Rattle.client_restart.specs.Steps.{CoreState, fold}
 use Rattle.desk_texts.specs.declared.sheet.Sheet.{Sheet}
@@ -65,7 +65,7 @@ one_write n m now a b =
 
 -- what a whole try's remarks tell can be told of no other one
 pub begun_of : (o : ClientOpening) (card other : Sheet) (place q : Place) (n : ℕ) (message : List ℕ) (now : Option Current) (remarks : List (List ℕ))
-    → ((text : List ℕ) (sheet : Sheet) → SpellsSheet sheet text → sheet_of (lines_in text) ≡ Ok sheet) → IsOpening o → IsWrite n now → length message ≡ n
+    → ((text : List ℕ) (sheet : Sheet) → SpellsSheet sheet text → sheet_of (lines_in text) ≡ Ok sheet) → IsClientOpening o → IsWrite n now → length message ≡ n
     → Tells remarks card place → Tells remarks other q → IsTry o other q now → IsBegun card place o message
 begun_of o card other place q n message now remarks only is write fits told others t =
     let texts = one_first told.text others.text _ _ remarks told.ends others.ends in
@@ -88,10 +88,10 @@ begun_of o card other place q n message now remarks only is write fits told othe
 -- ---- what a disk gives
 
 abbrev pub Told : (List ℕ → Type 0) → ClientOpening → CoreState → Type 0
-Told reads o k = (other : ClientOpening) (notes : List Noted) (c : List ℕ) → reads c → IsOpening other → AllNotes notes → HoldsNotes other notes reads
+Told reads o k = (other : ClientOpening) (notes : List Noted) (c : List ℕ) → reads c → IsClientOpening other → AllNotes notes → HoldsNotes other notes reads
     → (o ≡ other) × (k ≡ fold other notes)
 
-pub nothing_so : {D : Type 0} (reads : List ℕ → Type 0) (o : ClientOpening) (k : CoreState) (disk : D) (r : Result (Reopened D) (KeepFault × D)) → Told reads o k
+pub nothing_so : {D : Type 0} (reads : List ℕ → Type 0) (o : ClientOpening) (k : CoreState) (disk : D) (r : Result (Reopened D) (NoteFault × D)) → Told reads o k
     → IfOk r (IfNothing (λ d. (d ≡ disk) × IsNoTry k)) → IfOk r (IfNothing (λ d. HoldsOnly IsNoTryOf reads))
 nothing_so reads o k disk (Ok (Whole w)) told n = tt
 nothing_so reads o k disk (Ok (Nothing d)) told n = λ other notes c read is all held. subst IsNoTry (told other notes c read is all held).1 n.1
@@ -102,13 +102,13 @@ no_whole reads o k told n = λ other notes c read is all held.
     let same = told other notes c read is all held in
     subst (λ (w : ClientOpening). IsNoWhole w (fold other notes)) same.0 (subst (λ (x : CoreState). IsNoWhole o x) same.1 n)
 
-foreign_at : (reads : List ℕ → Type 0) (o : ClientOpening) (k : CoreState) (why : KeepFault) → Told reads o k
+foreign_at : (reads : List ℕ → Type 0) (o : ClientOpening) (k : CoreState) (why : NoteFault) → Told reads o k
     → (why ≢ NoMemory → IsNoWhole o k) → OnForeign why (λ n. HoldsOnly IsNoWhole reads)
 foreign_at reads o k (Foreign n) told f = no_whole reads o k told (f (λ e. absurd (cc e)))
 foreign_at reads o k NoMemory told f = tt
 foreign_at reads o k (Journal why) told f = tt
 
-pub foreign_so : {D : Type 0} (reads : List ℕ → Type 0) (o : ClientOpening) (k : CoreState) (r : Result (Reopened D) (KeepFault × D)) → Told reads o k
+pub foreign_so : {D : Type 0} (reads : List ℕ → Type 0) (o : ClientOpening) (k : CoreState) (r : Result (Reopened D) (NoteFault × D)) → Told reads o k
     → IfErr r (λ x. x.0 ≢ NoMemory → IsNoWhole o k) → IfErr r (λ x. OnForeign x.0 (λ n. HoldsOnly IsNoWhole reads))
 foreign_so reads o k (Ok x) told f = tt
 foreign_so reads o k (Err x) told f = foreign_at reads o k x.0 told f

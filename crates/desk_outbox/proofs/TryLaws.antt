@@ -9,11 +9,11 @@ use Rattle.step_rules.specs.ClientReplies.{on_reply}
 use Rattle.client_core.specs.Answers.{progress_in}
 use Rattle.client_core.specs.declared.progress.Progress.{Progress}
 use Rattle.client_core.specs.declared.progress.Progress.TheVariants as progress
-use Rattle.client_restart.specs.declared.fault.KeepFault.{KeepFault}
+use Rattle.client_restart.specs.declared.fault.NoteFault.{NoteFault}
 use Rattle.client_restart.specs.declared.opening.ClientOpening.{ClientOpening}
 use Rattle.client_restart.specs.Hears.{makes_step}
-use Rattle.client_restart.specs.Keeps.{Keeps, sight}
-use Rattle.client_restart.specs.Kept.{KeptState}
+use Rattle.client_restart.specs.Keeps.{KeepsNote, sight}
+use Rattle.client_restart.specs.Kept.{ClientState}
 use Rattle.client_restart.specs.Notes.{Heard, Remark}
 use Rattle.client_restart.specs.Steps.{CoreState}
 use Rattle.client_restart.proofs.Turns.{Moves, Turns}
@@ -66,17 +66,17 @@ pub same_try : (o n : ClientOpening) (card : Sheet) (p : Place) (now new : Optio
 same_try o n card p now new t e f =
     subst (λ (x : ClientOpening). IsTry x card p new) (sym e) (subst (λ (x : Option Current). IsTry o card p x) (sym f) t)
 
-pub noted_try : {D : Type 0} (shows : D → DiskSeen) (counts : D → Seen) (card : Sheet) (p q : Place) (words : List ℕ) (old new : KeptState D)
+pub noted_try : {D : Type 0} (shows : D → DiskSeen) (counts : D → Seen) (card : Sheet) (p q : Place) (words : List ℕ) (old new : ClientState D)
     → IsTry old.opening card p old.core.client.current → q.first < length card.addresses → q.address < length card.addresses
-    → Keeps {T = Unit {0}} (Remark words) (sight shows counts old) (sight shows counts new) (Ok (tt {0}))
+    → KeepsNote {T = Unit {0}} (Remark words) (sight shows counts old) (sight shows counts new) (Ok (tt {0}))
     → IsTry new.opening card q new.core.client.current
 noted_try shows counts card p q words old new t first address keeps =
     same_try old.opening new.opening card q _ _ (moved _ card p q _ t first address) keeps.opening
     (ap (λ (k : CoreState). k.client.current) keeps.step)
 
-pub missed_try : {D T : Type 0} (shows : D → DiskSeen) (counts : D → Seen) (card : Sheet) (p : Place) (words : List ℕ) (old new : KeptState D) (f : KeepFault)
+pub missed_try : {D T : Type 0} (shows : D → DiskSeen) (counts : D → Seen) (card : Sheet) (p : Place) (words : List ℕ) (old new : ClientState D) (f : NoteFault)
     → IsTry old.opening card p old.core.client.current
-    → Keeps {T = T} (Remark words) (sight shows counts old) (sight shows counts new) (Err f)
+    → KeepsNote {T = T} (Remark words) (sight shows counts old) (sight shows counts new) (Err f)
     → IsTry new.opening card p new.core.client.current
 missed_try shows counts card p words old new f t keeps =
     same_try old.opening new.opening card p _ _ t keeps.opening (ap (λ (k : CoreState). k.client.current) keeps.no_step)
@@ -84,9 +84,9 @@ missed_try shows counts card p words old new f t keeps =
 pub steps_on : (p : Progress) → p ≡ progress.Next → makes_step p ≡ true
 steps_on p e = ap makes_step e
 
-pub heard_try : {D T : Type 0} (shows : D → DiskSeen) (counts : D → Seen) (card : Sheet) (p : Place) (bytes : List ℕ) (old new : KeptState D) (r : Result T KeepFault)
+pub heard_try : {D T : Type 0} (shows : D → DiskSeen) (counts : D → Seen) (card : Sheet) (p : Place) (bytes : List ℕ) (old new : ClientState D) (r : Result T NoteFault)
     → IsTry old.opening card p old.core.client.current → progress_in (on_reply old.core.client bytes).progress ≡ progress.Next
-    → Keeps {T = T} (Heard bytes) (sight shows counts old) (sight shows counts new) r
+    → KeepsNote {T = T} (Heard bytes) (sight shows counts old) (sight shows counts new) r
     → IsTry new.opening card p new.core.client.current
 heard_try shows counts card p bytes old new (Ok x) t e keeps =
     let w = next_write old.opening.width old.core.client bytes t.write e in

@@ -3,7 +3,7 @@ use Rattle.std.specs.Prelude.{◌≡◌, ◌<◌, ◌≤◌, ℕ, List, [], Opti
 use Rattle.mailbox_rules.specs.Requests.{Request, Register, Write, Read, Retire}
 use Rattle.step_rules.specs.Client.{Current, Step}
 use Rattle.client_restart.specs.declared.opening.ClientOpening.{ClientOpening}
-use Rattle.client_restart.specs.Kept.{KeptState}
+use Rattle.client_restart.specs.Kept.{ClientState}
 use Rattle.desk_texts.specs.declared.sheet.CardHead.{CardHead}
 use Rattle.desk_texts.specs.declared.sheet.Head.TheVariants.{Card}
 use Rattle.desk_texts.specs.declared.sheet.Sheet.{Sheet}
@@ -12,7 +12,7 @@ use Rattle.desk_outbox.specs.declared.place.Place.{Place}
 
 -- a client that remembers, the card, and where the try stands
 pub record OutboxState (D : Type 0) : Type 0 where
-  pub kept : KeptState D
+  pub kept : ClientState D
   pub card : Sheet
   pub place : Place
 

@@ -2,7 +2,7 @@
 use Rattle.std.specs.Prelude.{◌≡◌, ◌∷◌, ◌++◌, [], ℕ, List}
 use Rattle.client_restart.specs.Kept.{HoldsNotes}
 use Rattle.client_restart.specs.Notes.{Noted}
-use Rattle.client_restart.specs.Openings.{IsOpening}
+use Rattle.client_restart.specs.Openings.{IsClientOpening}
 use Rattle.client_restart.specs.Records.{AllNotes}
 use Rattle.client_restart.specs.Steps.{CoreState, fold}
 use Rattle.client_restart.specs.declared.opening.ClientOpening.{ClientOpening}
@@ -58,5 +58,5 @@ IsNoWhole o core = (card : Sheet) (place : Place) → Tells core.remarks card pl
 
 -- whatever client the disk gives is so
 abbrev pub HoldsOnly : (ClientOpening → CoreState → Type 0) → (List ℕ → Type 0) → Type 0
-HoldsOnly P reads = (o : ClientOpening) (notes : List Noted) (c : List ℕ) → reads c → IsOpening o
+HoldsOnly P reads = (o : ClientOpening) (notes : List Noted) (c : List ℕ) → reads c → IsClientOpening o
     → AllNotes notes → HoldsNotes o notes reads → P o (fold o notes)

@@ -1,6 +1,6 @@
 //! A stranger's letter on its way.
 ghost use Rattle.std.specs.Prelude.{◌≡◌};
-ghost use Rattle.client_restart.specs.Openings.{IsOpening};
+ghost use Rattle.client_restart.specs.Openings.{IsClientOpening};
 ghost use Rattle.desk_outbox.specs.Outboxes.{IsTry, message_in};
 
 use crate::place::Place;
@@ -65,7 +65,7 @@ impl<D: Disk> Outbox<D> {
     /// How the try's client is opened: its lane, first serial and seed.
     pub fn opening(&self) -> &ClientOpening
         ensures value { result.now ≡ self.now.kept.opening }
-        ensures is { IsOpening result.now }
+        ensures is { IsClientOpening result.now }
     {
         self.client.opening()
     }

@@ -3,9 +3,9 @@ ghost use Rattle.std.specs.Prelude.{◌≡◌, ◌≢◌, ◌≤◌, ◌↔◌, 
 ghost use Rattle.node_journal.specs.Disk.{IsUntouched};
 ghost use Rattle.node_journal.specs.Records.{IsUndamaged};
 ghost use Rattle.client_restart.specs.Faults.{IsNoMemoryOrForeign, IsOfReopen, OnDamaged, OnForeign};
-ghost use Rattle.client_restart.specs.Kept.{Stands};
-ghost use Rattle.client_restart.specs.Openings.{IsOpening};
-ghost use Rattle.client_restart.specs.declared.fault.KeepFault.TheVariants.{NoMemory};
+ghost use Rattle.client_restart.specs.Kept.{StandsByNotes};
+ghost use Rattle.client_restart.specs.Openings.{IsClientOpening};
+ghost use Rattle.client_restart.specs.declared.fault.NoteFault.TheVariants.{NoMemory};
 ghost use Rattle.desk_texts.specs.Spelling.{IsSheet, SpellsSheet};
 ghost use Rattle.desk_outbox.specs.Begun.{IsBegun};
 ghost use Rattle.desk_outbox.specs.Outboxes.{IsWrite};
@@ -14,7 +14,7 @@ ghost use Rattle.desk_outbox.specs.Reopening.{HasEnds, HoldsOnly, IfNothing, IfW
 use crate::outbox::{OUTBOX_LIMIT, Outbox};
 use crate::place::Place;
 use client_core::Request;
-use client_restart::{ClientOpening, KeepFault, KeptClient};
+use client_restart::{ClientOpening, KeptClient, NoteFault};
 use desk_texts::{Head, Sheet, read_sheet, sheet_is_read_exactly};
 use express_texts::TextFault;
 use node_journal::Disk;
@@ -47,7 +47,7 @@ fn ends_of(remarks: &[Vec<u8>]) -> Option<(&[u8], &[u8])>
 }
 
 // The card that a text spells.
-fn card_in(alloc: Global, text: &[u8]) -> Result<Sheet, KeepFault>
+fn card_in(alloc: Global, text: &[u8]) -> Result<Sheet, NoteFault>
     ensures card { IfOk result (λ card. SpellsSheet card text.now) }
     ensures none { IfErr result (λ why. why ≢ NoMemory → SpellsNoSheet text.now) }
     ensures cause { IfErr result IsNoMemoryOrForeign }
@@ -55,24 +55,24 @@ fn card_in(alloc: Global, text: &[u8]) -> Result<Sheet, KeepFault>
     sheet_is_read_exactly();
     match read_sheet(alloc, text) {
         Ok(card) => Ok(card),
-        Err(TextFault::NoMemory) => Err(KeepFault::NoMemory),
-        Err(TextFault::Wrong(_)) => Err(KeepFault::Foreign(CARD_AT)),
-        Err(TextFault::WrongKey(_)) => Err(KeepFault::Foreign(CARD_AT)),
+        Err(TextFault::NoMemory) => Err(NoteFault::NoMemory),
+        Err(TextFault::Wrong(_)) => Err(NoteFault::Foreign(CARD_AT)),
+        Err(TextFault::WrongKey(_)) => Err(NoteFault::Foreign(CARD_AT)),
     }
 }
 
 // The card and the place that the remarks tell.
-fn remembered(alloc: Global, remarks: &[Vec<u8>]) -> Result<(Sheet, Place), KeepFault>
+fn remembered(alloc: Global, remarks: &[Vec<u8>]) -> Result<(Sheet, Place), NoteFault>
     ensures told { IfOk result (λ r. Tells (map (λ words. words.items) remarks.now) r.0 r.1) }
     ensures foreign { IfErr result (λ why. why ≢ NoMemory
         → TellNothing (map (λ words. words.items) remarks.now)) }
     ensures cause { IfErr result IsNoMemoryOrForeign }
 {
     let Some((text, last)) = ends_of(remarks) else {
-        return Err(KeepFault::Foreign(CARD_AT));
+        return Err(NoteFault::Foreign(CARD_AT));
     };
     let Some(place) = Place::of(last) else {
-        return Err(KeepFault::Foreign(CARD_AT));
+        return Err(NoteFault::Foreign(CARD_AT));
     };
     let card = card_in(alloc, text)?;
     Ok((card, place))
@@ -81,7 +81,7 @@ fn remembered(alloc: Global, remarks: &[Vec<u8>]) -> Result<(Sheet, Place), Keep
 // Whether a try can stand so: at an address of the card, on one of its lanes, with a message for its boxes.
 fn is_try(card: &Sheet, place: &Place, opening: &ClientOpening, len: usize) -> bool
     requires sheet { IsSheet card.now }
-    requires opening { IsOpening opening.now }
+    requires opening { IsClientOpening opening.now }
     ensures { (message : List ℕ) → length message ≡ len
         → IsTrue result ↔ IsBegun card.now place.now opening.now message }
 {
@@ -114,7 +114,7 @@ fn written_len<D: Disk>(client: &KeptClient<D>) -> Option<usize>
 }
 
 // The try that a client holds, if it is a whole one.
-fn held<D: Disk>(alloc: Global, client: KeptClient<D>) -> Result<Reopened<D>, (KeepFault, D)>
+fn held<D: Disk>(alloc: Global, client: KeptClient<D>) -> Result<Reopened<D>, (NoteFault, D)>
     ensures whole { IfOk result (IfWhole (λ o.
         (o.kept ≡ client) × Tells client.core.remarks o.card o.place)) }
     ensures nothing { IfOk result (IfNothing (λ disk. (disk ≡ client.disk) × IsNoTry client.core)) }
@@ -130,7 +130,7 @@ fn held<D: Disk>(alloc: Global, client: KeptClient<D>) -> Result<Reopened<D>, (K
         Err(fault) => Err((fault, client.into_disk())),
         Ok((card, place)) => {
             if !is_try(&card, &place, client.opening(), len) {
-                return Err((KeepFault::Foreign(CARD_AT), client.into_disk()));
+                return Err((NoteFault::Foreign(CARD_AT), client.into_disk()));
             }
             Ok(Reopened::Whole(Outbox {
                 client,
@@ -143,8 +143,8 @@ fn held<D: Disk>(alloc: Global, client: KeptClient<D>) -> Result<Reopened<D>, (K
 
 impl<D: Disk> Outbox<D> {
     /// The try that stands on a disk, as it stood.
-    pub fn reopen(alloc: Global, disk: D) -> Result<Reopened<D>, (KeepFault, D)>
-        ensures stands { IfOk result (IfWhole (λ o. Stands o.kept.opening o.kept.core (D.disk disk).reads)) }
+    pub fn reopen(alloc: Global, disk: D) -> Result<Reopened<D>, (NoteFault, D)>
+        ensures stands { IfOk result (IfWhole (λ o. StandsByNotes o.kept.opening o.kept.core (D.disk disk).reads)) }
         ensures told { IfOk result (IfWhole (λ o. Tells o.kept.core.remarks o.card o.place)) }
         ensures nothing { IfOk result (IfNothing (λ d. HoldsOnly IsNoTryOf (D.disk disk).reads)) }
         ensures foreign { IfErr result (λ x. OnForeign x.0 (λ n. HoldsOnly IsNoWhole (D.disk disk).reads)) }
@@ -158,7 +158,7 @@ impl<D: Disk> Outbox<D> {
     {
         match KeptClient::reopen(alloc, disk, OUTBOX_LIMIT) {
             Ok(client) => held(alloc, client),
-            Err((KeepFault::Foreign(0), disk)) => Ok(Reopened::Nothing(disk)),
+            Err((NoteFault::Foreign(0), disk)) => Ok(Reopened::Nothing(disk)),
             Err((fault, disk)) => Err((fault, disk)),
         }
     }

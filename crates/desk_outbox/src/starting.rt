@@ -1,7 +1,7 @@
 //! How a try begins.
 ghost use Rattle.std.specs.Prelude.{◌≡◌, ◌≢◌, ◌≤◌, [], Some, IfOk, IfErr, IfSome, OnOk, length, slice_get};
 ghost use Rattle.client_restart.specs.Kept.{HoldsNotes};
-ghost use Rattle.client_restart.specs.Openings.{IsOpening};
+ghost use Rattle.client_restart.specs.Openings.{IsClientOpening};
 ghost use Rattle.client_restart.specs.Steps.{fold};
 ghost use Rattle.desk_draws.specs.Streams.{stream_from};
 ghost use Rattle.desk_texts.specs.Printing.{printed};
@@ -19,7 +19,7 @@ use crate::fault::StartFault;
 use crate::outbox::{OUTBOX_LIMIT, Outbox};
 use crate::place::Place;
 use client_core::Request;
-use client_restart::{ClientOpening, KeepFault, KeptClient};
+use client_restart::{ClientOpening, NoteFault, KeptClient};
 use desk_draws::Draws;
 use desk_letters::seal;
 use desk_texts::{CardHead, Head, Sheet, print, read_sheet};
@@ -78,7 +78,7 @@ fn note_try<D: Disk>(
     client: &mut KeptClient<D>,
     text: &[u8],
     begun: &TryParts<'_>,
-) -> Result<(), KeepFault>
+) -> Result<(), NoteFault>
     requires begun { IsBegun begun.now.card.now begun.now.place begun.now.opening begun.now.message.now }
     requires text { text.now ≡ printed begun.now.card.now }
     requires opening { client.old.opening ≡ begun.now.opening }
@@ -88,7 +88,7 @@ fn note_try<D: Disk>(
         begun.now.message.now client.new) }
 {
     if text.len() > WORDS_MAX {
-        return Err(KeepFault::Journal(JournalFault::Full(client.used())));
+        return Err(NoteFault::Journal(JournalFault::Full(client.used())));
     }
     client.remark(text)?;
     client.remark(&begun.place.record())?;
@@ -103,13 +103,13 @@ fn note_try<D: Disk>(
     }
 }
 
-fn begin<D: Disk>(alloc: Global, begun: &TryParts<'_>, disk: D) -> Result<Outbox<D>, (KeepFault, D)>
+fn begin<D: Disk>(alloc: Global, begun: &TryParts<'_>, disk: D) -> Result<Outbox<D>, (NoteFault, D)>
     requires { IsBegun begun.now.card.now begun.now.place begun.now.opening begun.now.message.now }
     ensures begins { IfOk result (Begins D.disk begun.now.card.now begun.now.place begun.now.message.now) }
     ensures opening { IfOk result (λ o. o.kept.opening ≡ begun.now.opening) }
 {
     let Ok((card, text)) = copied(alloc, begun.card) else {
-        return Err((KeepFault::NoMemory, disk));
+        return Err((NoteFault::NoMemory, disk));
     };
     match KeptClient::create(alloc, &begun.opening, disk, OUTBOX_LIMIT) {
         Err((fault, disk)) => Err((fault, disk)),

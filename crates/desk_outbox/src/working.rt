@@ -16,7 +16,7 @@ ghost use Rattle.desk_outbox.specs.Works.{Does, Ends, GoesOn, Notes, Readies, St
 use crate::answering::{answer_lost, answer_to, named_by, stop_to};
 use crate::outbox::Outbox;
 use crate::place::Place;
-use client_restart::KeepFault;
+use client_restart::NoteFault;
 use desk_tries::{Answer, Next, Sending};
 use express_words::outside::Net;
 use frame_rules::FRAME_MAX;
@@ -46,7 +46,7 @@ impl<D: Disk> Outbox<D> {
 
     // A place is on the disk before the try stands there.
     #[tactic(auto, using(crate::proofs::TryLaws::noted_try, crate::proofs::TryLaws::missed_try))]
-    fn note(&mut self, place: Place) -> Result<(), KeepFault>
+    fn note(&mut self, place: Place) -> Result<(), NoteFault>
         requires first { place.first < length self.old.card.addresses }
         requires address { place.address < length self.old.card.addresses }
         ensures notes { Notes D.disk D.Counted.seen place self.old self.new result }
@@ -63,7 +63,7 @@ impl<D: Disk> Outbox<D> {
     }
 
     // Before the last proof goes out that is noted.
-    fn make_ready(&mut self) -> Result<(), KeepFault>
+    fn make_ready(&mut self) -> Result<(), NoteFault>
         ensures readies { Readies D.disk D.Counted.seen self.old self.new result }
         ensures proof { OnOk result (at_last_proof self.new.kept.core.client.current ≡ true
             → self.new.place.proof_out ≡ true) }

@@ -2,7 +2,7 @@
 use Rattle.std.proofs.Common.{◌≡◌, ℕ, List, Option, Some, None, true, map}
 use Rattle.express_words.specs.Calls.{Call}
 use Rattle.node_journal.specs.Disk.{DiskSeen}
-use Rattle.client_restart.specs.Kept.{Stands}
+use Rattle.client_restart.specs.Kept.{StandsByNotes}
 use Rattle.desk_entries.specs.Records.{entry_record}
 use Rattle.desk_ledger.specs.Ledgers.{IsOfPair, LedgerState}
 use Rattle.desk_outside.specs.Calls.{Adds, FolderCall, Looked, Opened}
@@ -12,7 +12,7 @@ use Rattle.desk_run.specs.Opens.{Opens}
 pub opens : {D : Type 0} (shows : D → DiskSeen) (old looked new : Option (List (FolderCall D))) (disk : D) (l : LedgerState D)
     → Adds old looked (Looked Ledger (Some true)) → Adds looked new (Opened Ledger (Some disk))
     → IsOfPair l.pair l.entries → l.client.core.remarks ≡ map entry_record l.entries
-    → Stands l.client.opening l.client.core (shows disk).reads → Opens shows old new l
+    → StandsByNotes l.client.opening l.client.core (shows disk).reads → Opens shows old new l
 opens shows old looked new disk l look opening pair told stands = record {
   looked = looked;
   look = look;

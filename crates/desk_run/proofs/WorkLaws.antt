@@ -6,10 +6,10 @@ use Rattle.express_words.specs.Calls.{Call}
 use Rattle.express_words.specs.Seen.{Seen}
 use Rattle.node_journal.specs.Disk.{DiskSeen}
 use Rattle.step_rules.specs.ClientAsks as asks
-use Rattle.client_restart.specs.Keeps.{Keeps, sight}
+use Rattle.client_restart.specs.Keeps.{KeepsNote, sight}
 use Rattle.client_restart.specs.Notes.{Asked}
 use Rattle.client_restart.specs.Steps.{EndedRequest}
-use Rattle.client_restart.specs.declared.fault.KeepFault.{KeepFault}
+use Rattle.client_restart.specs.declared.fault.NoteFault.{NoteFault}
 use Rattle.kept_errands.specs.declared.halt.Halt.{Halt}
 use Rattle.kept_errands.specs.Works.{IsEnded}
 use Rattle.desk_ledger.specs.Works.{WorksAt}
@@ -28,29 +28,29 @@ use Rattle.desk_run.specs.Works as works
 -- ---- outcomes that are stored
 
 -- what a store says of the outcomes that weren't stored before it
-abbrev pub StoreSays : {D : Type 0} → ℕ → (old new : LedgerState D) → Result (Option Stored) KeepFault → Type 0
+abbrev pub StoreSays : {D : Type 0} → ℕ → (old new : LedgerState D) → Result (Option Stored) NoteFault → Type 0
 StoreSays seconds old new r =
     (e : EndedRequest) (rest : List EndedRequest) → old.client.core.untold ≡ e ∷ rest → Stores seconds e old new r
 
 -- and of a desk that has none
-abbrev pub NoneSays : {D : Type 0} → (old new : LedgerState D) → Result (Option Stored) KeepFault → Type 0
+abbrev pub NoneSays : {D : Type 0} → (old new : LedgerState D) → Result (Option Stored) NoteFault → Type 0
 NoneSays old new r = old.client.core.untold ≡ [] → (r ≡ Ok None) × (new ≡ old)
 
-step_by : {D : Type 0} (seconds : ℕ) (start old new : LedgerState D) (s : Stored) (r : Result (Option Stored) KeepFault)
+step_by : {D : Type 0} (seconds : ℕ) (start old new : LedgerState D) (s : Stored) (r : Result (Option Stored) NoteFault)
     (untold : List EndedRequest) → r ≡ Ok (Some s) → old.client.core.untold ≡ untold → StoresOn seconds start old
     → NoneSays old new r → StoreSays seconds old new r → StoresOn seconds start new
 step_by seconds start old new s r [] was is on none says =
     let no = sym was ∙ (none is).0 in absurd (cc no)
 step_by seconds start old new s r (e ∷ rest) was is on none says =
     works.stored old new e rest s on is
-    (subst (λ (x : Result (Option Stored) KeepFault). Stores seconds e old new x) was (says e rest is))
+    (subst (λ (x : Result (Option Stored) NoteFault). Stores seconds e old new x) was (says e rest is))
 
-pub store_step : {D : Type 0} (seconds : ℕ) (start old new : LedgerState D) (s : Stored) (r : Result (Option Stored) KeepFault)
+pub store_step : {D : Type 0} (seconds : ℕ) (start old new : LedgerState D) (s : Stored) (r : Result (Option Stored) NoteFault)
     → r ≡ Ok (Some s) → StoresOn seconds start old → NoneSays old new r → StoreSays seconds old new r → StoresOn seconds start new
 store_step seconds start old new s r was on none says =
     step_by seconds start old new s r old.client.core.untold was refl on none says
 
-end_by : {D : Type 0} (seconds : ℕ) (start old new : LedgerState D) (r : Result (Option Stored) KeepFault)
+end_by : {D : Type 0} (seconds : ℕ) (start old new : LedgerState D) (r : Result (Option Stored) NoteFault)
     (untold : List EndedRequest) → r ≡ Ok None → old.client.core.untold ≡ untold → StoresOn seconds start old
     → NoneSays old new r → StoreSays seconds old new r → StoresAll start new
 end_by seconds start old new r [] was is on none says =
@@ -61,11 +61,11 @@ end_by seconds start old new r [] was is on none says =
       none_left = ap (λ (l : LedgerState _). l.client.core.untold) same ∙ is;
     }
 end_by seconds start old new r (e ∷ rest) was is on none says =
-    let stored = subst (λ (x : Result (Option Stored) KeepFault). Stores seconds e old new x) was (says e rest is) in
+    let stored = subst (λ (x : Result (Option Stored) NoteFault). Stores seconds e old new x) was (says e rest is) in
     let no : None ≡ Some (stored_of e) = stored.answer in
     absurd (cc no)
 
-pub store_end : {D : Type 0} (seconds : ℕ) (start old new : LedgerState D) (r : Result (Option Stored) KeepFault)
+pub store_end : {D : Type 0} (seconds : ℕ) (start old new : LedgerState D) (r : Result (Option Stored) NoteFault)
     → r ≡ Ok None → StoresOn seconds start old → NoneSays old new r → StoreSays seconds old new r → StoresAll start new
 store_end seconds start old new r was on none says =
     end_by seconds start old new r old.client.core.untold was refl on none says
@@ -86,7 +86,7 @@ settled_map (Err _) P Q f p = tt
 pub does_asked : {D T : Type 0} (shows : D → DiskSeen) (counts : D → Seen) (t : Task) (old asked new : LedgerState D)
     (before now : Option (List Call)) (x : T) → IsOk (asks.asked old.client.core.client (request_of t))
     → (IsOk (asks.asked old.client.core.client (request_of t))
-    → Keeps {T = T} (Asked (request_of t)) (sight shows counts old.client) (sight shows counts asked.client) (Ok x))
+    → KeepsNote {T = T} (Asked (request_of t)) (sight shows counts old.client) (sight shows counts asked.client) (Ok x))
     → asked.entries ≡ old.entries → asked.pair ≡ old.pair → Settles asked new before now → DoesTask t old new before now
 does_asked shows counts t old asked new before now x accepted keeps entries pair settles = record {
   accepted = accepted;

@@ -1,7 +1,7 @@
 -- The ledger in a desk's folder.
 use Rattle.std.specs.Prelude.{◌≡◌, ℕ, Bool, true, false, List, Option, Some, None, map}
 use Rattle.node_journal.specs.Disk.{DiskSeen}
-use Rattle.client_restart.specs.Kept.{Stands}
+use Rattle.client_restart.specs.Kept.{StandsByNotes}
 use Rattle.desk_entries.specs.Records.{entry_record}
 use Rattle.desk_ledger.specs.Ledgers.{IsOfPair, LedgerState}
 use Rattle.desk_outside.specs.Calls.{Adds, FolderCall, Looked, Opened}
@@ -16,7 +16,7 @@ pub record Opens {D : Type 0} (shows : D → DiskSeen) (old new : Option (List (
   pub opened : Adds looked new (Opened Ledger (Some disk))
   pub pair : IsOfPair l.pair l.entries
   pub told : l.client.core.remarks ≡ map entry_record l.entries
-  pub stands : Stands l.client.opening l.client.core (shows disk).reads
+  pub stands : StandsByNotes l.client.opening l.client.core (shows disk).reads
 
 -- the folder's ledger, None where it was asked for one and has none
 abbrev pub Finds : {D : Type 0} → (D → DiskSeen) → (old new : Option (List (FolderCall D)))

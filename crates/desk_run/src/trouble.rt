@@ -2,7 +2,7 @@
 ghost use Rattle.std.specs.Prelude.{◌≡◌};
 ghost use Rattle.desk_run.specs.Ends.{IsCause};
 
-use client_restart::KeepFault;
+use client_restart::NoteFault;
 use desk_ledger::NameFault;
 use desk_letters::SealFault;
 use express_words::{NoMemory, Refusal};
@@ -101,20 +101,20 @@ impl From<NoMemory> for Trouble<'_> {
     }
 }
 
-impl From<KeepFault> for Trouble<'_> {
+impl From<NoteFault> for Trouble<'_> {
     ghost use Rattle.desk_run.specs.Ends.{IsCause};
 
     ghost from_gives = { λ _ trouble. IsCause trouble };
 
-    fn from(fault: KeepFault) -> Self {
+    fn from(fault: NoteFault) -> Self {
         match fault {
-            KeepFault::NoMemory => Trouble::NoMemory,
-            KeepFault::Journal(JournalFault::Full(_)) => Trouble::Full,
-            KeepFault::Journal(JournalFault::Disk(_)) => Trouble::Folder,
-            KeepFault::Journal(JournalFault::Closed) => Trouble::Folder,
-            KeepFault::Journal(JournalFault::NotEmpty) => Trouble::Damaged,
-            KeepFault::Journal(JournalFault::Damaged(_)) => Trouble::Damaged,
-            KeepFault::Foreign(_) => Trouble::Damaged,
+            NoteFault::NoMemory => Trouble::NoMemory,
+            NoteFault::Journal(JournalFault::Full(_)) => Trouble::Full,
+            NoteFault::Journal(JournalFault::Disk(_)) => Trouble::Folder,
+            NoteFault::Journal(JournalFault::Closed) => Trouble::Folder,
+            NoteFault::Journal(JournalFault::NotEmpty) => Trouble::Damaged,
+            NoteFault::Journal(JournalFault::Damaged(_)) => Trouble::Damaged,
+            NoteFault::Foreign(_) => Trouble::Damaged,
         }
     }
 }

@@ -8,11 +8,11 @@ use Rattle.step_rules.specs.ClientReplies.{on_reply}
 use Rattle.client_core.specs.Answers.{outcome_in, progress_in}
 use Rattle.client_core.specs.declared.progress.Progress.{Progress}
 use Rattle.client_core.specs.declared.progress.Progress.TheVariants as progress
-use Rattle.client_restart.specs.declared.fault.KeepFault.{KeepFault}
+use Rattle.client_restart.specs.declared.fault.NoteFault.{NoteFault}
 use Rattle.client_restart.specs.declared.opening.ClientOpening.{ClientOpening}
 use Rattle.client_restart.specs.Hears.{makes_step}
-use Rattle.client_restart.specs.Keeps.{Keeps, sight}
-use Rattle.client_restart.specs.Kept.{KeptState, Stands}
+use Rattle.client_restart.specs.Keeps.{KeepsNote, sight}
+use Rattle.client_restart.specs.Kept.{ClientState, StandsByNotes}
 use Rattle.client_restart.specs.Notes.{Heard, Noted}
 use Rattle.client_restart.specs.Steps.{CoreState}
 use Rattle.node_journal.specs.Disk.{DiskSeen}
@@ -37,13 +37,13 @@ CameBy (Ok progress.Ignored) old new answer = (said old.client answer ≡ Err st
 CameBy (Err (halt.Stop why)) old new answer = (said old.client answer ≡ Err why) × (new ≡ old)
 CameBy (Err (halt.Keep fault)) old new answer = new ≡ old
 
-abbrev pub Comes : {D : Type 0} → (old new : KeptState D) → Result Progress Halt → Result (List ℕ) Broken → Type 0
+abbrev pub Comes : {D : Type 0} → (old new : ClientState D) → Result Progress Halt → Result (List ℕ) Broken → Type 0
 Comes old new result answer = CameBy result old.core new.core answer × (new.opening ≡ old.opening)
 
-took : {D : Type 0} (shows : D → DiskSeen) (counts : D → Seen) (old new : KeptState D) (bytes : List ℕ) (kept : Result Progress KeepFault) (p : steps.Progress)
+took : {D : Type 0} (shows : D → DiskSeen) (counts : D → Seen) (old new : ClientState D) (bytes : List ℕ) (kept : Result Progress NoteFault) (p : steps.Progress)
     → (on_reply old.core.client bytes).progress ≡ p → IfOk kept (λ x. x ≡ progress_in p)
     → (makes_step (progress_in p) ≡ false → IsOk kept × (new ≡ old))
-    → (makes_step (progress_in p) ≡ true → Keeps (Heard bytes) (sight shows counts old) (sight shows counts new) kept)
+    → (makes_step (progress_in p) ≡ true → KeepsNote (Heard bytes) (sight shows counts old) (sight shows counts new) kept)
     → Comes old new (halted kept) (Ok bytes)
 took shows counts old new bytes (Ok x) steps.Next e is still keeps =
     let k = keeps refl in
@@ -62,7 +62,7 @@ took shows counts old new bytes (Err fault) (steps.Finished outcome) e is still 
 took shows counts old new bytes (Err fault) (steps.Later refusal) e is still keeps = absurd (cc (still refl).0)
 took shows counts old new bytes (Err fault) steps.Ignored e is still keeps = absurd (cc (still refl).0)
 
-pub comes : {D : Type 0} (shows : D → DiskSeen) (counts : D → Seen) (old new : KeptState D) (result : Result Progress Halt) (answer : Result (List ℕ) Broken)
+pub comes : {D : Type 0} (shows : D → DiskSeen) (counts : D → Seen) (old new : ClientState D) (result : Result Progress Halt) (answer : Result (List ℕ) Broken)
     → HearsBy shows counts answer old new result → Comes old new result answer
 comes shows counts old new result (Ok bytes) h =
     subst (λ (r : Result Progress Halt). Comes old new r (Ok bytes)) (sym h.told)
@@ -73,10 +73,10 @@ comes shows counts old new result (Err why) (same, told) =
 
 -- ---- a step on a net
 
-pub heard_step : {D : Type 0} (peers : Peers) (shows : D → DiskSeen) (counts : D → Seen) (old new : KeptState D) (kept : Result Progress KeepFault) (bytes : List ℕ) (a b : Option (List Call))
+pub heard_step : {D : Type 0} (peers : Peers) (shows : D → DiskSeen) (counts : D → Seen) (old new : ClientState D) (kept : Result Progress NoteFault) (bytes : List ℕ) (a b : Option (List Call))
     → Talked peers old.core.client (Ok bytes) a b → IfOk kept (λ x. x ≡ progress_in (on_reply old.core.client bytes).progress)
     → (makes_step (progress_in (on_reply old.core.client bytes).progress) ≡ false → IsOk kept × (new ≡ old))
-    → (makes_step (progress_in (on_reply old.core.client bytes).progress) ≡ true → Keeps (Heard bytes) (sight shows counts old) (sight shows counts new) kept)
+    → (makes_step (progress_in (on_reply old.core.client bytes).progress) ≡ true → KeepsNote (Heard bytes) (sight shows counts old) (sight shows counts new) kept)
     → Stepped peers shows counts old new (halted kept) a b
 heard_step peers shows counts old new kept bytes a b t is still keeps = record {
   answer = Ok bytes;
@@ -84,28 +84,28 @@ heard_step peers shows counts old new kept bytes a b t is still keeps = record {
   hears = record { kept = kept; told = refl; progress = is; no_step = still; keeps = keeps };
 }
 
-pub lost_step : {D : Type 0} (peers : Peers) (shows : D → DiskSeen) (counts : D → Seen) (old : KeptState D) (why : Broken) (h : Halt) (a b : Option (List Call))
+pub lost_step : {D : Type 0} (peers : Peers) (shows : D → DiskSeen) (counts : D → Seen) (old : ClientState D) (why : Broken) (h : Halt) (a b : Option (List Call))
     → Talked peers old.core.client (Err why) a b → h ≡ halt_at why → Stepped peers shows counts old old (Err h) a b
 lost_step peers shows counts old why h a b t is =
     record { answer = Err why; talked = t; hears = (refl, ap Err is) }
 
 -- what stands on the disk gives the client, whatever it heard
-pub stands_by : {D : Type 0} {T : Type 0} (shows : D → DiskSeen) (counts : D → Seen) (old new : KeptState D) (n : Noted) (kept : Result T KeepFault) (b : Bool)
-    → (b ≡ false → IsOk kept × (new ≡ old)) → (b ≡ true → Keeps n (sight shows counts old) (sight shows counts new) kept)
-    → (old.journal.closed ≡ false → Stands old.opening old.core (shows old.disk).reads)
-    → new.journal.closed ≡ false → Stands new.opening new.core (shows new.disk).reads
+pub stands_by : {D : Type 0} {T : Type 0} (shows : D → DiskSeen) (counts : D → Seen) (old new : ClientState D) (n : Noted) (kept : Result T NoteFault) (b : Bool)
+    → (b ≡ false → IsOk kept × (new ≡ old)) → (b ≡ true → KeepsNote n (sight shows counts old) (sight shows counts new) kept)
+    → (old.journal.closed ≡ false → StandsByNotes old.opening old.core (shows old.disk).reads)
+    → new.journal.closed ≡ false → StandsByNotes new.opening new.core (shows new.disk).reads
 stands_by shows counts old new n kept true still keeps stood still_open =
     let k = keeps refl in
-    subst (λ (o : ClientOpening). Stands o new.core (shows new.disk).reads) (sym k.opening) (k.stands still_open)
+    subst (λ (o : ClientOpening). StandsByNotes o new.core (shows new.disk).reads) (sym k.opening) (k.stands still_open)
 stands_by {D} shows counts old new n kept false still keeps stood still_open =
-    subst (λ (k : KeptState D). k.journal.closed ≡ false → Stands k.opening k.core (shows k.disk).reads) (sym (still refl).1) stood still_open
+    subst (λ (k : ClientState D). k.journal.closed ≡ false → StandsByNotes k.opening k.core (shows k.disk).reads) (sym (still refl).1) stood still_open
 
 -- the disk's count, whatever was heard
-pub counts_by : {D : Type 0} (shows : D → DiskSeen) (counts : D → Seen) (old new : KeptState D) (n : Noted) (kept : Result Progress KeepFault) (b : Bool)
-    → (b ≡ false → IsOk kept × (new ≡ old)) → (b ≡ true → Keeps n (sight shows counts old) (sight shows counts new) kept)
+pub counts_by : {D : Type 0} (shows : D → DiskSeen) (counts : D → Seen) (old new : ClientState D) (n : Noted) (kept : Result Progress NoteFault) (b : Bool)
+    → (b ≡ false → IsOk kept × (new ≡ old)) → (b ≡ true → KeepsNote n (sight shows counts old) (sight shows counts new) kept)
     → DiskFaultBy (halted kept) (counts old.disk).faults (counts new.disk).faults
 counts_by shows counts old new n (Ok x) true still keeps = (keeps refl).counts
-counts_by {D} shows counts old new n (Ok x) false still keeps = ap (λ (k : KeptState D). (counts k.disk).faults) (still refl).1
+counts_by {D} shows counts old new n (Ok x) false still keeps = ap (λ (k : ClientState D). (counts k.disk).faults) (still refl).1
 counts_by shows counts old new n (Err fault) true still keeps = (keeps refl).counts
 counts_by shows counts old new n (Err fault) false still keeps = absurd (cc (still refl).0)
 

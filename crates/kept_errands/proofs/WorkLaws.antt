@@ -10,7 +10,7 @@ use Rattle.client_core.specs.declared.progress.Progress.{Progress}
 use Rattle.client_core.specs.declared.progress.Progress.TheVariants as progress
 use Rattle.express_words.specs.declared.refusal.Refusal.{Refusal}
 use Rattle.client_restart.specs.declared.opening.ClientOpening.{ClientOpening}
-use Rattle.client_restart.specs.Kept.{KeptState}
+use Rattle.client_restart.specs.Kept.{ClientState}
 use Rattle.client_restart.specs.Steps.{CoreState}
 use Rattle.node_journal.specs.Disk.{DiskSeen}
 use Rattle.node_exchange.specs.declared.exchanging.Broken.{Broken}
@@ -29,20 +29,20 @@ use Rattle.kept_errands.proofs.StepLaws.{CameBy, comes}
 
 -- ---- where the steps stand
 
-pub record Standing {D : Type 0} (peers : Peers) (start now : KeptState D) (a b : Option (List Call)) : Type 0 where
+pub record Standing {D : Type 0} (peers : Peers) (start now : ClientState D) (a b : Option (List Call)) : Type 0 where
   pub made : List Talk
   pub steps : GoesOn start.core now.core made
   pub onward : Onward start.core now.core
   pub opening : now.opening ≡ start.opening
   pub calls : TalksOn peers made a b
 
-pub standing : {D : Type 0} (peers : Peers) (start : KeptState D) (a : Option (List Call)) → Standing peers start start a a
+pub standing : {D : Type 0} (peers : Peers) (start : ClientState D) (a : Option (List Call)) → Standing peers start start a a
 standing peers start a = record { made = []; steps = none; onward = onward start.core; opening = refl; calls = refl }
 
 abbrev Busy : CoreState → Type 0
 Busy k = k.client.current ≢ None
 
-pub stands_more : {D : Type 0} (peers : Peers) (shows : D → DiskSeen) (counts : D → Seen) (start old new : KeptState D) (a b c : Option (List Call))
+pub stands_more : {D : Type 0} (peers : Peers) (shows : D → DiskSeen) (counts : D → Seen) (start old new : ClientState D) (a b c : Option (List Call))
     → Standing peers start old a b → Stepped peers shows counts old new (Ok progress.Next) b c
     → Standing peers start new a c × (new.core.client.current ≢ None) × (steps_left new.core.client < steps_left old.core.client)
 stands_more peers shows counts start old new a b c s t =
@@ -68,13 +68,13 @@ stands_more peers shows counts start old new a b c s t =
 -- ---- the last step
 
 -- where the work is, once it has halted or come to the request's end
-pub record Over {D : Type 0} (peers : Peers) (start new : KeptState D) (result : Result Unit Halt) (a c : Option (List Call)) : Type 0 where
+pub record Over {D : Type 0} (peers : Peers) (start new : ClientState D) (result : Result Unit Halt) (a c : Option (List Call)) : Type 0 where
   pub worked : WorkedOff peers start.core new.core result a c
   pub ended : OnOk result (IsEnded start.core new.core)
   pub remarks : new.core.remarks ≡ start.core.remarks
   pub opening : new.opening ≡ start.opening
 
-over : {D : Type 0} (peers : Peers) (start old new : KeptState D) (result : Result Unit Halt) (a b c : Option (List Call))
+over : {D : Type 0} (peers : Peers) (start old new : ClientState D) (result : Result Unit Halt) (a b c : Option (List Call))
     (s : Standing peers start old a b) (talk : Talk) → IsStep old.core.client talk → TalksOn peers (s.made ++ talk ∷ []) a c
     → EndsBy old.core new.core talk.exchange.answer result → WorkedOff peers start.core new.core result a c
 over peers start old new result a b c s talk is calls ends =
@@ -89,7 +89,7 @@ over peers start old new result a b c s talk is calls ends =
     } in
     record { made = s.made ++ talk ∷ []; works = w; calls = calls }
 
-pub ends_so : {D : Type 0} (peers : Peers) (shows : D → DiskSeen) (counts : D → Seen) (start old new : KeptState D) (outcome : Told) (a b c : Option (List Call))
+pub ends_so : {D : Type 0} (peers : Peers) (shows : D → DiskSeen) (counts : D → Seen) (start old new : ClientState D) (outcome : Told) (a b c : Option (List Call))
     → Standing peers start old a b → Stepped peers shows counts old new (Ok (progress.Finished outcome)) b c → Over peers start new (Ok tt) a c
 ends_so peers shows counts start old new outcome a b c s t =
     let came = comes shows counts old new (Ok (progress.Finished outcome)) t.answer t.hears in
@@ -107,7 +107,7 @@ ends_so peers shows counts start old new outcome a b c s t =
       opening = came.1 ∙ s.opening;
     }
 
-stopped : {D : Type 0} (peers : Peers) (start old new : KeptState D) (why : Halt) (a b c : Option (List Call))
+stopped : {D : Type 0} (peers : Peers) (start old new : ClientState D) (why : Halt) (a b c : Option (List Call))
     (s : Standing peers start old a b) (talk : Talk) → IsStep old.core.client talk → TalksOn peers (s.made ++ talk ∷ []) a c
     → EndsBy old.core new.core talk.exchange.answer (Err why) → new.core ≡ old.core → new.opening ≡ old.opening → Over peers start new (Err why) a c
 stopped peers start old new why a b c s talk is calls ends same kept = record {
@@ -117,7 +117,7 @@ stopped peers start old new why a b c s talk is calls ends same kept = record {
   opening = kept ∙ s.opening;
 }
 
-pub later_so : {D : Type 0} (peers : Peers) (shows : D → DiskSeen) (counts : D → Seen) (start old new : KeptState D) (refusal : Refusal) (a b c : Option (List Call))
+pub later_so : {D : Type 0} (peers : Peers) (shows : D → DiskSeen) (counts : D → Seen) (start old new : ClientState D) (refusal : Refusal) (a b c : Option (List Call))
     → Standing peers start old a b → Stepped peers shows counts old new (Ok (progress.Later refusal)) b c → Over peers start new (Err (halt.Stop (stop.Later refusal))) a c
 later_so peers shows counts start old new refusal a b c s t =
     let came = comes shows counts old new (Ok (progress.Later refusal)) t.answer t.hears in
@@ -125,7 +125,7 @@ later_so peers shows counts start old new refusal a b c s t =
     stopped peers start old new _ a b c s talk t.talked.is_step (talks_more peers s.made talk a b c s.calls t.talked.calls)
     (ap (said old.core.client) t.talked.answered ∙ came.0.0, came.0.1) came.0.1 came.1
 
-pub ignored_so : {D : Type 0} (peers : Peers) (shows : D → DiskSeen) (counts : D → Seen) (start old new : KeptState D) (a b c : Option (List Call))
+pub ignored_so : {D : Type 0} (peers : Peers) (shows : D → DiskSeen) (counts : D → Seen) (start old new : ClientState D) (a b c : Option (List Call))
     → Standing peers start old a b → Stepped peers shows counts old new (Ok progress.Ignored) b c → Over peers start new (Err (halt.Stop stop.Answer)) a c
 ignored_so peers shows counts start old new a b c s t =
     let came = comes shows counts old new (Ok progress.Ignored) t.answer t.hears in
@@ -133,7 +133,7 @@ ignored_so peers shows counts start old new a b c s t =
     stopped peers start old new _ a b c s talk t.talked.is_step (talks_more peers s.made talk a b c s.calls t.talked.calls)
     (ap (said old.core.client) t.talked.answered ∙ came.0.0, came.0.1) came.0.1 came.1
 
-pub halts_so : {D : Type 0} (peers : Peers) (shows : D → DiskSeen) (counts : D → Seen) (start old new : KeptState D) (why : Halt) (a b c : Option (List Call))
+pub halts_so : {D : Type 0} (peers : Peers) (shows : D → DiskSeen) (counts : D → Seen) (start old new : ClientState D) (why : Halt) (a b c : Option (List Call))
     → Standing peers start old a b → Stepped peers shows counts old new (Err why) b c → Over peers start new (Err why) a c
 halts_so peers shows counts start old new (halt.Stop why) a b c s t =
     let came = comes shows counts old new (Err (halt.Stop why)) t.answer t.hears in

@@ -7,11 +7,11 @@ use Rattle.step_rules.specs.Client.{Client}
 use Rattle.step_rules.specs.ClientReplies.{on_reply}
 use Rattle.client_core.specs.Answers.{progress_in}
 use Rattle.client_core.specs.declared.progress.Progress.{Progress}
-use Rattle.client_restart.specs.declared.fault.KeepFault.{KeepFault}
+use Rattle.client_restart.specs.declared.fault.NoteFault.{NoteFault}
 use Rattle.client_restart.specs.Faults.{CountsFault}
 use Rattle.client_restart.specs.Hears.{makes_step}
-use Rattle.client_restart.specs.Keeps.{Keeps, sight}
-use Rattle.client_restart.specs.Kept.{KeptState}
+use Rattle.client_restart.specs.Keeps.{KeepsNote, sight}
+use Rattle.client_restart.specs.Kept.{ClientState}
 use Rattle.client_restart.specs.Notes.{Heard}
 use Rattle.node_journal.specs.Disk.{DiskSeen}
 use Rattle.node_exchange.specs.declared.exchanging.Broken.{Broken}
@@ -37,30 +37,30 @@ halt_at why = halt.Stop (stop_at why)
 
 -- ---- what the client hears
 
-abbrev pub halted : {T : Type 0} → Result T KeepFault → Result T Halt
+abbrev pub halted : {T : Type 0} → Result T NoteFault → Result T Halt
 halted (Ok value) = Ok value
 halted (Err fault) = Err (halt.Keep fault)
 
 -- The client takes the bytes as a reply to its present step. One that makes a step is kept before it.
 pub record Hears {D : Type 0} (shows : D → DiskSeen) (counts : D → Seen) (bytes : List ℕ)
-    (old new : KeptState D) (result : Result Progress Halt) : Type 0 where
-  pub kept : Result Progress KeepFault
+    (old new : ClientState D) (result : Result Progress Halt) : Type 0 where
+  pub kept : Result Progress NoteFault
   pub told : result ≡ halted kept
   pub progress : IfOk kept (λ p. p ≡ progress_in (on_reply old.core.client bytes).progress)
   pub no_step : makes_step (progress_in (on_reply old.core.client bytes).progress) ≡ false
       → IsOk kept × (new ≡ old)
   pub keeps : makes_step (progress_in (on_reply old.core.client bytes).progress) ≡ true
-      → Keeps (Heard bytes) (sight shows counts old) (sight shows counts new) kept
+      → KeepsNote (Heard bytes) (sight shows counts old) (sight shows counts new) kept
 
 -- a frame is heard, and where none came the client stays as it was
 abbrev pub HearsBy : {D : Type 0} → (D → DiskSeen) → (D → Seen) → Result (List ℕ) Broken
-    → (old new : KeptState D) → Result Progress Halt → Type 0
+    → (old new : ClientState D) → Result Progress Halt → Type 0
 HearsBy shows counts (Ok bytes) old new result = Hears shows counts bytes old new result
 HearsBy shows counts (Err why) old new result = (new ≡ old) × (result ≡ Err (halt_at why))
 
 -- One step on a net: the client's frame, and its server's answer heard.
 pub record Stepped {D : Type 0} (peers : Peers) (shows : D → DiskSeen) (counts : D → Seen)
-    (old new : KeptState D) (result : Result Progress Halt) (before now : Option (List Call)) : Type 0 where
+    (old new : ClientState D) (result : Result Progress Halt) (before now : Option (List Call)) : Type 0 where
   pub answer : Result (List ℕ) Broken
   pub talked : Talked peers old.core.client answer before now
   pub hears : HearsBy shows counts answer old new result

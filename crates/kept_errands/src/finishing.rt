@@ -1,6 +1,6 @@
 //! A request, worked off to its end.
 ghost use Rattle.std.specs.Prelude.{◌≡◌, ◌≢◌, None, false, OnOk};
-ghost use Rattle.client_restart.specs.Kept.{Stands};
+ghost use Rattle.client_restart.specs.Kept.{StandsByNotes};
 ghost use Rattle.node_exchange.specs.Exchanging.{EarlyAtEnd};
 ghost use Rattle.kept_errands.specs.Steps.{DiskFaultBy, NetFaultBy};
 ghost use Rattle.kept_errands.specs.Works.{IsEnded, WorkedOff};
@@ -27,7 +27,7 @@ pub fn finish<D: Disk, N: Net>(
     ensures remarks { client.new.core.remarks ≡ client.old.core.remarks }
     ensures opening { client.new.opening ≡ client.old.opening }
     ensures stands { client.new.journal.closed ≡ false
-        → Stands client.new.opening client.new.core (D.disk client.new.disk).reads }
+        → StandsByNotes client.new.opening client.new.core (D.disk client.new.disk).reads }
     ensures early { EarlyAtEnd (N.seen net.new).calls N.Conn.seen }
     ensures net_fault { NetFaultBy result (N.seen net.old).faults (N.seen net.new).faults }
     ensures disk_fault { DiskFaultBy result (D.Counted.seen client.old.disk).faults

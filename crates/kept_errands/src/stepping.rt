@@ -1,6 +1,6 @@
 //! One step of a request.
 ghost use Rattle.std.specs.Prelude.{◌≡◌, ◌≢◌, None, false};
-ghost use Rattle.client_restart.specs.Kept.{Stands};
+ghost use Rattle.client_restart.specs.Kept.{StandsByNotes};
 ghost use Rattle.node_exchange.specs.Exchanging.{EarlyAtEnd};
 ghost use Rattle.kept_errands.specs.Steps.{DiskFaultBy, NetFaultBy, Stepped};
 
@@ -25,7 +25,7 @@ pub fn one_step<D: Disk, N: Net>(
     ensures step { Stepped peers.now D.disk D.Counted.seen client.old client.new result
         (N.seen net.old).calls (N.seen net.new).calls }
     ensures stands { client.new.journal.closed ≡ false
-        → Stands client.new.opening client.new.core (D.disk client.new.disk).reads }
+        → StandsByNotes client.new.opening client.new.core (D.disk client.new.disk).reads }
     ensures early { EarlyAtEnd (N.seen net.new).calls N.Conn.seen }
     ensures net_fault { NetFaultBy result (N.seen net.old).faults (N.seen net.new).faults }
     ensures disk_fault { DiskFaultBy result (D.Counted.seen client.old.disk).faults

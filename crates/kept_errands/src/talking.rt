@@ -2,7 +2,7 @@
 ghost use Rattle.std.specs.Prelude.{◌≡◌, ◌≢◌, ◌≤◌, None, false, length, take, IfOk};
 ghost use Rattle.frame_rules.specs.Room.{HasRoom};
 ghost use Rattle.node_journal.specs.Disk.{Within};
-ghost use Rattle.client_restart.specs.Kept.{Stands};
+ghost use Rattle.client_restart.specs.Kept.{StandsByNotes};
 ghost use Rattle.node_exchange.specs.Exchanging.{answer_in, CountBy, EarlyAtEnd};
 ghost use Rattle.node_exchange.specs.Taking.{IsOneFrame};
 ghost use Rattle.kept_errands.specs.Steps.{Talked};
@@ -29,7 +29,7 @@ pub fn talk<D: Disk, N: Net>(
     ensures frame { IfOk result (λ n. (n ≤ length reply.new) × IsOneFrame (take n reply.new)) }
     // What the disk holds gives the client that sends, now and after a crash.
     ensures stands { client.now.journal.closed ≡ false
-        → Stands client.now.opening client.now.core (D.disk client.now.disk).reads }
+        → StandsByNotes client.now.opening client.now.core (D.disk client.now.disk).reads }
     ensures durable { client.now.journal.closed ≡ false
         → Within (D.disk client.now.disk).may_leave (D.disk client.now.disk).reads }
     ensures early { EarlyAtEnd (N.seen net.new).calls N.Conn.seen }

@@ -7,7 +7,7 @@ use crate::hidden::Hidden;
 use crate::remembered::world::World;
 use crate::texts::{ended_text, front_of};
 use client_core::Request;
-use client_restart::{ClientOpening, KeepFault, KeptClient};
+use client_restart::{ClientOpening, KeptClient, NoteFault};
 use frame_rules::FRAME_MAX;
 use node_journal::MemoryDisk;
 use std::alloc::Global;
@@ -29,12 +29,12 @@ const OPENING: ClientOpening = ClientOpening {
 /// A client with its journal.
 pub type Asker = Hidden<KeptClient<MemoryDisk>>;
 
-impl From<KeepFault> for Fault {
-    fn from(fault: KeepFault) -> Self {
+impl From<NoteFault> for Fault {
+    fn from(fault: NoteFault) -> Self {
         match fault {
-            KeepFault::Journal(fault) => Fault::Journal(fault),
-            KeepFault::NoMemory => Fault::NoMemory,
-            KeepFault::Foreign(number) => Fault::Foreign(number),
+            NoteFault::Journal(fault) => Fault::Journal(fault),
+            NoteFault::NoMemory => Fault::NoMemory,
+            NoteFault::Foreign(number) => Fault::Foreign(number),
         }
     }
 }

@@ -1,8 +1,8 @@
 use Rattle.std.proofs.Common.{◌∙◌, refl, ap, subst, Ok}
 use Rattle.node_journal.specs.Journal.{JournalState}
 use Rattle.client_restart.specs.Cores.{core_in}
-use Rattle.client_restart.specs.Keeps.{Keeps, Sight, sight}
-use Rattle.client_restart.specs.Kept.{KeptState}
+use Rattle.client_restart.specs.Keeps.{KeepsNote, Sight, sight}
+use Rattle.client_restart.specs.Kept.{ClientState}
 use Rattle.client_restart.specs.Notes.{plain_note}
 use Rattle.client_restart.specs.Steps.{CoreState, step_of}
 use Rattle.client_restart.proofs.KeptLaws.{holds_push, leaves_notes, leaves_only, stands_after}
@@ -33,7 +33,7 @@ returns-in-Ok-keep-clause-keeps g c =
     let stepped = c.step.ensures.step ∙ ap (λ (k : CoreState). step_of k n) c.room_for.ensures.same in
     let new : Sight =
     record { opening = o; core = core_in c.step.new.self; journal = c.keep.new.journal; disk = D.disk c.keep.new.disk; faults = (g.D.Counted.seen c.keep.new.disk).faults } in
-    subst (λ (k : KeptState g.row.D.Denot). Keeps n (sight D.disk g.D.Counted.seen k) new (Ok (tt {0}))) c.self.view_is
+    subst (λ (k : ClientState g.row.D.Denot). KeepsNote n (sight D.disk g.D.Counted.seen k) new (Ok (tt {0}))) c.self.view_is
     (record {
       opening = refl;
       step = stepped;
