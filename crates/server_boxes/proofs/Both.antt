@@ -11,7 +11,7 @@ use Rattle.share_store.specs.Shares.{Share, Shares, shares_with, empty_share, sh
 use Rattle.box_registry.specs.Boxes.{Boxes, with_box, answer_at, answer_to}
 use Rattle.box_registry.specs.Boxes as registry
 use Rattle.step_rules.specs.Boxes.{Box, addresses_of, added, with_write, with_new}
-use Rattle.server_boxes.specs.Held.{Held, HasSameAddresses, share_of, with_boxes, with_leaves}
+use Rattle.server_boxes.specs.Held.{Holdings, HasSameAddresses, share_of, with_boxes, with_leaves}
 use Rattle.server_boxes.specs.Held as held
 use Rattle.server_boxes.specs.Pairs.{boxes_in, box_in, held_in, ArePairs}
 
@@ -178,7 +178,7 @@ module _ (r : Boxes) (s : Shares) (are : ArePairs r s) where
       OnOk added (after ≡ with_box r address key) → OnOk added (held_in after s ≡ with_boxes (held_in r s) (with_new s.width address key (boxes_in r.boxes s.boxes)))
   registered_boxes address key (Ok n) after answer ok =
       ap (λ (b : Boxes). held_in b s) ok
-      ∙ ap (λ (bs : List Box). let h : Held = record { width = s.width; limit = r.limit; boxes = bs } in h)
+      ∙ ap (λ (bs : List Box). let h : Holdings = record { width = s.width; limit = r.limit; boxes = bs } in h)
       (sym (new_is address key (room_of r.limit (length r.boxes) n (registry.place_of address r.boxes) (sym answer))))
   registered_boxes address key (Err fault) after answer ok = ok
 
@@ -197,7 +197,7 @@ module _ (r : Boxes) (s : Shares) (are : ArePairs r s) where
       held_in r after ≡ with_boxes (held_in r s) (with_write part server root count (boxes_in r.boxes s.boxes))
   written_boxes part server root count leaves after leaves_are after_is =
       ap (held_in r) after_is
-      ∙ ap (λ (bs : List Box). let h : Held = record { width = s.width; limit = r.limit; boxes = bs } in h)
+      ∙ ap (λ (bs : List Box). let h : Holdings = record { width = s.width; limit = r.limit; boxes = bs } in h)
       (ap (λ (ls : List ℕ). boxes_in r.boxes (shares_with part ls s.boxes))
       (leaves_are ∙ ap (λ xs. map (leaf_of part server root) (take count xs)) (addresses-boxes_in r.boxes s.boxes fits))
       ∙ write-boxes_in part server root count r.boxes s.boxes fits)
@@ -232,7 +232,7 @@ module _ (r : Boxes) (s : Shares) (are : ArePairs r s) where
   read_boxes n stays live found after inside e live_is after_is =
       let empty = λ (l : Bool). let x : Share = record { bytes = replicate s.width 0; live = l } in x in
       ap (held_in r) after_is
-      ∙ ap (λ (bs : List Box). let h : Held = record { width = s.width; limit = r.limit; boxes = bs } in h)
+      ∙ ap (λ (bs : List Box). let h : Holdings = record { width = s.width; limit = r.limit; boxes = bs } in h)
       (set-boxes_in r.boxes s.boxes n (empty live) no_box inside fits
       ∙ (ap (λ (l : Bool). set (boxes_in r.boxes s.boxes) n (box_in (get_or r.boxes n no_box) (empty l))) live_is
       ∙ ap (λ (b : Box). set (boxes_in r.boxes s.boxes) n (record b { share = replicate s.width 0; live = stays && b.live })) (sym (found_is n found inside e))))

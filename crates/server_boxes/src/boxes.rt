@@ -1,14 +1,13 @@
 //! The boxes over the registry and the shares.
-ghost use Rattle.std.specs.Prelude.{◌≡◌, ◌+◌, ◌<◌, ◌≤◌, ℕ, IfOk, OnOk, OnErr, IfSome, Some, [], length, map, take, option_map, replicate, slice_get};
+ghost use Rattle.std.specs.Prelude.{◌≡◌, ◌+◌, ◌<◌, ◌≤◌, ℕ, IfOk, OnOk, OnErr, IfSome, Some, [], length, take, option_map, replicate, slice_get};
+ghost use Rattle.std.specs.Option.{ForSome};
 ghost use Rattle.express_words.specs.Bytes.{xor_bytes};
 ghost use Rattle.express_words.specs.Limits.{IsPart, IsWidth, levels_len};
 ghost use Rattle.dpf_rules.specs.Evaluation.{prefix_count};
 ghost use Rattle.dpf_rules.specs.Expansion.{mask};
-ghost use Rattle.dpf_rules.specs.Walk.{leaf_of};
-ghost use Rattle.box_registry.specs.Boxes.{answer_at};
-ghost use Rattle.audit_rules.specs.Values.{opens};
-ghost use Rattle.step_rules.specs.Boxes.{Box, addresses_of, place_of, with_new, with_read, with_write};
-ghost use Rattle.server_boxes.specs.Held.{AreLeaves, HasSameAddresses, share_at, with_boxes, with_leaves, write_in};
+ghost use Rattle.box_registry.specs.Boxes.{answer_at, addresses_of as registered};
+ghost use Rattle.step_rules.specs.Boxes.{addresses_of, place_of, with_new};
+ghost use Rattle.server_boxes.specs.Held.{AddsWrite, HasSameAddresses, after_read, leaves_of, openings_of, share_at, with_boxes, with_leaves};
 
 use crate::room::{Begun, Proof, Room};
 use box_registry::{RegFault, Registry};
@@ -31,10 +30,10 @@ pub struct ServerBoxes {
 }
 
 impl Model for ServerBoxes {
-    ghost use Rattle.server_boxes.specs.Held.{Held};
+    ghost use Rattle.server_boxes.specs.Held.{Holdings};
     ghost use Rattle.server_boxes.specs.Pairs.{held_in, ArePairs};
 
-    ghost Value = { Held };
+    ghost Value = { Holdings };
 
     ghost view = { λ b. held_in b.registry b.shares };
 
@@ -97,8 +96,10 @@ impl ServerBoxes {
 
     /// Registers an address with its key. Ok is the new box, whose share is zeros.
     pub fn register(&mut self, address: u128, key: &[u8; 32]) -> Result<u32, RegFault>
-        ensures answer { result ≡ answer_at self.old.limit (length self.old.boxes) (place_of address self.old.boxes) }
-        ensures added { OnOk result (self.new ≡ with_boxes self.old (with_new self.old.width address key.now self.old.boxes)) }
+        ensures answer { result
+            ≡ answer_at self.old.limit (length self.old.boxes) (place_of address self.old.boxes) }
+        ensures added { OnOk result (self.new
+            ≡ with_boxes self.old (with_new self.old.width address key.now self.old.boxes)) }
         ensures refused { OnErr result (self.new ≡ self.old) }
     {
         self.registry.add(address, key)
@@ -118,11 +119,13 @@ impl ServerBoxes {
         requires part { IsPart room.old.part.items }
         requires there { begun.now.count ≤ length self.old.boxes }
         requires leaves { begun.now.count ≤ length room.old.leaves.items }
-        ensures opened { result ≡ opens server (write_in begun.now room.old.part.items) (take begun.now.count (addresses_of self.old.boxes)) proof.now.share proof.now.sigma }
-        ensures leaves { take begun.now.count room.new.leaves.items ≡ map (leaf_of room.old.part.items server begun.now.root) (take begun.now.count (addresses_of self.old.boxes)) }
+        ensures opened { result ≡ openings_of server begun.now proof.now room.old (addresses_of self.old.boxes) }
+        ensures leaves { take begun.now.count room.new.leaves.items
+            ≡ leaves_of server begun.now room.old.part.items (addresses_of self.old.boxes) }
         ensures room { length room.new.leaves.items ≡ length room.old.leaves.items }
         ensures part { room.new.part.items ≡ room.old.part.items }
-        ensures steps { steps.new ≡ steps.old + prefix_count (take begun.now.count (addresses_of self.old.boxes)) }
+        ensures steps { steps.new
+            ≡ steps.old + prefix_count (take begun.now.count (addresses_of self.old.boxes)) }
         ensures same { self.new ≡ self.old }
     {
         fill(&mut self.registry, server, begun, room, steps);
@@ -139,10 +142,9 @@ impl ServerBoxes {
         requires part { length room.now.part.items ≡ levels_len + self.old.width }
         requires there { begun.now.count ≤ length self.old.boxes }
         requires leaves { begun.now.count ≤ length room.now.leaves.items }
-        ensures leaves { self.new ≡ with_boxes self.old (with_leaves room.now.part.items (take begun.now.count room.now.leaves.items) self.old.boxes) }
-        ensures added { (server : ℕ) → AreLeaves server begun.now room.now (addresses_of self.old.boxes)
-            → self.new ≡ with_boxes self.old (with_write room.now.part.items server begun.now.root begun.now.count
-            self.old.boxes) }
+        ensures leaves { self.new ≡ with_boxes self.old (with_leaves room.now.part.items
+            (take begun.now.count room.now.leaves.items) self.old.boxes) }
+        ensures added { (server : ℕ) → AddsWrite server begun.now room.now self.old self.new }
         ensures same { HasSameAddresses self.old self.new }
     {
         match PublicPart::of(&room.part) {
@@ -157,8 +159,10 @@ impl ServerBoxes {
         requires there { number < length self.old.boxes }
         requires width { length masked.old ≡ self.old.width }
         requires most { self.old.width ≤ 4096 }
-        ensures masked { (found : Box) → slice_get self.old.boxes number ≡ Some found → masked.new ≡ xor_bytes found.share (mask found.key lane serial self.old.width) }
-        ensures cleared { (found : Box) → slice_get self.old.boxes number ≡ Some found → self.new ≡ with_boxes self.old (with_read self.old.width stays number found self.old.boxes) }
+        ensures masked { ForSome (slice_get self.old.boxes number)
+            (λ found. masked.new ≡ xor_bytes found.share (mask found.key lane serial self.old.width)) }
+        ensures cleared { ForSome (slice_get self.old.boxes number)
+            (λ found. self.new ≡ after_read self.old stays number found) }
         ensures same { HasSameAddresses self.old self.new }
     {
         clear(masked);
@@ -183,10 +187,12 @@ fn fill<L: Ledger>(
     requires part { IsPart room.old.part.items }
     requires there { begun.now.count ≤ length registry.old.boxes }
     requires leaves { begun.now.count ≤ length room.old.leaves.items }
-    ensures leaves { take begun.now.count room.new.leaves.items ≡ map (leaf_of room.old.part.items server begun.now.root) (take begun.now.count (map (λ found. found.address) registry.old.boxes)) }
+    ensures leaves { take begun.now.count room.new.leaves.items
+        ≡ leaves_of server begun.now room.old.part.items (registered registry.old.boxes) }
     ensures room { length room.new.leaves.items ≡ length room.old.leaves.items }
     ensures part { room.new.part.items ≡ room.old.part.items }
-    ensures steps { steps.new ≡ steps.old + prefix_count (take begun.now.count (map (λ found. found.address) registry.old.boxes)) }
+    ensures steps { steps.new
+        ≡ steps.old + prefix_count (take begun.now.count (registered registry.old.boxes)) }
     ensures same { registry.new ≡ registry.old }
 {
     match PublicPart::of(&room.part) {
