@@ -12,7 +12,7 @@ use Rattle.express_words.specs.declared.audit.ProofShare.{ProofShare}
 use Rattle.step_rules.specs.Boxes.{Box}
 use Rattle.step_rules.specs.Leader.{Leader, Asked, Row, Turn, row_at, refuses, door, want_in, idle}
 use Rattle.step_rules.specs.LeaderClients.{Named, if_token, on_submission, submission_at, on_proof, proof_at}
-use Rattle.leader_core.specs.declared.slot.Slot.{Slot}
+use Rattle.leader_core.specs.declared.slot.LeaderSlot.{LeaderSlot}
 use Rattle.leader_core.specs.Slots.{row_in, rows_in}
 
 -- ---- the token of a box
@@ -58,5 +58,5 @@ proof_there a f share r below row_is =
     rw (lt-leb a.settings.lanes f.lane below) (ap (λ (x : Row). proof_at a f share (closing_gate (door x) f.serial)) row_is)
 
 -- the row of a lane is that of its slot
-pub row_of : (slots : List Slot) (i lane : ℕ) (d : Slot) → i < length slots → i ≡ lane → get_or (rows_in slots) lane idle ≡ row_in (get_or slots i d)
+pub row_of : (slots : List LeaderSlot) (i lane : ℕ) (d : LeaderSlot) → i < length slots → i ≡ lane → get_or (rows_in slots) lane idle ≡ row_in (get_or slots i d)
 row_of slots i lane d inside at = ap (λ k. get_or (rows_in slots) k idle) (sym at) ∙ get_or-map row_in slots i d idle inside

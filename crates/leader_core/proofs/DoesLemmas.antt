@@ -9,43 +9,44 @@ use Rattle.frame_rules.specs.Frames.{PlainFrame, PlainBody}
 use Rattle.frame_rules.specs.Spelling.{spelling, IsFrame}
 use Rattle.frame_rules.specs.Whole.{on_link}
 use Rattle.link_order.specs.Link.{Outstanding, IsOutstanding}
-use Rattle.server_boxes.specs.Held.{Held}
+use Rattle.server_boxes.specs.Held.{Holdings}
 use Rattle.step_rules.specs.Boxes.{addresses_of}
 use Rattle.step_rules.specs.Leader as steps
 use Rattle.step_rules.specs.LeaderClients.{issues, issued_for, issues_drawn, audits, counted, sigma}
-use Rattle.leader_core.specs.declared.stores.Core.{Core}
-use Rattle.leader_core.specs.declared.said.Said.{Said}
-use Rattle.leader_core.specs.declared.said.Said.TheVariants as said
-use Rattle.leader_core.specs.declared.slot.Slot.{Slot}
+use Rattle.leader_core.specs.declared.stores.LeaderStores.{LeaderStores}
+use Rattle.leader_core.specs.declared.said.SaidToClient.{SaidToClient}
+use Rattle.leader_core.specs.declared.said.SaidToClient.TheVariants as said
+use Rattle.leader_core.specs.declared.slot.LeaderSlot.{LeaderSlot}
 use Rattle.leader_core.specs.declared.turn.Turn.{Turn}
 use Rattle.leader_core.specs.declared.turn.Turn.TheVariants as turn
-use Rattle.leader_core.specs.Slots.{row_in, said_in, IsSlot}
-use Rattle.leader_core.specs.State.{leader_in, with_command, IsCore, IsLink}
-use Rattle.leader_core.specs.Told.{turn_steps, IsFront, IsTold, Does}
+use Rattle.leader_core.specs.Saying.{said_in}
+use Rattle.leader_core.specs.Slots.{row_in, IsLeaderSlot}
+use Rattle.leader_core.specs.State.{leader_in, with_command, AreStores, IsLink}
+use Rattle.leader_core.specs.Told.{turn_steps, WritesFront, IsTold, DoesTurn}
 use Rattle.leader_core.proofs.IssueLemmas.{issues_is, link_more}
 use Rattle.leader_core.proofs.SlotLemmas.{slot_set}
 
 -- ---- something is said
 
-said_leader : (a : steps.Leader) (f : PlainFrame) (s : Said) → a ≡ (said_in a f s).leader
+said_leader : (a : steps.Leader) (f : PlainFrame) (s : SaidToClient) → a ≡ (said_in a f s).leader
 said_leader a f (said.Reply body) = refl
 said_leader a f (said.Waiting n) = refl
 
-said_steps : (a : steps.Leader) (f : PlainFrame) (s : Said) → turn_steps a (said_in a f s).answer ≡ 0
+said_steps : (a : steps.Leader) (f : PlainFrame) (s : SaidToClient) → turn_steps a (said_in a f s).answer ≡ 0
 said_steps a f (said.Reply body) = refl
 said_steps a f (said.Waiting n) = refl
 
-pub said_does : (c : Core) (f : PlainFrame) (s : Said) (t : steps.Turn) (given : Turn) (old new : List ℕ) → IsCore c → t ≡ said_in (leader_in c) f s →
-    IsTold (said_in (leader_in c) f s).answer given old new → Does t c given old new
+pub said_does : (c : LeaderStores) (f : PlainFrame) (s : SaidToClient) (t : steps.Turn) (given : Turn) (old new : List ℕ) → AreStores c → t ≡ said_in (leader_in c) f s →
+    IsTold (said_in (leader_in c) f s).answer given old new → DoesTurn t c given old new
 said_does c f s t given old new is t_is told =
-    subst (λ (x : steps.Turn). Does x c given old new) (sym t_is) (record { leader = said_leader (leader_in c) f s; told = told; is = is })
+    subst (λ (x : steps.Turn). DoesTurn x c given old new) (sym t_is) (record { leader = said_leader (leader_in c) f s; told = told; is = is })
 
-pub said_takes_none : (a : steps.Leader) (f : PlainFrame) (s : Said) (t : steps.Turn) (before : ℕ) → t ≡ said_in a f s → before ≡ before + turn_steps a t.answer
+pub said_takes_none : (a : steps.Leader) (f : PlainFrame) (s : SaidToClient) (t : steps.Turn) (before : ℕ) → t ≡ said_in a f s → before ≡ before + turn_steps a t.answer
 said_takes_none a f s t before t_is =
     let none : turn_steps a t.answer ≡ 0 = ap (λ (x : steps.Turn). turn_steps a x.answer) t_is ∙ said_steps a f s in
     omega arith
 
-pub said_none : (a : steps.Leader) (f : PlainFrame) (s : Said) (t : steps.Turn) → t ≡ said_in a f s → turn_steps a t.answer ≡ 0
+pub said_none : (a : steps.Leader) (f : PlainFrame) (s : SaidToClient) (t : steps.Turn) → t ≡ said_in a f s → turn_steps a t.answer ≡ 0
 said_none a f s t t_is = ap (λ (x : steps.Turn). turn_steps a x.answer) t_is ∙ said_steps a f s
 
 pub submits_none : (a : steps.Leader) (f : PlainFrame) (x : steps.Asked) → turn_steps a (issued_for a f x).answer ≡ 0
@@ -57,18 +58,18 @@ submits_none a f (steps.Retiring n) = refl
 
 -- ---- a command is issued
 
-pub issue_does : (c : Core) (boxes : Held) (f : PlainFrame) (body : PlainBody) (stage : steps.Stage) (i : ℕ) (s : Slot) (l : Outstanding) (d number len : ℕ) (old new : List ℕ) (t : steps.Turn) →
+pub issue_does : (c : LeaderStores) (boxes : Holdings) (f : PlainFrame) (body : PlainBody) (stage : steps.Stage) (i : ℕ) (s : LeaderSlot) (l : Outstanding) (d number len : ℕ) (old new : List ℕ) (t : steps.Turn) →
     boxes ≡ c.boxes → t ≡ issues (record (leader_in c) { draws = d }) f body stage →
-    IsCore c → i ≡ f.lane → f.lane < c.settings.lanes → 1 ≤ f.serial → row_in s ≡ steps.row f.serial stage → IsSlot c.settings.width c.settings.boxes (addresses_of c.boxes.boxes) s →
+    AreStores c → i ≡ f.lane → f.lane < c.settings.lanes → 1 ≤ f.serial → row_in s ≡ steps.row f.serial stage → IsLeaderSlot c.settings.width c.settings.boxes (addresses_of c.boxes.boxes) s →
     c.link.next ≤ 2 ^ 64 - 65 → length c.link.frames < c.link.window →
     l ≡ with_command c.link (spelling (on_link f c.link.next body)) → IsOutstanding l → IsFrame (on_link f c.link.next body) → d ≤ c.draws + 1 →
-    number ≡ c.link.next → len ≡ length (spelling (on_link f c.link.next body)) → IsFront (spelling (on_link f c.link.next body)) old new →
-    Does t (record c { boxes = boxes; slots = with_item c.slots i s; link = l; draws = d }) (turn.Link number len) old new
+    number ≡ c.link.next → len ≡ length (spelling (on_link f c.link.next body)) → WritesFront (spelling (on_link f c.link.next body)) old new →
+    DoesTurn t (record c { boxes = boxes; slots = with_item c.slots i s; link = l; draws = d }) (turn.Link number len) old new
 issue_does c boxes f body stage i s l d number len old new t boxes_are t_is is at below some row_is slot_is next free link_is order is_frame drawn number_is len_is front =
     let command = on_link f c.link.next body in
     let more = link_more c.settings c.link c.draws d command is.link is.server.limits.3.1 next free is_frame below some drawn (subst IsOutstanding link_is order) in
     let given : Turn = turn.Link number len in
-    let does : Does (issues (record (leader_in c) { draws = d }) f body stage) (record c { slots = with_item c.slots i s; link = l; draws = d }) given old new = record {
+    let does : DoesTurn (issues (record (leader_in c) { draws = d }) f body stage) (record c { slots = with_item c.slots i s; link = l; draws = d }) given old new = record {
       leader =
           ap (λ (x : Outstanding). leader_in (record c { slots = with_item c.slots i s; link = x; draws = d })) link_is
           ∙ issues_is c.settings c.boxes c.slots.items c.link d c.seed f body stage i s at row_is is_frame;
@@ -81,8 +82,8 @@ issue_does c boxes f body stage i s l d number len old new t boxes_are t_is is a
         link = subst (λ (x : Outstanding). IsLink c.settings x d) (sym link_is) more;
       };
     } in
-    subst (λ (x : steps.Turn). Does x (record c { boxes = boxes; slots = with_item c.slots i s; link = l; draws = d }) given old new) (sym t_is)
-    (subst (λ (b : Held). Does (issues (record (leader_in c) { draws = d }) f body stage) (record c { boxes = b; slots = with_item c.slots i s; link = l; draws = d }) given old new) (sym boxes_are) does)
+    subst (λ (x : steps.Turn). DoesTurn x (record c { boxes = boxes; slots = with_item c.slots i s; link = l; draws = d }) given old new) (sym t_is)
+    (subst (λ (b : Holdings). DoesTurn (issues (record (leader_in c) { draws = d }) f body stage) (record c { boxes = b; slots = with_item c.slots i s; link = l; draws = d }) given old new) (sym boxes_are) does)
 
 -- ---- the audit that is issued
 

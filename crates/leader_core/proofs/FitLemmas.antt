@@ -21,15 +21,15 @@ use Rattle.step_rules.specs.Leader as steps
 use Rattle.step_rules.specs.Leader.{Leader, AckTurn}
 use Rattle.step_rules.specs.LeaderReplies.{registered, began, begun, audited, accepted, rejected, challenges, done, own_closing, settled, settles}
 use Rattle.leader_core.specs.declared.asked.Asked.TheVariants as asked
-use Rattle.leader_core.specs.declared.slot.Slot.{Slot}
-use Rattle.leader_core.specs.declared.slot.Stage.{Stage}
-use Rattle.leader_core.specs.declared.slot.Stage.TheVariants as stage
+use Rattle.leader_core.specs.declared.slot.LeaderSlot.{LeaderSlot}
+use Rattle.leader_core.specs.declared.slot.LeaderStage.{LeaderStage}
+use Rattle.leader_core.specs.declared.slot.LeaderStage.TheVariants as stage
 use Rattle.leader_core.specs.Replies.{key_at, writing_at, auditing_at, settling_at}
 use Rattle.leader_core.specs.Slots.{row_in, rows_in, stage_in, stage_with}
 use Rattle.leader_core.proofs.ClientLemmas.{row_of}
 
 -- the stage of a lane is that of its slot
-pub stage_there : (slots : List Slot) (i lane : ℕ) (cur : Slot) → i < length slots → i ≡ lane → cur ≡ get_or slots i cur → (get_or (rows_in slots) lane steps.idle).stage ≡ stage_in cur
+pub stage_there : (slots : List LeaderSlot) (i lane : ℕ) (cur : LeaderSlot) → i < length slots → i ≡ lane → cur ≡ get_or slots i cur → (get_or (rows_in slots) lane steps.idle).stage ≡ stage_in cur
 stage_there slots i lane cur inside at value = ap (λ (r : steps.Row). r.stage) (row_of slots i lane cur inside at ∙ ap row_in (sym value))
 
 -- ---- a register
@@ -41,17 +41,17 @@ registering a c address key n =
     else None
 
 module _ (a : Leader) (c : PlainFrame) (part own other : List ℕ) where
-  pub registers_not : (address n : ℕ) (st : Stage) → key_at st ≡ None → registered a c address (stage_with st part own other) n ≡ None
+  pub registers_not : (address n : ℕ) (st : LeaderStage) → key_at st ≡ None → registered a c address (stage_with st part own other) n ≡ None
   unfolding registered
   registers_not address n (stage.Waiting k (asked.Registering x key)) e = absurd (cc e)
   registers_not address n st e = refl
 
-  registers : (address n : ℕ) (key : List ℕ) (st : Stage) → key_at st ≡ Some key → registered a c address (stage_with st part own other) n ≡ registering a c address key n
+  registers : (address n : ℕ) (key : List ℕ) (st : LeaderStage) → key_at st ≡ Some key → registered a c address (stage_with st part own other) n ≡ registering a c address key n
   unfolding registered
   registers address n key (stage.Waiting k (asked.Registering x y)) e = let same : y ≡ key = cc in ap (λ (z : List ℕ). registering a c address z n) same
   registers address n key st e = absurd (cc e)
 
-  pub registers_elsewhere : (address n : ℕ) (key : List ℕ) (st : Stage) → key_at st ≡ Some key → n ≢ length a.boxes → registered a c address (stage_with st part own other) n ≡ None
+  pub registers_elsewhere : (address n : ℕ) (key : List ℕ) (st : LeaderStage) → key_at st ≡ Some key → n ≢ length a.boxes → registered a c address (stage_with st part own other) n ≡ None
   registers_elsewhere address n key st e wrong = registers address n key st e ∙ rw (ne_eqb n (length a.boxes) wrong) refl
 
   when_none : (same : Bool) (p : Option ℕ) (full : Bool) (limit count : ℕ) (r : RegFault) (result : Option AckTurn) → nat_le limit count ≡ full → answer_at limit count p ≡ Err r →
@@ -64,7 +64,7 @@ module _ (a : Leader) (c : PlainFrame) (part own other : List ℕ) where
       not_err : (let x : Result ℕ RegFault = Ok count in x) ≡ Err r → ⊥
       not_err e = cc e
 
-  pub registers_nowhere : (address n : ℕ) (key : List ℕ) (st : Stage) (r : RegFault) → key_at st ≡ Some key → answer_at a.settings.boxes (length a.boxes) (place_of address a.boxes) ≡ Err r →
+  pub registers_nowhere : (address n : ℕ) (key : List ℕ) (st : LeaderStage) (r : RegFault) → key_at st ≡ Some key → answer_at a.settings.boxes (length a.boxes) (place_of address a.boxes) ≡ Err r →
       registered a c address (stage_with st part own other) n ≡ None
   registers_nowhere address n key st r e answer =
       registers address n key st e ∙ when_none (n == length a.boxes) (place_of address a.boxes) (nat_le a.settings.boxes (length a.boxes)) a.settings.boxes (length a.boxes) r _ refl answer
@@ -77,7 +77,7 @@ module _ (a : Leader) (c : PlainFrame) (part own other : List ℕ) where
       not_ok e = cc e
   when_added None false limit count m result f e = refl
 
-  pub registers_here : (address n m : ℕ) (key : List ℕ) (st : Stage) → key_at st ≡ Some key → n ≡ length a.boxes → answer_at a.settings.boxes (length a.boxes) (place_of address a.boxes) ≡ Ok m →
+  pub registers_here : (address n m : ℕ) (key : List ℕ) (st : LeaderStage) → key_at st ≡ Some key → n ≡ length a.boxes → answer_at a.settings.boxes (length a.boxes) (place_of address a.boxes) ≡ Ok m →
       registered a c address (stage_with st part own other) n ≡ Some (done (record a { boxes = with_new a.settings.width address key a.boxes }) c Register (frame.Registered n))
   registers_here address n m key st e right answer =
       let result : Option AckTurn = Some (done (record a { boxes = with_new a.settings.width address key a.boxes }) c Register (frame.Registered n)) in
@@ -87,12 +87,12 @@ module _ (a : Leader) (c : PlainFrame) (part own other : List ℕ) where
 
   -- ---- a begin
 
-  pub begins_not : (count : ℕ) (helpers : List ℕ) (st : Stage) → writing_at st ≡ None → began a c (stage_with st part own other) count helpers ≡ None
+  pub begins_not : (count : ℕ) (helpers : List ℕ) (st : LeaderStage) → writing_at st ≡ None → began a c (stage_with st part own other) count helpers ≡ None
   unfolding began
   begins_not count helpers (stage.Waiting k (asked.Writing root draw)) e = absurd (cc e)
   begins_not count helpers st e = refl
 
-  begins : (count : ℕ) (helpers : List ℕ) (root : ℕ) (draw : List ℕ) (st : Stage) → writing_at st ≡ Some (root, draw) →
+  begins : (count : ℕ) (helpers : List ℕ) (root : ℕ) (draw : List ℕ) (st : LeaderStage) → writing_at st ≡ Some (root, draw) →
       began a c (stage_with st part own other) count helpers ≡ cond (count == length a.boxes) (Some (challenges a c (begun root part (ckey_of draw helpers) count))) None
   unfolding began
   begins count helpers root draw (stage.Waiting k (asked.Writing x y)) e =
@@ -100,11 +100,11 @@ module _ (a : Leader) (c : PlainFrame) (part own other : List ℕ) where
       rw (ap (λ (p : ℕ × List ℕ). p.0) both, ap (λ (p : ℕ × List ℕ). p.1) both) refl
   begins count helpers root draw st e = absurd (cc e)
 
-  pub begins_elsewhere : (count : ℕ) (helpers : List ℕ) (root : ℕ) (draw : List ℕ) (st : Stage) → writing_at st ≡ Some (root, draw) → count ≢ length a.boxes →
+  pub begins_elsewhere : (count : ℕ) (helpers : List ℕ) (root : ℕ) (draw : List ℕ) (st : LeaderStage) → writing_at st ≡ Some (root, draw) → count ≢ length a.boxes →
       began a c (stage_with st part own other) count helpers ≡ None
   begins_elsewhere count helpers root draw st e wrong = begins count helpers root draw st e ∙ rw (ne_eqb count (length a.boxes) wrong) refl
 
-  pub begins_here : (count : ℕ) (helpers : List ℕ) (root : ℕ) (draw ckey : List ℕ) (st : Stage) → writing_at st ≡ Some (root, draw) → count ≡ length a.boxes → ckey ≡ ckey_of draw helpers →
+  pub begins_here : (count : ℕ) (helpers : List ℕ) (root : ℕ) (draw ckey : List ℕ) (st : LeaderStage) → writing_at st ≡ Some (root, draw) → count ≡ length a.boxes → ckey ≡ ckey_of draw helpers →
       began a c (stage_with st part own other) count helpers ≡ Some (challenges a c (begun root part ckey count))
   begins_here count helpers root draw ckey st e right key =
       begins count helpers root draw st e
@@ -113,12 +113,12 @@ module _ (a : Leader) (c : PlainFrame) (part own other : List ℕ) where
 
   -- ---- an audit
 
-  pub audits_not : (opened : Openings) (closed : Closing) (st : Stage) → auditing_at st ≡ None → audited a c (stage_with st part own other) opened closed ≡ None
+  pub audits_not : (opened : Openings) (closed : Closing) (st : LeaderStage) → auditing_at st ≡ None → audited a c (stage_with st part own other) opened closed ≡ None
   unfolding audited
   audits_not opened closed (stage.Auditing k b proof o) e = absurd (cc e)
   audits_not opened closed st e = refl
 
-  pub audits_here : (opened : Openings) (closed ours : Closing) (b : Begun) (proof : Proof) (o : Openings) (st : Stage) → auditing_at st ≡ Some (b, proof, o) → ours ≡ own_closing proof.share proof.sigma o opened →
+  pub audits_here : (opened : Openings) (closed ours : Closing) (b : Begun) (proof : Proof) (o : Openings) (st : LeaderStage) → auditing_at st ≡ Some (b, proof, o) → ours ≡ own_closing proof.share proof.sigma o opened →
       audited a c (stage_with st part own other) opened closed ≡ Some (settles a c (frame.LinkSettle ours) (steps.Settling a.next (write_in b part) ours closed))
   unfolding audited
   audits_here opened closed ours b proof o (stage.Auditing k x y z) e ours_is =
@@ -128,19 +128,19 @@ module _ (a : Leader) (c : PlainFrame) (part own other : List ℕ) where
 
   -- ---- a settle
 
-  pub settles_not : (st : Stage) → settling_at st ≡ None → (accepted a c (stage_with st part own other) ≡ None) × (rejected a c (stage_with st part own other) ≡ None)
+  pub settles_not : (st : LeaderStage) → settling_at st ≡ None → (accepted a c (stage_with st part own other) ≡ None) × (rejected a c (stage_with st part own other) ≡ None)
   unfolding accepted rejected
   settles_not (stage.Settling k b x y) e = absurd (cc e)
   settles_not st e = (refl, refl)
 
-  pub accepts_not : (b : Begun) (ours theirs : Closing) (st : Stage) → settling_at st ≡ Some (b, ours, theirs) → accepts ours theirs ≡ false → accepted a c (stage_with st part own other) ≡ None
+  pub accepts_not : (b : Begun) (ours theirs : Closing) (st : LeaderStage) → settling_at st ≡ Some (b, ours, theirs) → accepts ours theirs ≡ false → accepted a c (stage_with st part own other) ≡ None
   unfolding accepted
   accepts_not b ours theirs (stage.Settling k w x y) e never =
       let all : (let p : Begun × Closing × Closing = (w, x, y) in p) ≡ (b, ours, theirs) = cc in
       rw (ap (λ (p : Begun × Closing × Closing). p.1) all, ap (λ (p : Begun × Closing × Closing). p.2) all, never) refl
   accepts_not b ours theirs st e never = absurd (cc e)
 
-  pub accepts_here : (b : Begun) (ours theirs : Closing) (st : Stage) → settling_at st ≡ Some (b, ours, theirs) → accepts ours theirs ≡ true →
+  pub accepts_here : (b : Begun) (ours theirs : Closing) (st : LeaderStage) → settling_at st ≡ Some (b, ours, theirs) → accepts ours theirs ≡ true →
       accepted a c (stage_with st part own other) ≡ Some (done (settled a (write_in b part)) c Writes frame.Accepted)
   unfolding accepted
   accepts_here b ours theirs (stage.Settling k w x y) e result =
@@ -148,14 +148,14 @@ module _ (a : Leader) (c : PlainFrame) (part own other : List ℕ) where
       rw (ap (λ (p : Begun × Closing × Closing). p.0) all, ap (λ (p : Begun × Closing × Closing). p.1) all, ap (λ (p : Begun × Closing × Closing). p.2) all, result) refl
   accepts_here b ours theirs st e result = absurd (cc e)
 
-  pub rejects_not : (b : Begun) (ours theirs : Closing) (st : Stage) → settling_at st ≡ Some (b, ours, theirs) → accepts ours theirs ≡ true → rejected a c (stage_with st part own other) ≡ None
+  pub rejects_not : (b : Begun) (ours theirs : Closing) (st : LeaderStage) → settling_at st ≡ Some (b, ours, theirs) → accepts ours theirs ≡ true → rejected a c (stage_with st part own other) ≡ None
   unfolding rejected
   rejects_not b ours theirs (stage.Settling k w x y) e result =
       let all : (let p : Begun × Closing × Closing = (w, x, y) in p) ≡ (b, ours, theirs) = cc in
       rw (ap (λ (p : Begun × Closing × Closing). p.1) all, ap (λ (p : Begun × Closing × Closing). p.2) all, result) refl
   rejects_not b ours theirs st e result = absurd (cc e)
 
-  pub rejects_here : (b : Begun) (ours theirs : Closing) (st : Stage) → settling_at st ≡ Some (b, ours, theirs) → accepts ours theirs ≡ false →
+  pub rejects_here : (b : Begun) (ours theirs : Closing) (st : LeaderStage) → settling_at st ≡ Some (b, ours, theirs) → accepts ours theirs ≡ false →
       rejected a c (stage_with st part own other) ≡ Some (done a c Writes (frame.Refused (refusal.Rejected ours.o theirs.o ours.tau theirs.tau)))
   unfolding rejected
   rejects_here b ours theirs (stage.Settling k w x y) e never =

@@ -10,12 +10,12 @@ use Rattle.frame_rules.specs.Frames.{PlainFrame, PlainBody}
 use Rattle.frame_rules.specs.Spelling.{spelling, IsFrame, Spells}
 use Rattle.frame_rules.specs.Whole.{on_link}
 use Rattle.frame_rules.proofs.WholeLaws.{whole_only}
-use Rattle.server_boxes.specs.Held.{Held}
+use Rattle.server_boxes.specs.Held.{Holdings}
 use Rattle.step_rules.specs.Leader as steps
 use Rattle.step_rules.specs.LeaderClients.{issues, issued_for}
 use Rattle.leader_core.specs.declared.asked.Asked.{Asked}
 use Rattle.leader_core.specs.declared.asked.Asked.TheVariants as asked
-use Rattle.leader_core.specs.declared.slot.Slot.{Slot}
+use Rattle.leader_core.specs.declared.slot.LeaderSlot.{LeaderSlot}
 use Rattle.leader_core.specs.Asked.{asked_with, command_for, draws_for}
 use Rattle.leader_core.specs.Slots.{row_in, rows_in}
 use Rattle.leader_core.specs.State.{frame_at, frame_or, commands_in, audits_in, is_audit, leader_of, with_command, IsCommand, IsLink}
@@ -40,7 +40,7 @@ is_command lanes c is below some =
 
 -- ---- a command for the row of a slot
 
-pub issues_is : (settings : Settings) (held : Held) (slots : List Slot) (link : Outstanding) (draws : ℕ) (seed : List ℕ) (f : PlainFrame) (body : PlainBody) (stage : steps.Stage) (i : ℕ) (s : Slot) →
+pub issues_is : (settings : Settings) (held : Holdings) (slots : List LeaderSlot) (link : Outstanding) (draws : ℕ) (seed : List ℕ) (f : PlainFrame) (body : PlainBody) (stage : steps.Stage) (i : ℕ) (s : LeaderSlot) →
     i ≡ f.lane → row_in s ≡ steps.row f.serial stage → IsFrame (on_link f link.next body) →
     leader_of settings held (set slots i s) (with_command link (spelling (on_link f link.next body))) draws seed ≡ (issues (leader_of settings held slots link draws seed) f body stage).leader
 issues_is settings held slots link draws seed f body stage i s at row_is is =

@@ -8,31 +8,31 @@ use Rattle.box_registry.specs.declared.fault.RegFault.{RegFault}
 use Rattle.box_registry.specs.declared.fault.RegFault.TheVariants.{Full}
 use Rattle.box_registry.specs.Boxes.{answer_at}
 use Rattle.express_words.specs.declared.settings.Settings.{Settings}
-use Rattle.dpf_rules.specs.Walk.{leaf_of}
 use Rattle.express_words.specs.declared.audit.Closing.{Closing}
 use Rattle.frame_rules.specs.Frames.{PlainFrame, PlainBody}
 use Rattle.frame_rules.specs.Whole.{answer}
 use Rattle.server_boxes.specs.declared.room.Begun.{Begun}
-use Rattle.server_boxes.specs.Held.{Held, HasSameAddresses, with_boxes}
+use Rattle.server_boxes.specs.declared.room.Room.{Room}
+use Rattle.server_boxes.specs.Held.{AreLeaves, Holdings, HasLeaves, HasSameAddresses, with_boxes}
 use Rattle.step_rules.specs.Boxes.{Box, addresses_of, place_of, new_box, with_new}
 use Rattle.step_rules.specs.Leader as steps
 use Rattle.step_rules.specs.LeaderReplies.{acknowledged, keeps}
-use Rattle.leader_core.specs.declared.stores.Core.{Core}
-use Rattle.leader_core.specs.declared.slot.Slot.{Slot}
-use Rattle.leader_core.specs.declared.slot.Stage.{Stage}
-use Rattle.leader_core.specs.declared.slot.Stage.TheVariants as stage
+use Rattle.leader_core.specs.declared.stores.LeaderStores.{LeaderStores}
+use Rattle.leader_core.specs.declared.slot.LeaderSlot.{LeaderSlot}
+use Rattle.leader_core.specs.declared.slot.LeaderStage.{LeaderStage}
+use Rattle.leader_core.specs.declared.slot.LeaderStage.TheVariants as stage
 use Rattle.leader_core.specs.Replies.{applied, settling_at, told}
-use Rattle.leader_core.specs.Slots.{kept_of, row_in, rows_in, IsSlot, IsStage}
-use Rattle.leader_core.specs.State.{leader_in, IsCore, IsServer}
+use Rattle.leader_core.specs.Slots.{kept_of, row_in, rows_in, IsLeaderSlot, IsStage}
+use Rattle.leader_core.specs.State.{leader_in, AreStores, FitsSettings}
 use Rattle.leader_core.proofs.SlotLemmas.{get_any, rows_set, slot_set}
 
-pub state_is : (c : Core) (after : Held) (bs : List Box) (i lane : ℕ) (s : Slot) (r : steps.Row) → after.boxes ≡ bs → i ≡ lane → row_in s ≡ r →
+pub state_is : (c : LeaderStores) (after : Holdings) (bs : List Box) (i lane : ℕ) (s : LeaderSlot) (r : steps.Row) → after.boxes ≡ bs → i ≡ lane → row_in s ≡ r →
     leader_in (record c { boxes = after; slots = with_item c.slots i s }) ≡ steps.with_row (record (leader_in c) { boxes = bs }) lane r
 state_is c after bs i lane s r boxes_are at row_is =
     ap (λ (xs : List Box). record (leader_in c) { boxes = xs; rows = rows_in (set c.slots.items i s) }) boxes_are
     ∙ ap (λ (rows : List steps.Row). record (leader_in c) { boxes = bs; rows = rows }) (rows_set c.slots.items i lane s r at row_is)
 
-pub keeps_is : (c : Core) (after : Held) (bs : List Box) (i : ℕ) (s : Slot) (f : PlainFrame) (stage : steps.Stage) (body : PlainBody) → after.boxes ≡ bs → i ≡ f.lane → i < length c.slots.items →
+pub keeps_is : (c : LeaderStores) (after : Holdings) (bs : List Box) (i : ℕ) (s : LeaderSlot) (f : PlainFrame) (stage : steps.Stage) (body : PlainBody) → after.boxes ≡ bs → i ≡ f.lane → i < length c.slots.items →
     row_in s ≡ steps.row f.serial stage → kept_of stage ≡ body →
     Some (keeps (record (leader_in c) { boxes = bs }) f stage body) ≡ applied (leader_in (record c { boxes = after; slots = with_item c.slots i s })) f true
 keeps_is c after bs i s f stage body boxes_are at inside row_is kept =
@@ -47,34 +47,38 @@ keeps_is c after bs i s f stage body boxes_are at inside row_is kept =
 
 -- ---- what goes on to hold
 
-pub core_set : (c : Core) (after : Held) (i : ℕ) (s : Slot) → IsCore c → IsServer c.settings after c.slots.items → IsSlot c.settings.width c.settings.boxes (addresses_of after.boxes) s →
-    IsCore (record c { boxes = after; slots = with_item c.slots i s })
+pub core_set : (c : LeaderStores) (after : Holdings) (i : ℕ) (s : LeaderSlot) → AreStores c → FitsSettings c.settings after c.slots.items → IsLeaderSlot c.settings.width c.settings.boxes (addresses_of after.boxes) s →
+    AreStores (record c { boxes = after; slots = with_item c.slots i s })
 core_set c after i s is server here = record { server = slot_set c.settings after c.slots.items i s server here; link = is.link }
 
 -- boxes with the same addresses
-pub same_server : (settings : Settings) (old new : Held) (xs : List Slot) → HasSameAddresses old new → IsServer settings old xs → IsServer settings new xs
+pub same_server : (settings : Settings) (old new : Holdings) (xs : List LeaderSlot) → HasSameAddresses old new → FitsSettings settings old xs → FitsSettings settings new xs
 same_server settings old new xs same now = record {
   limits = now.limits;
   limit = same.limit ∙ now.limit;
   within = let w = now.within in let c = same.count in omega arith;
   width = same.width ∙ now.width;
   lanes = now.lanes;
-  rows = subst (λ (addresses : List ℕ). All (IsSlot settings.width settings.boxes addresses) xs) (sym same.addresses) now.rows;
+  rows = subst (λ (addresses : List ℕ). All (IsLeaderSlot settings.width settings.boxes addresses) xs) (sym same.addresses) now.rows;
 }
 
-more_stage : (addresses : List ℕ) (x : ℕ) (part leaves own other : List ℕ) (st : Stage) → IsStage addresses part leaves own other st → IsStage (addresses ++ x ∷ []) part leaves own other st
-more_stage addresses x part leaves own other (stage.Challenged b) h = rw (length-append addresses (x ∷ [])) (omega arith)
-more_stage addresses x part leaves own other (stage.Auditing n b proof opened) h =
-    (rw (length-append addresses (x ∷ [])) (let low = h.0 in omega arith), rw (take-append-le b.count addresses (x ∷ []) h.0) h.1)
-more_stage addresses x part leaves own other (stage.Settling n b ours theirs) h =
-    (rw (length-append addresses (x ∷ [])) (let low = h.0 in omega arith), rw (take-append-le b.count addresses (x ∷ []) h.0) h.1)
-more_stage addresses x part leaves own other (stage.Done want reply) h = h
-more_stage addresses x part leaves own other stage.Idle h = tt
-more_stage addresses x part leaves own other (stage.Waiting n asked) h = tt
+more_leaves : (addresses : List ℕ) (x : ℕ) (b : Begun) (room : Room) → HasLeaves 0 b room addresses → HasLeaves 0 b room (addresses ++ x ∷ [])
+more_leaves addresses x b room h = record {
+  count = rw (length-append addresses (x ∷ [])) (let low = h.count in omega arith);
+  leaves = rw (take-append-le b.count addresses (x ∷ []) h.count) h.leaves;
+}
+
+more_stage : (addresses : List ℕ) (x : ℕ) (room : Room) (own other : List ℕ) (st : LeaderStage) → IsStage addresses room own other st → IsStage (addresses ++ x ∷ []) room own other st
+more_stage addresses x room own other (stage.Challenged b) h = rw (length-append addresses (x ∷ [])) (omega arith)
+more_stage addresses x room own other (stage.Auditing n b proof opened) h = more_leaves addresses x b room h
+more_stage addresses x room own other (stage.Settling n b ours theirs) h = more_leaves addresses x b room h
+more_stage addresses x room own other (stage.Done want reply) h = h
+more_stage addresses x room own other stage.Idle h = tt
+more_stage addresses x room own other (stage.Waiting n asked) h = tt
 
 -- one box more
-more_boxes : (settings : Settings) (held : Held) (xs : List Slot) (address : ℕ) (key : List ℕ) → length held.boxes < settings.boxes →
-    IsServer settings held xs → IsServer settings (with_boxes held (with_new held.width address key held.boxes)) xs
+more_boxes : (settings : Settings) (held : Holdings) (xs : List LeaderSlot) (address : ℕ) (key : List ℕ) → length held.boxes < settings.boxes →
+    FitsSettings settings held xs → FitsSettings settings (with_boxes held (with_new held.width address key held.boxes)) xs
 more_boxes settings held xs address key room now =
     let b = new_box held.width address key in
     record {
@@ -86,11 +90,8 @@ more_boxes settings held xs address key room now =
       rows = λ k d inside.
           let here = now.rows k d inside in
           record {
-            part = here.part;
-            leaves = here.leaves;
-            own = here.own;
-            other = here.other;
-            stage = rw (map-append (λ (x : Box). x.address) held.boxes (b ∷ [])) (more_stage (addresses_of held.boxes) address _ _ _ _ (get_or xs k d).stage here.stage);
+            rooms = here.rooms;
+            stage = rw (map-append (λ (x : Box). x.address) held.boxes (b ∷ [])) (more_stage (addresses_of held.boxes) address _ _ _ (get_or xs k d).stage here.stage);
           };
     }
 
@@ -104,27 +105,27 @@ room_of limit count n None e = elim (cases_Bool (nat_le limit count)) [
     full : (let r : Result ℕ RegFault = Err (Full limit) in r) ≡ Ok n → ⊥
     full e = cc e
 
-pub registered_server : (settings : Settings) (held after : Held) (xs : List Slot) (address : ℕ) (key : List ℕ) (n : ℕ) → IsServer settings held xs →
-    answer_at held.limit (length held.boxes) (place_of address held.boxes) ≡ Ok n → after ≡ with_boxes held (with_new held.width address key held.boxes) → IsServer settings after xs
+pub registered_server : (settings : Settings) (held after : Holdings) (xs : List LeaderSlot) (address : ℕ) (key : List ℕ) (n : ℕ) → FitsSettings settings held xs →
+    answer_at held.limit (length held.boxes) (place_of address held.boxes) ≡ Ok n → after ≡ with_boxes held (with_new held.width address key held.boxes) → FitsSettings settings after xs
 registered_server settings held after xs address key n now answer ok =
     let room : length held.boxes < settings.boxes = omega (arith, room_of held.limit (length held.boxes) n (place_of address held.boxes) answer, now.limit) in
-    subst (λ (x : Held). IsServer settings x xs) (sym ok) (more_boxes settings held xs address key room now)
+    subst (λ (x : Holdings). FitsSettings settings x xs) (sym ok) (more_boxes settings held xs address key room now)
 
 -- ---- the slot of a lane
 
-pub slot_here : (c : Core) (i : ℕ) (cur : Slot) → IsCore c → i < length c.slots.items → cur ≡ get_or c.slots.items i cur → IsSlot c.settings.width c.settings.boxes (addresses_of c.boxes.boxes) cur
-slot_here c i cur is inside value = subst (IsSlot c.settings.width c.settings.boxes (addresses_of c.boxes.boxes)) (sym value) (is.server.rows i cur inside)
+pub slot_here : (c : LeaderStores) (i : ℕ) (cur : LeaderSlot) → AreStores c → i < length c.slots.items → cur ≡ get_or c.slots.items i cur → IsLeaderSlot c.settings.width c.settings.boxes (addresses_of c.boxes.boxes) cur
+slot_here c i cur is inside value = subst (IsLeaderSlot c.settings.width c.settings.boxes (addresses_of c.boxes.boxes)) (sym value) (is.server.rows i cur inside)
 
 -- it is read twice
-pub same_slot : (slots : List Slot) (i j : ℕ) (a b : Slot) → i ≡ j → i < length slots → a ≡ get_or slots i a → b ≡ get_or slots j b → a ≡ b
+pub same_slot : (slots : List LeaderSlot) (i j : ℕ) (a b : LeaderSlot) → i ≡ j → i < length slots → a ≡ get_or slots i a → b ≡ get_or slots j b → a ≡ b
 same_slot slots i j a b at inside a_is b_is = a_is ∙ (get_any slots i a b inside ∙ (ap (λ k. get_or slots k b) at ∙ sym b_is))
 
-pub settling_leaves : (addresses part leaves own other : List ℕ) (b : Begun) (ours theirs : Closing) (st : Stage) → settling_at st ≡ Some (b, ours, theirs) → IsStage addresses part leaves own other st →
-    take b.count leaves ≡ map (leaf_of part 0 b.root) (take b.count addresses)
-settling_leaves addresses part leaves own other b ours theirs (stage.Settling n w x y) e h =
+pub settling_leaves : (addresses : List ℕ) (room : Room) (own other : List ℕ) (b : Begun) (ours theirs : Closing) (st : LeaderStage) → settling_at st ≡ Some (b, ours, theirs) → IsStage addresses room own other st →
+    AreLeaves 0 b room addresses
+settling_leaves addresses room own other b ours theirs (stage.Settling n w x y) e h =
     let all : (let p : Begun × Closing × Closing = (w, x, y) in p) ≡ (b, ours, theirs) = cc in
-    subst (λ (z : Begun). take z.count leaves ≡ map (leaf_of part 0 z.root) (take z.count addresses)) (ap (λ (p : Begun × Closing × Closing). p.0) all) h.1
-settling_leaves addresses part leaves own other b ours theirs st e h = absurd (cc e)
+    subst (λ (z : Begun). AreLeaves 0 z room addresses) (ap (λ (p : Begun × Closing × Closing). p.0) all) h.leaves
+settling_leaves addresses room own other b ours theirs st e h = absurd (cc e)
 
 pub box_there : (xs : List Box) (n : ℕ) → n < length xs → (b : Box) × (slice_get xs n ≡ Some b)
 box_there [] n h = absurd (omega arith)

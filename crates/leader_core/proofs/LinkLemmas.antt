@@ -12,14 +12,14 @@ use Rattle.frame_rules.specs.Spelling.{spelling, IsFrame}
 use Rattle.frame_rules.specs.Whole.{answer, on_link}
 use Rattle.step_rules.specs.Leader as steps
 use Rattle.step_rules.specs.LeaderReplies.{answers, fits, if_fits, if_reply, ignored, refusal_in}
-use Rattle.leader_core.specs.declared.stores.Core.{Core}
+use Rattle.leader_core.specs.declared.stores.LeaderStores.{LeaderStores}
 use Rattle.leader_core.specs.declared.issued.Issued.{Issued}
 use Rattle.leader_core.specs.declared.turn.Ack.{Ack}
 use Rattle.leader_core.specs.declared.turn.Ack.TheVariants as ack
 use Rattle.leader_core.specs.Replies.{settled_with, told, IsIssued}
 use Rattle.leader_core.specs.Slots.{kept_of}
-use Rattle.leader_core.specs.State.{commands_in, frame_at, audits_in, is_audit, leader_in, with_command, IsCommand, IsCore, IsLink}
-use Rattle.leader_core.specs.Told.{DoesAck, IsFront}
+use Rattle.leader_core.specs.State.{commands_in, frame_at, audits_in, is_audit, leader_in, with_command, IsCommand, AreStores, IsLink}
+use Rattle.leader_core.specs.Told.{DoesAck, WritesFront}
 use Rattle.leader_core.proofs.IssueLemmas.{audits_more, commands_more, frame_is, is_command}
 
 abbrev pub dropped : Outstanding → Outstanding
@@ -67,21 +67,21 @@ link_settled settings link draws c is some first is_frame other below serial ord
 
 -- ---- a lane's reply, and the settle
 
-pub told_does : (c : Core) (l : Outstanding) (f reply : PlainFrame) (lane len : ℕ) (old new : List ℕ) → IsCore c → 0 < length c.link.frames → l ≡ dropped c.link → IsOutstanding l →
-    reply ≡ answer f (kept_of (steps.row_at (leader_in c) f.lane).stage) → lane ≡ f.lane → len ≡ length (spelling reply) → IsFront (spelling reply) old new →
+pub told_does : (c : LeaderStores) (l : Outstanding) (f reply : PlainFrame) (lane len : ℕ) (old new : List ℕ) → AreStores c → 0 < length c.link.frames → l ≡ dropped c.link → IsOutstanding l →
+    reply ≡ answer f (kept_of (steps.row_at (leader_in c) f.lane).stage) → lane ≡ f.lane → len ≡ length (spelling reply) → WritesFront (spelling reply) old new →
     DoesAck (told (leader_in c) f) (record c { link = l }) (ack.Reply lane len) old new
 told_does c l f reply lane len old new is some link_is order reply_is lane_is len_is front = record {
   leader = ap (λ (x : Outstanding). leader_in (record c { link = x })) link_is ∙ ap (λ (xs : List PlainFrame). record (leader_in c) { outstanding = xs }) (sym (drop-map frame_at 1 c.link.frames));
   acked = record {
     ack = ap (λ n. let x : Ack = ack.Reply n len in x) lane_is ∙ ap (λ n. let x : Ack = ack.Reply f.lane n in x) (len_is ∙ ap (λ (r : PlainFrame). length (spelling r)) reply_is);
-    bytes = subst (λ (r : PlainFrame). IsFront (spelling r) old new) reply_is front;
+    bytes = subst (λ (r : PlainFrame). WritesFront (spelling r) old new) reply_is front;
   };
   is = record { server = is.server; link = subst (λ (x : Outstanding). IsLink c.settings x c.draws) (sym link_is) (link_less c.settings c.link c.draws is.link some (subst IsOutstanding link_is order)) };
 }
 
-pub settled_does : (c : Core) (l : Outstanding) (f command : PlainFrame) (own : Closing) (number len : ℕ) (old new : List ℕ) → IsCore c → 0 < length c.link.frames →
+pub settled_does : (c : LeaderStores) (l : Outstanding) (f command : PlainFrame) (own : Closing) (number len : ℕ) (old new : List ℕ) → AreStores c → 0 < length c.link.frames →
     is_audit (frame_at (get_or c.link.frames 0 [])).body ≡ true → f.lane < c.settings.lanes → 1 ≤ f.serial → command ≡ on_link f c.link.next (frame.LinkSettle own) → IsFrame command →
-    l ≡ with_command (dropped c.link) (spelling command) → IsOutstanding l → number ≡ c.link.next → len ≡ length (spelling command) → IsFront (spelling command) old new →
+    l ≡ with_command (dropped c.link) (spelling command) → IsOutstanding l → number ≡ c.link.next → len ≡ length (spelling command) → WritesFront (spelling command) old new →
     DoesAck (settled_with (leader_in c) f own) (record c { link = l }) (ack.Link number len) old new
 settled_does c l f command own number len old new is some first below serial command_is is_frame link_is order number_is len_is front =
     let cmd = on_link f c.link.next (frame.LinkSettle own) in
@@ -94,7 +94,7 @@ settled_does c l f command own number len old new is some first below serial com
           (commands_more (drop 1 c.link.frames) cmd right ∙ ap (λ (xs : List PlainFrame). xs ++ cmd ∷ []) (sym (drop-map frame_at 1 c.link.frames)));
       acked = record {
         ack = ap (λ n. let x : Ack = ack.Link n len in x) number_is ∙ ap (λ n. let x : Ack = ack.Link c.link.next n in x) (len_is ∙ ap (λ (r : PlainFrame). length (spelling r)) command_is);
-        bytes = subst (λ (r : PlainFrame). IsFront (spelling r) old new) command_is front;
+        bytes = subst (λ (r : PlainFrame). WritesFront (spelling r) old new) command_is front;
       };
       is = record {
         server = is.server;
@@ -104,7 +104,7 @@ settled_does c l f command own number len old new is some first below serial com
 
 -- ---- bytes of the helper
 
-pub ignores : (c : Core) (t : steps.AckTurn) (out : List ℕ) → IsCore c → t ≡ ignored (leader_in c) → DoesAck t c ack.Ignored out out
+pub ignores : (c : LeaderStores) (t : steps.AckTurn) (out : List ℕ) → AreStores c → t ≡ ignored (leader_in c) → DoesAck t c ack.Ignored out out
 ignores c t out is t_is =
     let x : Ack = ack.Ignored in
     subst (λ (y : steps.AckTurn). DoesAck y c x out out) (sym t_is) (record { leader = refl; acked = record { ack = refl; bytes = record { front = refl; rest = refl } }; is = is })

@@ -5,13 +5,13 @@ use Rattle.frame_rules.specs.Frames as frame
 use Rattle.frame_rules.specs.Frames.{PlainFrame, PlainBody}
 use Rattle.step_rules.specs.Leader.{Leader, Stage, AckTurn, row_at}
 use Rattle.step_rules.specs.LeaderReplies.{by_command, done, fits, if_audited, if_begun, if_read, if_registered, if_settled, registered_in, want_for}
-use Rattle.leader_core.specs.declared.issued.Order.{Order}
-use Rattle.leader_core.specs.declared.issued.Order.TheVariants as order
+use Rattle.leader_core.specs.declared.issued.CommandOrder.{CommandOrder}
+use Rattle.leader_core.specs.declared.issued.CommandOrder.TheVariants as order
 use Rattle.leader_core.specs.Replies.{order_in, want_of_order}
 use Rattle.leader_core.specs.State.{is_audit}
 
 module _ (a : Leader) (c : PlainFrame) where
-  abbrev by_order : Option Order → Stage → PlainBody → Option AckTurn
+  abbrev by_order : Option CommandOrder → Stage → PlainBody → Option AckTurn
   by_order (Some (order.Register address)) st b = if_registered a c address st (registered_in b)
   by_order (Some order.Begin) st b = if_begun a c st b
   by_order (Some order.Audit) st b = if_audited a c st b
@@ -30,8 +30,8 @@ module _ (a : Leader) (c : PlainFrame) where
   by_its_order (frame.LinkRetire n) st b = refl
   by_its_order command st b = refl
 
-  pub ordered : (o : Option Order) (st : Stage) (b : PlainBody) → order_in c.body ≡ o → by_command a c c.body st b ≡ by_order o st b
-  ordered o st b e = by_its_order c.body st b ∙ ap (λ (x : Option Order). by_order x st b) e
+  pub ordered : (o : Option CommandOrder) (st : Stage) (b : PlainBody) → order_in c.body ≡ o → by_command a c c.body st b ≡ by_order o st b
+  ordered o st b e = by_its_order c.body st b ∙ ap (λ (x : Option CommandOrder). by_order x st b) e
 
 want_is : (command : PlainBody) → want_for command ≡ want_of_order (order_in command)
 want_is (frame.LinkRegister address) = refl
@@ -42,7 +42,7 @@ want_is (frame.LinkRead n) = refl
 want_is (frame.LinkRetire n) = refl
 want_is command = refl
 
-pub refuses_fit : (a : Leader) (c : PlainFrame) (b : PlainBody) (o : Option Order) (r : Refusal) (x : Option Refusal) → order_in c.body ≡ o → x ≡ Some r → fits a c b x ≡ Some (done a c (want_of_order o) (frame.Refused r))
+pub refuses_fit : (a : Leader) (c : PlainFrame) (b : PlainBody) (o : Option CommandOrder) (r : Refusal) (x : Option Refusal) → order_in c.body ≡ o → x ≡ Some r → fits a c b x ≡ Some (done a c (want_of_order o) (frame.Refused r))
 unfolding fits
 refuses_fit a c b o r x e some =
     rw some (ap (λ w. Some (done a c w (frame.Refused r))) (want_is c.body ∙ ap want_of_order e))

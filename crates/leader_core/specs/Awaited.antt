@@ -9,10 +9,10 @@ use Rattle.step_rules.specs.Leader.{Leader, Asked, Registering, Writing, Reading
 use Rattle.step_rules.specs.Leader.{Waiting, Auditing, Settling, Row, idle, opened_leader}
 use Rattle.step_rules.specs.LeaderClients.{on_client}
 use Rattle.step_rules.specs.LeaderReplies.{on_reply_bytes}
-use Rattle.leader_core.specs.declared.stores.Core.{Core}
+use Rattle.leader_core.specs.declared.stores.LeaderStores.{LeaderStores}
 use Rattle.leader_core.specs.declared.turn.Turn.{Turn}
 use Rattle.leader_core.specs.declared.turn.Turn.TheVariants as turn
-use Rattle.leader_core.specs.State.{leader_in, IsCore}
+use Rattle.leader_core.specs.State.{leader_in, AreStores}
 use Rattle.leader_core.specs.Told.{turned}
 
 -- the outstanding commands of a lane
@@ -54,12 +54,12 @@ abbrev pub RowsAwait : Leader → Type 0
 RowsAwait a = AreThoseAwaited a.settings.lanes a.rows a.outstanding a.next
 
 -- what holds of the stores between two calls
-pub record IsLeader (c : Core) : Type 0 where
-  pub core : IsCore c
+pub record IsLeader (c : LeaderStores) : Type 0 where
+  pub core : AreStores c
   pub rows : RowsAwait (leader_in c)
 
 -- The frame's lane has one command outstanding, which is of the frame's serial and of this number.
-pub record IsOutstanding (a : Leader) (bytes : List ℕ) (number : ℕ) : Type 0 where
+pub record IsAwaited (a : Leader) (bytes : List ℕ) (number : ℕ) : Type 0 where
   pub frame : PlainFrame
   pub read : whole bytes ≡ Ok frame
   pub body : PlainBody
@@ -67,7 +67,7 @@ pub record IsOutstanding (a : Leader) (bytes : List ℕ) (number : ℕ) : Type 0
 
 -- where a client is told to wait for a command, that is outstanding
 abbrev pub TellsAwaited : Leader → List ℕ → Turn → Type 0
-TellsAwaited a bytes (turn.Waiting number) = IsOutstanding a bytes number
+TellsAwaited a bytes (turn.Waiting number) = IsAwaited a bytes number
 TellsAwaited a bytes other = Unit {0}
 
 -- ---- the steps of a leader

@@ -12,18 +12,18 @@ use Rattle.server_boxes.specs.declared.room.Proof.{Proof}
 use Rattle.step_rules.specs.Leader as steps
 use Rattle.step_rules.specs.LeaderReplies.{acknowledged}
 use Rattle.leader_core.specs.declared.asked.Asked.TheVariants as asked
-use Rattle.leader_core.specs.declared.issued.Order.{Order}
-use Rattle.leader_core.specs.declared.issued.Order.TheVariants as order
+use Rattle.leader_core.specs.declared.issued.CommandOrder.{CommandOrder}
+use Rattle.leader_core.specs.declared.issued.CommandOrder.TheVariants as order
 use Rattle.leader_core.specs.declared.issued.Issued.{Issued}
 use Rattle.leader_core.specs.declared.applied.Applied.{Applied}
 use Rattle.leader_core.specs.declared.applied.Applied.TheVariants as effect
-use Rattle.leader_core.specs.declared.slot.Stage.{Stage}
-use Rattle.leader_core.specs.declared.slot.Stage.TheVariants as stage
+use Rattle.leader_core.specs.declared.slot.LeaderStage.{LeaderStage}
+use Rattle.leader_core.specs.declared.slot.LeaderStage.TheVariants as stage
 use Rattle.leader_core.specs.Slots.{kept_of}
 
 -- ---- what a command orders
 
-abbrev pub order_in : PlainBody → Option Order
+abbrev pub order_in : PlainBody → Option CommandOrder
 order_in (frame.LinkRegister address) = Some (order.Register address)
 order_in (frame.LinkBegin drawn part) = Some order.Begin
 order_in (frame.LinkAudit sigma opened) = Some order.Audit
@@ -32,7 +32,7 @@ order_in (frame.LinkRead number) = Some (order.Read number)
 order_in (frame.LinkRetire number) = Some (order.Retire number)
 order_in body = None
 
-abbrev pub want_of_order : Option Order → Want
+abbrev pub want_of_order : Option CommandOrder → Want
 want_of_order (Some (order.Register address)) = Register
 want_of_order (Some (order.Read number)) = Read
 want_of_order (Some (order.Retire number)) = Read
@@ -51,19 +51,19 @@ header_of i = record { lane = i.lane; serial = i.serial; link = 0; body = frame.
 
 -- ---- what a stage waits for
 
-abbrev pub key_at : Stage → Option (List ℕ)
+abbrev pub key_at : LeaderStage → Option (List ℕ)
 key_at (stage.Waiting n (asked.Registering address key)) = Some key
 key_at stage = None
 
-abbrev pub writing_at : Stage → Option (ℕ × List ℕ)
+abbrev pub writing_at : LeaderStage → Option (ℕ × List ℕ)
 writing_at (stage.Waiting n (asked.Writing root draw)) = Some (root, draw)
 writing_at stage = None
 
-abbrev pub auditing_at : Stage → Option (Begun × Proof × Openings)
+abbrev pub auditing_at : LeaderStage → Option (Begun × Proof × Openings)
 auditing_at (stage.Auditing n b proof opened) = Some (b, proof, opened)
 auditing_at stage = None
 
-abbrev pub settling_at : Stage → Option (Begun × Closing × Closing)
+abbrev pub settling_at : LeaderStage → Option (Begun × Closing × Closing)
 settling_at (stage.Settling n b ours theirs) = Some (b, ours, theirs)
 settling_at stage = None
 
@@ -117,6 +117,6 @@ applied_as a c effect.Kept = Some (told a c)
 applied_as a c (effect.Settles own) = Some (settled_with a c own)
 
 -- a settle follows an audit alone
-abbrev pub IsAuditFor : Option Order → Applied → Type 0
+abbrev pub IsAuditFor : Option CommandOrder → Applied → Type 0
 IsAuditFor o (effect.Settles own) = o ≡ Some order.Audit
 IsAuditFor o other = Unit {0}

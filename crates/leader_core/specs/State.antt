@@ -2,6 +2,7 @@
 use Rattle.std.specs.Prelude.{◌≡◌, ℕ, ◌+◌, ◌-◌, ◌^◌, ◌<◌, ◌≤◌, Bool, true, false, Result, Ok, Err}
 use Rattle.std.specs.Prelude.{List, ◌∷◌, [], ◌++◌, length, map, filter, slice_get, slice_index_or, All}
 use Rattle.express_words.specs.declared.settings.Settings.{Settings}
+use Rattle.express_words.specs.declared.audit.ProofShare.{ProofShare}
 use Rattle.express_words.specs.declared.refusal.Refusal.{Refusal}
 use Rattle.express_words.specs.Limits.{KeepsLimits}
 use Rattle.link_order.specs.Link.{Outstanding, IsOutstanding}
@@ -9,12 +10,14 @@ use Rattle.frame_rules.specs.Frames as frame
 use Rattle.frame_rules.specs.Frames.{PlainFrame, PlainBody}
 use Rattle.frame_rules.specs.Spelling.{Spells}
 use Rattle.frame_rules.specs.Whole.{whole, refused_bytes}
-use Rattle.server_boxes.specs.Held.{Held, share_of}
+use Rattle.server_boxes.specs.Held.{Holdings, share_of, write_in}
+use Rattle.server_boxes.specs.declared.room.Begun.{Begun}
 use Rattle.step_rules.specs.Boxes.{addresses_of}
 use Rattle.step_rules.specs.Leader as steps
-use Rattle.leader_core.specs.declared.slot.Slot.{Slot}
-use Rattle.leader_core.specs.declared.stores.Core.{Core}
-use Rattle.leader_core.specs.Slots.{rows_in, IsSlot}
+use Rattle.step_rules.specs.LeaderClients.{audits}
+use Rattle.leader_core.specs.declared.slot.LeaderSlot.{LeaderSlot}
+use Rattle.leader_core.specs.declared.stores.LeaderStores.{LeaderStores}
+use Rattle.leader_core.specs.Slots.{rows_in, IsLeaderSlot}
 
 -- ---- the outstanding commands, which are kept as bytes
 
@@ -47,7 +50,7 @@ with_command link bytes = record {
 
 -- ---- the leader
 
-abbrev pub leader_of : Settings → Held → List Slot → Outstanding → ℕ → List ℕ → steps.Leader
+abbrev pub leader_of : Settings → Holdings → List LeaderSlot → Outstanding → ℕ → List ℕ → steps.Leader
 leader_of settings held slots link draws seed =
     record {
       settings = settings;
@@ -59,23 +62,29 @@ leader_of settings held slots link draws seed =
       seed = seed;
     }
 
-abbrev pub leader_in : Core → steps.Leader
+abbrev pub leader_in : LeaderStores → steps.Leader
 leader_in c = leader_of c.settings c.boxes c.slots.items c.link c.draws c.seed
 
+-- the audit of a write that has begun in the slot of the frame's lane, with the part that lies there
+abbrev pub audits_there : LeaderStores → PlainFrame → Begun → ProofShare → (no_slot : LeaderSlot) → steps.Turn
+audits_there c f b share no_slot =
+    let slot = slice_index_or c.slots.items f.lane no_slot in
+    audits (leader_in c) f (write_in b slot.room.part.items) share
+
 -- the oldest outstanding command, where one is outstanding
-abbrev pub oldest_in : Core → PlainFrame
+abbrev pub oldest_in : LeaderStores → PlainFrame
 oldest_in c = frame_at (slice_index_or c.link.frames 0 [])
 
 -- ---- what holds of it
 
 -- the boxes and the slots have the settings' sizes, and a slot for each lane
-pub record IsServer (settings : Settings) (held : Held) (slots : List Slot) : Type 0 where
+pub record FitsSettings (settings : Settings) (held : Holdings) (slots : List LeaderSlot) : Type 0 where
   pub limits : KeepsLimits settings.width settings.boxes settings.lanes settings.window
   pub limit : held.limit ≡ settings.boxes
   pub within : length held.boxes ≤ settings.boxes
   pub width : held.width ≡ settings.width
   pub lanes : length slots ≡ settings.lanes
-  pub rows : All (IsSlot settings.width settings.boxes (addresses_of held.boxes)) slots
+  pub rows : All (IsLeaderSlot settings.width settings.boxes (addresses_of held.boxes)) slots
 
 -- the spelling of a frame for a lane that is there
 pub record IsCommand (lanes : ℕ) (bytes : List ℕ) : Type 0 where
@@ -93,8 +102,8 @@ pub record IsLink (settings : Settings) (link : Outstanding) (draws : ℕ) : Typ
   pub last : link.next + audits_in link.frames ≤ 2 ^ 64 - 32
   pub drawn : draws < link.next
 
-pub record IsCore (c : Core) : Type 0 where
-  pub server : IsServer c.settings c.boxes c.slots.items
+pub record AreStores (c : LeaderStores) : Type 0 where
+  pub server : FitsSettings c.settings c.boxes c.slots.items
   pub link : IsLink c.settings c.link c.draws
 
 -- the share of a box; zeros where there is none

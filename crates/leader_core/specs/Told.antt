@@ -6,8 +6,8 @@ use Rattle.frame_rules.specs.Frames.{PlainFrame, PlainBody}
 use Rattle.frame_rules.specs.Spelling.{spelling}
 use Rattle.step_rules.specs.Leader as steps
 use Rattle.step_rules.specs.LeaderClients.{counted}
-use Rattle.leader_core.specs.declared.stores.Core.{Core}
-use Rattle.leader_core.specs.State.{leader_in, IsCore}
+use Rattle.leader_core.specs.declared.stores.LeaderStores.{LeaderStores}
+use Rattle.leader_core.specs.State.{leader_in, AreStores}
 use Rattle.leader_core.specs.declared.turn.Turn.{Turn}
 use Rattle.leader_core.specs.declared.turn.Turn.TheVariants as turn
 use Rattle.leader_core.specs.declared.turn.Ack.{Ack}
@@ -32,28 +32,28 @@ acked_bytes (steps.Settles number command) = spelling command
 acked_bytes steps.Ignored = []
 
 -- the bytes stand at the front, and the rest is what it was
-pub record IsFront (bytes old new : List ℕ) : Type 0 where
+pub record WritesFront (bytes old new : List ℕ) : Type 0 where
   pub front : take (length bytes) new ≡ bytes
   pub rest : drop (length bytes) new ≡ drop (length bytes) old
 
 pub record IsTold (answer : steps.Answer) (t : Turn) (old new : List ℕ) : Type 0 where
   pub turn : t ≡ turned answer
-  pub bytes : IsFront (steps.written answer) old new
+  pub bytes : WritesFront (steps.written answer) old new
 
 -- the leader is what the turn leaves, and what was given and written is its answer
-pub record Does (t : steps.Turn) (c : Core) (given : Turn) (old new : List ℕ) : Type 0 where
+pub record DoesTurn (t : steps.Turn) (c : LeaderStores) (given : Turn) (old new : List ℕ) : Type 0 where
   pub leader : leader_in c ≡ t.leader
   pub told : IsTold t.answer given old new
-  pub is : IsCore c
+  pub is : AreStores c
 
 pub record IsAcked (said : steps.Ack) (t : Ack) (old new : List ℕ) : Type 0 where
   pub ack : t ≡ acked said
-  pub bytes : IsFront (acked_bytes said) old new
+  pub bytes : WritesFront (acked_bytes said) old new
 
-pub record DoesAck (t : steps.AckTurn) (c : Core) (given : Ack) (old new : List ℕ) : Type 0 where
+pub record DoesAck (t : steps.AckTurn) (c : LeaderStores) (given : Ack) (old new : List ℕ) : Type 0 where
   pub leader : leader_in c ≡ t.leader
   pub acked : IsAcked t.ack given old new
-  pub is : IsCore c
+  pub is : AreStores c
 
 -- ---- how many nodes a client's frame expands: where an audit is issued, those of the addresses that its
 -- write counts
@@ -69,6 +69,9 @@ command_steps a c body = 0
 abbrev pub turn_steps : steps.Leader → steps.Answer → ℕ
 turn_steps a (steps.Link number command) = command_steps a command command.body
 turn_steps a answer = 0
+
+abbrev pub ExpandsNothing : steps.Leader → steps.Turn → Type 0
+ExpandsNothing a t = turn_steps a t.answer ≡ 0
 
 -- how many bytes were sent again
 abbrev pub sent_length : Option (ℕ × ℕ) → ℕ

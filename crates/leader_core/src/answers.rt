@@ -1,46 +1,48 @@
 //! Replies of the helper: what each order leaves of the stores, where its reply fits.
 ghost use Rattle.std.specs.Prelude.{true, ◌≡◌, ◌<◌, Some, None, length, slice_get};
 ghost use Rattle.std.specs.Bool.{OnFalse};
-ghost use Rattle.frame_rules.specs.Frames.{PlainFrame, Refused};
+ghost use Rattle.frame_rules.specs.Frames.{Refused};
 ghost use Rattle.frame_rules.specs.Whole.{IsAnswer};
-ghost use Rattle.step_rules.specs.Leader.{row_at};
 ghost use Rattle.step_rules.specs.LeaderReplies.{accepted, audited, began, done, read, registered, rejected};
-ghost use Rattle.leader_core.specs.Replies.{applied, applied_settle, want_of_order, IsIssued};
-ghost use Rattle.leader_core.specs.State.{leader_in, IsCore};
+ghost use Rattle.leader_core.specs.Applying.{stage_at, Applies, AppliesSettle};
+ghost use Rattle.leader_core.specs.Replies.{want_of_order};
+ghost use Rattle.leader_core.specs.State.{leader_in, AreStores};
 
 use crate::issued::{Issued, want_of_order};
-use crate::slot::Kept;
-use crate::stores::Core;
+use crate::slot::KeptReply;
+use crate::stores::LeaderStores;
 use express_words::{Closing, Openings, Refusal};
 use lane_table::Want;
 use server_boxes::{Begun, challenge_key, close};
 use snip_proof::judge;
 
-impl Core {
+impl LeaderStores {
     /// The helper has refused the command.
     pub(crate) fn refuse(&mut self, command: &Issued, refusal: Refusal)
-        requires is { IsCore self.old }
+        requires is { AreStores self.old }
         requires lane { command.now.lane < self.old.settings.lanes }
         requires answer { IsAnswer (Refused refusal) }
-        ensures fits { (c : PlainFrame) → IsIssued c command.now → Some (done (leader_in self.old) c (want_of_order command.now.order) (Refused refusal)) ≡ applied (leader_in self.new) c true }
+        ensures fits { Applies (λ a c. Some (done a c (want_of_order command.now.order) (Refused refusal)))
+            self.old command.now self.new true }
         ensures link { self.new.link ≡ self.old.link }
         ensures settings { self.new.settings ≡ self.old.settings }
-        ensures is { IsCore self.new }
+        ensures is { AreStores self.new }
     {
         let want = want_of_order(command.order);
         let slot = &mut self.slots[usize::from(command.lane)];
-        slot.finish(command.serial, want, Kept::Refused(refusal));
+        slot.finish(command.serial, want, KeptReply::Refused(refusal));
     }
 
     /// The helper has registered the address at this box; whether that fits.
     pub(crate) fn registered(&mut self, command: &Issued, address: u128, number: u32) -> bool
-        requires is { IsCore self.old }
+        requires is { AreStores self.old }
         requires lane { command.now.lane < self.old.settings.lanes }
-        ensures fits { (c : PlainFrame) → IsIssued c command.now → registered (leader_in self.old) c address (row_at (leader_in self.old) c.lane).stage number ≡ applied (leader_in self.new) c result }
+        ensures fits { Applies (λ a c. registered a c address (stage_at a c) number)
+            self.old command.now self.new result }
         ensures same { OnFalse result (leader_in self.new ≡ leader_in self.old) }
         ensures link { self.new.link ≡ self.old.link }
         ensures settings { self.new.settings ≡ self.old.settings }
-        ensures is { IsCore self.new }
+        ensures is { AreStores self.new }
     {
         let Some(key) = self.slots[usize::from(command.lane)].key() else {
             return false;
@@ -52,7 +54,11 @@ impl Core {
             Err(_) => false,
             Ok(_) => {
                 let slot = &mut self.slots[usize::from(command.lane)];
-                slot.finish(command.serial, Want::Register, Kept::Registered(number));
+                slot.finish(
+                    command.serial,
+                    Want::Register,
+                    KeptReply::Registered(number),
+                );
                 true
             }
         }
@@ -60,13 +66,14 @@ impl Core {
 
     /// The helper has begun a write over so many boxes, and drawn its half of the key; whether that fits.
     pub(crate) fn began(&mut self, command: &Issued, count: u32, helpers: &[u8; 32]) -> bool
-        requires is { IsCore self.old }
+        requires is { AreStores self.old }
         requires lane { command.now.lane < self.old.settings.lanes }
-        ensures fits { (c : PlainFrame) → IsIssued c command.now → began (leader_in self.old) c (row_at (leader_in self.old) c.lane).stage count helpers.now ≡ applied (leader_in self.new) c result }
+        ensures fits { Applies (λ a c. began a c (stage_at a c) count helpers.now)
+            self.old command.now self.new result }
         ensures same { OnFalse result (leader_in self.new ≡ leader_in self.old) }
         ensures link { self.new.link ≡ self.old.link }
         ensures settings { self.new.settings ≡ self.old.settings }
-        ensures is { IsCore self.new }
+        ensures is { AreStores self.new }
     {
         let Some(begins) = self.slots[usize::from(command.lane)].writing() else {
             return false;
@@ -83,13 +90,13 @@ impl Core {
 
     /// The helper has accepted a write; whether the leader's judge does.
     pub(crate) fn accepted(&mut self, command: &Issued) -> bool
-        requires is { IsCore self.old }
+        requires is { AreStores self.old }
         requires lane { command.now.lane < self.old.settings.lanes }
-        ensures fits { (c : PlainFrame) → IsIssued c command.now → accepted (leader_in self.old) c (row_at (leader_in self.old) c.lane).stage ≡ applied (leader_in self.new) c result }
+        ensures fits { Applies (λ a c. accepted a c (stage_at a c)) self.old command.now self.new result }
         ensures same { OnFalse result (leader_in self.new ≡ leader_in self.old) }
         ensures link { self.new.link ≡ self.old.link }
         ensures settings { self.new.settings ≡ self.old.settings }
-        ensures is { IsCore self.new }
+        ensures is { AreStores self.new }
     {
         let slot = &self.slots[usize::from(command.lane)];
         let Some((begun, own, other)) = slot.settling() else {
@@ -100,19 +107,19 @@ impl Core {
         }
         self.boxes.add_write(&begun, &slot.room);
         let slot = &mut self.slots[usize::from(command.lane)];
-        slot.finish(command.serial, Want::Write, Kept::Accepted);
+        slot.finish(command.serial, Want::Write, KeptReply::Accepted);
         true
     }
 
     /// The helper has rejected a write; whether the leader's judge does.
     pub(crate) fn rejected(&mut self, command: &Issued) -> bool
-        requires is { IsCore self.old }
+        requires is { AreStores self.old }
         requires lane { command.now.lane < self.old.settings.lanes }
-        ensures fits { (c : PlainFrame) → IsIssued c command.now → rejected (leader_in self.old) c (row_at (leader_in self.old) c.lane).stage ≡ applied (leader_in self.new) c result }
+        ensures fits { Applies (λ a c. rejected a c (stage_at a c)) self.old command.now self.new result }
         ensures same { OnFalse result (leader_in self.new ≡ leader_in self.old) }
         ensures link { self.new.link ≡ self.old.link }
         ensures settings { self.new.settings ≡ self.old.settings }
-        ensures is { IsCore self.new }
+        ensures is { AreStores self.new }
     {
         let Some((_, own, other)) = self.slots[usize::from(command.lane)].settling() else {
             return false;
@@ -122,21 +129,22 @@ impl Core {
         }
         let refusal = rejection(own, other);
         let slot = &mut self.slots[usize::from(command.lane)];
-        slot.finish(command.serial, Want::Write, Kept::Refused(refusal));
+        slot.finish(command.serial, Want::Write, KeptReply::Refused(refusal));
         true
     }
 
     /// The helper has read a box, and this is its masked share; whether that fits. A read leaves the box live, a retire
     /// doesn't.
     pub(crate) fn read(&mut self, command: &Issued, stays: bool, number: u32, share: &[u8]) -> bool
-        requires is { IsCore self.old }
+        requires is { AreStores self.old }
         requires lane { command.now.lane < self.old.settings.lanes }
         requires width { length share.now ≡ self.old.settings.width }
-        ensures fits { (c : PlainFrame) → IsIssued c command.now → read (leader_in self.old) c stays number (slice_get (leader_in self.old).boxes number) share.now ≡ applied (leader_in self.new) c result }
+        ensures fits { Applies (λ a c. read a c stays number (slice_get a.boxes number) share.now)
+            self.old command.now self.new result }
         ensures same { OnFalse result (leader_in self.new ≡ leader_in self.old) }
         ensures link { self.new.link ≡ self.old.link }
         ensures settings { self.new.settings ≡ self.old.settings }
-        ensures is { IsCore self.new }
+        ensures is { AreStores self.new }
     {
         if number >= self.boxes.count() {
             return false;
@@ -145,7 +153,7 @@ impl Core {
         let (lane, serial) = (command.lane, command.serial);
         self.boxes.read(number, stays, lane, serial, &mut slot.own);
         slot.other.copy_from_slice(share);
-        slot.finish(serial, Want::Read, Kept::Message);
+        slot.finish(serial, Want::Read, KeptReply::Message);
         true
     }
 
@@ -157,13 +165,14 @@ impl Core {
         opened: &Openings,
         closing: &Closing,
     ) -> Option<Closing>
-        requires is { IsCore self.old }
+        requires is { AreStores self.old }
         requires lane { command.now.lane < self.old.settings.lanes }
-        ensures fits { (c : PlainFrame) → IsIssued c command.now → audited (leader_in self.old) c (row_at (leader_in self.old) c.lane).stage opened.now closing.now ≡ applied_settle (leader_in self.new) c result }
+        ensures fits { AppliesSettle (λ a c. audited a c (stage_at a c) opened.now closing.now)
+            self.old command.now self.new result }
         ensures same { result ≡ None → leader_in self.new ≡ leader_in self.old }
         ensures link { self.new.link ≡ self.old.link }
         ensures settings { self.new.settings ≡ self.old.settings }
-        ensures is { IsCore self.new }
+        ensures is { AreStores self.new }
     {
         let number = self.link.next();
         let slot = &mut self.slots[usize::from(command.lane)];

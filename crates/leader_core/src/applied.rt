@@ -1,17 +1,17 @@
 //! What a reply of the helper does, by the command that it answers.
 ghost use Rattle.std.specs.Prelude.{true, ◌≡◌, ◌<◌, Option, Some, if◌then◌else◌};
-ghost use Rattle.frame_rules.specs.Frames.{PlainFrame, plain_body};
+ghost use Rattle.frame_rules.specs.Frames.{plain_body};
 ghost use Rattle.frame_rules.specs.Spelling.{IsBody};
 ghost use Rattle.frame_rules.specs.Whole.{has_width};
-ghost use Rattle.step_rules.specs.Leader.{row_at};
 ghost use Rattle.step_rules.specs.LeaderReplies.{fits, if_audited, if_begun, if_read, if_registered, if_settled, refusal_in, registered_in};
-ghost use Rattle.leader_core.specs.Replies.{applied_as, IsAuditFor, IsIssued};
-ghost use Rattle.leader_core.specs.declared.issued.Order.{Order as Ordered};
-ghost use Rattle.leader_core.specs.State.{leader_in, IsCore};
+ghost use Rattle.leader_core.specs.Applying.{stage_at, AppliesAs};
+ghost use Rattle.leader_core.specs.Replies.{IsAuditFor};
+ghost use Rattle.leader_core.specs.declared.issued.CommandOrder.{CommandOrder as Ordered};
+ghost use Rattle.leader_core.specs.State.{leader_in, AreStores};
 
-use crate::issued::{Issued, Order};
+use crate::issued::{CommandOrder, Issued};
 use crate::replies::{audited_in, begun_in, masked_in, refusal_in, registered_in, verdict_in};
-use crate::stores::Core;
+use crate::stores::LeaderStores;
 use express_words::Closing;
 use frame_rules::Body;
 
@@ -36,16 +36,17 @@ fn kept(fits: bool) -> Applied
     }
 }
 
-impl Core {
+impl LeaderStores {
     /// A reply to a register.
     fn to_register(&mut self, command: &Issued, address: u128, said: &Body<'_>) -> Applied
-        requires is { IsCore self.old }
+        requires is { AreStores self.old }
         requires lane { command.now.lane < self.old.settings.lanes }
-        ensures fits { (c : PlainFrame) → IsIssued c command.now → if_registered (leader_in self.old) c address (row_at (leader_in self.old) c.lane).stage (registered_in (plain_body said.now)) ≡ applied_as (leader_in self.new) c result }
+        ensures fits { AppliesAs (λ a c. if_registered a c address (stage_at a c)
+            (registered_in (plain_body said.now))) self.old command.now self.new result }
         ensures same { result ≡ Applied.Nothing → leader_in self.new ≡ leader_in self.old }
         ensures link { self.new.link ≡ self.old.link }
         ensures settings { self.new.settings ≡ self.old.settings }
-        ensures is { IsCore self.new }
+        ensures is { AreStores self.new }
         ensures audit { (order : Option Ordered) → IsAuditFor order result }
     {
         match registered_in(said) {
@@ -56,13 +57,14 @@ impl Core {
 
     /// A reply to a begin.
     fn to_begin(&mut self, command: &Issued, said: &Body<'_>) -> Applied
-        requires is { IsCore self.old }
+        requires is { AreStores self.old }
         requires lane { command.now.lane < self.old.settings.lanes }
-        ensures fits { (c : PlainFrame) → IsIssued c command.now → if_begun (leader_in self.old) c (row_at (leader_in self.old) c.lane).stage (plain_body said.now) ≡ applied_as (leader_in self.new) c result }
+        ensures fits { AppliesAs (λ a c. if_begun a c (stage_at a c) (plain_body said.now))
+            self.old command.now self.new result }
         ensures same { result ≡ Applied.Nothing → leader_in self.new ≡ leader_in self.old }
         ensures link { self.new.link ≡ self.old.link }
         ensures settings { self.new.settings ≡ self.old.settings }
-        ensures is { IsCore self.new }
+        ensures is { AreStores self.new }
         ensures audit { (order : Option Ordered) → IsAuditFor order result }
     {
         match begun_in(said) {
@@ -76,13 +78,14 @@ impl Core {
 
     /// A reply to an audit.
     fn to_audit(&mut self, command: &Issued, said: &Body<'_>) -> Applied
-        requires is { IsCore self.old }
+        requires is { AreStores self.old }
         requires lane { command.now.lane < self.old.settings.lanes }
-        ensures fits { (c : PlainFrame) → IsIssued c command.now → if_audited (leader_in self.old) c (row_at (leader_in self.old) c.lane).stage (plain_body said.now) ≡ applied_as (leader_in self.new) c result }
+        ensures fits { AppliesAs (λ a c. if_audited a c (stage_at a c) (plain_body said.now))
+            self.old command.now self.new result }
         ensures same { result ≡ Applied.Nothing → leader_in self.new ≡ leader_in self.old }
         ensures link { self.new.link ≡ self.old.link }
         ensures settings { self.new.settings ≡ self.old.settings }
-        ensures is { IsCore self.new }
+        ensures is { AreStores self.new }
     {
         let Some((opened, closing)) = audited_in(said) else {
             return Applied::Nothing;
@@ -95,13 +98,14 @@ impl Core {
 
     /// A reply to a settle.
     fn to_settle(&mut self, command: &Issued, said: &Body<'_>) -> Applied
-        requires is { IsCore self.old }
+        requires is { AreStores self.old }
         requires lane { command.now.lane < self.old.settings.lanes }
-        ensures fits { (c : PlainFrame) → IsIssued c command.now → if_settled (leader_in self.old) c (row_at (leader_in self.old) c.lane).stage (plain_body said.now) ≡ applied_as (leader_in self.new) c result }
+        ensures fits { AppliesAs (λ a c. if_settled a c (stage_at a c) (plain_body said.now))
+            self.old command.now self.new result }
         ensures same { result ≡ Applied.Nothing → leader_in self.new ≡ leader_in self.old }
         ensures link { self.new.link ≡ self.old.link }
         ensures settings { self.new.settings ≡ self.old.settings }
-        ensures is { IsCore self.new }
+        ensures is { AreStores self.new }
         ensures audit { (order : Option Ordered) → IsAuditFor order result }
     {
         match verdict_in(said) {
@@ -113,14 +117,15 @@ impl Core {
 
     /// A reply to a read, or to a retire.
     fn to_read(&mut self, command: &Issued, stays: bool, number: u32, said: &Body<'_>) -> Applied
-        requires is { IsCore self.old }
+        requires is { AreStores self.old }
         requires lane { command.now.lane < self.old.settings.lanes }
         requires width { has_width self.old.settings.width (plain_body said.now) ≡ true }
-        ensures fits { (c : PlainFrame) → IsIssued c command.now → if_read (leader_in self.old) c stays number (plain_body said.now) ≡ applied_as (leader_in self.new) c result }
+        ensures fits { AppliesAs (λ a c. if_read a c stays number (plain_body said.now))
+            self.old command.now self.new result }
         ensures same { result ≡ Applied.Nothing → leader_in self.new ≡ leader_in self.old }
         ensures link { self.new.link ≡ self.old.link }
         ensures settings { self.new.settings ≡ self.old.settings }
-        ensures is { IsCore self.new }
+        ensures is { AreStores self.new }
         ensures audit { (order : Option Ordered) → IsAuditFor order result }
     {
         match masked_in(said) {
@@ -131,15 +136,16 @@ impl Core {
 
     /// Does what the helper's reply to this command says, where it fits.
     pub(crate) fn apply(&mut self, command: &Issued, said: &Body<'_>) -> Applied
-        requires is { IsCore self.old }
+        requires is { AreStores self.old }
         requires lane { command.now.lane < self.old.settings.lanes }
         requires body { IsBody (plain_body said.now) }
         requires width { has_width self.old.settings.width (plain_body said.now) ≡ true }
-        ensures fits { (c : PlainFrame) → IsIssued c command.now → fits (leader_in self.old) c (plain_body said.now) (refusal_in (plain_body said.now)) ≡ applied_as (leader_in self.new) c result }
+        ensures fits { AppliesAs (λ a c. fits a c (plain_body said.now) (refusal_in (plain_body said.now)))
+            self.old command.now self.new result }
         ensures same { result ≡ Applied.Nothing → leader_in self.new ≡ leader_in self.old }
         ensures link { self.new.link ≡ self.old.link }
         ensures settings { self.new.settings ≡ self.old.settings }
-        ensures is { IsCore self.new }
+        ensures is { AreStores self.new }
         ensures audit { IsAuditFor command.now.order result }
     {
         if let Some(refusal) = refusal_in(said) {
@@ -151,12 +157,12 @@ impl Core {
             return Applied::Nothing;
         };
         match order {
-            Order::Register(address) => self.to_register(command, address, said),
-            Order::Begin => self.to_begin(command, said),
-            Order::Audit => self.to_audit(command, said),
-            Order::Settle => self.to_settle(command, said),
-            Order::Read(number) => self.to_read(command, true, number, said),
-            Order::Retire(number) => self.to_read(command, false, number, said),
+            CommandOrder::Register(address) => self.to_register(command, address, said),
+            CommandOrder::Begin => self.to_begin(command, said),
+            CommandOrder::Audit => self.to_audit(command, said),
+            CommandOrder::Settle => self.to_settle(command, said),
+            CommandOrder::Read(number) => self.to_read(command, true, number, said),
+            CommandOrder::Retire(number) => self.to_read(command, false, number, said),
         }
     }
 }

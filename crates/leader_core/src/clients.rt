@@ -6,19 +6,18 @@ ghost use Rattle.frame_rules.specs.Frames.{PlainFrame, plain, plain_body};
 ghost use Rattle.frame_rules.specs.Spelling.{IsFrame};
 ghost use Rattle.frame_rules.specs.Whole.{is_from_client};
 ghost use Rattle.frame_rules.specs.Room.{HasRoom};
-ghost use Rattle.server_boxes.specs.Held.{write_in};
 ghost use Rattle.step_rules.specs.Boxes.{addresses_of};
-ghost use Rattle.step_rules.specs.Leader.{Leader, Asked as Asks, Turn as Turned, want_in};
-ghost use Rattle.step_rules.specs.LeaderClients.{audits, if_named, if_room, issued_for, on_proof, on_submission};
+ghost use Rattle.step_rules.specs.Leader.{Leader};
+ghost use Rattle.step_rules.specs.LeaderClients.{if_named, if_room, issued_for, on_proof, on_submission};
 ghost use Rattle.leader_core.specs.Asked.{asked_with, named_in, IsAsked};
-ghost use Rattle.leader_core.specs.Slots.{or_said, ordered, IsSaid};
-ghost use Rattle.leader_core.specs.State.{leader_in, IsCore};
-ghost use Rattle.leader_core.specs.Told.{turn_steps, Does};
+ghost use Rattle.leader_core.specs.Saying.{Admits, IsSaid, LetsThrough};
+ghost use Rattle.leader_core.specs.State.{audits_there, leader_in, AreStores};
+ghost use Rattle.leader_core.specs.Told.{turn_steps, DoesTurn, ExpandsNothing};
 
 use crate::asked::{Asked, Named};
-use crate::said::Said;
-use crate::slot::{Slot, Stage, refused};
-use crate::stores::Core;
+use crate::said::SaidToClient;
+use crate::slot::{LeaderSlot, LeaderStage, refused};
+use crate::stores::LeaderStores;
 use crate::turn::Turn;
 use crate::writing::{issue, tell};
 use chacha_expand::{draw32, token};
@@ -34,9 +33,13 @@ use std::sync::ledger::Ledger;
 const LAST_NUMBER: u64 = u64::MAX - 64;
 
 /// What is said where a read or a retire names no box, or not by its token.
-fn named_box(boxes: &ServerBoxes, frame: &Frame<'_>, named: Option<Named>) -> Option<Said<'static>>
-    ensures turn { (a : Leader) (issued : Turned) → a.boxes ≡ boxes.now.boxes
-        → if_named a (plain frame.now) (named_in named) issued ≡ or_said a (plain frame.now) result issued }
+fn named_box(
+    boxes: &ServerBoxes,
+    frame: &Frame<'_>,
+    named: Option<Named>,
+) -> Option<SaidToClient<'static>>
+    ensures turn { (a : Leader) → a.boxes ≡ boxes.now.boxes
+        → LetsThrough a (plain frame.now) (if_named a (plain frame.now) (named_in named)) result }
     ensures said { IfSome result IsSaid }
 {
     let Some(named) = named else {
@@ -52,18 +55,16 @@ fn named_box(boxes: &ServerBoxes, frame: &Frame<'_>, named: Option<Named>) -> Op
     }
 }
 
-impl Core {
+impl LeaderStores {
     /// What is said to a register, a write, a read or a retire; None where its command may be issued.
     pub(crate) fn admit(
         &self,
         frame: &Frame<'_>,
         want: Want,
         named: Option<Named>,
-    ) -> Option<Said<'_>>
-        requires is { IsCore self.now }
-        ensures turn { (asked : Asks) → want ≡ want_in asked
-            → on_submission (leader_in self.now) (plain frame.now) asked (named_in named) ≡ or_said
-            (leader_in self.now) (plain frame.now) result (ordered (leader_in self.now) (plain frame.now) asked) }
+    ) -> Option<SaidToClient<'_>>
+        requires is { AreStores self.now }
+        ensures turn { Admits (leader_in self.now) (plain frame.now) want (named_in named) result }
         ensures said { IfSome result IsSaid }
         ensures lane { IsNone result → frame.now.lane < self.now.settings.lanes }
     {
@@ -77,10 +78,10 @@ impl Core {
     }
 
     /// What is said where no command can be issued: the numbers are used up, or the window is full.
-    pub(crate) fn room(&self) -> Option<Said<'static>>
-        requires is { IsCore self.now }
-        ensures turn { (f : PlainFrame) (issued : Turned)
-            → if_room (leader_in self.now) f issued ≡ or_said (leader_in self.now) f result issued }
+    pub(crate) fn room(&self) -> Option<SaidToClient<'static>>
+        requires is { AreStores self.now }
+        ensures turn { (f : PlainFrame)
+            → LetsThrough (leader_in self.now) f (if_room (leader_in self.now) f) result }
         ensures said { IfSome result IsSaid }
         ensures next { IsNone result → self.now.link.next ≤ 2 ^ 64 - 65 }
         ensures free { IsNone result → length self.now.link.frames < self.now.link.window }
@@ -96,7 +97,7 @@ impl Core {
 
     /// Issues the first command of a request.
     fn submit(&mut self, frame: &Frame<'_>, asked: Asked, part: &[u8], out: &mut [u8]) -> Turn
-        requires is { IsCore self.old }
+        requires is { AreStores self.old }
         requires is_frame { IsFrame (plain frame.now) }
         requires class { is_from_client (plain_body frame.now.body) ≡ true }
         requires lane { frame.now.lane < self.old.settings.lanes }
@@ -104,9 +105,10 @@ impl Core {
         requires next { self.old.link.next ≤ 2 ^ 64 - 65 }
         requires free { length self.old.link.frames < self.old.link.window }
         requires room { HasRoom out.old }
-        ensures does { Does (issued_for (leader_in self.old) (plain frame.now) (asked_with asked part.now)) self.new result out.old out.new }
-        ensures none { turn_steps (leader_in self.old) (issued_for (leader_in self.old) (plain frame.now)
-            (asked_with asked part.now)).answer ≡ 0 }
+        ensures does { DoesTurn (issued_for (leader_in self.old) (plain frame.now)
+            (asked_with asked part.now)) self.new result out.old out.new }
+        ensures none { ExpandsNothing (leader_in self.old)
+            (issued_for (leader_in self.old) (plain frame.now) (asked_with asked part.now)) }
         ensures settings { self.new.settings ≡ self.old.settings }
     {
         let number = self.link.next();
@@ -126,14 +128,15 @@ impl Core {
         named: Option<Named>,
         out: &mut [u8],
     ) -> Turn
-        requires is { IsCore self.old }
+        requires is { AreStores self.old }
         requires is_frame { IsFrame (plain frame.now) }
         requires class { is_from_client (plain_body frame.now.body) ≡ true }
         requires part { IsAsked self.old.settings.width asked part.now }
         requires room { HasRoom out.old }
-        ensures does { Does (on_submission (leader_in self.old) (plain frame.now) (asked_with asked part.now) (named_in named)) self.new result out.old out.new }
-        ensures none { turn_steps (leader_in self.old) (on_submission (leader_in self.old)
-            (plain frame.now) (asked_with asked part.now) (named_in named)).answer ≡ 0 }
+        ensures does { DoesTurn (on_submission (leader_in self.old) (plain frame.now)
+            (asked_with asked part.now) (named_in named)) self.new result out.old out.new }
+        ensures none { ExpandsNothing (leader_in self.old) (on_submission (leader_in self.old)
+            (plain frame.now) (asked_with asked part.now) (named_in named)) }
         ensures settings { self.new.settings ≡ self.old.settings }
     {
         if let Some(said) = self.admit(frame, asked.want(), named) {
@@ -154,18 +157,18 @@ impl Core {
         out: &mut [u8],
         steps: &mut Steps<L>,
     ) -> Turn
-        requires is { IsCore self.old }
+        requires is { AreStores self.old }
         requires is_frame { IsFrame (plain frame.now) }
         requires class { is_from_client (plain_body frame.now.body) ≡ true }
         requires lane { frame.now.lane < self.old.settings.lanes }
-        requires held { (d : Slot)
-            → (slice_index_or self.old.slots.items frame.now.lane d).stage ≡ Stage.Challenged begun.now }
+        requires held { (d : LeaderSlot)
+            → (slice_index_or self.old.slots.items frame.now.lane d).stage ≡ LeaderStage.Challenged begun.now }
         requires next { self.old.link.next ≤ 2 ^ 64 - 65 }
         requires free { length self.old.link.frames < self.old.link.window }
         requires room { HasRoom out.old }
-        ensures does { (d : Slot)
-            → Does (audits (leader_in self.old) (plain frame.now) (write_in begun.now
-            (slice_index_or self.old.slots.items frame.now.lane d).room.part.items) share.now) self.new result out.old out.new }
+        ensures does { (d : LeaderSlot)
+            → DoesTurn (audits_there self.old (plain frame.now) begun.now share.now d)
+            self.new result out.old out.new }
         ensures steps { steps.new ≡ steps.old + prefix_count (take begun.now.count
             (addresses_of self.old.boxes.boxes)) }
         ensures settings { self.new.settings ≡ self.old.settings }
@@ -193,11 +196,11 @@ impl Core {
         out: &mut [u8],
         steps: &mut Steps<L>,
     ) -> Turn
-        requires is { IsCore self.old }
+        requires is { AreStores self.old }
         requires is_frame { IsFrame (plain frame.now) }
         requires class { is_from_client (plain_body frame.now.body) ≡ true }
         requires room { HasRoom out.old }
-        ensures does { Does (on_proof (leader_in self.old) (plain frame.now) share.now) self.new result out.old out.new }
+        ensures does { DoesTurn (on_proof (leader_in self.old) (plain frame.now) share.now) self.new result out.old out.new }
         ensures steps { steps.new ≡ steps.old + turn_steps (leader_in self.old) (on_proof
             (leader_in self.old) (plain frame.now) share.now).answer }
         ensures settings { self.new.settings ≡ self.old.settings }

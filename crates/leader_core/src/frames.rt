@@ -5,11 +5,11 @@ ghost use Rattle.frame_rules.specs.Spelling.{IsFrame};
 ghost use Rattle.frame_rules.specs.Whole.{is_from_client};
 ghost use Rattle.frame_rules.specs.Room.{HasRoom};
 ghost use Rattle.step_rules.specs.LeaderClients.{by_kind, on_client};
-ghost use Rattle.leader_core.specs.State.{leader_in, IsCore};
-ghost use Rattle.leader_core.specs.Told.{turn_steps, Does};
+ghost use Rattle.leader_core.specs.State.{leader_in, AreStores};
+ghost use Rattle.leader_core.specs.Told.{turn_steps, DoesTurn};
 
 use crate::asked::{Asked, Named};
-use crate::stores::Core;
+use crate::stores::LeaderStores;
 use crate::turn::Turn;
 use crate::writing::reply;
 use chacha_expand::draw32;
@@ -20,15 +20,16 @@ use frame_rules::{Body, Frame};
 use std::sync::ledger::Ledger;
 use wire_frames::{refused_bytes, whole};
 
-impl Core {
+impl LeaderStores {
     /// A write of this root and public part.
     #[tactic(auto, unfolding(step_rules::specs::LeaderClients::by_kind))]
     fn write(&mut self, frame: &Frame<'_>, root: u128, part: &[u8], out: &mut [u8]) -> Turn
-        requires is { IsCore self.old }
+        requires is { AreStores self.old }
         requires is_frame { IsFrame (plain frame.now) }
         requires class { is_from_client (plain_body frame.now.body) ≡ true }
         requires room { HasRoom out.old }
-        ensures does { Does (by_kind (leader_in self.old) (plain frame.now) (Writes root part.now)) self.new result out.old out.new }
+        ensures does { DoesTurn (by_kind (leader_in self.old) (plain frame.now) (Writes root part.now))
+            self.new result out.old out.new }
         ensures none { turn_steps (leader_in self.old) (by_kind (leader_in self.old) (plain frame.now)
             (Writes root part.now)).answer ≡ 0 }
         ensures settings { self.new.settings ≡ self.old.settings }
@@ -48,9 +49,9 @@ impl Core {
         out: &mut [u8],
         steps: &mut Steps<L>,
     ) -> Turn
-        requires is { IsCore self.old }
+        requires is { AreStores self.old }
         requires room { HasRoom out.old }
-        ensures does { Does (on_client (leader_in self.old) bytes.now) self.new result out.old out.new }
+        ensures does { DoesTurn (on_client (leader_in self.old) bytes.now) self.new result out.old out.new }
         ensures steps { steps.new ≡ steps.old + turn_steps (leader_in self.old) (on_client
             (leader_in self.old) bytes.now).answer }
         ensures settings { self.new.settings ≡ self.old.settings }

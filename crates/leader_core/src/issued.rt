@@ -9,7 +9,7 @@ use lane_table::Want;
 
 /// What a command orders, but for what the lane's slot holds itself.
 #[derive(Clone, Copy)]
-pub(crate) enum Order {
+pub(crate) enum CommandOrder {
     Register(u128),
     Begin,
     Audit,
@@ -24,35 +24,35 @@ pub(crate) struct Issued {
     pub(crate) lane: u16,
     pub(crate) serial: u32,
     pub(crate) link: u64,
-    pub(crate) order: Option<Order>,
+    pub(crate) order: Option<CommandOrder>,
 }
 
 /// What a command's body orders.
-pub(crate) fn order_in(body: &Body<'_>) -> Option<Order>
+pub(crate) fn order_in(body: &Body<'_>) -> Option<CommandOrder>
     ensures { result ≡ order_in (plain_body body.now) }
 {
     match *body {
-        Body::LinkRegister { address } => Some(Order::Register(address)),
-        Body::LinkBegin { .. } => Some(Order::Begin),
-        Body::LinkAudit { .. } => Some(Order::Audit),
-        Body::LinkSettle(_) => Some(Order::Settle),
-        Body::LinkRead { box_number } => Some(Order::Read(box_number)),
-        Body::LinkRetire { box_number } => Some(Order::Retire(box_number)),
+        Body::LinkRegister { address } => Some(CommandOrder::Register(address)),
+        Body::LinkBegin { .. } => Some(CommandOrder::Begin),
+        Body::LinkAudit { .. } => Some(CommandOrder::Audit),
+        Body::LinkSettle(_) => Some(CommandOrder::Settle),
+        Body::LinkRead { box_number } => Some(CommandOrder::Read(box_number)),
+        Body::LinkRetire { box_number } => Some(CommandOrder::Retire(box_number)),
         _ => None,
     }
 }
 
 /// What the request of a command asks for.
-pub(crate) fn want_of_order(order: Option<Order>) -> Want
+pub(crate) fn want_of_order(order: Option<CommandOrder>) -> Want
     ensures { result ≡ want_of_order order }
 {
     match order {
-        Some(Order::Register(_)) => Want::Register,
-        Some(Order::Read(_)) => Want::Read,
-        Some(Order::Retire(_)) => Want::Read,
-        Some(Order::Begin) => Want::Write,
-        Some(Order::Audit) => Want::Write,
-        Some(Order::Settle) => Want::Write,
+        Some(CommandOrder::Register(_)) => Want::Register,
+        Some(CommandOrder::Read(_)) => Want::Read,
+        Some(CommandOrder::Retire(_)) => Want::Read,
+        Some(CommandOrder::Begin) => Want::Write,
+        Some(CommandOrder::Audit) => Want::Write,
+        Some(CommandOrder::Settle) => Want::Write,
         None => Want::Write,
     }
 }
@@ -74,7 +74,8 @@ impl Issued {
 
     /// Whether a reply has the command's number, lane and serial.
     pub(crate) fn is_answered_by(&self, reply: &Frame<'_>) -> bool
-        ensures { result ≡ ((reply.now.link == self.now.link) && ((reply.now.lane == self.now.lane) && (reply.now.serial == self.now.serial))) }
+        ensures { result ≡ ((reply.now.link == self.now.link)
+            && ((reply.now.lane == self.now.lane) && (reply.now.serial == self.now.serial))) }
     {
         reply.link == self.link && (reply.lane == self.lane && reply.serial == self.serial)
     }

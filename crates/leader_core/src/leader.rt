@@ -12,7 +12,7 @@ ghost use Rattle.leader_core.specs.State.{share_in};
 ghost use Rattle.leader_core.specs.Told.{acked, acked_bytes, sent_length, turned, turn_steps};
 
 use crate::slot::idle_slots;
-use crate::stores::Core;
+use crate::stores::LeaderStores;
 use crate::turn::{Ack, Turn};
 use dpf_eval::Steps;
 use express_words::{NoMemory, Settings};
@@ -27,7 +27,7 @@ use std::sync::ledger::Ledger;
 /// memory is taken when it is opened.
 #[derive(Drop)]
 pub struct Leader {
-    core: Core,
+    core: LeaderStores,
 }
 
 impl Model for Leader {
@@ -45,7 +45,8 @@ impl Model for Leader {
 impl Leader {
     /// A leader with no boxes, which has issued nothing. Its draws come from `seed`.
     pub fn open(alloc: Global, settings: &Settings, seed: &[u8; 32]) -> Result<Leader, NoMemory>
-        requires limits { KeepsLimits settings.now.width settings.now.boxes settings.now.lanes settings.now.window }
+        requires limits { KeepsLimits settings.now.width settings.now.boxes settings.now.lanes
+            settings.now.window }
         ensures { IfOk result (λ a. a ≡ opened_leader settings.now seed.now) }
     {
         let boxes = ServerBoxes::open(alloc, settings.boxes, settings.width)?;
@@ -53,7 +54,7 @@ impl Leader {
         let link = Outgoing::open(alloc, settings.window, FRAME_MAX as u32)?;
         let seed = *seed;
         Ok(Leader {
-            core: Core {
+            core: LeaderStores {
                 settings: *settings,
                 boxes,
                 slots,
@@ -76,10 +77,10 @@ impl Leader {
         ensures leader { self.new ≡ (on_client self.old frame.now).leader }
         ensures refused { TurnLeaves (on_client self.old frame.now).answer self.old self.new }
         ensures answer { result ≡ turned (on_client self.old frame.now).answer }
-        ensures written { take (length (written (on_client self.old frame.now).answer)) out.new ≡ written
-            (on_client self.old frame.now).answer }
-        ensures rest { drop (length (written (on_client self.old frame.now).answer)) out.new ≡ drop (length
-            (written (on_client self.old frame.now).answer)) out.old }
+        ensures written { let bytes = written (on_client self.old frame.now).answer in
+            take (length bytes) out.new ≡ bytes }
+        ensures rest { let count = length (written (on_client self.old frame.now).answer) in
+            drop count out.new ≡ drop count out.old }
         ensures steps { steps.new ≡ steps.old + turn_steps self.old (on_client self.old frame.now).answer }
         // The command that a client is told to wait for is outstanding.
         ensures awaits { TellsAwaited self.old frame.now result }
@@ -96,11 +97,10 @@ impl Leader {
         ensures leader { self.new ≡ (on_reply_bytes self.old frame.now).leader }
         ensures refused { AckLeaves (on_reply_bytes self.old frame.now).ack self.old self.new }
         ensures answer { result ≡ acked (on_reply_bytes self.old frame.now).ack }
-        ensures written { take (length (acked_bytes
-            (on_reply_bytes self.old frame.now).ack)) out.new ≡ acked_bytes
-            (on_reply_bytes self.old frame.now).ack }
-        ensures rest { drop (length (acked_bytes (on_reply_bytes self.old frame.now).ack)) out.new ≡ drop
-            (length (acked_bytes (on_reply_bytes self.old frame.now).ack)) out.old }
+        ensures written { let bytes = acked_bytes (on_reply_bytes self.old frame.now).ack in
+            take (length bytes) out.new ≡ bytes }
+        ensures rest { let count = length (acked_bytes (on_reply_bytes self.old frame.now).ack) in
+            drop count out.new ≡ drop count out.old }
         ensures rows { RowsAwait self.new }
         ensures settings { self.new.settings ≡ self.old.settings }
     {

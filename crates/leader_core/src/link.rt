@@ -6,12 +6,12 @@ ghost use Rattle.frame_rules.specs.Room.{HasRoom};
 ghost use Rattle.link_order.specs.Link.{IsOutstanding};
 ghost use Rattle.step_rules.specs.LeaderReplies.{on_reply_bytes, resent};
 ghost use Rattle.leader_core.specs.Replies.{settled_with, told, IsIssued};
-ghost use Rattle.leader_core.specs.State.{leader_in, is_audit, oldest_in, IsCore};
+ghost use Rattle.leader_core.specs.State.{leader_in, is_audit, oldest_in, AreStores};
 ghost use Rattle.leader_core.specs.Told.{sent_length, DoesAck};
 
 use crate::applied::Applied;
 use crate::issued::{Issued, order_in};
-use crate::stores::Core;
+use crate::stores::LeaderStores;
 use crate::turn::Ack;
 use crate::writing::{issue, put_frame};
 use express_words::Closing;
@@ -22,7 +22,7 @@ use wire_frames::{reply_in, whole};
 /// Removes the oldest outstanding command.
 pub(crate) fn drop_oldest(link: &mut Outgoing)
     requires some { 0 < length link.old.frames }
-    ensures link { link.new ≡ record { next = link.old.next; window = link.old.window; size = link.old.size; frames = drop 1 link.old.frames } }
+    ensures link { link.new ≡ record link.old { frames = drop 1 link.old.frames } }
     ensures order { IsOutstanding link.new }
 {
     match link.oldest() {
@@ -33,10 +33,10 @@ pub(crate) fn drop_oldest(link: &mut Outgoing)
     }
 }
 
-impl Core {
+impl LeaderStores {
     /// The oldest outstanding command.
     pub(crate) fn oldest(&self) -> Option<Issued>
-        requires is { IsCore self.now }
+        requires is { AreStores self.now }
         ensures none { IsNone result → self.now.link.frames ≡ [] }
         ensures some { IsSome result → 0 < length self.now.link.frames }
         ensures issued { IfSome result (IsIssued (oldest_in self.now)) }
@@ -57,7 +57,7 @@ impl Core {
 
     /// The oldest command is answered: the reply that the lane keeps is written for its client.
     fn tell_lane(&mut self, command: &Issued, out: &mut [u8]) -> Ack
-        requires is { IsCore self.old }
+        requires is { AreStores self.old }
         requires lane { command.now.lane < self.old.settings.lanes }
         requires serial { 1 ≤ command.now.serial }
         requires some { 0 < length self.old.link.frames }
@@ -75,7 +75,7 @@ impl Core {
 
     /// The oldest command, an audit, is answered: the settle is issued in its place.
     fn settle(&mut self, command: &Issued, own: Closing, out: &mut [u8]) -> Ack
-        requires is { IsCore self.old }
+        requires is { AreStores self.old }
         requires lane { command.now.lane < self.old.settings.lanes }
         requires serial { 1 ≤ command.now.serial }
         requires some { 0 < length self.old.link.frames }
@@ -94,9 +94,10 @@ impl Core {
 
     /// Bytes of the helper.
     pub(crate) fn on_reply(&mut self, bytes: &[u8], out: &mut [u8]) -> Ack
-        requires is { IsCore self.old }
+        requires is { AreStores self.old }
         requires room { HasRoom out.old }
-        ensures does { DoesAck (on_reply_bytes (leader_in self.old) bytes.now) self.new result out.old out.new }
+        ensures does { DoesAck (on_reply_bytes (leader_in self.old) bytes.now)
+            self.new result out.old out.new }
         ensures settings { self.new.settings ≡ self.old.settings }
     {
         let Some(reply) = reply_in(bytes, self.settings.width) else {
@@ -117,7 +118,7 @@ impl Core {
 
     /// How many commands are outstanding.
     pub(crate) fn outstanding(&self) -> usize
-        requires is { IsCore self.now }
+        requires is { AreStores self.now }
         ensures count { result ≡ length (leader_in self.now).outstanding }
         ensures few { result ≤ 32 }
     {
@@ -129,7 +130,7 @@ impl Core {
 
     /// Writes the oldest outstanding command again.
     pub(crate) fn resend(&self, out: &mut [u8]) -> Option<(u64, usize)>
-        requires is { IsCore self.now }
+        requires is { AreStores self.now }
         requires room { HasRoom out.old }
         ensures none { IsNone result ↔ (resent (leader_in self.now) ≡ None) }
         ensures number { IfSome result (λ x. x.0 + length

@@ -1,15 +1,15 @@
 //! The leader's stores.
-use crate::slot::Slot;
+use crate::slot::LeaderSlot;
 use express_words::Settings;
 use link_order::Outgoing;
 use server_boxes::ServerBoxes;
 
 /// Server 0's boxes and shares, what it holds of each lane, and its outstanding commands.
 #[derive(Drop)]
-pub(crate) struct Core {
+pub(crate) struct LeaderStores {
     pub(crate) settings: Settings,
     pub(crate) boxes: ServerBoxes,
-    pub(crate) slots: Vec<Slot>,
+    pub(crate) slots: Vec<LeaderSlot>,
     pub(crate) link: Outgoing,
     pub(crate) draws: u64,
     pub(crate) seed: [u8; 32],

@@ -20,10 +20,10 @@ fn take_counted<L: Ledger>(blank: Blank, leader: &mut Leader, frame: &[u8], out:
     requires room { HasRoom out.old }
     ensures leader { leader.new ≡ (on_client leader.old frame.now).leader }
     ensures turn { result ≡ turned (on_client leader.old frame.now).answer }
-    ensures written { take (length (written (on_client leader.old frame.now).answer)) out.new ≡ written
-        (on_client leader.old frame.now).answer }
-    ensures rest { drop (length (written (on_client leader.old frame.now).answer)) out.new ≡ drop (length
-        (written (on_client leader.old frame.now).answer)) out.old }
+    ensures written { let bytes = written (on_client leader.old frame.now).answer in
+        take (length bytes) out.new ≡ bytes }
+    ensures rest { let count = length (written (on_client leader.old frame.now).answer) in
+        drop count out.new ≡ drop count out.old }
     ensures settings { leader.new.settings ≡ leader.old.settings }
     ensures awaits { TellsAwaited leader.old frame.now result }
     ensures rows { RowsAwait leader.new }
@@ -38,10 +38,10 @@ pub fn take_request(leader: &mut Leader, frame: &[u8], out: &mut [u8]) -> Turn
     requires room { HasRoom out.old }
     ensures leader { leader.new ≡ (on_client leader.old frame.now).leader }
     ensures turn { result ≡ turned (on_client leader.old frame.now).answer }
-    ensures written { take (length (written (on_client leader.old frame.now).answer)) out.new ≡ written
-        (on_client leader.old frame.now).answer }
-    ensures rest { drop (length (written (on_client leader.old frame.now).answer)) out.new ≡ drop (length
-        (written (on_client leader.old frame.now).answer)) out.old }
+    ensures written { let bytes = written (on_client leader.old frame.now).answer in
+        take (length bytes) out.new ≡ bytes }
+    ensures rest { let count = length (written (on_client leader.old frame.now).answer) in
+        drop count out.new ≡ drop count out.old }
     ensures settings { leader.new.settings ≡ leader.old.settings }
     // The command that a client is told to wait for is outstanding.
     ensures awaits { TellsAwaited leader.old frame.now result }

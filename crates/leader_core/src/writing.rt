@@ -7,11 +7,11 @@ ghost use Rattle.frame_rules.specs.Whole.{is_from_client, on_link};
 ghost use Rattle.frame_rules.specs.Room.{HasRoom};
 ghost use Rattle.link_order.specs.Link.{IsOutstanding};
 ghost use Rattle.step_rules.specs.Leader.{Leader, Reply};
-ghost use Rattle.leader_core.specs.Slots.{said_in, IsSaid};
+ghost use Rattle.leader_core.specs.Saying.{said_in, IsSaid};
 ghost use Rattle.leader_core.specs.State.{with_command};
-ghost use Rattle.leader_core.specs.Told.{IsFront, IsTold};
+ghost use Rattle.leader_core.specs.Told.{WritesFront, IsTold};
 
-use crate::said::Said;
+use crate::said::SaidToClient;
 use crate::turn::Turn;
 use frame_rules::{Body, Frame};
 use link_order::Outgoing;
@@ -22,7 +22,7 @@ pub(crate) fn put_frame(frame: &Frame<'_>, out: &mut [u8]) -> usize
     requires is_frame { IsFrame (plain frame.now) }
     requires room { HasRoom out.old }
     ensures length { result ≡ length (spelling (plain frame.now)) }
-    ensures front { IsFront (spelling (plain frame.now)) out.old out.new }
+    ensures front { WritesFront (spelling (plain frame.now)) out.old out.new }
 {
     encode_into(frame, out)
 }
@@ -37,7 +37,7 @@ pub(crate) fn reply(reply: &Frame<'_>, out: &mut [u8]) -> Turn
 }
 
 /// Writes what is said to a client's frame.
-pub(crate) fn tell(frame: &Frame<'_>, said: &Said<'_>, out: &mut [u8]) -> Turn
+pub(crate) fn tell(frame: &Frame<'_>, said: &SaidToClient<'_>, out: &mut [u8]) -> Turn
     requires is_frame { IsFrame (plain frame.now) }
     requires class { is_from_client (plain_body frame.now.body) ≡ true }
     requires said { IsSaid said.now }
@@ -45,8 +45,8 @@ pub(crate) fn tell(frame: &Frame<'_>, said: &Said<'_>, out: &mut [u8]) -> Turn
     ensures { (a : Leader) → IsTold (said_in a (plain frame.now) said.now).answer result out.old out.new }
 {
     match said {
-        Said::Reply(body) => reply(&answer(frame, body), out),
-        Said::Waiting(number) => Turn::Waiting(*number),
+        SaidToClient::Reply(body) => reply(&answer(frame, body), out),
+        SaidToClient::Waiting(number) => Turn::Waiting(*number),
     }
 }
 
@@ -71,7 +71,8 @@ pub(crate) fn issue(
     ensures is_frame { IsFrame (on_link (plain frame.now) link.old.next (plain_body body.now)) }
     ensures length { result ≡ length (spelling (on_link (plain frame.now) link.old.next
         (plain_body body.now))) }
-    ensures front { IsFront (spelling (on_link (plain frame.now) link.old.next (plain_body body.now))) out.old out.new }
+    ensures front { WritesFront (spelling (on_link (plain frame.now) link.old.next
+        (plain_body body.now))) out.old out.new }
 {
     let number = link.next();
     let command = on_link(frame, number, body);
