@@ -11,8 +11,8 @@ use Rattle.frame_rules.specs.Frames.{PlainFrame}
 use Rattle.frame_rules.specs.Whole.{whole}
 use Rattle.dpf_rules.specs.Expansion.{mask}
 use Rattle.step_rules.specs.Client.{Client, Owned, Current, Turn, Message}
-use Rattle.client_core.specs.declared.stage.Stage.{Stage}
-use Rattle.client_core.specs.declared.state.State.{State}
+use Rattle.client_core.specs.declared.stage.CurrentStep.{CurrentStep}
+use Rattle.client_core.specs.declared.state.ClientState.{ClientState}
 use Rattle.client_core.specs.States.{IsCurrent, IsState}
 use Rattle.client_core.specs.declared.progress.Outcome.TheVariants as outcome
 use Rattle.client_core.specs.declared.progress.Progress.TheVariants as progress
@@ -59,8 +59,8 @@ masks_off zero one m0 m1 = xor_bytes_assoc (xor_bytes zero m0) m1 one ∙ ap (xo
 
 -- ---- the current request
 
-pub current_of : (s : State) (stage : Stage) → s.stage ≡ Some stage → IsState s → IsCurrent s stage
-current_of s stage e is = subst (λ (o : Option Stage). IfSome o (IsCurrent s)) e is.current
+pub current_of : (s : ClientState) (stage : CurrentStep) → s.stage ≡ Some stage → IsState s → IsCurrent s stage
+current_of s stage e is = subst (λ (o : Option CurrentStep). IfSome o (IsCurrent s)) e is.current
 
 -- ---- taking masks off
 

@@ -10,8 +10,8 @@ use Rattle.audit_rules.proofs.ChallengeLemmas.{all_map}
 use Rattle.mailbox_rules.specs.Requests.{Write}
 use Rattle.step_rules.specs.Client.{Client, Step, Deposits, Submits, ProvesToHelper, ProvesToLeader}
 use Rattle.step_rules.specs.ClientAsks.{words, root, difference, public_part, share_for, deposit_of, submission_of, proof_of, sends, sent_at, Sent}
-use Rattle.client_core.specs.declared.stage.Stage.{Stage}
-use Rattle.client_core.specs.declared.state.State.{State}
+use Rattle.client_core.specs.declared.stage.CurrentStep.{CurrentStep}
+use Rattle.client_core.specs.declared.state.ClientState.{ClientState}
 use Rattle.client_core.specs.Answers.{bytes_of}
 use Rattle.client_core.specs.Stages.{current_in}
 use Rattle.client_core.specs.States.{client_in}
@@ -29,12 +29,12 @@ pub are_words : (c : Client) → AreWords (words c)
 are_words c = record { count = refl; size = all_map (choice c.seed c.serial) (2 ^ 128) (λ k. stream_word_lt c.seed c.serial _) (range_with_len 0 16) }
 
 -- a client has a request exactly where it has a stage
-pub nothing_current : (s : State) (c : Client) → client_in s ≡ c → s.stage ≡ None → c.current ≡ None
-nothing_current s c view e = ap (λ (x : Client). x.current) (sym view) ∙ ap (option_map (λ (stage : Stage). current_in stage s.message.items)) e
+pub nothing_current : (s : ClientState) (c : Client) → client_in s ≡ c → s.stage ≡ None → c.current ≡ None
+nothing_current s c view e = ap (λ (x : Client). x.current) (sym view) ∙ ap (option_map (λ (stage : CurrentStep). current_in stage s.message.items)) e
 
-pub something_current : (s : State) (c : Client) (stage : Stage) → client_in s ≡ c → s.stage ≡ Some stage → c.current ≢ None
+pub something_current : (s : ClientState) (c : Client) (stage : CurrentStep) → client_in s ≡ c → s.stage ≡ Some stage → c.current ≢ None
 something_current s c stage view e none =
-    let some = ap (λ (x : Client). x.current) (sym view) ∙ ap (option_map (λ (stage : Stage). current_in stage s.message.items)) e in
+    let some = ap (λ (x : Client). x.current) (sym view) ∙ ap (option_map (λ (stage : CurrentStep). current_in stage s.message.items)) e in
     cc
 
 pub nothing_sent : (c : Client) → c.current ≡ None → sends c ≡ None

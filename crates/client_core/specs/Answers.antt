@@ -1,5 +1,6 @@
 -- What a client gives: its frame's server and length, and what it says of a reply.
 use Rattle.std.specs.Prelude.{ℕ, List, [], length, Option, Some, None}
+use Rattle.frame_rules.specs.Frames.{PlainFrame}
 use Rattle.frame_rules.specs.Spelling.{spelling}
 use Rattle.step_rules.specs.Client as steps
 use Rattle.step_rules.specs.ClientAsks.{Sent}
@@ -7,6 +8,10 @@ use Rattle.client_core.specs.declared.progress.Outcome.{Outcome}
 use Rattle.client_core.specs.declared.progress.Outcome.TheVariants as outcome
 use Rattle.client_core.specs.declared.progress.Progress.{Progress}
 use Rattle.client_core.specs.declared.progress.Progress.TheVariants as progress
+
+-- this frame to this server
+abbrev pub sent_to : (server : ℕ) → PlainFrame → Sent
+sent_to server frame = record { server = server; frame = frame }
 
 -- the server, the leader 0 and the helper 1, and the frame's length in bytes
 abbrev pub addressed : Sent → ℕ × ℕ

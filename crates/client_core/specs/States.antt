@@ -1,17 +1,18 @@
 -- A client read from what holds it.
-use Rattle.std.specs.Prelude.{◌≡◌, ◌+◌, ◌^◌, ◌<◌, ◌≤◌, length, map, option_map, IfSome, vec_capacity}
+use Rattle.std.specs.Prelude.{◌≡◌, ℕ, ◌+◌, ◌^◌, ◌<◌, ◌≤◌, length, map, option_map, IfSome, vec_capacity}
 use Rattle.express_words.specs.Limits.{IsWidth, levels_len}
 use Rattle.dpf_rules.specs.Expansion.{choice}
-use Rattle.step_rules.specs.Client.{Client, Owned}
-use Rattle.client_core.specs.declared.state.OwnBox.{OwnBox}
-use Rattle.client_core.specs.declared.state.State.{State}
-use Rattle.client_core.specs.declared.stage.Stage.{Stage}
-use Rattle.client_core.specs.Stages.{current_in, Held, IsStage}
+use Rattle.step_rules.specs.Client.{Client, Current, Owned}
+use Rattle.step_rules.specs.ClientAsks.{server_of}
+use Rattle.client_core.specs.declared.state.KeyedBox.{KeyedBox}
+use Rattle.client_core.specs.declared.state.ClientState.{ClientState}
+use Rattle.client_core.specs.declared.stage.CurrentStep.{CurrentStep}
+use Rattle.client_core.specs.Stages.{current_in, Basis, IsStage}
 
-abbrev pub owned_in : OwnBox → Owned
+abbrev pub owned_in : KeyedBox → Owned
 owned_in o = record { number = o.number; key0 = o.key0; key1 = o.key1 }
 
-abbrev pub client_in : State → Client
+abbrev pub client_in : ClientState → Client
 client_in s = record {
   lane = s.lane;
   seed = s.seed;
@@ -22,7 +23,15 @@ client_in s = record {
   current = option_map (λ stage. current_in stage s.message.items) s.stage;
 }
 
-abbrev pub held_in : State → Held
+-- the request and the step of this stage
+abbrev pub current_at : ClientState → CurrentStep → Current
+current_at s stage = current_in stage s.message.items
+
+-- the server that its frame goes to
+abbrev pub server_at : ClientState → CurrentStep → ℕ
+server_at s stage = server_of (current_at s stage).step
+
+abbrev pub held_in : ClientState → Basis
 held_in s = record {
   owned = length s.owned.items;
   capacity = s.capacity;
@@ -33,12 +42,12 @@ held_in s = record {
 }
 
 -- the current request has a serial, and rests on what is held
-pub record IsCurrent (s : State) (stage : Stage) : Type 0 where
+pub record IsCurrent (s : ClientState) (stage : CurrentStep) : Type 0 where
   pub unspent : s.serial < 2 ^ 32
   pub is_stage : IsStage (held_in s) stage
 
 -- the room that is taken at opening, and the current request
-pub record IsState (s : State) : Type 0 where
+pub record IsState (s : ClientState) : Type 0 where
   pub width : IsWidth s.width
   pub message : length s.message.items ≡ s.width
   pub part : length s.part.items ≡ levels_len + s.width

@@ -1,6 +1,6 @@
 -- What the frames of a write are made of: the honest keys of a point function, and the proof for its
 -- difference at the target, both from the sixteen words that the client drew.
-use Rattle.std.specs.Prelude.{◌≡◌, ℕ, ◌^◌, ◌<◌, List, length, slice_index, All}
+use Rattle.std.specs.Prelude.{◌≡◌, ℕ, ◌^◌, ◌<◌, List, Some, length, slice_index, All}
 use Rattle.frame_rules.specs.declared.frame.DepositBody.TheVariants as deposit
 use Rattle.frame_rules.specs.Frames as frame
 use Rattle.frame_rules.specs.Frames.{PlainBody}
@@ -8,7 +8,9 @@ use Rattle.dpf_rules.specs.Expansion.{challenge_r, challenge_s}
 use Rattle.dpf_rules.specs.Keys.{honest_keys}
 use Rattle.dpf_rules.specs.Evaluation.{difference_at}
 use Rattle.audit_rules.specs.Audit.{zero_share, one_share}
-use Rattle.step_rules.specs.Client.{Step, Deposits, Submits, ProvesToHelper, ProvesToLeader}
+use Rattle.mailbox_rules.specs.Requests.{Write}
+use Rattle.step_rules.specs.Client.{Client, Step, Deposits, Submits, ProvesToHelper, ProvesToLeader}
+use Rattle.step_rules.specs.ClientAsks as asks
 use Rattle.step_rules.specs.ClientAsks.{Sent, server_of}
 
 -- the first word is the root of server 0, the second that of server 1
@@ -34,6 +36,13 @@ write_sent lane serial words target message step =
       server = server_of step;
       frame = record { lane = lane; serial = serial; link = 0; body = write_body words target message step };
     }
+
+-- where its current request is a write, a client sends this frame of its lane, serial and words
+abbrev pub SendsWrites : Client → Type 0
+SendsWrites c =
+    (target : ℕ) (message : List ℕ) (step : Step) →
+    c.current ≡ Some (record { request = Write target message; step = step }) →
+    asks.sends c ≡ Some (write_sent c.lane c.serial (asks.words c) target message step)
 
 -- sixteen words of 128 bits
 pub record AreWords (words : List ℕ) : Type 0 where

@@ -7,11 +7,11 @@ ghost use Rattle.client_core.specs.Stages.{request_in, IsTask, IsKeyed};
 ghost use Rattle.client_core.specs.States.{client_in, IsState, held_in};
 
 use crate::request::{AskFault, Request};
-use crate::stage::{Stage, Task};
-use crate::state::State;
+use crate::stage::{BareRequest, CurrentStep};
+use crate::state::ClientState;
 use dpf_keys::generate;
 
-impl State {
+impl ClientState {
     // What of the boxes and the width is against a request.
     fn own_fault(&self, request: &Request<'_>) -> Option<AskFault>
         requires is { IsState self.now }
@@ -83,7 +83,7 @@ impl State {
     }
 
     // The request without its message, which is kept.
-    fn task(&mut self, request: &Request<'_>) -> Task
+    fn task(&mut self, request: &Request<'_>) -> BareRequest
         requires is { IsState self.old }
         requires idle { self.old.stage ≡ None }
         requires unspent { self.old.serial < 2 ^ 32 }
@@ -94,13 +94,13 @@ impl State {
         ensures is { IsState self.new }
     {
         match *request {
-            Request::Register { address } => Task::Register(address),
+            Request::Register { address } => BareRequest::Register(address),
             Request::Write { target, message } => {
                 self.make_keys(target, message);
-                Task::Write(target)
+                BareRequest::Write(target)
             }
-            Request::Read { own } => Task::Read(own),
-            Request::Retire { own } => Task::Retire(own),
+            Request::Read { own } => BareRequest::Read(own),
+            Request::Retire { own } => BareRequest::Retire(own),
         }
     }
 
@@ -118,7 +118,7 @@ impl State {
             Some(fault) => Err(fault),
             None => {
                 let task = self.task(request);
-                self.stage = Some(Stage::Deposits(task));
+                self.stage = Some(CurrentStep::Deposits(task));
                 Ok(())
             }
         }

@@ -1,20 +1,19 @@
 //! A client over its state.
-ghost use Rattle.std.specs.Prelude.{◌≡◌, ◌≤◌, ◌↔◌, ℕ, List, length, take, drop, IfOk, IfErr, OnErr, Ok, Err, Some, None, option_map, is_none, nat_le, if◌then◌else◌, false};
+ghost use Rattle.std.specs.Prelude.{◌≡◌, ◌≤◌, ◌↔◌, length, take, drop, IfOk, IfErr, OnErr, Ok, Err, Some, None, option_map, is_none, nat_le, if◌then◌else◌, false};
 ghost use Rattle.express_words.specs.Limits.{IsWidth};
-ghost use Rattle.mailbox_rules.specs.Requests.{Write};
 ghost use Rattle.frame_rules.specs.Room.{HasRoom};
-ghost use Rattle.step_rules.specs.Client.{opened_client, Step};
+ghost use Rattle.step_rules.specs.Client.{opened_client};
 ghost use Rattle.step_rules.specs.ClientAsks.{asked, fault_at, owning, sends, words};
 ghost use Rattle.step_rules.specs.ClientReplies.{on_reply};
 ghost use Rattle.client_core.specs.Requests.{plain_request, fault_in};
 ghost use Rattle.client_core.specs.Answers.{addressed, bytes_of, progress_in, message_or};
 ghost use Rattle.client_core.specs.GivingUp.{given_up};
 ghost use Rattle.client_core.specs.LastProof.{at_last_proof};
-ghost use Rattle.client_core.specs.Writes.{write_sent, AreWords};
+ghost use Rattle.client_core.specs.Writes.{AreWords, SendsWrites};
 
 use crate::progress::Progress;
 use crate::request::{AskFault, Request};
-use crate::state::State;
+use crate::state::ClientState;
 use express_words::NoMemory;
 use std::alloc::Global;
 use std::marker::Model;
@@ -23,7 +22,7 @@ use wire_frames::encode_into;
 /// A client of one lane: its own boxes, and at most one current request. All of its memory is taken at opening.
 #[derive(Drop)]
 pub struct Client {
-    state: State,
+    state: ClientState,
 }
 
 impl Model for Client {
@@ -56,7 +55,7 @@ impl Client {
         ensures width { IfOk result (λ c. c.width ≡ width) }
         ensures idle { IfOk result (λ c. c.current ≡ None) }
     {
-        let state = State::open(alloc, lane, seed, width, capacity, first_serial)?;
+        let state = ClientState::open(alloc, lane, seed, width, capacity, first_serial)?;
         Ok(Client { state })
     }
 
@@ -92,7 +91,8 @@ impl Client {
 
     /// Why `ask` would not take this request; None exactly where it would. Nothing changes.
     pub fn fault_at(&self, request: &Request<'_>) -> Option<AskFault>
-        ensures { option_map fault_in result ≡ fault_at self.now (plain_request request.now) self.now.current }
+        ensures { option_map fault_in result
+            ≡ fault_at self.now (plain_request request.now) self.now.current }
     {
         self.state.fault(request)
     }
@@ -122,10 +122,7 @@ impl Client {
             (sends self.now)) in drop count out.new ≡ drop count out.old }
         // The frames of a write are the honest keys and the proof of the sixteen words that were drawn for its serial,
         // with lane and serial, and nothing else.
-        ensures write { (target : ℕ) (message : List ℕ) (step : Step) →
-            self.now.current ≡ Some (record { request = Write target message; step = step }) →
-            sends self.now ≡ Some (write_sent self.now.lane self.now.serial
-            (words self.now) target message step) }
+        ensures write { SendsWrites self.now }
         ensures words { AreWords (words self.now) }
     {
         match self.state.stage {

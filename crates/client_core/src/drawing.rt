@@ -4,13 +4,13 @@ ghost use Rattle.step_rules.specs.ClientAsks as asks;
 ghost use Rattle.client_core.specs.Stages.{IsKeyed};
 ghost use Rattle.client_core.specs.States.{client_in, IsState, held_in};
 
-use crate::state::State;
+use crate::state::ClientState;
 use chacha_expand::{challenge, choices};
 use dpf_keys::{PublicPart, walk};
 use express_words::ProofShare;
 use snip_proof::prove;
 
-impl State {
+impl ClientState {
     /// The sixteen words of the serial.
     pub(crate) fn words(&self) -> [u128; 16]
         requires unspent { self.now.serial < 2 ^ 32 }

@@ -3,12 +3,13 @@ ghost use Rattle.std.specs.Prelude.{◌≡◌, ◌<◌, ◌≤◌, ◌^◌, ℕ,
 ghost use Rattle.frame_rules.specs.Frames.{plain, plain_body, Deposit, Proof, Read, Register, Retire};
 ghost use Rattle.frame_rules.specs.Spelling.{IsBody, IsFrame};
 ghost use Rattle.frame_rules.specs.Whole.{is_from_client};
-ghost use Rattle.step_rules.specs.ClientAsks.{deposit_of, submission_of, body_of, server_of, sends};
-ghost use Rattle.client_core.specs.Stages.{current_in, request_in, IsTask, IsStage};
-ghost use Rattle.client_core.specs.States.{client_in, owned_in, IsState, IsCurrent, held_in};
+ghost use Rattle.step_rules.specs.ClientAsks.{deposit_of, submission_of, body_of, sends};
+ghost use Rattle.client_core.specs.Answers.{sent_to};
+ghost use Rattle.client_core.specs.Stages.{request_in, IsTask, IsStage};
+ghost use Rattle.client_core.specs.States.{client_in, current_at, owned_in, server_at, IsState, IsCurrent, held_in};
 
-use crate::stage::{Stage, Task};
-use crate::state::{OwnBox, State};
+use crate::stage::{BareRequest, CurrentStep};
+use crate::state::{ClientState, KeyedBox};
 use audit_rules::read_share;
 use chacha_expand::{owner_keys, token};
 use express_words::ProofShare;
@@ -64,7 +65,7 @@ fn retirement(box_number: u32, token: u128) -> Body<'static>
     Body::Retire { box_number, token }
 }
 
-impl State {
+impl ClientState {
     // The serial of the current request.
     pub(crate) fn current_serial(&self) -> u32
         requires unspent { self.now.serial < 2 ^ 32 }
@@ -74,7 +75,7 @@ impl State {
     }
 
     // An own box.
-    pub(crate) fn own_box(&self, own: u32) -> &OwnBox
+    pub(crate) fn own_box(&self, own: u32) -> &KeyedBox
         requires { own < length self.now.owned.items }
         ensures { slice_get (client_in self.now).owned own ≡ Some (owned_in result.now) }
     {
@@ -82,7 +83,7 @@ impl State {
     }
 
     #[tactic(auto, unfolding(step_rules::specs::ClientAsks::deposit_of, step_rules::specs::ClientAsks::read_deposit))]
-    fn deposit(&self, task: &Task) -> DepositBody
+    fn deposit(&self, task: &BareRequest) -> DepositBody
         requires unspent { self.now.serial < 2 ^ 32 }
         requires task { IsTask (held_in self.now) task.now }
         ensures { deposit_of (client_in self.now) (request_in task.now self.now.message.items)
@@ -90,10 +91,14 @@ impl State {
     {
         let serial = self.current_serial();
         match *task {
-            Task::Register(_) => DepositBody::Register(owner_keys(&self.seed, serial).1),
-            Task::Write(_) => DepositBody::Write(self.words()[1]),
-            Task::Read(own) => DepositBody::Read(token(&self.own_box(own).key1, self.lane, serial)),
-            Task::Retire(own) => DepositBody::Read(token(
+            BareRequest::Register(_) => DepositBody::Register(owner_keys(&self.seed, serial).1),
+            BareRequest::Write(_) => DepositBody::Write(self.words()[1]),
+            BareRequest::Read(own) => DepositBody::Read(token(
+                &self.own_box(own).key1,
+                self.lane,
+                serial,
+            )),
+            BareRequest::Retire(own) => DepositBody::Read(token(
                 &self.own_box(own).key1,
                 self.lane,
                 serial,
@@ -102,7 +107,7 @@ impl State {
     }
 
     #[tactic(auto, unfolding(step_rules::specs::ClientAsks::submission_of, step_rules::specs::ClientAsks::read_submission, step_rules::specs::ClientAsks::public_part))]
-    fn submission(&self, task: &Task) -> Body<'_>
+    fn submission(&self, task: &BareRequest) -> Body<'_>
         requires is { IsState self.now }
         requires unspent { self.now.serial < 2 ^ 32 }
         requires task { IsTask (held_in self.now) task.now }
@@ -113,19 +118,19 @@ impl State {
     {
         let serial = self.current_serial();
         match *task {
-            Task::Register(address) => {
+            BareRequest::Register(address) => {
                 let (key, _) = owner_keys(&self.seed, serial);
                 registration(address, key)
             }
-            Task::Write(_) => Body::Write {
+            BareRequest::Write(_) => Body::Write {
                 root: self.words()[0],
                 part: &self.part,
             },
-            Task::Read(own) => {
+            BareRequest::Read(own) => {
                 let own = self.own_box(own);
                 reading(own.number, token(&own.key0, self.lane, serial))
             }
-            Task::Retire(own) => {
+            BareRequest::Retire(own) => {
                 let own = self.own_box(own);
                 retirement(own.number, token(&own.key0, self.lane, serial))
             }
@@ -133,29 +138,29 @@ impl State {
     }
 
     #[tactic(auto, unfolding(step_rules::specs::ClientAsks::proof_of))]
-    fn body(&self, stage: &Stage) -> Body<'_>
+    fn body(&self, stage: &CurrentStep) -> Body<'_>
         requires is { IsState self.now }
         requires current { IsCurrent self.now stage.now }
-        ensures body { let current = current_in stage.now self.now.message.items in
+        ensures body { let current = current_at self.now stage.now in
             body_of (client_in self.now) current.request current.step ≡ Some (plain_body result) }
         ensures sent { is_from_client (plain_body result) ≡ true }
         ensures right { IsBody (plain_body result) }
     {
         match *stage {
-            Stage::Deposits(task) => Body::Deposit(self.deposit(&task)),
-            Stage::Submits(task) => self.submission(&task),
-            Stage::ProvesToHelper(target, ckey) => proof_body(self.proof(target, &ckey).1),
-            Stage::ProvesToLeader(target, ckey) => proof_body(self.proof(target, &ckey).0),
+            CurrentStep::Deposits(task) => Body::Deposit(self.deposit(&task)),
+            CurrentStep::Submits(task) => self.submission(&task),
+            CurrentStep::ProvesToHelper(target, ckey) => proof_body(self.proof(target, &ckey).1),
+            CurrentStep::ProvesToLeader(target, ckey) => proof_body(self.proof(target, &ckey).0),
         }
     }
 
     /// The frame of the present step.
     #[tactic(auto, unfolding(step_rules::specs::ClientAsks::sends))]
-    pub(crate) fn frame(&self, stage: &Stage) -> Frame<'_>
+    pub(crate) fn frame(&self, stage: &CurrentStep) -> Frame<'_>
         requires is { IsState self.now }
         requires current { self.now.stage ≡ Some stage.now }
-        ensures frame { (server : ℕ) → server ≡ server_of (current_in stage.now self.now.message.items).step →
-            sends (client_in self.now) ≡ Some (record { server = server; frame = plain result }) }
+        ensures frame { (server : ℕ) → server ≡ server_at self.now stage.now →
+            sends (client_in self.now) ≡ Some (sent_to server (plain result)) }
         ensures is_frame { IsFrame (plain result) }
     {
         to_server(self.lane, self.current_serial(), &self.body(stage))

@@ -7,14 +7,14 @@ ghost use Rattle.client_core.specs.Answers.{progress_in, message_or};
 ghost use Rattle.client_core.specs.Heard.{message_turn, turn_in, IsHeard};
 ghost use Rattle.client_core.specs.States.{client_in, owned_in, IsState, held_in};
 
-use crate::hearing::{Heard, hear};
+use crate::hearing::{Meaning, hear};
 use crate::progress::{Outcome, Progress};
-use crate::state::{OwnBox, State};
+use crate::state::{ClientState, KeyedBox};
 use chacha_expand::mask_into;
 use dpf_rules::xor_into;
 use wire_frames::whole;
 
-impl State {
+impl ClientState {
     /// The request is finished.
     pub(crate) fn finish(&mut self)
         requires is { IsState self.old }
@@ -27,7 +27,7 @@ impl State {
     }
 
     // Writes both parts without their masks.
-    fn unmask(&self, own: &OwnBox, zero: &[u8], one: &[u8], message: &mut [u8])
+    fn unmask(&self, own: &KeyedBox, zero: &[u8], one: &[u8], message: &mut [u8])
         requires is { IsState self.now }
         requires unspent { self.now.serial < 2 ^ 32 }
         requires zero { length zero.now ≡ self.now.width }
@@ -56,7 +56,7 @@ impl State {
 
     // What was heard happens.
     #[tactic(auto, unfolding(step_rules::specs::ClientReplies::on_registered))]
-    fn obey(&mut self, heard: &Heard<'_>, message: &mut [u8]) -> Progress
+    fn obey(&mut self, heard: &Meaning<'_>, message: &mut [u8]) -> Progress
         requires is { IsState self.old }
         requires unspent { self.old.serial < 2 ^ 32 }
         requires heard { IsHeard (held_in self.old) heard.now }
@@ -71,19 +71,19 @@ impl State {
         ensures is { IsState self.new }
     {
         match *heard {
-            Heard::Nothing => Progress::Ignored,
-            Heard::Later(refusal) => Progress::Later(refusal),
-            Heard::Next(stage) => {
+            Meaning::Nothing => Progress::Ignored,
+            Meaning::Later(refusal) => Progress::Later(refusal),
+            Meaning::Next(stage) => {
                 self.stage = Some(stage);
                 Progress::Next
             }
-            Heard::Registered(number) => {
+            Meaning::Registered(number) => {
                 self.register(number);
                 Progress::Finished(Outcome::Registered(number))
             }
-            Heard::Message(own, zero, one) => self.receive(own, zero, one, message),
-            Heard::Accepted => self.ended(Outcome::Accepted),
-            Heard::Refused(refusal) => self.ended(Outcome::Refused(refusal)),
+            Meaning::Message(own, zero, one) => self.receive(own, zero, one, message),
+            Meaning::Accepted => self.ended(Outcome::Accepted),
+            Meaning::Refused(refusal) => self.ended(Outcome::Refused(refusal)),
         }
     }
 

@@ -6,7 +6,7 @@ ghost use Rattle.client_core.specs.Stages.{current_in, request_in};
 
 /// A request without its message.
 #[derive(Clone, Copy)]
-pub(crate) enum Task {
+pub(crate) enum BareRequest {
     Register(u128),
     Write(u128),
     Read(u32),
@@ -15,23 +15,23 @@ pub(crate) enum Task {
 
 /// The present step of the current request. Only a write comes to the last two, with its target and the audit's key.
 #[derive(Clone, Copy)]
-pub(crate) enum Stage {
-    Deposits(Task),
-    Submits(Task),
+pub(crate) enum CurrentStep {
+    Deposits(BareRequest),
+    Submits(BareRequest),
     ProvesToHelper(u128, [u8; 32]),
     ProvesToLeader(u128, [u8; 32]),
 }
 
-impl Stage {
+impl CurrentStep {
     /// The server that the step's frame goes to: the leader is 0, the helper 1.
     pub(crate) fn server(&self) -> u8
         ensures { (message : List ℕ) → server_of (current_in self.now message).step ≡ result }
     {
         match self {
-            Stage::Deposits(_) => 1,
-            Stage::Submits(_) => 0,
-            Stage::ProvesToHelper(_, _) => 1,
-            Stage::ProvesToLeader(_, _) => 0,
+            CurrentStep::Deposits(_) => 1,
+            CurrentStep::Submits(_) => 0,
+            CurrentStep::ProvesToHelper(_, _) => 1,
+            CurrentStep::ProvesToLeader(_, _) => 0,
         }
     }
 
@@ -40,20 +40,22 @@ impl Stage {
         ensures { (message : List ℕ) → is_last_proof (current_in self.now message).step ≡ result }
     {
         match self {
-            Stage::ProvesToLeader(_, _) => true,
-            Stage::Deposits(_) | Stage::Submits(_) | Stage::ProvesToHelper(_, _) => false,
+            CurrentStep::ProvesToLeader(_, _) => true,
+            CurrentStep::Deposits(_)
+            | CurrentStep::Submits(_)
+            | CurrentStep::ProvesToHelper(_, _) => false,
         }
     }
 
     /// The request, without its message.
-    pub(crate) fn task(&self) -> Task
+    pub(crate) fn task(&self) -> BareRequest
         ensures { (message : List ℕ) → request_in result message ≡ (current_in self.now message).request }
     {
         match *self {
-            Stage::Deposits(task) => task,
-            Stage::Submits(task) => task,
-            Stage::ProvesToHelper(target, _) => Task::Write(target),
-            Stage::ProvesToLeader(target, _) => Task::Write(target),
+            CurrentStep::Deposits(task) => task,
+            CurrentStep::Submits(task) => task,
+            CurrentStep::ProvesToHelper(target, _) => BareRequest::Write(target),
+            CurrentStep::ProvesToLeader(target, _) => BareRequest::Write(target),
         }
     }
 }

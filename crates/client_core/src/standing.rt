@@ -8,26 +8,26 @@ ghost use Rattle.client_core.specs.Requests.{plain_request};
 ghost use Rattle.client_core.specs.Stages.{request_in};
 ghost use Rattle.client_core.specs.States.{client_in, IsState, held_in};
 
-use crate::hearing::{Heard, hear};
+use crate::hearing::{Meaning, hear};
 use crate::progress::{Outcome, Progress};
 use crate::request::Request;
-use crate::stage::Task;
-use crate::state::State;
+use crate::stage::BareRequest;
+use crate::state::ClientState;
 use wire_frames::whole;
 
-impl State {
+impl ClientState {
     // The request of this task, with the message that is kept.
-    fn request_of(&self, task: &Task) -> Request<'_>
+    fn request_of(&self, task: &BareRequest) -> Request<'_>
         ensures { plain_request result ≡ request_in task.now self.now.message.items }
     {
         match *task {
-            Task::Register(address) => Request::Register { address },
-            Task::Write(target) => Request::Write {
+            BareRequest::Register(address) => Request::Register { address },
+            BareRequest::Write(target) => Request::Write {
                 target,
                 message: &self.message,
             },
-            Task::Read(own) => Request::Read { own },
-            Task::Retire(own) => Request::Retire { own },
+            BareRequest::Read(own) => Request::Read { own },
+            BareRequest::Retire(own) => Request::Retire { own },
         }
     }
 
@@ -59,19 +59,19 @@ impl State {
 
     // What becomes of what was heard.
     #[tactic(auto, unfolding(step_rules::specs::ClientReplies::on_registered))]
-    fn progress_of(&self, heard: &Heard<'_>) -> Progress
+    fn progress_of(&self, heard: &Meaning<'_>) -> Progress
         requires heard { IsHeard (held_in self.now) heard.now }
         ensures { result
             ≡ progress_in (turn_in (client_in self.now) self.now.message.items heard.now).progress }
     {
         match *heard {
-            Heard::Nothing => Progress::Ignored,
-            Heard::Later(refusal) => Progress::Later(refusal),
-            Heard::Next(_) => Progress::Next,
-            Heard::Registered(number) => Progress::Finished(Outcome::Registered(number)),
-            Heard::Message(own, zero, one) => self.received(own, zero, one),
-            Heard::Accepted => Progress::Finished(Outcome::Accepted),
-            Heard::Refused(refusal) => Progress::Finished(Outcome::Refused(refusal)),
+            Meaning::Nothing => Progress::Ignored,
+            Meaning::Later(refusal) => Progress::Later(refusal),
+            Meaning::Next(_) => Progress::Next,
+            Meaning::Registered(number) => Progress::Finished(Outcome::Registered(number)),
+            Meaning::Message(own, zero, one) => self.received(own, zero, one),
+            Meaning::Accepted => Progress::Finished(Outcome::Accepted),
+            Meaning::Refused(refusal) => Progress::Finished(Outcome::Refused(refusal)),
         }
     }
 

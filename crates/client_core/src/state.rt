@@ -5,7 +5,7 @@ ghost use Rattle.step_rules.specs.Client.{opened_client};
 ghost use Rattle.step_rules.specs.ClientAsks.{owned_by};
 ghost use Rattle.client_core.specs.States.{client_in, IsState};
 
-use crate::stage::Stage;
+use crate::stage::CurrentStep;
 use chacha_expand::owner_keys;
 use express_words::NoMemory;
 use express_words::limits::LEVELS_LEN;
@@ -13,7 +13,7 @@ use std::alloc::Global;
 
 /// A box of the client's own: its number, and its keys at server 0 and server 1.
 #[derive(Clone, Copy)]
-pub(crate) struct OwnBox {
+pub(crate) struct KeyedBox {
     pub(crate) number: u32,
     pub(crate) key0: [u8; 32],
     pub(crate) key1: [u8; 32],
@@ -21,15 +21,15 @@ pub(crate) struct OwnBox {
 
 /// A client, with room for a message, for a public part, and for all of its boxes.
 #[derive(Drop)]
-pub(crate) struct State {
+pub(crate) struct ClientState {
     pub(crate) lane: u16,
     pub(crate) seed: [u8; 32],
     pub(crate) width: u32,
     pub(crate) capacity: u32,
-    pub(crate) owned: Vec<OwnBox>,
+    pub(crate) owned: Vec<KeyedBox>,
     /// Of the current request, or else of the next one; 2^32 where all are spent.
     pub(crate) serial: u64,
-    pub(crate) stage: Option<Stage>,
+    pub(crate) stage: Option<CurrentStep>,
     /// The message of the current request, if that is a write.
     pub(crate) message: Vec<u8>,
     /// Its public part.
@@ -45,7 +45,7 @@ fn zeros(alloc: Global, count: usize) -> Result<Vec<u8>, NoMemory>
     }
 }
 
-impl State {
+impl ClientState {
     #[tactic(auto, unfolding(step_rules::specs::Client::opened_client))]
     pub(crate) fn open(
         alloc: Global,
@@ -54,7 +54,7 @@ impl State {
         width: u32,
         capacity: u32,
         first_serial: u32,
-    ) -> Result<State, NoMemory>
+    ) -> Result<ClientState, NoMemory>
         requires width { IsWidth width }
         requires serial { 1 ≤ first_serial }
         ensures opened { IfOk result (λ s.
@@ -68,7 +68,7 @@ impl State {
         };
         let message = zeros(alloc, width as usize)?;
         let part = zeros(alloc, LEVELS_LEN + width as usize)?;
-        Ok(State {
+        Ok(ClientState {
             lane,
             seed: *seed,
             width,
@@ -99,6 +99,6 @@ impl State {
         ensures is { self.old.stage ≡ None → IsState self.new }
     {
         let (key0, key1) = owner_keys(&self.seed, serial);
-        self.owned.push_reserved(OwnBox { number, key0, key1 });
+        self.owned.push_reserved(KeyedBox { number, key0, key1 });
     }
 }

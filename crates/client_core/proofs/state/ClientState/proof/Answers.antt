@@ -3,7 +3,7 @@ use Rattle.dpf_rules.specs.Expansion.{challenge_r, challenge_s}
 use Rattle.audit_rules.specs.Audit.{zero_share, one_share}
 use Rattle.step_rules.specs.ClientAsks.{share_for, difference}
 use Rattle.client_core.specs.States.{client_in}
-use Rattle.client_core.proofs.state.State.proof.Goals as goal
+use Rattle.client_core.proofs.state.ClientState.proof.Goals as goal
 
 pub returns-clause-zero : goal.returns-clause-zero
 unfolding share_for

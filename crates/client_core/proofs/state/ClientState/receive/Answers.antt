@@ -3,7 +3,7 @@ use Rattle.step_rules.specs.Client.{Turn}
 use Rattle.client_core.specs.Answers.{progress_in, message_or}
 use Rattle.client_core.specs.States.{client_in, owned_in}
 use Rattle.client_core.proofs.ReplyLemmas.{wrong_width, right_width}
-use Rattle.client_core.proofs.state.State.receive.Goals as goal
+use Rattle.client_core.proofs.state.ClientState.receive.Goals as goal
 
 pub returns-then-zero-self-clause-client : goal.returns-then-zero-self-clause-client
 returns-then-zero-self-clause-client c =

@@ -1,7 +1,7 @@
 use Rattle.std.proofs.lemmas.List.{length-map}
 use Rattle.client_core.specs.States.{client_in}
 use Rattle.client_core.proofs.ReplyLemmas.{message_read, message_dropped}
-use Rattle.client_core.proofs.state.State.received.Goals as goal
+use Rattle.client_core.proofs.state.ClientState.received.Goals as goal
 
 pub returns-then-zero-self : goal.returns-then-zero-self
 returns-then-zero-self c =

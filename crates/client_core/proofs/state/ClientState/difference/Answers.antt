@@ -3,7 +3,7 @@ use Rattle.dpf_rules.specs.Walk.{leaf_of}
 use Rattle.std.specs.Prelude.{slice_index}
 use Rattle.client_core.specs.States.{client_in}
 use Rattle.client_core.proofs.WriteLemmas.{difference_is}
-use Rattle.client_core.proofs.state.State.difference.Goals as goal
+use Rattle.client_core.proofs.state.ClientState.difference.Goals as goal
 
 pub returns : goal.returns
 returns c =

@@ -3,7 +3,7 @@ use Rattle.step_rules.specs.Client.{Client}
 use Rattle.step_rules.specs.ClientAsks.{owned_by}
 use Rattle.step_rules.specs.ClientReplies.{on_registered}
 use Rattle.client_core.specs.States.{client_in}
-use Rattle.client_core.proofs.state.State.register.Goals as goal
+use Rattle.client_core.proofs.state.ClientState.register.Goals as goal
 
 pub returns-clause-client : goal.returns-clause-client
 unfolding on_registered

@@ -3,28 +3,28 @@ use Rattle.std.specs.Prelude.{option_map}
 use Rattle.frame_rules.specs.Frames.{plain}
 use Rattle.step_rules.specs.Client.{Turn}
 use Rattle.step_rules.specs.ClientReplies as replies
-use Rattle.client_core.specs.declared.stage.Stage.{Stage}
+use Rattle.client_core.specs.declared.stage.CurrentStep.{CurrentStep}
 use Rattle.client_core.specs.Answers.{progress_in, message_or}
 use Rattle.client_core.specs.Heard.{turn_in}
 use Rattle.client_core.specs.Stages.{current_in}
 use Rattle.client_core.specs.States.{client_in, held_in}
 use Rattle.client_core.proofs.ReplyLemmas.{idle, no_frame, frame_heard, current_of}
-use Rattle.client_core.proofs.state.State.on_reply.Goals as goal
+use Rattle.client_core.proofs.state.ClientState.on_reply.Goals as goal
 
 pub returns-in-None-clause-client : goal.returns-in-None-clause-client
 returns-in-None-clause-client c =
     let s = c.args.self.now in
-    ap (λ (t : Turn). t.client) (sym (idle (client_in s) c.args.bytes.now (ap (option_map (λ (g : Stage). current_in g s.message.items)) c.in-None.is)))
+    ap (λ (t : Turn). t.client) (sym (idle (client_in s) c.args.bytes.now (ap (option_map (λ (g : CurrentStep). current_in g s.message.items)) c.in-None.is)))
 
 pub returns-in-None-clause-progress : goal.returns-in-None-clause-progress
 returns-in-None-clause-progress c =
     let s = c.args.self.now in
-    ap (λ (t : Turn). progress_in t.progress) (sym (idle (client_in s) c.args.bytes.now (ap (option_map (λ (g : Stage). current_in g s.message.items)) c.in-None.is)))
+    ap (λ (t : Turn). progress_in t.progress) (sym (idle (client_in s) c.args.bytes.now (ap (option_map (λ (g : CurrentStep). current_in g s.message.items)) c.in-None.is)))
 
 pub returns-in-None-clause-message : goal.returns-in-None-clause-message
 returns-in-None-clause-message c =
     let s = c.args.self.now in
-    ap (λ (t : Turn). message_or c.args.message.now t.progress) (sym (idle (client_in s) c.args.bytes.now (ap (option_map (λ (g : Stage). current_in g s.message.items)) c.in-None.is)))
+    ap (λ (t : Turn). message_or c.args.message.now t.progress) (sym (idle (client_in s) c.args.bytes.now (ap (option_map (λ (g : CurrentStep). current_in g s.message.items)) c.in-None.is)))
 
 pub returns-in-Err-clause-client : goal.returns-in-Err-clause-client
 returns-in-Err-clause-client c = ap (λ (t : Turn). t.client) (sym (no_frame (client_in c.args.self.now) c.args.bytes.now _ c.in-Err.ensures.refused))
@@ -43,7 +43,7 @@ returns-in-Ok-clause-client c =
     let s = c.args.self.now in
     let m = s.message.items in
     let heard : replies.on_reply (client_in s) c.args.bytes.now ≡ turn_in (client_in s) m c.hear-heard.result =
-    frame_heard (client_in s) c.args.bytes.now (plain c.in-Ok.frame) (current_in c.in-Some.stage m) _ c.in-Ok.ensures.frame (ap (option_map (λ (g : Stage). current_in g m)) c.in-Some.is)
+    frame_heard (client_in s) c.args.bytes.now (plain c.in-Ok.frame) (current_in c.in-Some.stage m) _ c.in-Ok.ensures.frame (ap (option_map (λ (g : CurrentStep). current_in g m)) c.in-Some.is)
     (c.hear-heard.ensures.turn (client_in s) m refl refl) in
     c.obey.ensures.client ∙ ap (λ (t : Turn). t.client) (sym heard)
 
@@ -52,7 +52,7 @@ returns-in-Ok-clause-progress c =
     let s = c.args.self.now in
     let m = s.message.items in
     let heard : replies.on_reply (client_in s) c.args.bytes.now ≡ turn_in (client_in s) m c.hear-heard.result =
-    frame_heard (client_in s) c.args.bytes.now (plain c.in-Ok.frame) (current_in c.in-Some.stage m) _ c.in-Ok.ensures.frame (ap (option_map (λ (g : Stage). current_in g m)) c.in-Some.is)
+    frame_heard (client_in s) c.args.bytes.now (plain c.in-Ok.frame) (current_in c.in-Some.stage m) _ c.in-Ok.ensures.frame (ap (option_map (λ (g : CurrentStep). current_in g m)) c.in-Some.is)
     (c.hear-heard.ensures.turn (client_in s) m refl refl) in
     c.obey.ensures.progress ∙ ap (λ (t : Turn). progress_in t.progress) (sym heard)
 
@@ -61,6 +61,6 @@ returns-in-Ok-clause-message c =
     let s = c.args.self.now in
     let m = s.message.items in
     let heard : replies.on_reply (client_in s) c.args.bytes.now ≡ turn_in (client_in s) m c.hear-heard.result =
-    frame_heard (client_in s) c.args.bytes.now (plain c.in-Ok.frame) (current_in c.in-Some.stage m) _ c.in-Ok.ensures.frame (ap (option_map (λ (g : Stage). current_in g m)) c.in-Some.is)
+    frame_heard (client_in s) c.args.bytes.now (plain c.in-Ok.frame) (current_in c.in-Some.stage m) _ c.in-Ok.ensures.frame (ap (option_map (λ (g : CurrentStep). current_in g m)) c.in-Some.is)
     (c.hear-heard.ensures.turn (client_in s) m refl refl) in
     c.obey.ensures.message ∙ ap (λ (t : Turn). message_or c.args.message.now t.progress) (sym heard)

@@ -5,7 +5,7 @@ use Rattle.mailbox_rules.specs.Requests.{Request}
 use Rattle.client_core.specs.Requests.{plain_request, fault_in}
 use Rattle.client_core.specs.States.{client_in}
 use Rattle.client_core.proofs.AskLemmas.{refused_is, asked_is}
-use Rattle.client_core.proofs.state.State.ask.Goals as goal
+use Rattle.client_core.proofs.state.ClientState.ask.Goals as goal
 
 pub returns-in-Some-clause-refused : goal.returns-in-Some-clause-refused
 returns-in-Some-clause-refused c =

@@ -1,6 +1,6 @@
 use Rattle.std.proofs.Common.{◌∙◌}
 use Rattle.client_core.proofs.ReplyLemmas.{unmasked_is}
-use Rattle.client_core.proofs.state.State.unmask.Goals as goal
+use Rattle.client_core.proofs.state.ClientState.unmask.Goals as goal
 
 pub returns : goal.returns
 returns c =
