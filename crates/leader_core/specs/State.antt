@@ -106,6 +106,12 @@ pub record AreStores (c : LeaderStores) : Type 0 where
   pub server : FitsSettings c.settings c.boxes c.slots.items
   pub link : IsLink c.settings c.link c.draws
 
+-- what a reply's effect keeps: the link, the settings, and that the stores are right
+pub record KeepsStores (old new : LeaderStores) : Type 0 where
+  pub link : new.link ≡ old.link
+  pub settings : new.settings ≡ old.settings
+  pub is : AreStores new
+
 -- the share of a box; zeros where there is none
 abbrev pub share_in : steps.Leader → ℕ → List ℕ
 share_in a number = share_of a.settings.width (slice_get a.boxes number)

@@ -6,7 +6,7 @@ ghost use Rattle.frame_rules.specs.Whole.{IsAnswer};
 ghost use Rattle.step_rules.specs.LeaderReplies.{accepted, audited, began, done, read, registered, rejected};
 ghost use Rattle.leader_core.specs.Applying.{stage_at, Applies, AppliesSettle};
 ghost use Rattle.leader_core.specs.Replies.{want_of_order};
-ghost use Rattle.leader_core.specs.State.{leader_in, AreStores};
+ghost use Rattle.leader_core.specs.State.{leader_in, AreStores, KeepsStores};
 
 use crate::issued::{Issued, want_of_order};
 use crate::slot::KeptReply;
@@ -24,9 +24,7 @@ impl LeaderStores {
         requires answer { IsAnswer (Refused refusal) }
         ensures fits { Applies (λ a c. Some (done a c (want_of_order command.now.order) (Refused refusal)))
             self.old command.now self.new true }
-        ensures link { self.new.link ≡ self.old.link }
-        ensures settings { self.new.settings ≡ self.old.settings }
-        ensures is { AreStores self.new }
+        ensures kept { KeepsStores self.old self.new }
     {
         let want = want_of_order(command.order);
         let slot = &mut self.slots[usize::from(command.lane)];
@@ -40,9 +38,7 @@ impl LeaderStores {
         ensures fits { Applies (λ a c. registered a c address (stage_at a c) number)
             self.old command.now self.new result }
         ensures same { OnFalse result (leader_in self.new ≡ leader_in self.old) }
-        ensures link { self.new.link ≡ self.old.link }
-        ensures settings { self.new.settings ≡ self.old.settings }
-        ensures is { AreStores self.new }
+        ensures kept { KeepsStores self.old self.new }
     {
         let Some(key) = self.slots[usize::from(command.lane)].key() else {
             return false;
@@ -71,9 +67,7 @@ impl LeaderStores {
         ensures fits { Applies (λ a c. began a c (stage_at a c) count helpers.now)
             self.old command.now self.new result }
         ensures same { OnFalse result (leader_in self.new ≡ leader_in self.old) }
-        ensures link { self.new.link ≡ self.old.link }
-        ensures settings { self.new.settings ≡ self.old.settings }
-        ensures is { AreStores self.new }
+        ensures kept { KeepsStores self.old self.new }
     {
         let Some(begins) = self.slots[usize::from(command.lane)].writing() else {
             return false;
@@ -94,9 +88,7 @@ impl LeaderStores {
         requires lane { command.now.lane < self.old.settings.lanes }
         ensures fits { Applies (λ a c. accepted a c (stage_at a c)) self.old command.now self.new result }
         ensures same { OnFalse result (leader_in self.new ≡ leader_in self.old) }
-        ensures link { self.new.link ≡ self.old.link }
-        ensures settings { self.new.settings ≡ self.old.settings }
-        ensures is { AreStores self.new }
+        ensures kept { KeepsStores self.old self.new }
     {
         let slot = &self.slots[usize::from(command.lane)];
         let Some((begun, own, other)) = slot.settling() else {
@@ -117,9 +109,7 @@ impl LeaderStores {
         requires lane { command.now.lane < self.old.settings.lanes }
         ensures fits { Applies (λ a c. rejected a c (stage_at a c)) self.old command.now self.new result }
         ensures same { OnFalse result (leader_in self.new ≡ leader_in self.old) }
-        ensures link { self.new.link ≡ self.old.link }
-        ensures settings { self.new.settings ≡ self.old.settings }
-        ensures is { AreStores self.new }
+        ensures kept { KeepsStores self.old self.new }
     {
         let Some((_, own, other)) = self.slots[usize::from(command.lane)].settling() else {
             return false;
@@ -142,9 +132,7 @@ impl LeaderStores {
         ensures fits { Applies (λ a c. read a c stays number (slice_get a.boxes number) share.now)
             self.old command.now self.new result }
         ensures same { OnFalse result (leader_in self.new ≡ leader_in self.old) }
-        ensures link { self.new.link ≡ self.old.link }
-        ensures settings { self.new.settings ≡ self.old.settings }
-        ensures is { AreStores self.new }
+        ensures kept { KeepsStores self.old self.new }
     {
         if number >= self.boxes.count() {
             return false;
@@ -170,9 +158,7 @@ impl LeaderStores {
         ensures fits { AppliesSettle (λ a c. audited a c (stage_at a c) opened.now closing.now)
             self.old command.now self.new result }
         ensures same { result ≡ None → leader_in self.new ≡ leader_in self.old }
-        ensures link { self.new.link ≡ self.old.link }
-        ensures settings { self.new.settings ≡ self.old.settings }
-        ensures is { AreStores self.new }
+        ensures kept { KeepsStores self.old self.new }
     {
         let number = self.link.next();
         let slot = &mut self.slots[usize::from(command.lane)];

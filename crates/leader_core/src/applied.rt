@@ -7,7 +7,7 @@ ghost use Rattle.step_rules.specs.LeaderReplies.{fits, if_audited, if_begun, if_
 ghost use Rattle.leader_core.specs.Applying.{stage_at, AppliesAs};
 ghost use Rattle.leader_core.specs.Replies.{IsAuditFor};
 ghost use Rattle.leader_core.specs.declared.issued.CommandOrder.{CommandOrder as Ordered};
-ghost use Rattle.leader_core.specs.State.{leader_in, AreStores};
+ghost use Rattle.leader_core.specs.State.{leader_in, AreStores, KeepsStores};
 
 use crate::issued::{CommandOrder, Issued};
 use crate::replies::{audited_in, begun_in, masked_in, refusal_in, registered_in, verdict_in};
@@ -44,9 +44,7 @@ impl LeaderStores {
         ensures fits { AppliesAs (λ a c. if_registered a c address (stage_at a c)
             (registered_in (plain_body said.now))) self.old command.now self.new result }
         ensures same { result ≡ Applied.Nothing → leader_in self.new ≡ leader_in self.old }
-        ensures link { self.new.link ≡ self.old.link }
-        ensures settings { self.new.settings ≡ self.old.settings }
-        ensures is { AreStores self.new }
+        ensures kept { KeepsStores self.old self.new }
         ensures audit { (order : Option Ordered) → IsAuditFor order result }
     {
         match registered_in(said) {
@@ -62,9 +60,7 @@ impl LeaderStores {
         ensures fits { AppliesAs (λ a c. if_begun a c (stage_at a c) (plain_body said.now))
             self.old command.now self.new result }
         ensures same { result ≡ Applied.Nothing → leader_in self.new ≡ leader_in self.old }
-        ensures link { self.new.link ≡ self.old.link }
-        ensures settings { self.new.settings ≡ self.old.settings }
-        ensures is { AreStores self.new }
+        ensures kept { KeepsStores self.old self.new }
         ensures audit { (order : Option Ordered) → IsAuditFor order result }
     {
         match begun_in(said) {
@@ -83,9 +79,7 @@ impl LeaderStores {
         ensures fits { AppliesAs (λ a c. if_audited a c (stage_at a c) (plain_body said.now))
             self.old command.now self.new result }
         ensures same { result ≡ Applied.Nothing → leader_in self.new ≡ leader_in self.old }
-        ensures link { self.new.link ≡ self.old.link }
-        ensures settings { self.new.settings ≡ self.old.settings }
-        ensures is { AreStores self.new }
+        ensures kept { KeepsStores self.old self.new }
     {
         let Some((opened, closing)) = audited_in(said) else {
             return Applied::Nothing;
@@ -103,9 +97,7 @@ impl LeaderStores {
         ensures fits { AppliesAs (λ a c. if_settled a c (stage_at a c) (plain_body said.now))
             self.old command.now self.new result }
         ensures same { result ≡ Applied.Nothing → leader_in self.new ≡ leader_in self.old }
-        ensures link { self.new.link ≡ self.old.link }
-        ensures settings { self.new.settings ≡ self.old.settings }
-        ensures is { AreStores self.new }
+        ensures kept { KeepsStores self.old self.new }
         ensures audit { (order : Option Ordered) → IsAuditFor order result }
     {
         match verdict_in(said) {
@@ -123,9 +115,7 @@ impl LeaderStores {
         ensures fits { AppliesAs (λ a c. if_read a c stays number (plain_body said.now))
             self.old command.now self.new result }
         ensures same { result ≡ Applied.Nothing → leader_in self.new ≡ leader_in self.old }
-        ensures link { self.new.link ≡ self.old.link }
-        ensures settings { self.new.settings ≡ self.old.settings }
-        ensures is { AreStores self.new }
+        ensures kept { KeepsStores self.old self.new }
         ensures audit { (order : Option Ordered) → IsAuditFor order result }
     {
         match masked_in(said) {
@@ -143,9 +133,7 @@ impl LeaderStores {
         ensures fits { AppliesAs (λ a c. fits a c (plain_body said.now) (refusal_in (plain_body said.now)))
             self.old command.now self.new result }
         ensures same { result ≡ Applied.Nothing → leader_in self.new ≡ leader_in self.old }
-        ensures link { self.new.link ≡ self.old.link }
-        ensures settings { self.new.settings ≡ self.old.settings }
-        ensures is { AreStores self.new }
+        ensures kept { KeepsStores self.old self.new }
         ensures audit { IsAuditFor command.now.order result }
     {
         if let Some(refusal) = refusal_in(said) {

@@ -41,10 +41,14 @@ returns-clause-fits c f issued =
     ∙ keeps_is s c.add_write.new.self (with_write cur.room.part.items 0 b.root b.count s.boxes.boxes) c.from-2.result c.finish.new.self f (steps.Done Writes frame.Accepted) frame.Accepted after (c.from-2.ensures ∙ sym issued.lane) inside2
     (c.finish.ensures.row ∙ ap (λ k. steps.row k (steps.Done Writes frame.Accepted)) (sym issued.serial)) refl)
 
-pub returns-clause-is : goal.returns-clause-is
-returns-clause-is c =
+pub returns-clause-kept : goal.returns-clause-kept
+returns-clause-kept c =
     let s = c.args.self.now in
     let inside : c.from-2.result < length s.slots.items = omega (arith, c.requires.is.server.lanes, c.from-2.ensures, c.requires.lane) in
     let here = slot_here s c.from-2.result c.index_mut-slot.result.now c.requires.is inside c.index_mut-slot.ensures.value in
-    core_set s c.add_write.new.self c.from-2.result c.finish.new.self c.requires.is (same_server s.settings s.boxes c.add_write.new.self s.slots.items c.add_write.ensures.same c.requires.is.server)
-    (c.finish.ensures.is_slot (addresses_of c.add_write.new.self.boxes) (record { unlinked = refl; addressed = λ lane serial some. some; is_body = tt }) s.settings.width s.settings.boxes here.rooms)
+    record {
+      link = refl;
+      settings = refl;
+      is = core_set s c.add_write.new.self c.from-2.result c.finish.new.self c.requires.is (same_server s.settings s.boxes c.add_write.new.self s.slots.items c.add_write.ensures.same c.requires.is.server)
+          (c.finish.ensures.is_slot (addresses_of c.add_write.new.self.boxes) (record { unlinked = refl; addressed = λ lane serial some. some; is_body = tt }) s.settings.width s.settings.boxes here.rooms);
+    }

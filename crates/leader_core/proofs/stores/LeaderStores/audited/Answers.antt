@@ -30,12 +30,16 @@ returns-clause-fits c f issued =
     ∙ (audits_here (leader_in s) f cur.room.part.items cur.own.items cur.other.items c.args.opened.now c.args.closing.now c.close-closed.result c.in-Some.begun c.in-Some.proof c.in-Some.own cur.stage (sym c.auditing.ensures ∙ c.in-Some.is) c.close-closed.ensures
     ∙ ap (λ (x : steps.Leader). Some (settled_with x f c.close-closed.result)) (sym state))
 
-pub returns-clause-is : goal.returns-clause-is
-returns-clause-is c =
+pub returns-clause-kept : goal.returns-clause-kept
+returns-clause-kept c =
     let s = c.args.self.now in
     let cur = c.index_mut-slot.result.now in
     let inside : c.from.result < length s.slots.items = omega (arith, c.requires.is.server.lanes, c.from.ensures, c.requires.lane) in
     let audits = sym c.auditing.ensures ∙ c.in-Some.is in
-    core_set s s.boxes c.from.result c.settle.new.self c.requires.is c.requires.is.server
-    (c.settle.ensures.is_slot (addresses_of s.boxes.boxes) (rw audits refl) s.settings.width s.settings.boxes
-    (slot_here s c.from.result cur c.requires.is inside c.index_mut-slot.ensures.value))
+    record {
+      link = refl;
+      settings = refl;
+      is = core_set s s.boxes c.from.result c.settle.new.self c.requires.is c.requires.is.server
+          (c.settle.ensures.is_slot (addresses_of s.boxes.boxes) (rw audits refl) s.settings.width s.settings.boxes
+          (slot_here s c.from.result cur c.requires.is inside c.index_mut-slot.ensures.value));
+    }

@@ -41,10 +41,14 @@ returns-clause-fits c f issued =
     ∙ keeps_is s s.boxes s.boxes.boxes c.from-2.result c.challenge.new.self f stage (frame.Challenge key) refl (c.from-2.ensures ∙ sym issued.lane) inside
     (c.challenge.ensures.row ∙ ap (λ k. steps.row k stage) (sym issued.serial)) refl)
 
-pub returns-clause-is : goal.returns-clause-is
-returns-clause-is c =
+pub returns-clause-kept : goal.returns-clause-kept
+returns-clause-kept c =
     let s = c.args.self.now in
     let inside : c.from-2.result < length s.slots.items = omega (arith, c.requires.is.server.lanes, c.from-2.ensures, c.requires.lane) in
-    core_set s s.boxes c.from-2.result c.challenge.new.self c.requires.is c.requires.is.server
-    (c.challenge.ensures.is_slot (addresses_of s.boxes.boxes) (omega (arith, c.if-count.false, c.count.ensures.count, length-map s.boxes.boxes (λ (b : Box). b.address))) s.settings.width s.settings.boxes
-    (slot_here s c.from-2.result c.index_mut-slot.result.now c.requires.is inside c.index_mut-slot.ensures.value))
+    record {
+      link = refl;
+      settings = refl;
+      is = core_set s s.boxes c.from-2.result c.challenge.new.self c.requires.is c.requires.is.server
+          (c.challenge.ensures.is_slot (addresses_of s.boxes.boxes) (omega (arith, c.if-count.false, c.count.ensures.count, length-map s.boxes.boxes (λ (b : Box). b.address))) s.settings.width s.settings.boxes
+          (slot_here s c.from-2.result c.index_mut-slot.result.now c.requires.is inside c.index_mut-slot.ensures.value));
+    }

@@ -32,7 +32,7 @@ returns-in-Nothing-clause-does c =
     let s = c.args.self.now in
     let f = plain c.in-Some.reply in
     let issued = c.in-Some-oldest.ensures.issued in
-    ignores c.apply.new.self _ c.args.out.now c.apply.ensures.is
+    ignores c.apply.new.self _ c.args.out.now c.apply.ensures.kept.is
     (a_reply (leader_in s) _ f (sym c.in-Some.ensures.exact)
     ∙ (its (leader_in s) f (oldest_in s) c.in-Some-oldest.command _ (first_in s.link.frames (c.in-Some-oldest.ensures.some refl)) issued (sym c.is_answered_by.ensures ∙ c.if-not-is_answered_by.false)
     ∙ (ap (if_fits (leader_in s)) (c.in-Nothing.ensures.fits (oldest_in s) issued) ∙ ap ignored (sym (c.in-Nothing.ensures.same refl)))))

@@ -47,8 +47,8 @@ returns-clause-fits c f issued =
     ∙ keeps_is s c.read.new.self boxes c.from.result c.finish.new.self f (steps.Done Read message) message after (c.from.ensures ∙ sym issued.lane) inside
     (c.finish.ensures.row ∙ ap (λ k. steps.row k (steps.Done Read message)) (sym issued.serial)) refl))
 
-pub returns-clause-is : goal.returns-clause-is
-returns-clause-is c =
+pub returns-clause-kept : goal.returns-clause-kept
+returns-clause-kept c =
     let s = c.args.self.now in
     let cur = c.index_mut-slot.result.now in
     let inside : c.from.result < length s.slots.items = omega (arith, c.requires.is.server.lanes, c.from.ensures, c.requires.lane) in
@@ -57,7 +57,11 @@ returns-clause-is c =
     let own : length (take cur.own.len (c.read.new.masked ++ drop (length c.read.new.masked) cur.own.items)) ≡ s.settings.width =
     ap length (written_whole cur.own.len c.read.new.masked cur.own.items same (omega arith)) ∙ (same ∙ here.rooms.own) in
     let other = ap length c.copy_from_slice.ensures.items ∙ c.requires.width in
-    core_set s c.read.new.self c.from.result c.finish.new.self c.requires.is (same_server s.settings s.boxes c.read.new.self s.slots.items c.read.ensures.same c.requires.is.server)
-    (c.finish.ensures.is_slot (addresses_of c.read.new.self.boxes)
-    (record { unlinked = refl; addressed = λ lane serial some. some; is_body = (own ∙ sym other, subst IsWidth (sym own) c.requires.is.server.limits.0) })
-    s.settings.width s.settings.boxes (record { room = here.rooms.room; own = own; other = other }))
+    record {
+      link = refl;
+      settings = refl;
+      is = core_set s c.read.new.self c.from.result c.finish.new.self c.requires.is (same_server s.settings s.boxes c.read.new.self s.slots.items c.read.ensures.same c.requires.is.server)
+          (c.finish.ensures.is_slot (addresses_of c.read.new.self.boxes)
+          (record { unlinked = refl; addressed = λ lane serial some. some; is_body = (own ∙ sym other, subst IsWidth (sym own) c.requires.is.server.limits.0) })
+          s.settings.width s.settings.boxes (record { room = here.rooms.room; own = own; other = other }));
+    }

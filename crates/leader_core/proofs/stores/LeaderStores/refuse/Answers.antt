@@ -15,10 +15,14 @@ returns-clause-fits c f issued =
     ∙ ap (λ (w : Want). steps.row f.serial (steps.Done w (frame.Refused c.args.refusal))) c.want_of_order-want.ensures) in
     keeps_is s s.boxes s.boxes.boxes c.from.result c.finish.new.self f _ (frame.Refused c.args.refusal) refl (c.from.ensures ∙ sym issued.lane) inside row refl
 
-pub returns-clause-is : goal.returns-clause-is
-returns-clause-is c =
+pub returns-clause-kept : goal.returns-clause-kept
+returns-clause-kept c =
     let s = c.args.self.now in
     let inside : c.from.result < length s.slots.items = omega (arith, c.requires.is.server.lanes, c.from.ensures, c.requires.lane) in
     let here = slot_here s c.from.result c.index_mut-slot.result.now c.requires.is inside c.index_mut-slot.ensures.value in
-    core_set s s.boxes c.from.result c.finish.new.self c.requires.is c.requires.is.server
-    (c.finish.ensures.is_slot (addresses_of s.boxes.boxes) c.requires.answer s.settings.width s.settings.boxes here.rooms)
+    record {
+      link = refl;
+      settings = refl;
+      is = core_set s s.boxes c.from.result c.finish.new.self c.requires.is c.requires.is.server
+          (c.finish.ensures.is_slot (addresses_of s.boxes.boxes) c.requires.answer s.settings.width s.settings.boxes here.rooms);
+    }

@@ -51,11 +51,15 @@ returns-in-Ok-clause-fits c f issued =
     ∙ keeps_is s c.register.new.self (with_new s.settings.width c.args.address c.in-Some.key s.boxes.boxes) c.from-in-Ok.result c.finish.new.self f (steps.Done Register (frame.Registered n)) (frame.Registered n) after (c.from-in-Ok.ensures ∙ sym issued.lane) inside2
     (c.finish.ensures.row ∙ ap (λ k. steps.row k (steps.Done Register (frame.Registered n))) (sym issued.serial)) refl)
 
-pub returns-in-Ok-clause-is : goal.returns-in-Ok-clause-is
-returns-in-Ok-clause-is c =
+pub returns-in-Ok-clause-kept : goal.returns-in-Ok-clause-kept
+returns-in-Ok-clause-kept c =
     let s = c.args.self.now in
     let inside : c.from-in-Ok.result < length s.slots.items = omega (arith, c.requires.is.server.lanes, c.from-in-Ok.ensures, c.requires.lane) in
     let here = slot_here s c.from-in-Ok.result c.index_mut-slot.result.now c.requires.is inside c.index_mut-slot.ensures.value in
-    core_set s c.register.new.self c.from-in-Ok.result c.finish.new.self c.requires.is
-    (registered_server s.settings s.boxes c.register.new.self s.slots.items c.args.address c.in-Some.key _ c.requires.is.server (sym c.register.ensures.answer ∙ c.in-Ok.is) c.in-Ok.ensures.added)
-    (c.finish.ensures.is_slot (addresses_of c.register.new.self.boxes) (record { unlinked = refl; addressed = λ lane serial some. some; is_body = c.ranges.number.fits }) s.settings.width s.settings.boxes here.rooms)
+    record {
+      link = refl;
+      settings = refl;
+      is = core_set s c.register.new.self c.from-in-Ok.result c.finish.new.self c.requires.is
+          (registered_server s.settings s.boxes c.register.new.self s.slots.items c.args.address c.in-Some.key _ c.requires.is.server (sym c.register.ensures.answer ∙ c.in-Ok.is) c.in-Ok.ensures.added)
+          (c.finish.ensures.is_slot (addresses_of c.register.new.self.boxes) (record { unlinked = refl; addressed = λ lane serial some. some; is_body = c.ranges.number.fits }) s.settings.width s.settings.boxes here.rooms);
+    }

@@ -38,10 +38,14 @@ returns-clause-fits c f issued =
     ∙ keeps_is s s.boxes s.boxes.boxes c.from-2.result c.finish.new.self f (steps.Done Writes (frame.Refused c.rejection-refusal.result)) (frame.Refused c.rejection-refusal.result) refl (c.from-2.ensures ∙ sym issued.lane) inside2
     (c.finish.ensures.row ∙ ap (λ k. steps.row k (steps.Done Writes (frame.Refused c.rejection-refusal.result))) (sym issued.serial)) refl))
 
-pub returns-clause-is : goal.returns-clause-is
-returns-clause-is c =
+pub returns-clause-kept : goal.returns-clause-kept
+returns-clause-kept c =
     let s = c.args.self.now in
     let inside : c.from-2.result < length s.slots.items = omega (arith, c.requires.is.server.lanes, c.from-2.ensures, c.requires.lane) in
     let here = slot_here s c.from-2.result c.index_mut-slot.result.now c.requires.is inside c.index_mut-slot.ensures.value in
-    core_set s s.boxes c.from-2.result c.finish.new.self c.requires.is c.requires.is.server
-    (c.finish.ensures.is_slot (addresses_of s.boxes.boxes) c.rejection-refusal.ensures.answer s.settings.width s.settings.boxes here.rooms)
+    record {
+      link = refl;
+      settings = refl;
+      is = core_set s s.boxes c.from-2.result c.finish.new.self c.requires.is c.requires.is.server
+          (c.finish.ensures.is_slot (addresses_of s.boxes.boxes) c.rejection-refusal.ensures.answer s.settings.width s.settings.boxes here.rooms);
+    }
