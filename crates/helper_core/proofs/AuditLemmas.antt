@@ -14,23 +14,23 @@ use Rattle.frame_rules.specs.Frames.{PlainFrame}
 use Rattle.audit_rules.specs.Audit.{accepts, closing_of, opened_of}
 use Rattle.audit_rules.specs.Values.{Write, opens, values}
 use Rattle.dpf_rules.specs.Expansion.{mask, token}
-use Rattle.server_boxes.specs.Held.{Held, with_boxes}
+use Rattle.server_boxes.specs.Held.{Holdings, with_boxes}
 use Rattle.step_rules.specs.Boxes.{Box, addresses_of, with_read, with_write}
 use Rattle.step_rules.specs.Helper as steps
 use Rattle.step_rules.specs.HelperCommands.{audit, read, read_at, read_live, settle, replies_with, refuses, done}
-use Rattle.helper_core.specs.declared.slot.Slot.{Slot}
-use Rattle.helper_core.specs.declared.said.Said.{Said}
-use Rattle.helper_core.specs.declared.said.Said.TheVariants as said
+use Rattle.helper_core.specs.declared.slot.HelperSlot.{HelperSlot}
+use Rattle.helper_core.specs.declared.said.SaidToLeader.{SaidToLeader}
+use Rattle.helper_core.specs.declared.said.SaidToLeader.TheVariants as said
 use Rattle.helper_core.specs.Said.{effect_in, reading_in}
 use Rattle.helper_core.specs.Slots.{row_in}
 use Rattle.helper_core.specs.State.{server_in, IsServer}
 use Rattle.helper_core.proofs.RegisterLemmas.{done_is}
 use Rattle.helper_core.proofs.CommandLemmas.{row_set}
 
-module _ (settings : Settings) (held : Held) (slots : List Slot) (draws : ℕ) (seed : List ℕ) (is : IsServer settings held slots) where
+module _ (settings : Settings) (held : Holdings) (slots : List HelperSlot) (draws : ℕ) (seed : List ℕ) (is : IsServer settings held slots) where
   -- ---- an audit
 
-  pub audit_is : (f : PlainFrame) (w : Write) (share : ProofShare) (sigma : ℕ) (other : Openings) (i : ℕ) (s : Slot) (own : Openings) (closed : Closing) (masked : List ℕ) → i ≡ f.lane →
+  pub audit_is : (f : PlainFrame) (w : Write) (share : ProofShare) (sigma : ℕ) (other : Openings) (i : ℕ) (s : HelperSlot) (own : Openings) (closed : Closing) (masked : List ℕ) → i ≡ f.lane →
       own ≡ opens 1 w (take w.count (addresses_of held.boxes)) share sigma → closed ≡ closing_of 1 share sigma (opened_of other own) →
       row_in s ≡ steps.row f.serial (steps.Audited w closed) →
       audit (server_in settings held slots draws seed) f sigma other (Some (Some (w, share))) ≡ effect_in (server_in settings held (set slots i s) draws seed) (said.Audited own closed) masked
@@ -41,23 +41,23 @@ module _ (settings : Settings) (held : Held) (slots : List Slot) (draws : ℕ) (
       ∙ (ap (λ (k : Closing). replies_with (steps.with_row h f.lane (steps.row f.serial (steps.Audited w k))) (frame.ReplyAudited own k)) (sym closed_is)
       ∙ ap (λ (d : steps.Server). replies_with d (frame.ReplyAudited own closed)) (row_set settings held slots draws seed f.lane i s (steps.row f.serial (steps.Audited w closed)) at row_is))
 
-  pub not_proved : (f : PlainFrame) (sigma : ℕ) (other : Openings) (i : ℕ) (s : Slot) (masked : List ℕ) → i ≡ f.lane → row_in s ≡ steps.row f.serial (steps.Done Writes) →
+  pub not_proved : (f : PlainFrame) (sigma : ℕ) (other : Openings) (i : ℕ) (s : HelperSlot) (masked : List ℕ) → i ≡ f.lane → row_in s ≡ steps.row f.serial (steps.Done Writes) →
       audit (server_in settings held slots draws seed) f sigma other (Some None) ≡ effect_in (server_in settings held (set slots i s) draws seed) (said.Refused refusal.NotProved) masked
   unfolding audit
   not_proved f sigma other i s masked at row_is = ap (λ (d : steps.Server). refuses d refusal.NotProved) (done_is settings held slots draws seed is f i s Writes at row_is)
 
   -- ---- a settle
 
-  pub settle_accepts : (f : PlainFrame) (leaders own : Closing) (w : Write) (i : ℕ) (s : Slot) (after : Held) (masked : List ℕ) → i ≡ f.lane → row_in s ≡ steps.row f.serial (steps.Done Writes) →
+  pub settle_accepts : (f : PlainFrame) (leaders own : Closing) (w : Write) (i : ℕ) (s : HelperSlot) (after : Holdings) (masked : List ℕ) → i ≡ f.lane → row_in s ≡ steps.row f.serial (steps.Done Writes) →
       accepts leaders own ≡ true → after ≡ with_boxes held (with_write w.part 1 w.root w.count held.boxes) →
       settle (server_in settings held slots draws seed) f leaders (Some (w, own)) ≡ effect_in (server_in settings after (set slots i s) draws seed) said.Accepted masked
   unfolding settle
   settle_accepts f leaders own w i s after masked at row_is sure after_is =
       rw sure
       (ap (λ (d : steps.Server). replies_with (record d { boxes = with_write w.part 1 w.root w.count held.boxes }) frame.ReplyAccepted) (done_is settings held slots draws seed is f i s Writes at row_is)
-      ∙ ap (λ (x : Held). effect_in (server_in settings x (set slots i s) draws seed) said.Accepted masked) (sym after_is))
+      ∙ ap (λ (x : Holdings). effect_in (server_in settings x (set slots i s) draws seed) said.Accepted masked) (sym after_is))
 
-  pub settle_rejects : (f : PlainFrame) (leaders own : Closing) (w : Write) (i : ℕ) (s : Slot) (masked : List ℕ) → i ≡ f.lane → row_in s ≡ steps.row f.serial (steps.Done Writes) →
+  pub settle_rejects : (f : PlainFrame) (leaders own : Closing) (w : Write) (i : ℕ) (s : HelperSlot) (masked : List ℕ) → i ≡ f.lane → row_in s ≡ steps.row f.serial (steps.Done Writes) →
       accepts leaders own ≡ false → settle (server_in settings held slots draws seed) f leaders (Some (w, own)) ≡ effect_in (server_in settings held (set slots i s) draws seed) said.Rejected masked
   unfolding settle
   settle_rejects f leaders own w i s masked at row_is never =
@@ -65,7 +65,7 @@ module _ (settings : Settings) (held : Held) (slots : List Slot) (draws : ℕ) (
 
   -- ---- a read
 
-  pub read_is : (f : PlainFrame) (stays : Bool) (number token_held i : ℕ) (s : Slot) (after : Held) (x : Said) (masked : List ℕ) → i ≡ f.lane → row_in s ≡ steps.row f.serial (steps.Done Read) →
+  pub read_is : (f : PlainFrame) (stays : Bool) (number token_held i : ℕ) (s : HelperSlot) (after : Holdings) (x : SaidToLeader) (masked : List ℕ) → i ≡ f.lane → row_in s ≡ steps.row f.serial (steps.Done Read) →
       read_at (server_in settings held slots draws seed) f stays number token_held (slice_get held.boxes number) ≡ reading_in (server_in settings held slots draws seed) f after.boxes x masked →
       read (server_in settings held slots draws seed) f stays number (Some token_held) ≡ effect_in (server_in settings after (set slots i s) draws seed) x masked
   unfolding read

@@ -7,7 +7,7 @@ use Rattle.express_words.specs.declared.settings.Settings.{Settings}
 use Rattle.frame_rules.specs.Frames as frame
 use Rattle.frame_rules.specs.Frames.{PlainFrame}
 use Rattle.dpf_rules.specs.Expansion.{draw32}
-use Rattle.server_boxes.specs.Held.{Held}
+use Rattle.server_boxes.specs.Held.{Holdings}
 use Rattle.audit_rules.specs.Values.{Write, ckey_of}
 use Rattle.express_words.specs.declared.audit.Openings.{Openings}
 use Rattle.express_words.specs.declared.audit.Closing.{Closing}
@@ -15,30 +15,30 @@ use Rattle.frame_rules.specs.declared.frame.Body.{Body}
 use Rattle.frame_rules.specs.declared.frame.Body.TheVariants as body
 use Rattle.frame_rules.specs.Frames.{plain_body}
 use Rattle.step_rules.specs.HelperCommands.{effect, begin, command, command_steps, carries_out, carry_steps, refuses, no_deposit}
-use Rattle.helper_core.specs.declared.said.Said.TheVariants as said
+use Rattle.helper_core.specs.declared.said.SaidToLeader.TheVariants as said
 use Rattle.helper_core.specs.Said.{effect_in}
 use Rattle.helper_core.specs.State.{server_in}
 use Rattle.step_rules.specs.Helper as steps
 use Rattle.step_rules.specs.HelperCommands.{stage_for}
-use Rattle.helper_core.specs.declared.slot.Slot.{Slot}
+use Rattle.helper_core.specs.declared.slot.HelperSlot.{HelperSlot}
 use Rattle.helper_core.specs.Slots.{row_in, rows_in, IsOf}
 use Rattle.helper_core.proofs.RowLemmas.{row_there}
 
-pub held_there : {A : Type 0} (held : steps.Stage → Option A) (h : steps.Server) (lanes : ℕ) (slots : List Slot) (i lane serial : ℕ) (cur : Slot) (found : Option A) → IsOf h lanes slots → i < length slots → i ≡ lane →
+pub held_there : {A : Type 0} (held : steps.Stage → Option A) (h : steps.Server) (lanes : ℕ) (slots : List HelperSlot) (i lane serial : ℕ) (cur : HelperSlot) (found : Option A) → IsOf h lanes slots → i < length slots → i ≡ lane →
     cur ≡ get_or slots i cur → found ≡ held (stage_for (row_in cur) serial) → held (stage_for (steps.row_at h lane) serial) ≡ found
 held_there held h lanes slots i lane serial cur found is inside at cur_is found_is =
     ap (λ (r : steps.Row). held (stage_for r serial)) (ap (steps.row_at h) (sym at) ∙ (row_there h lanes slots i cur is inside ∙ ap row_in (sym cur_is)))
     ∙ sym found_is
 
 -- the lane's slot has changed
-pub row_set : (settings : Settings) (held : Held) (slots : List Slot) (draws : ℕ) (seed : List ℕ) (lane i : ℕ) (s : Slot) (r : steps.Row) → i ≡ lane → row_in s ≡ r →
+pub row_set : (settings : Settings) (held : Holdings) (slots : List HelperSlot) (draws : ℕ) (seed : List ℕ) (lane i : ℕ) (s : HelperSlot) (r : steps.Row) → i ≡ lane → row_in s ≡ r →
     steps.with_row (server_in settings held slots draws seed) lane r ≡ server_in settings held (set slots i s) draws seed
 row_set settings held slots draws seed lane i s r at row_is =
     ap (λ rows. record (server_in settings held slots draws seed) { rows = rows })
     (ap (λ (x : steps.Row). set (rows_in slots) lane x) (sym row_is) ∙ (ap (λ k. set (rows_in slots) k (row_in s)) (sym at) ∙ sym (map-set row_in slots i s)))
 
-pub begin_is : (settings : Settings) (held : Held) (slots : List Slot) (draws : ℕ) (seed : List ℕ) →
-    (f : PlainFrame) (leaders part : List ℕ) (root count : ℕ) (ckey drawn : List ℕ) (i : ℕ) (s : Slot) (masked : List ℕ) → i ≡ f.lane →
+pub begin_is : (settings : Settings) (held : Holdings) (slots : List HelperSlot) (draws : ℕ) (seed : List ℕ) →
+    (f : PlainFrame) (leaders part : List ℕ) (root count : ℕ) (ckey drawn : List ℕ) (i : ℕ) (s : HelperSlot) (masked : List ℕ) → i ≡ f.lane →
     count ≡ length held.boxes → drawn ≡ draw32 seed draws → ckey ≡ ckey_of leaders drawn → row_in s ≡ steps.row f.serial (steps.Begun (record { root = root; part = part; count = count; ckey = ckey })) →
     begin (server_in settings held slots draws seed) f leaders part (Some root) ≡ effect_in (server_in settings held (set slots i s) (draws + 1) seed) (said.Begun count drawn) masked
 unfolding begin

@@ -14,16 +14,17 @@ use Rattle.frame_rules.specs.Frames.{PlainFrame}
 use Rattle.box_registry.specs.declared.fault.RegFault.{RegFault}
 use Rattle.box_registry.specs.declared.fault.RegFault.TheVariants.{Taken, Full}
 use Rattle.box_registry.specs.Boxes.{answer_at}
-use Rattle.server_boxes.specs.Held.{Held, HasSameAddresses, with_boxes}
+use Rattle.server_boxes.specs.declared.room.Room.{Room}
+use Rattle.server_boxes.specs.Held.{Holdings, HasSameAddresses, with_boxes}
 use Rattle.step_rules.specs.Boxes.{Box, addresses_of, place_of, new_box, with_new}
 use Rattle.step_rules.specs.Helper as steps
 use Rattle.step_rules.specs.HelperCommands.{register, register_at, replies_with, refuses, done}
-use Rattle.helper_core.specs.declared.said.Said.TheVariants as said
+use Rattle.helper_core.specs.declared.said.SaidToLeader.TheVariants as said
 use Rattle.helper_core.specs.Said.{added_in, effect_in}
-use Rattle.helper_core.specs.declared.slot.Slot.{Slot}
-use Rattle.helper_core.specs.declared.slot.Stage.{Stage}
-use Rattle.helper_core.specs.declared.slot.Stage.TheVariants as stage
-use Rattle.helper_core.specs.Slots.{row_in, rows_in, IsSlot, IsStage}
+use Rattle.helper_core.specs.declared.slot.HelperSlot.{HelperSlot}
+use Rattle.helper_core.specs.declared.slot.HelperStage.{HelperStage}
+use Rattle.helper_core.specs.declared.slot.HelperStage.TheVariants as stage
+use Rattle.helper_core.specs.Slots.{row_in, rows_in, IsHelperSlot, IsStage}
 use Rattle.helper_core.specs.State.{server_in, IsServer}
 
 -- ---- what registering answers
@@ -68,9 +69,9 @@ is_full h f address key limit None e = when (nat_le h.settings.boxes (length h.b
 
 -- ---- the stores
 
-module _ (settings : Settings) (held : Held) (slots : List Slot) (draws : ℕ) (seed : List ℕ) (is : IsServer settings held slots) where
+module _ (settings : Settings) (held : Holdings) (slots : List HelperSlot) (draws : ℕ) (seed : List ℕ) (is : IsServer settings held slots) where
   -- the lane's slot is done
-  pub done_is : (f : PlainFrame) (i : ℕ) (s : Slot) (want : Want) → i ≡ f.lane → row_in s ≡ steps.row f.serial (steps.Done want) →
+  pub done_is : (f : PlainFrame) (i : ℕ) (s : HelperSlot) (want : Want) → i ≡ f.lane → row_in s ≡ steps.row f.serial (steps.Done want) →
       done (server_in settings held slots draws seed) f want ≡ server_in settings held (set slots i s) draws seed
   done_is f i s want at row_is =
       ap (λ rows. record (server_in settings held slots draws seed) { rows = rows })
@@ -87,7 +88,7 @@ module _ (settings : Settings) (held : Held) (slots : List Slot) (draws : ℕ) (
       full : (let r : Result ℕ RegFault = Err (Full limit) in r) ≡ Ok n → ⊥
       full e = cc e
 
-  pub register_is : (f : PlainFrame) (address : ℕ) (key : List ℕ) (i : ℕ) (s : Slot) (added : Result ℕ RegFault) (after : Held) (masked : List ℕ) → i ≡ f.lane → row_in s ≡ steps.row f.serial (steps.Done Register) →
+  pub register_is : (f : PlainFrame) (address : ℕ) (key : List ℕ) (i : ℕ) (s : HelperSlot) (added : Result ℕ RegFault) (after : Holdings) (masked : List ℕ) → i ≡ f.lane → row_in s ≡ steps.row f.serial (steps.Done Register) →
       added ≡ answer_at held.limit (length held.boxes) (place_of address held.boxes) →
       OnOk added (after ≡ with_boxes held (with_new held.width address key held.boxes)) → OnErr added (after ≡ held) →
       register (server_in settings held slots draws seed) f address (Some key) ≡ effect_in (server_in settings after (set slots i s) draws seed) (added_in added) masked
@@ -97,52 +98,54 @@ module _ (settings : Settings) (held : Held) (slots : List Slot) (draws : ℕ) (
       registers h f address key n (place_of address held.boxes) (ap (λ l. answer_at l (length held.boxes) (place_of address held.boxes)) (sym is.limit) ∙ sym answer)
       ∙ (ap (λ w. replies_with (record (done h f Register) { boxes = with_new w address key held.boxes }) (frame.ReplyRegistered n)) (sym is.width)
       ∙ (ap (λ (d : steps.Server). replies_with (record d { boxes = with_new held.width address key held.boxes }) (frame.ReplyRegistered n)) (done_is f i s Register at row_is)
-      ∙ ap (λ (x : Held). effect_in (server_in settings x (set slots i s) draws seed) (said.Registered n) masked) (sym ok)))
+      ∙ ap (λ (x : Holdings). effect_in (server_in settings x (set slots i s) draws seed) (said.Registered n) masked) (sym ok)))
   register_is f address key i s (Err (Taken n)) after masked at row_is answer ok err =
       let h = server_in settings held slots draws seed in
       is_taken h f address key n (place_of address held.boxes) (ap (λ l. answer_at l (length held.boxes) (place_of address held.boxes)) (sym is.limit) ∙ sym answer)
       ∙ (ap (λ (d : steps.Server). refuses d (refusal.Taken n)) (done_is f i s Register at row_is)
-      ∙ ap (λ (x : Held). effect_in (server_in settings x (set slots i s) draws seed) (said.Refused (refusal.Taken n)) masked) (sym err))
+      ∙ ap (λ (x : Holdings). effect_in (server_in settings x (set slots i s) draws seed) (said.Refused (refusal.Taken n)) masked) (sym err))
   register_is f address key i s (Err (Full n)) after masked at row_is answer ok err =
       let h = server_in settings held slots draws seed in
       is_full h f address key n (place_of address held.boxes) (ap (λ l. answer_at l (length held.boxes) (place_of address held.boxes)) (sym is.limit) ∙ sym answer)
       ∙ (ap (λ (d : steps.Server). refuses d (refusal.Full n)) (done_is f i s Register at row_is)
-      ∙ ap (λ (x : Held). effect_in (server_in settings x (set slots i s) draws seed) (said.Refused (refusal.Full n)) masked) (sym err))
+      ∙ ap (λ (x : Holdings). effect_in (server_in settings x (set slots i s) draws seed) (said.Refused (refusal.Full n)) masked) (sym err))
 
   -- ---- the invariant
 
-  pub slot_set : (i : ℕ) (s : Slot) → IsSlot settings.width settings.boxes (addresses_of held.boxes) s → IsServer settings held (set slots i s)
+  pub slot_set : (i : ℕ) (s : HelperSlot) → IsHelperSlot settings.width settings.boxes (addresses_of held.boxes) s → IsServer settings held (set slots i s)
   slot_set i s here = record {
     limits = is.limits;
     limit = is.limit;
     within = is.within;
     width = is.width;
     lanes = length-set slots i s ∙ is.lanes;
-    rows = All-set (IsSlot settings.width settings.boxes (addresses_of held.boxes)) slots i s here is.rows;
+    rows = All-set (IsHelperSlot settings.width settings.boxes (addresses_of held.boxes)) slots i s here is.rows;
   }
 
 -- boxes with the same addresses hold the invariant
-pub same_server : (settings : Settings) (old new : Held) (xs : List Slot) → HasSameAddresses old new → IsServer settings old xs → IsServer settings new xs
+pub same_server : (settings : Settings) (old new : Holdings) (xs : List HelperSlot) → HasSameAddresses old new → IsServer settings old xs → IsServer settings new xs
 same_server settings old new xs same now = record {
   limits = now.limits;
   limit = same.limit ∙ now.limit;
   within = let w = now.within in let c = same.count in omega arith;
   width = same.width ∙ now.width;
   lanes = now.lanes;
-  rows = subst (λ (addresses : List ℕ). All (IsSlot settings.width settings.boxes addresses) xs) (sym same.addresses) now.rows;
+  rows = subst (λ (addresses : List ℕ). All (IsHelperSlot settings.width settings.boxes addresses) xs) (sym same.addresses) now.rows;
 }
 
-more_stage : (addresses : List ℕ) (x : ℕ) (part leaves : List ℕ) (st : Stage) → IsStage addresses part leaves st → IsStage (addresses ++ x ∷ []) part leaves st
-more_stage addresses x part leaves (stage.Begun b) h = rw (length-append addresses (x ∷ [])) (omega arith)
-more_stage addresses x part leaves (stage.Proved b share) h = rw (length-append addresses (x ∷ [])) (omega arith)
-more_stage addresses x part leaves (stage.Audited b closing) h =
-    (rw (length-append addresses (x ∷ [])) (let low = h.0 in omega arith), rw (take-append-le b.count addresses (x ∷ []) h.0) h.1)
-more_stage addresses x part leaves stage.Idle h = tt
-more_stage addresses x part leaves (stage.Deposited held) h = tt
-more_stage addresses x part leaves (stage.Done want) h = tt
+more_stage : (addresses : List ℕ) (x : ℕ) (room : Room) (st : HelperStage) → IsStage addresses room st → IsStage (addresses ++ x ∷ []) room st
+more_stage addresses x room (stage.Begun b) h = rw (length-append addresses (x ∷ [])) (omega arith)
+more_stage addresses x room (stage.Proved b share) h = rw (length-append addresses (x ∷ [])) (omega arith)
+more_stage addresses x room (stage.Audited b closing) h = record {
+  count = rw (length-append addresses (x ∷ [])) (let low = h.count in omega arith);
+  leaves = rw (take-append-le b.count addresses (x ∷ []) h.count) h.leaves;
+}
+more_stage addresses x room stage.Idle h = tt
+more_stage addresses x room (stage.Deposited held) h = tt
+more_stage addresses x room (stage.Done want) h = tt
 
 -- one box more holds the invariant
-more_boxes : (settings : Settings) (held : Held) (xs : List Slot) (address : ℕ) (key : List ℕ) → length held.boxes < settings.boxes →
+more_boxes : (settings : Settings) (held : Holdings) (xs : List HelperSlot) (address : ℕ) (key : List ℕ) → length held.boxes < settings.boxes →
     IsServer settings held xs → IsServer settings (with_boxes held (with_new held.width address key held.boxes)) xs
 more_boxes settings held xs address key room now =
     let b = new_box held.width address key in
@@ -155,16 +158,15 @@ more_boxes settings held xs address key room now =
       rows = λ k d inside.
           let here = now.rows k d inside in
           record {
-            part = here.part;
-            leaves = here.leaves;
-            stage = rw (map-append (λ (x : Box). x.address) held.boxes (b ∷ [])) (more_stage (addresses_of held.boxes) address _ _ (get_or xs k d).stage here.stage);
+            room = here.room;
+            stage = rw (map-append (λ (x : Box). x.address) held.boxes (b ∷ [])) (more_stage (addresses_of held.boxes) address _ (get_or xs k d).stage here.stage);
           };
     }
 
-pub register_keeps : (settings : Settings) (held : Held) (xs : List Slot) (address : ℕ) (key : List ℕ) (added : Result ℕ RegFault) (after : Held) → IsServer settings held xs →
+pub register_keeps : (settings : Settings) (held : Holdings) (xs : List HelperSlot) (address : ℕ) (key : List ℕ) (added : Result ℕ RegFault) (after : Holdings) → IsServer settings held xs →
     added ≡ answer_at held.limit (length held.boxes) (place_of address held.boxes) →
     OnOk added (after ≡ with_boxes held (with_new held.width address key held.boxes)) → OnErr added (after ≡ held) → IsServer settings after xs
 register_keeps settings held xs address key (Ok n) after now answer ok err =
     let room : length held.boxes < settings.boxes = omega (arith, room_of settings held xs 0 [] now held.limit (length held.boxes) n (place_of address held.boxes) (sym answer), now.limit) in
-    subst (λ (x : Held). IsServer settings x xs) (sym ok) (more_boxes settings held xs address key room now)
-register_keeps settings held xs address key (Err r) after now answer ok err = subst (λ (x : Held). IsServer settings x xs) (sym err) now
+    subst (λ (x : Holdings). IsServer settings x xs) (sym ok) (more_boxes settings held xs address key room now)
+register_keeps settings held xs address key (Err r) after now answer ok err = subst (λ (x : Holdings). IsServer settings x xs) (sym err) now

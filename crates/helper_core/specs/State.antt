@@ -4,26 +4,26 @@ use Rattle.express_words.specs.declared.settings.Settings.{Settings}
 use Rattle.express_words.specs.Limits.{KeepsLimits}
 use Rattle.link_order.specs.Link.{Carried, IsCarried}
 use Rattle.frame_rules.specs.Spelling.{spelling, IsFrame}
-use Rattle.server_boxes.specs.Held.{Held, share_of}
+use Rattle.server_boxes.specs.Held.{Holdings, share_of}
 use Rattle.step_rules.specs.Boxes.{addresses_of}
 use Rattle.step_rules.specs.Helper as steps
 use Rattle.helper_core.specs.declared.helper.LinkTurn.{LinkTurn}
 use Rattle.helper_core.specs.declared.helper.LinkTurn.TheVariants as turn
-use Rattle.helper_core.specs.declared.slot.Slot.{Slot}
-use Rattle.helper_core.specs.Slots.{rows_in, IsSlot}
+use Rattle.helper_core.specs.declared.slot.HelperSlot.{HelperSlot}
+use Rattle.helper_core.specs.Slots.{rows_in, IsHelperSlot}
 
-abbrev pub server_in : Settings → Held → List Slot → ℕ → List ℕ → steps.Server
+abbrev pub server_in : Settings → Holdings → List HelperSlot → ℕ → List ℕ → steps.Server
 server_in settings held slots draws seed =
     record { settings = settings; boxes = held.boxes; rows = rows_in slots; draws = draws; seed = seed }
 
 -- the boxes and the slots have the settings' sizes, and a slot for each lane
-pub record IsServer (settings : Settings) (held : Held) (slots : List Slot) : Type 0 where
+pub record IsServer (settings : Settings) (held : Holdings) (slots : List HelperSlot) : Type 0 where
   pub limits : KeepsLimits settings.width settings.boxes settings.lanes settings.window
   pub limit : held.limit ≡ settings.boxes
   pub within : length held.boxes ≤ settings.boxes
   pub width : held.width ≡ settings.width
   pub lanes : length slots ≡ settings.lanes
-  pub rows : All (IsSlot settings.width settings.boxes (addresses_of held.boxes)) slots
+  pub rows : All (IsHelperSlot settings.width settings.boxes (addresses_of held.boxes)) slots
 
 -- the link keeps replies of frames up to the window, and no more draws were taken than commands carried
 pub record IsHelper (server : steps.Server) (link : Carried) (masked : List ℕ) : Type 0 where

@@ -55,7 +55,8 @@ impl Model for Helper {
 impl Helper {
     /// A helper with no boxes, which has carried nothing out. Its draws come from `seed`.
     pub fn open(alloc: Global, settings: &Settings, seed: &[u8; 32]) -> Result<Helper, NoMemory>
-        requires limits { KeepsLimits settings.now.width settings.now.boxes settings.now.lanes settings.now.window }
+        requires limits { KeepsLimits settings.now.width settings.now.boxes settings.now.lanes
+            settings.now.window }
         ensures { IfOk result (λ h. h ≡ opened_helper settings.now seed.now) }
     {
         let server = Server::open(alloc, settings, seed)?;
@@ -95,11 +96,10 @@ impl Helper {
         ensures helper { self.new ≡ (on_link_bytes self.old frame.now).helper }
         ensures refused { AnswerLeaves (on_link_bytes self.old frame.now).answer self.old self.new }
         ensures answer { result ≡ turned (on_link_bytes self.old frame.now).answer }
-        ensures written { take (length (written
-            (on_link_bytes self.old frame.now).answer)) out.new ≡ written
-            (on_link_bytes self.old frame.now).answer }
-        ensures rest { drop (length (written (on_link_bytes self.old frame.now).answer)) out.new ≡ drop
-            (length (written (on_link_bytes self.old frame.now).answer)) out.old }
+        ensures written { let reply = written (on_link_bytes self.old frame.now).answer in
+            take (length reply) out.new ≡ reply }
+        ensures rest { let count = length (written (on_link_bytes self.old frame.now).answer) in
+            drop count out.new ≡ drop count out.old }
         ensures steps { steps.new ≡ steps.old + link_steps self.old frame.now }
         ensures settings { self.new.server.settings ≡ self.old.server.settings }
         // The reply to a command that is carried out now is a frame of the grammar.
@@ -140,7 +140,8 @@ impl Helper {
         ensures rest { drop result out.new ≡ drop result out.old }
         ensures steps { steps.new ≡ steps.old + carry_steps self.old.server (plain command.now) }
         ensures settings { self.new.server.settings ≡ self.old.server.settings }
-        ensures frame { IsCarriedFrame (carried_with self.old (plain command.now) (carries_out self.old.server (plain command.now))).answer }
+        ensures frame { IsCarriedFrame (carried_with self.old (plain command.now)
+            (carries_out self.old.server (plain command.now))).answer }
     {
         let said = self.server.carry_out(command, &mut self.masked, steps);
         let body = said.body(&self.masked);

@@ -8,7 +8,7 @@ ghost use Rattle.step_rules.specs.HelperClients.{client_turn};
 ghost use Rattle.helper_core.specs.State.{share_in};
 
 use crate::rows::answer_client;
-use crate::slot::{Slot, idle_slots};
+use crate::slot::{HelperSlot, idle_slots};
 use express_words::{NoMemory, Settings};
 use server_boxes::ServerBoxes;
 use std::alloc::Global;
@@ -20,7 +20,7 @@ use wire_frames::encode_into;
 pub(crate) struct Server {
     pub(crate) settings: Settings,
     pub(crate) boxes: ServerBoxes,
-    pub(crate) slots: Vec<Slot>,
+    pub(crate) slots: Vec<HelperSlot>,
     pub(crate) draws: u64,
     pub(crate) seed: [u8; 32],
 }
@@ -43,7 +43,8 @@ impl Server {
         settings: &Settings,
         seed: &[u8; 32],
     ) -> Result<Server, NoMemory>
-        requires limits { KeepsLimits settings.now.width settings.now.boxes settings.now.lanes settings.now.window }
+        requires limits { KeepsLimits settings.now.width settings.now.boxes settings.now.lanes
+            settings.now.window }
         ensures { IfOk result (λ h. h ≡ opened_server settings.now seed.now) }
     {
         let boxes = ServerBoxes::open(alloc, settings.boxes, settings.width)?;

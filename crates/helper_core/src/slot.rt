@@ -1,12 +1,11 @@
 //! What the helper holds of a lane.
 ghost use Rattle.std.specs.Prelude.{◌≡◌, ◌+◌, ◌≤◌, ℕ, List, length, option_map, IfSome, [], All, IfOk, replicate};
 ghost use Rattle.frame_rules.specs.Frames.{plain_body, Refused};
-ghost use Rattle.frame_rules.specs.Whole.{IsAnswer};
-ghost use Rattle.server_boxes.specs.Held.{AreLeaves, IsLeafRoom, IsPartRoom, write_in};
+ghost use Rattle.server_boxes.specs.Held.{HasLeaves, write_in};
 ghost use Rattle.step_rules.specs.Helper.{door, phase_of, want_of, idle, row, Done, Begun as Begins, Audited as Audits};
 ghost use Rattle.step_rules.specs.HelperCommands.{stage_for, held_key, held_root, held_token, held_proof, held_closing};
 ghost use Rattle.step_rules.specs.HelperClients.{deposit_row, proof_row, proof_in};
-ghost use Rattle.helper_core.specs.Slots.{row_in, rows_in, stage_in, stage_with, IsSlot};
+ghost use Rattle.helper_core.specs.Slots.{row_in, rows_in, stage_in, stage_with, BecomesSlot, IfSlot, IsHelperSlot, StaysSlot, TakesTurn};
 
 use crate::taken::want_in;
 use express_words::{Closing, NoMemory, ProofShare, Refusal, Settings};
@@ -17,7 +16,7 @@ use std::alloc::Global;
 
 /// How far a lane's request has come, with what is held for it.
 #[derive(Clone, Copy)]
-pub(crate) enum Stage {
+pub(crate) enum HelperStage {
     Idle,
     Deposited(DepositBody),
     Begun(Begun),
@@ -28,9 +27,9 @@ pub(crate) enum Stage {
 
 /// A lane's request, with room for a write.
 #[derive(Drop)]
-pub(crate) struct Slot {
+pub(crate) struct HelperSlot {
     pub(crate) serial: u32,
-    pub(crate) stage: Stage,
+    pub(crate) stage: HelperStage,
     pub(crate) room: Room,
 }
 
@@ -40,18 +39,18 @@ fn refused(refusal: Refusal) -> Body<'static>
     Body::Refused(refusal)
 }
 
-impl Slot {
+impl HelperSlot {
     /// How far the request has come, as the gates of a lane number it.
     fn phase(&self) -> u8
         ensures { result ≡ phase_of (stage_in self.now) }
     {
         match self.stage {
-            Stage::Idle => phase::IDLE,
-            Stage::Deposited(_) => phase::DEPOSITED,
-            Stage::Begun(_) => phase::BEGUN,
-            Stage::Proved(_, _) => phase::PROVED,
-            Stage::Audited(_, _) => phase::AUDITED,
-            Stage::Done(_) => phase::DONE,
+            HelperStage::Idle => phase::IDLE,
+            HelperStage::Deposited(_) => phase::DEPOSITED,
+            HelperStage::Begun(_) => phase::BEGUN,
+            HelperStage::Proved(_, _) => phase::PROVED,
+            HelperStage::Audited(_, _) => phase::AUDITED,
+            HelperStage::Done(_) => phase::DONE,
         }
     }
 
@@ -60,12 +59,12 @@ impl Slot {
         ensures { result ≡ want_of (stage_in self.now) }
     {
         match self.stage {
-            Stage::Idle => Want::Nothing,
-            Stage::Deposited(held) => want_in(&held),
-            Stage::Begun(_) => Want::Write,
-            Stage::Proved(_, _) => Want::Write,
-            Stage::Audited(_, _) => Want::Write,
-            Stage::Done(want) => want,
+            HelperStage::Idle => Want::Nothing,
+            HelperStage::Deposited(held) => want_in(&held),
+            HelperStage::Begun(_) => Want::Write,
+            HelperStage::Proved(_, _) => Want::Write,
+            HelperStage::Audited(_, _) => Want::Write,
+            HelperStage::Done(want) => want,
         }
     }
 
@@ -81,13 +80,13 @@ impl Slot {
     }
 
     /// The stage, where the slot's request has this serial.
-    fn stage_for(&self, serial: u32) -> Stage
+    fn stage_for(&self, serial: u32) -> HelperStage
         ensures { stage_with result self.now.room.part.items ≡ stage_for (row_in self.now) serial }
     {
         if self.serial == serial {
             self.stage
         } else {
-            Stage::Idle
+            HelperStage::Idle
         }
     }
 
@@ -96,14 +95,14 @@ impl Slot {
         ensures { result ≡ held_key (stage_for (row_in self.now) serial) }
     {
         match self.stage_for(serial) {
-            Stage::Deposited(DepositBody::Register(key)) => Some(key),
-            Stage::Deposited(DepositBody::Write(_)) => None,
-            Stage::Deposited(DepositBody::Read(_)) => None,
-            Stage::Idle => None,
-            Stage::Begun(_) => None,
-            Stage::Proved(_, _) => None,
-            Stage::Audited(_, _) => None,
-            Stage::Done(_) => None,
+            HelperStage::Deposited(DepositBody::Register(key)) => Some(key),
+            HelperStage::Deposited(DepositBody::Write(_)) => None,
+            HelperStage::Deposited(DepositBody::Read(_)) => None,
+            HelperStage::Idle => None,
+            HelperStage::Begun(_) => None,
+            HelperStage::Proved(_, _) => None,
+            HelperStage::Audited(_, _) => None,
+            HelperStage::Done(_) => None,
         }
     }
 
@@ -112,14 +111,14 @@ impl Slot {
         ensures { result ≡ held_root (stage_for (row_in self.now) serial) }
     {
         match self.stage_for(serial) {
-            Stage::Deposited(DepositBody::Write(root)) => Some(root),
-            Stage::Deposited(DepositBody::Register(_)) => None,
-            Stage::Deposited(DepositBody::Read(_)) => None,
-            Stage::Idle => None,
-            Stage::Begun(_) => None,
-            Stage::Proved(_, _) => None,
-            Stage::Audited(_, _) => None,
-            Stage::Done(_) => None,
+            HelperStage::Deposited(DepositBody::Write(root)) => Some(root),
+            HelperStage::Deposited(DepositBody::Register(_)) => None,
+            HelperStage::Deposited(DepositBody::Read(_)) => None,
+            HelperStage::Idle => None,
+            HelperStage::Begun(_) => None,
+            HelperStage::Proved(_, _) => None,
+            HelperStage::Audited(_, _) => None,
+            HelperStage::Done(_) => None,
         }
     }
 
@@ -128,92 +127,94 @@ impl Slot {
         ensures { result ≡ held_token (stage_for (row_in self.now) serial) }
     {
         match self.stage_for(serial) {
-            Stage::Deposited(DepositBody::Read(token)) => Some(token),
-            Stage::Deposited(DepositBody::Register(_)) => None,
-            Stage::Deposited(DepositBody::Write(_)) => None,
-            Stage::Idle => None,
-            Stage::Begun(_) => None,
-            Stage::Proved(_, _) => None,
-            Stage::Audited(_, _) => None,
-            Stage::Done(_) => None,
+            HelperStage::Deposited(DepositBody::Read(token)) => Some(token),
+            HelperStage::Deposited(DepositBody::Register(_)) => None,
+            HelperStage::Deposited(DepositBody::Write(_)) => None,
+            HelperStage::Idle => None,
+            HelperStage::Begun(_) => None,
+            HelperStage::Proved(_, _) => None,
+            HelperStage::Audited(_, _) => None,
+            HelperStage::Done(_) => None,
         }
     }
 
     /// The write that waits for a settle of this serial, and the helper's closing.
     pub(crate) fn closing_for(&self, serial: u32) -> Option<(Begun, Closing)>
-        ensures held { option_map (λ x. (write_in x.0 self.now.room.part.items, x.1)) result ≡ held_closing (stage_for (row_in self.now) serial) }
-        ensures leaves { (width limit : ℕ) (addresses : List ℕ) → IsSlot width limit addresses self.now → IfSome result (λ x. (x.0.count ≤ length addresses) × AreLeaves 1 x.0 self.now.room addresses) }
+        ensures held { option_map (λ x. (write_in x.0 self.now.room.part.items, x.1)) result
+            ≡ held_closing (stage_for (row_in self.now) serial) }
+        ensures leaves { IfSlot self.now
+            (λ addresses. IfSome result (λ x. HasLeaves 1 x.0 self.now.room addresses)) }
     {
         if self.serial != serial {
             return None;
         }
         match self.stage {
-            Stage::Audited(begun, own) => Some((begun, own)),
-            Stage::Idle => None,
-            Stage::Deposited(_) => None,
-            Stage::Begun(_) => None,
-            Stage::Proved(_, _) => None,
-            Stage::Done(_) => None,
+            HelperStage::Audited(begun, own) => Some((begun, own)),
+            HelperStage::Idle => None,
+            HelperStage::Deposited(_) => None,
+            HelperStage::Begun(_) => None,
+            HelperStage::Proved(_, _) => None,
+            HelperStage::Done(_) => None,
         }
     }
 
     /// The write that waits for an audit of this serial, with its proof share if that has come.
     pub(crate) fn proof_for(&self, serial: u32) -> Option<Option<(Begun, ProofShare)>>
-        ensures held { option_map (option_map (λ x. (write_in x.0 self.now.room.part.items, x.1))) result ≡ held_proof (stage_for (row_in self.now) serial) }
-        ensures count { (width limit : ℕ) (addresses : List ℕ) → IsSlot width limit addresses self.now → IfSome result (λ found. IfSome found (λ x. x.0.count ≤ length addresses)) }
+        ensures held { option_map (option_map (λ x. (write_in x.0 self.now.room.part.items, x.1))) result
+            ≡ held_proof (stage_for (row_in self.now) serial) }
+        ensures count { IfSlot self.now
+            (λ addresses. IfSome result (λ found. IfSome found (λ x. x.0.count ≤ length addresses))) }
     {
         if self.serial != serial {
             return None;
         }
         match self.stage {
-            Stage::Begun(_) => Some(None),
-            Stage::Proved(begun, share) => Some(Some((begun, share))),
-            Stage::Idle => None,
-            Stage::Deposited(_) => None,
-            Stage::Audited(_, _) => None,
-            Stage::Done(_) => None,
+            HelperStage::Begun(_) => Some(None),
+            HelperStage::Proved(begun, share) => Some(Some((begun, share))),
+            HelperStage::Idle => None,
+            HelperStage::Deposited(_) => None,
+            HelperStage::Audited(_, _) => None,
+            HelperStage::Done(_) => None,
         }
     }
 
     /// A write is audited: its leaves stand, and this is the helper's closing.
     pub(crate) fn audited(&mut self, serial: u32, begun: Begun, own: Closing)
         ensures row { row_in self.new ≡ row serial (Audits (write_in begun self.old.room.part.items) own) }
-        ensures is_slot { (width limit : ℕ) (addresses : List ℕ) → IsPartRoom width self.old.room
-            → IsLeafRoom limit self.old.room → begun.count ≤ length addresses
-            → AreLeaves 1 begun self.old.room addresses → IsSlot width limit addresses self.new }
+        ensures is_slot { (addresses : List ℕ) → HasLeaves 1 begun self.old.room addresses
+            → BecomesSlot addresses self.old self.new }
     {
         self.serial = serial;
-        self.stage = Stage::Audited(begun, own);
+        self.stage = HelperStage::Audited(begun, own);
     }
 
     /// The request of this serial is done.
     pub(crate) fn finish(&mut self, serial: u32, want: Want)
         ensures row { row_in self.new ≡ row serial (Done want) }
         ensures room { self.new.room ≡ self.old.room }
-        ensures is_slot { (width limit : ℕ) (addresses : List ℕ) → IsSlot width limit addresses self.old → IsSlot width limit addresses self.new }
+        ensures is_slot { (addresses : List ℕ) → StaysSlot addresses self.old self.new }
     {
         self.serial = serial;
-        self.stage = Stage::Done(want);
+        self.stage = HelperStage::Done(want);
     }
 
     /// A write begins, with this public part.
     pub(crate) fn begin(&mut self, serial: u32, begun: Begun, part: &[u8])
         requires part { length part.now ≡ length self.old.room.part.items }
         ensures row { row_in self.new ≡ row serial (Begins (write_in begun part.now)) }
-        ensures is_slot { (width limit : ℕ) (addresses : List ℕ) → begun.count ≤ length addresses → IsSlot width limit addresses self.old → IsSlot width limit addresses self.new }
+        ensures is_slot { (addresses : List ℕ) → begun.count ≤ length addresses
+            → StaysSlot addresses self.old self.new }
     {
         self.room.part.copy_from_slice(part);
         self.serial = serial;
-        self.stage = Stage::Begun(begun);
+        self.stage = HelperStage::Begun(begun);
     }
 
     /// A deposit of a client: the first one of a serial stands.
     #[tactic(auto, unfolding(step_rules::specs::HelperClients::deposit_row, step_rules::specs::HelperClients::deposit_at))]
     pub(crate) fn deposit(&mut self, serial: u32, held: DepositBody) -> Body<'static>
-        ensures row { row_in self.new ≡ (deposit_row (row_in self.old) serial held).row }
-        ensures body { plain_body result ≡ (deposit_row (row_in self.old) serial held).body }
-        ensures answer { IsAnswer (plain_body result) }
-        ensures is_slot { (width limit : ℕ) (addresses : List ℕ) → IsSlot width limit addresses self.old → IsSlot width limit addresses self.new }
+        ensures { TakesTurn (deposit_row (row_in self.old) serial held)
+            self.old self.new (plain_body result) }
     {
         match opening(&self.door(), serial, want_in(&held)) {
             Gate::Stale(serial) => refused(Refusal::Stale(serial)),
@@ -221,7 +222,7 @@ impl Slot {
             Gate::Same => Body::Held { proof: false },
             Gate::New => {
                 self.serial = serial;
-                self.stage = Stage::Deposited(held);
+                self.stage = HelperStage::Deposited(held);
                 Body::Held { proof: false }
             }
         }
@@ -230,10 +231,7 @@ impl Slot {
     /// A proof share of a client: the first one stands.
     #[tactic(auto, unfolding(step_rules::specs::HelperClients::proof_row, step_rules::specs::HelperClients::proof_at))]
     pub(crate) fn prove(&mut self, serial: u32, share: ProofShare) -> Body<'static>
-        ensures row { row_in self.new ≡ (proof_row (row_in self.old) serial share).row }
-        ensures body { plain_body result ≡ (proof_row (row_in self.old) serial share).body }
-        ensures answer { IsAnswer (plain_body result) }
-        ensures is_slot { (width limit : ℕ) (addresses : List ℕ) → IsSlot width limit addresses self.old → IsSlot width limit addresses self.new }
+        ensures { TakesTurn (proof_row (row_in self.old) serial share) self.old self.new (plain_body result) }
     {
         match closing(&self.door(), serial) {
             Gate::Stale(serial) => refused(Refusal::Stale(serial)),
@@ -245,29 +243,28 @@ impl Slot {
 
     #[tactic(auto, unfolding(step_rules::specs::HelperClients::proof_in))]
     fn take_share(&mut self, share: ProofShare) -> Body<'static>
-        ensures row { row_in self.new ≡ (proof_in (row_in self.old) share (stage_in self.old)).row }
-        ensures body { plain_body result ≡ (proof_in (row_in self.old) share (stage_in self.old)).body }
-        ensures answer { IsAnswer (plain_body result) }
-        ensures is_slot { (width limit : ℕ) (addresses : List ℕ) → IsSlot width limit addresses self.old → IsSlot width limit addresses self.new }
+        ensures { TakesTurn (proof_in (row_in self.old) share (stage_in self.old))
+            self.old self.new (plain_body result) }
     {
         match self.stage {
-            Stage::Idle => refused(Refusal::Phase(phase::IDLE)),
-            Stage::Deposited(_) => refused(Refusal::Phase(phase::DEPOSITED)),
-            Stage::Begun(begun) => {
-                self.stage = Stage::Proved(begun, share);
+            HelperStage::Idle => refused(Refusal::Phase(phase::IDLE)),
+            HelperStage::Deposited(_) => refused(Refusal::Phase(phase::DEPOSITED)),
+            HelperStage::Begun(begun) => {
+                self.stage = HelperStage::Proved(begun, share);
                 Body::Held { proof: true }
             }
-            Stage::Proved(_, _) => Body::Held { proof: true },
-            Stage::Audited(_, _) => Body::Held { proof: true },
-            Stage::Done(_) => Body::Held { proof: true },
+            HelperStage::Proved(_, _) => Body::Held { proof: true },
+            HelperStage::Audited(_, _) => Body::Held { proof: true },
+            HelperStage::Done(_) => Body::Held { proof: true },
         }
     }
 }
 
 /// A slot for each lane, of which no frame has come.
-pub(crate) fn idle_slots(alloc: Global, settings: &Settings) -> Result<Vec<Slot>, NoMemory>
+pub(crate) fn idle_slots(alloc: Global, settings: &Settings) -> Result<Vec<HelperSlot>, NoMemory>
     ensures rows { IfOk result (λ slots. rows_in slots.items ≡ replicate settings.now.lanes idle) }
-    ensures slots { IfOk result (λ slots. All (IsSlot settings.now.width settings.now.boxes []) slots.items) }
+    ensures slots { IfOk result
+        (λ slots. All (IsHelperSlot settings.now.width settings.now.boxes []) slots.items) }
 {
     let Ok(mut slots) = Vec::with_capacity(alloc, usize::from(settings.lanes)) else {
         return Err(NoMemory);
@@ -281,14 +278,14 @@ pub(crate) fn idle_slots(alloc: Global, settings: &Settings) -> Result<Vec<Slot>
     Ok(slots)
 }
 
-fn idle_slot(alloc: Global, width: u32, boxes: u32) -> Result<Slot, NoMemory>
+fn idle_slot(alloc: Global, width: u32, boxes: u32) -> Result<HelperSlot, NoMemory>
     ensures row { IfOk result (λ slot. row_in slot ≡ idle) }
-    ensures slot { IfOk result (λ slot. IsSlot width boxes [] slot) }
+    ensures slot { IfOk result (λ slot. IsHelperSlot width boxes [] slot) }
 {
     let room = Room::open(alloc, width, boxes)?;
-    Ok(Slot {
+    Ok(HelperSlot {
         serial: 0,
-        stage: Stage::Idle,
+        stage: HelperStage::Idle,
         room,
     })
 }

@@ -9,18 +9,18 @@ use lane_table::Want;
 
 /// What a client's frame brings to its lane.
 #[derive(Clone, Copy)]
-pub(crate) enum Brought {
+pub(crate) enum ClientBody {
     Deposit(DepositBody),
     Proof(ProofShare),
 }
 
 /// What the body brings; None where the helper doesn't take it from clients.
-pub(crate) fn brought_by(body: &Body<'_>) -> Option<Brought>
+pub(crate) fn brought_by(body: &Body<'_>) -> Option<ClientBody>
     ensures { result ≡ taken_in (plain_body body.now) }
 {
     match *body {
-        Body::Deposit(held) => Some(Brought::Deposit(held)),
-        Body::Proof(share) => Some(Brought::Proof(share)),
+        Body::Deposit(held) => Some(ClientBody::Deposit(held)),
+        Body::Proof(share) => Some(ClientBody::Proof(share)),
         _ => None,
     }
 }

@@ -23,10 +23,10 @@ fn carry_counted<L: Ledger>(
     requires room { HasRoom out.old }
     ensures helper { helper.new ≡ (on_link_bytes helper.old frame.now).helper }
     ensures turn { result ≡ turned (on_link_bytes helper.old frame.now).answer }
-    ensures written { take (length (written (on_link_bytes helper.old frame.now).answer)) out.new ≡ written
-        (on_link_bytes helper.old frame.now).answer }
-    ensures rest { drop (length (written (on_link_bytes helper.old frame.now).answer)) out.new ≡ drop
-        (length (written (on_link_bytes helper.old frame.now).answer)) out.old }
+    ensures written { let reply = written (on_link_bytes helper.old frame.now).answer in
+        take (length reply) out.new ≡ reply }
+    ensures rest { let count = length (written (on_link_bytes helper.old frame.now).answer) in
+        drop count out.new ≡ drop count out.old }
     ensures settings { helper.new.server.settings ≡ helper.old.server.settings }
     ensures frame { IsCarriedFrame (on_link_bytes helper.old frame.now).answer }
 {
@@ -40,10 +40,10 @@ pub fn carry_command(helper: &mut Helper, frame: &[u8], out: &mut [u8]) -> LinkT
     requires room { HasRoom out.old }
     ensures helper { helper.new ≡ (on_link_bytes helper.old frame.now).helper }
     ensures turn { result ≡ turned (on_link_bytes helper.old frame.now).answer }
-    ensures written { take (length (written (on_link_bytes helper.old frame.now).answer)) out.new ≡ written
-        (on_link_bytes helper.old frame.now).answer }
-    ensures rest { drop (length (written (on_link_bytes helper.old frame.now).answer)) out.new ≡ drop
-        (length (written (on_link_bytes helper.old frame.now).answer)) out.old }
+    ensures written { let reply = written (on_link_bytes helper.old frame.now).answer in
+        take (length reply) out.new ≡ reply }
+    ensures rest { let count = length (written (on_link_bytes helper.old frame.now).answer) in
+        drop count out.new ≡ drop count out.old }
     ensures settings { helper.new.server.settings ≡ helper.old.server.settings }
     // The reply to a command that is carried out now is a frame of the grammar.
     ensures frame { IsCarriedFrame (on_link_bytes helper.old frame.now).answer }

@@ -4,10 +4,10 @@ use Rattle.frame_rules.specs.Frames.{plain}
 use Rattle.express_words.specs.declared.refusal.Refusal.TheVariants as refusal
 use Rattle.step_rules.specs.Boxes.{Box, addresses_of}
 use Rattle.step_rules.specs.Helper as steps
-use Rattle.helper_core.specs.declared.slot.Slot.{Slot}
-use Rattle.helper_core.specs.declared.said.Said.TheVariants as said
+use Rattle.helper_core.specs.declared.slot.HelperSlot.{HelperSlot}
+use Rattle.helper_core.specs.declared.said.SaidToLeader.TheVariants as said
 use Rattle.helper_core.specs.Said.{effect_in}
-use Rattle.helper_core.specs.Slots.{IsSlot}
+use Rattle.helper_core.specs.Slots.{IsHelperSlot}
 use Rattle.helper_core.specs.State.{server_in}
 use Rattle.helper_core.proofs.RowLemmas.{is_of}
 use Rattle.helper_core.proofs.CommandLemmas.{held_there}
@@ -28,7 +28,7 @@ returns-in-None-clause-effect c masked =
     ap (set i.slots.items c.from.result) c.index_mut-slot.ensures.value ∙ set-get_or i.slots.items c.from.result c.index_mut-slot.result.now in
     ap (begin h (plain c.args.frame.now) c.args.leaders.now c.args.part.now) (key ∙ c.in-None.is)
     ∙ (ap no_deposit (sym c.self.view_is)
-    ∙ ap (λ (xs : List Slot). effect_in (server_in i.settings i.boxes xs i.draws i.seed) (said.Refused refusal.NoDeposit) masked) (sym same))
+    ∙ ap (λ (xs : List HelperSlot). effect_in (server_in i.settings i.boxes xs i.draws i.seed) (said.Refused refusal.NoDeposit) masked) (sym same))
 
 pub returns-in-Some-clause-effect : goal.returns-in-Some-clause-effect
 returns-in-Some-clause-effect c masked =
@@ -47,5 +47,5 @@ invariant_of-self-in-Some c =
     let i = c.self.inside in
     let inside : c.from.result < length i.slots.items = omega (arith, c.self.invariant.lanes, ap (λ (s : steps.Server). s.settings.lanes) c.self.view_is) in
     slot_set i.settings i.boxes i.slots.items i.draws i.seed c.self.invariant c.from.result c.begin.new.self
-    (c.begin.ensures.is_slot i.settings.width i.settings.boxes (addresses_of i.boxes.boxes) (omega (arith, c.count-count.ensures.count, length-map i.boxes.boxes (λ (b : Box). b.address)))
-    (subst (IsSlot i.settings.width i.settings.boxes (addresses_of i.boxes.boxes)) (sym c.index_mut-slot.ensures.value) (c.self.invariant.rows c.from.result c.index_mut-slot.result.now inside)))
+    (c.begin.ensures.is_slot (addresses_of i.boxes.boxes) (omega (arith, c.count-count.ensures.count, length-map i.boxes.boxes (λ (b : Box). b.address))) i.settings.width i.settings.boxes
+    (subst (IsHelperSlot i.settings.width i.settings.boxes (addresses_of i.boxes.boxes)) (sym c.index_mut-slot.ensures.value) (c.self.invariant.rows c.from.result c.index_mut-slot.result.now inside)))

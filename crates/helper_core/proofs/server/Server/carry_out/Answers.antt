@@ -130,7 +130,7 @@ returns-in_default g c =
     let d = c.in_default in
     let other = other_command h f c.args.frame.now.body stage d.not-LinkRegister d.not-LinkBegin d.not-LinkAudit d.not-LinkSettle d.not-LinkRead d.not-LinkRetire in
     let none : carry_steps h f ≡ 0 = steps_below h f below ∙ other.1 in
-    record { effect = lane_below h f below ∙ other.0; steps = omega arith; right = tt; settings = refl; draws = omega arith }
+    record { effect = lane_below h f below ∙ other.0; steps = omega arith; right = tt; kept = record { settings = refl; draws = omega arith } }
 
 pub returns-then-frame-lanes-clause-effect : goal.returns-then-frame-lanes-clause-effect
 returns-then-frame-lanes-clause-effect g c =

@@ -5,8 +5,8 @@ use Rattle.frame_rules.specs.Spelling.{spelling}
 use Rattle.frame_rules.proofs.GrammarLaws.{spelling_limit}
 use Rattle.step_rules.specs.Boxes.{addresses_of}
 use Rattle.step_rules.specs.Helper.{Server, Turn}
-use Rattle.helper_core.specs.declared.slot.Slot.{Slot}
-use Rattle.helper_core.specs.Slots.{rows_in, IsSlot}
+use Rattle.helper_core.specs.declared.slot.HelperSlot.{HelperSlot}
+use Rattle.helper_core.specs.Slots.{rows_in, IsHelperSlot}
 use Rattle.helper_core.specs.State.{server_in, IsServer}
 use Rattle.helper_core.proofs.RowLemmas.{written_whole, is_of}
 use Rattle.helper_core.proofs.server.Server.on_client.Goals as goal
@@ -16,7 +16,7 @@ returns-clause-server c =
     let i = c.self.inside in
     let turn = c.answer_client-reply.ensures.turn c.args.self.now (is_of c.args.self.now i.settings i.boxes i.slots.items c.deref_mut.result.now i.draws i.seed c.self.view_is c.deref_mut.ensures.value) in
     let same : length c.answer_client-reply.new.slots ≡ length i.slots.items = c.answer_client-reply.auto.slots ∙ ap length c.deref_mut.ensures.value in
-    ap (λ (xs : List Slot). server_in i.settings i.boxes xs i.draws i.seed) (written_whole i.slots.len c.answer_client-reply.new.slots i.slots.items same (omega arith))
+    ap (λ (xs : List HelperSlot). server_in i.settings i.boxes xs i.draws i.seed) (written_whole i.slots.len c.answer_client-reply.new.slots i.slots.items same (omega arith))
     ∙ (ap (λ (h : Server). record h { rows = rows_in c.answer_client-reply.new.slots }) c.self.view_is
     ∙ ap (λ (t : Turn). t.server) (sym turn))
 
@@ -40,7 +40,7 @@ invariant_of-self c =
     let i = c.self.inside in
     let v = c.self.invariant in
     let same : length c.answer_client-reply.new.slots ≡ length i.slots.items = c.answer_client-reply.auto.slots ∙ ap length c.deref_mut.ensures.value in
-    let held = subst (All (IsSlot i.settings.width i.settings.boxes (addresses_of i.boxes.boxes))) (sym c.deref_mut.ensures.value) v.rows in
+    let held = subst (All (IsHelperSlot i.settings.width i.settings.boxes (addresses_of i.boxes.boxes))) (sym c.deref_mut.ensures.value) v.rows in
     subst (IsServer i.settings i.boxes) (sym (written_whole i.slots.len c.answer_client-reply.new.slots i.slots.items same (omega arith)))
     (record {
       limits = v.limits;

@@ -4,11 +4,11 @@ use Rattle.frame_rules.specs.Frames.{plain}
 use Rattle.express_words.specs.declared.refusal.Refusal.TheVariants as refusal
 use Rattle.step_rules.specs.Boxes.{addresses_of}
 use Rattle.step_rules.specs.Helper as steps
-use Rattle.helper_core.specs.declared.slot.Slot.{Slot}
-use Rattle.helper_core.specs.declared.said.Said.{Said}
-use Rattle.helper_core.specs.declared.said.Said.TheVariants as said
+use Rattle.helper_core.specs.declared.slot.HelperSlot.{HelperSlot}
+use Rattle.helper_core.specs.declared.said.SaidToLeader.{SaidToLeader}
+use Rattle.helper_core.specs.declared.said.SaidToLeader.TheVariants as said
 use Rattle.helper_core.specs.Said.{effect_in}
-use Rattle.helper_core.specs.Slots.{IsSlot}
+use Rattle.helper_core.specs.Slots.{IsHelperSlot}
 use Rattle.helper_core.specs.State.{server_in}
 use Rattle.helper_core.proofs.RowLemmas.{is_of}
 use Rattle.helper_core.proofs.CommandLemmas.{held_there}
@@ -28,7 +28,7 @@ returns-in-None-clause-effect c masked =
     ap (set i.slots.items c.from.result) c.index_mut-slot.ensures.value ∙ set-get_or i.slots.items c.from.result c.index_mut-slot.result.now in
     ap (register h (plain c.args.frame.now) c.args.address) (key ∙ c.in-None.is)
     ∙ (ap no_deposit (sym c.self.view_is)
-    ∙ ap (λ (xs : List Slot). effect_in (server_in i.settings i.boxes xs i.draws i.seed) (said.Refused refusal.NoDeposit) masked) (sym same))
+    ∙ ap (λ (xs : List HelperSlot). effect_in (server_in i.settings i.boxes xs i.draws i.seed) (said.Refused refusal.NoDeposit) masked) (sym same))
 
 pub returns-in-Some-clause-effect : goal.returns-in-Some-clause-effect
 returns-in-Some-clause-effect c masked =
@@ -41,12 +41,12 @@ returns-in-Some-clause-effect c masked =
     ∙ (ap (λ (s : steps.Server). register s (plain c.args.frame.now) c.args.address (Some c.in-Some.key)) (sym c.self.view_is)
     ∙ (register_is i.settings i.boxes i.slots.items i.draws i.seed c.self.invariant (plain c.args.frame.now) c.args.address c.in-Some.key c.from.result c.finish.new.self c.register-added.result c.register-added.new.self masked
     c.from.ensures c.finish.ensures.row c.register-added.ensures.answer c.register-added.ensures.added c.register-added.ensures.refused
-    ∙ ap (λ (x : Said). effect_in (server_in i.settings c.register-added.new.self (set i.slots.items c.from.result c.finish.new.self) i.draws i.seed) x masked) (sym c.said_of.ensures.said)))
+    ∙ ap (λ (x : SaidToLeader). effect_in (server_in i.settings c.register-added.new.self (set i.slots.items c.from.result c.finish.new.self) i.draws i.seed) x masked) (sym c.said_of.ensures.said)))
 
 pub invariant_of-self-in-Some : goal.invariant_of-self-in-Some
 invariant_of-self-in-Some c =
     let i = c.self.inside in
     let inside : c.from.result < length i.slots.items = omega (arith, c.self.invariant.lanes, ap (λ (s : steps.Server). s.settings.lanes) c.self.view_is) in
     register_keeps i.settings i.boxes (set i.slots.items c.from.result c.finish.new.self) c.args.address c.in-Some.key c.register-added.result c.register-added.new.self
-    (slot_set i.settings i.boxes i.slots.items i.draws i.seed c.self.invariant c.from.result c.finish.new.self (c.finish.ensures.is_slot i.settings.width i.settings.boxes (addresses_of i.boxes.boxes) (subst (IsSlot i.settings.width i.settings.boxes (addresses_of i.boxes.boxes)) (sym c.index_mut-slot.ensures.value) (c.self.invariant.rows c.from.result c.index_mut-slot.result.now inside))))
+    (slot_set i.settings i.boxes i.slots.items i.draws i.seed c.self.invariant c.from.result c.finish.new.self (c.finish.ensures.is_slot (addresses_of i.boxes.boxes) i.settings.width i.settings.boxes (subst (IsHelperSlot i.settings.width i.settings.boxes (addresses_of i.boxes.boxes)) (sym c.index_mut-slot.ensures.value) (c.self.invariant.rows c.from.result c.index_mut-slot.result.now inside))))
     c.register-added.ensures.answer c.register-added.ensures.added c.register-added.ensures.refused
