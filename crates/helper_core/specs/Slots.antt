@@ -1,5 +1,5 @@
 -- The rows of the helper, read from the slots that hold them.
-use Rattle.std.specs.Prelude.{◌≡◌, ℕ, ◌≤◌, List, length, map, Option, Some, None}
+use Rattle.std.specs.Prelude.{◌≡◌, ℕ, ◌≤◌, List, All, length, map, Option, Some, None}
 use Rattle.frame_rules.specs.declared.frame.DepositBody.{DepositBody}
 use Rattle.frame_rules.specs.Frames as frame
 use Rattle.frame_rules.specs.Frames.{PlainFrame, PlainBody}
@@ -57,6 +57,12 @@ BecomesSlot addresses old new =
 abbrev pub StaysSlot : (addresses : List ℕ) → (old new : HelperSlot) → Type 0
 StaysSlot addresses old new =
     (width limit : ℕ) → IsHelperSlot width limit addresses old → IsHelperSlot width limit addresses new
+
+-- of each size, and over all addresses, for which these are slots they are so still
+abbrev pub StaySlots : (old new : List HelperSlot) → Type 0
+StaySlots old new =
+    (width limit : ℕ) (addresses : List ℕ) →
+    All (IsHelperSlot width limit addresses) old → All (IsHelperSlot width limit addresses) new
 
 -- a client's frame does this to the slot's row, and this answers it
 pub record TakesTurn (t : RowTurn) (old new : HelperSlot) (said : PlainBody) : Type 0 where

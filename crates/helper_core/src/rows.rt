@@ -1,10 +1,10 @@
 //! What a frame of a client does to the slots of all lanes.
-ghost use Rattle.std.specs.Prelude.{◌≡◌, ℕ, List, All, length};
+ghost use Rattle.std.specs.Prelude.{◌≡◌, length};
 ghost use Rattle.frame_rules.specs.Frames.{plain, plain_body};
 ghost use Rattle.frame_rules.specs.Spelling.{IsFrame};
 ghost use Rattle.frame_rules.specs.Whole.{IsAnswer};
 ghost use Rattle.step_rules.specs.HelperClients.{client_turn};
-ghost use Rattle.helper_core.specs.Slots.{answer_in, taken_turn, turn_in, AtRows, IsHelperSlot};
+ghost use Rattle.helper_core.specs.Slots.{answer_in, taken_turn, turn_in, AtRows, StaySlots};
 
 use crate::slot::HelperSlot;
 use crate::taken::{ClientBody, brought_by};
@@ -23,9 +23,7 @@ fn at_lane(
     ensures turn { AtRows lanes slots.old (λ h. taken_turn h (plain frame.now) brought.now
         ≡ answer_in h slots.new (plain frame.now) (plain_body result)) }
     ensures answer { IsAnswer (plain_body result) }
-    ensures slots { (width limit : ℕ) (addresses : List ℕ)
-        → All (IsHelperSlot width limit addresses) slots.old
-        → All (IsHelperSlot width limit addresses) slots.new }
+    ensures slots { StaySlots slots.old slots.new }
 {
     if frame.lane >= lanes {
         return Body::Refused(Refusal::Lane(lanes));
@@ -43,9 +41,7 @@ pub(crate) fn answer_client(slots: &mut [HelperSlot], lanes: u16, bytes: &[u8]) 
     ensures turn { AtRows lanes slots.old
         (λ h. client_turn h bytes.now ≡ turn_in h slots.new (plain result)) }
     ensures is_frame { IsFrame (plain result) }
-    ensures slots { (width limit : ℕ) (addresses : List ℕ)
-        → All (IsHelperSlot width limit addresses) slots.old
-        → All (IsHelperSlot width limit addresses) slots.new }
+    ensures slots { StaySlots slots.old slots.new }
 {
     match whole(bytes) {
         Err(refusal) => refused_bytes(refusal),
