@@ -1,6 +1,6 @@
 -- What the outside in memory does at each call.
 use Rattle.std.specs.Prelude.{◌≡◌, ℕ, ◌+◌, ◌-◌, ◌<◌, ◌≤◌, ◌⊎◌, ◌==◌, Bool, true, false, List, [], ◌∷◌, ◌++◌}
-use Rattle.std.specs.Prelude.{take, drop, length, Contains, Option, Some, None}
+use Rattle.std.specs.Prelude.{take, drop, length, Contains, Option, Some, None, MatchBool}
 use Rattle.express_words.specs.Streams.{Stream}
 use Rattle.express_words.specs.Calls.{Call, Closed}
 use Rattle.express_words.specs.Causes.{next}
@@ -44,11 +44,45 @@ pub record SinkState : Type 0 where
   pub room : ℕ
   pub tally : Tally
 
+-- a sink that took these bytes
+abbrev pub sink_took : List ℕ → SinkState → SinkState
+sink_took bytes s =
+    record { written = s.written ++ bytes; room = s.room - length bytes; tally = passed s.tally }
+
+-- a call of it failed
+abbrev pub sink_failed : SinkState → SinkState
+sink_failed s = record { written = s.written; room = s.room; tally = failed s.tally }
+
+-- bytes were held where they have room, else none
+abbrev pub HoldsIfRoom : List ℕ → (old new : List ℕ × ℕ) → Bool → Type 0
+HoldsIfRoom bytes old new held =
+    MatchBool held ((length bytes ≤ old.1) × (new ≡ (old.0 ++ bytes, old.1 - length bytes)))
+    ((old.1 < length bytes) × (new ≡ old))
+
 pub record ConnState : Type 0 where
   pub content : Stream
   pub written : List ℕ
   pub room : ℕ
   pub tally : Tally
+
+-- a connection that gave so many more of its bytes
+abbrev pub conn_gave : ℕ → ConnState → ConnState
+conn_gave n c =
+    record { content = advanced n c.content; written = c.written; room = c.room; tally = passed c.tally }
+
+-- one that took these bytes
+abbrev pub conn_took : List ℕ → ConnState → ConnState
+conn_took bytes c =
+    record {
+      content = c.content;
+      written = c.written ++ bytes;
+      room = c.room - length bytes;
+      tally = passed c.tally;
+    }
+
+-- a call of it failed
+abbrev pub conn_failed : ConnState → ConnState
+conn_failed c = record { content = c.content; written = c.written; room = c.room; tally = failed c.tally }
 
 -- The calls so far that were noted and whether that is all of them, how many more calls and bytes of
 -- their texts have room, how many connections were given and not closed, and the closed ones.
@@ -134,6 +168,29 @@ pub record NetState : Type 0 where
   pub ledger : Ledger
   pub tally : Tally
   pub doors : ℕ
+
+-- a net that gives these connections, with room for so many calls and bytes of their texts
+abbrev pub net_of : List ConnState → (failing : List ℕ) → (calls bytes : ℕ) → NetState
+net_of conns failing calls bytes =
+    let noting : Ledger = record {
+      calls = [];
+      whole = true;
+      room = calls;
+      text_room = bytes;
+      lent = 0;
+      closed = [];
+    } in
+    record { waiting = conns; ledger = noting; tally = started failing; doors = 0 }
+
+-- a call of it passed, which left these connections and this ledger
+abbrev pub net_passed : List ConnState → Ledger → NetState → NetState
+net_passed waiting ledger n =
+    record { waiting = waiting; ledger = ledger; tally = passed n.tally; doors = n.doors }
+
+-- a call of it failed, which left this ledger and so many failures at the doors
+abbrev pub net_failed : Ledger → (doors : ℕ) → NetState → NetState
+net_failed ledger doors n =
+    record { waiting = n.waiting; ledger = ledger; tally = failed n.tally; doors = doors }
 
 -- a connection as it is given: at its first byte, with nothing written and no call made
 abbrev pub fresh : ConnState → ConnState

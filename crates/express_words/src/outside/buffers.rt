@@ -1,7 +1,7 @@
 //! Bytes to be given, and bytes that were taken.
 ghost use Rattle.std.specs.Prelude.{◌≡◌, ℕ, ◌+◌, ◌-◌, ◌<◌, ◌≤◌, min, [], ◌++◌, length, take, drop, IfOk, MatchBool, vec_len, vec_capacity};
 ghost use Rattle.express_words.specs.Streams.{Stream};
-ghost use Rattle.express_words.specs.Memory.{advanced};
+ghost use Rattle.express_words.specs.Memory.{HoldsIfRoom, advanced};
 
 use crate::NoMemory;
 use std::alloc::Global;
@@ -101,7 +101,7 @@ impl Output {
 
     /// Takes all of `bytes` where they fit, else none.
     pub fn hold(&mut self, bytes: &[u8]) -> bool
-        ensures { MatchBool result ((length bytes.now ≤ self.old.1) × (self.new ≡ (self.old.0 ++ bytes.now, self.old.1 - length bytes.now))) ((self.old.1 < length bytes.now) × (self.new ≡ self.old)) }
+        ensures { HoldsIfRoom bytes.now self.old self.new result }
     {
         if bytes.len() > self.room {
             return false;

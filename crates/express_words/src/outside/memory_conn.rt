@@ -3,7 +3,7 @@ ghost use Rattle.std.specs.Prelude.{◌≡◌, ℕ, ◌-◌, ◌<◌, ◌≤◌,
 ghost use Rattle.express_words.specs.Causes.{HasCause, CountsFault};
 ghost use Rattle.express_words.specs.Streams.{Gave, IsAtEnd, Took, TookPrefix};
 ghost use Rattle.express_words.specs.Seen.{streaming};
-ghost use Rattle.express_words.specs.Memory.{ConnState, IsListed, started, advanced, passed, failed, fresh};
+ghost use Rattle.express_words.specs.Memory.{ConnState, IsListed, started, conn_failed, conn_gave, conn_took, fresh};
 
 use crate::NoMemory;
 use crate::outside::buffers::{Input, Output};
@@ -92,10 +92,8 @@ impl Source for MemoryConn {
         ensures fails { IsErr result ↔ IsListed self.old.tally }
         ensures amount { IfOk result (λ n. n ≡ min (length self.old.content.left) (length buf.old)) }
         ensures copied { IfOk result (λ n. buf.new ≡ take n self.old.content.left ++ drop n buf.old) }
-        ensures after { IfOk result
-            (λ n. self.new ≡ record { content = advanced n self.old.content; written = self.old.written; room = self.old.room; tally = passed self.old.tally }) }
-        ensures stays { OnErr result
-            ((self.new ≡ record { content = self.old.content; written = self.old.written; room = self.old.room; tally = failed self.old.tally }) × (buf.new ≡ buf.old)) }
+        ensures after { IfOk result (λ n. self.new ≡ conn_gave n self.old) }
+        ensures stays { OnErr result ((self.new ≡ conn_failed self.old) × (buf.new ≡ buf.old)) }
     {
         if self.calls.begin() {
             self.calls.fail();
@@ -114,10 +112,8 @@ impl Sink for MemoryConn {
         ensures cause { HasCause self.old.tally.faults self.new.tally.faults result }
         ensures counts { CountsFault self.old.tally.faults self.new.tally.faults result }
         ensures fails { IsErr result ↔ (IsListed self.old.tally ⊎ (self.old.room < length bytes.now)) }
-        ensures after { OnOk result
-            (self.new ≡ record { content = self.old.content; written = self.old.written ++ bytes.now; room = self.old.room - length bytes.now; tally = passed self.old.tally }) }
-        ensures stays { OnErr result
-            (self.new ≡ record { content = self.old.content; written = self.old.written; room = self.old.room; tally = failed self.old.tally }) }
+        ensures after { OnOk result (self.new ≡ conn_took bytes.now self.old) }
+        ensures stays { OnErr result (self.new ≡ conn_failed self.old) }
     {
         if self.calls.begin() || !self.output.hold(bytes) {
             self.calls.fail();

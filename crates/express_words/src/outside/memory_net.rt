@@ -4,7 +4,7 @@ ghost use Rattle.express_words.specs.Causes.{HasCause, CountsFault, CountsFailur
 ghost use Rattle.express_words.specs.Streams.{Stream};
 ghost use Rattle.express_words.specs.Calls.{Call, Listened, Accepted, Dialled, Adds, GivesTelling, AddsClose};
 ghost use Rattle.express_words.specs.Seen.{netted};
-ghost use Rattle.express_words.specs.Memory.{NetState, ConnState, Ledger, LacksRoom, IsListed, started, passed, failed, faulted, noted, unnoted, NotesIfRoom, GivesFirst, lending, closing, told};
+ghost use Rattle.express_words.specs.Memory.{NetState, ConnState, Ledger, LacksRoom, IsListed, net_failed, net_of, net_passed, passed, faulted, noted, unnoted, NotesIfRoom, GivesFirst, lending, closing, told};
 
 use crate::NoMemory;
 use crate::outside::call_log::CallLog;
@@ -48,8 +48,7 @@ impl MemoryNet {
         text_bytes: usize,
         failing: &[u64],
     ) -> Result<MemoryNet, NoMemory>
-        ensures { IfOk result
-            (λ n. n ≡ record { waiting = conns.items; ledger = record { calls = []; whole = true; room = calls; text_room = text_bytes; lent = 0; closed = [] }; tally = started failing.now; doors = 0 }) }
+        ensures { IfOk result (λ n. n ≡ net_of conns.items failing.now calls text_bytes) }
     {
         let mut waiting = conns;
         waiting.reverse();
@@ -84,8 +83,7 @@ impl MemoryNet {
             (length text.now) self.old.ledger)) }
         ensures passed { OnSome result ((self.new.tally ≡ passed self.old.tally)
             × (self.new.doors ≡ self.old.doors)) }
-        ensures failed { IfNone result
-            (self.new ≡ record { waiting = self.old.waiting; ledger = self.new.ledger; tally = failed self.old.tally; doors = self.old.doors }) }
+        ensures failed { IfNone result (self.new ≡ net_failed self.new.ledger self.old.doors self.old) }
         ensures later { self.old.tally.faults ≤ self.new.tally.faults }
         ensures notes_failure { IfNone result (NotesIfRoom (call_of door text.now true) (length text.now) self.old.ledger self.new.ledger) }
     {
@@ -120,16 +118,9 @@ impl Net for MemoryNet {
         ensures cause { HasCause self.old.tally.faults self.new.tally.faults result }
         ensures counts { CountsFault self.old.tally.faults self.new.tally.faults result }
         ensures fails { IsErr result ↔ (IsListed self.old.tally ⊎ LacksRoom self.old.ledger 1 (length at.now)) }
-        ensures after { OnOk result (self.new ≡ record {
-          waiting = self.old.waiting;
-          ledger = noted
-              (Listened at.now false)
-              (length at.now) self.old.ledger;
-          tally = passed self.old.tally;
-          doors = self.old.doors;
-        }) }
-        ensures stays { OnErr result
-            (self.new ≡ record { waiting = self.old.waiting; ledger = self.new.ledger; tally = failed self.old.tally; doors = next self.old.doors }) }
+        ensures after { OnOk result (self.new ≡ net_passed self.old.waiting
+            (noted (Listened at.now false) (length at.now) self.old.ledger) self.old) }
+        ensures stays { OnErr result (self.new ≡ net_failed self.new.ledger (next self.old.doors) self.old) }
         ensures notes_failure { OnErr result (NotesIfRoom (Listened at.now true)
             (length at.now) self.old.ledger self.new.ledger) }
     {
@@ -157,15 +148,9 @@ impl Net for MemoryNet {
         ensures fails { IsErr result ↔ (IsListed self.old.tally ⊎ (LacksRoom self.old.ledger 2 0
             ⊎ (self.old.waiting ≡ []))) }
         ensures gives { IfOk result (GivesFirst self.old.waiting self.new.waiting) }
-        ensures after { OnOk result (self.new ≡ record {
-          waiting = self.new.waiting;
-          ledger = lending
-              (noted (Accepted false) 0 self.old.ledger);
-          tally = passed self.old.tally;
-          doors = self.old.doors;
-        }) }
-        ensures stays { OnErr result
-            (self.new ≡ record { waiting = self.old.waiting; ledger = self.new.ledger; tally = failed self.old.tally; doors = next self.old.doors }) }
+        ensures after { OnOk result (self.new ≡ net_passed self.new.waiting
+            (lending (noted (Accepted false) 0 self.old.ledger)) self.old) }
+        ensures stays { OnErr result (self.new ≡ net_failed self.new.ledger (next self.old.doors) self.old) }
         ensures notes_failure { OnErr result (NotesIfRoom (Accepted true) 0 self.old.ledger self.new.ledger) }
     {
         match self.connect(Door::Accept, "") {
@@ -191,16 +176,9 @@ impl Net for MemoryNet {
         ensures fails { IsErr result ↔ (IsListed self.old.tally
             ⊎ (LacksRoom self.old.ledger 2 (length peer.now) ⊎ (self.old.waiting ≡ []))) }
         ensures gives { IfOk result (GivesFirst self.old.waiting self.new.waiting) }
-        ensures after { OnOk result (self.new ≡ record {
-          waiting = self.new.waiting;
-          ledger = lending
-              (noted (Dialled peer.now false)
-              (length peer.now) self.old.ledger);
-          tally = passed self.old.tally;
-          doors = self.old.doors;
-        }) }
-        ensures stays { OnErr result
-            (self.new ≡ record { waiting = self.old.waiting; ledger = self.new.ledger; tally = failed self.old.tally; doors = self.old.doors }) }
+        ensures after { OnOk result (self.new ≡ net_passed self.new.waiting
+            (lending (noted (Dialled peer.now false) (length peer.now) self.old.ledger)) self.old) }
+        ensures stays { OnErr result (self.new ≡ net_failed self.new.ledger self.old.doors self.old) }
         ensures notes_failure { OnErr result (NotesIfRoom (Dialled peer.now true)
             (length peer.now) self.old.ledger self.new.ledger) }
     {

@@ -3,7 +3,7 @@ ghost use Rattle.std.specs.Prelude.{◌≡◌, ℕ, ◌-◌, ◌<◌, ◌⊎◌,
 ghost use Rattle.express_words.specs.Causes.{HasCause, CountsFault};
 ghost use Rattle.express_words.specs.Streams.{Took, TookPrefix};
 ghost use Rattle.express_words.specs.Seen.{streaming};
-ghost use Rattle.express_words.specs.Memory.{SinkState, IsListed, started, passed, failed};
+ghost use Rattle.express_words.specs.Memory.{SinkState, IsListed, started, sink_failed, sink_took};
 
 use crate::NoMemory;
 use crate::outside::buffers::Output;
@@ -61,10 +61,8 @@ impl Sink for MemorySink {
         ensures cause { HasCause self.old.tally.faults self.new.tally.faults result }
         ensures counts { CountsFault self.old.tally.faults self.new.tally.faults result }
         ensures fails { IsErr result ↔ (IsListed self.old.tally ⊎ (self.old.room < length bytes.now)) }
-        ensures after { OnOk result
-            (self.new ≡ record { written = self.old.written ++ bytes.now; room = self.old.room - length bytes.now; tally = passed self.old.tally }) }
-        ensures stays { OnErr result
-            (self.new ≡ record { written = self.old.written; room = self.old.room; tally = failed self.old.tally }) }
+        ensures after { OnOk result (self.new ≡ sink_took bytes.now self.old) }
+        ensures stays { OnErr result (self.new ≡ sink_failed self.old) }
     {
         if self.calls.begin() || !self.output.hold(bytes) {
             self.calls.fail();
