@@ -1,11 +1,9 @@
 //! The two laws for the keys of a write: what both servers accept where their leaves are those of one
 //! public part. The functions only read their arguments: their contracts are the laws.
-ghost use Rattle.std.specs.Prelude.{◌≡◌, ◌≢◌, ℕ, ◌^◌, ◌<◌, ◌≤◌, ◌⊎◌, length, All, AllPairs, Contains};
-ghost use Rattle.dpf_rules.specs.Walk.{leaf_of};
+ghost use Rattle.std.specs.Prelude.{◌≢◌, All, AllPairs, Contains};
 ghost use Rattle.dpf_rules.specs.Evaluation.{difference_vector};
-ghost use Rattle.audit_rules.specs.BadWrites.{HasTwo, IsBadChallenge};
-ghost use Rattle.audit_rules.specs.Challenges.{challenge_rs, challenge_ss};
-ghost use Rattle.snip_proof.specs.Passing.{HonestKeysPass, KeysPass};
+ghost use Rattle.audit_rules.specs.BadWrites.{HasTwo};
+ghost use Rattle.snip_proof.specs.Passing.{AgreeOffTarget, HonestKeysPass, IsCaught, KeysPass};
 
 use crate::both::{ProofShares, WriteKeys};
 use audit_rules::{read_bytes, read_share, read_words};
@@ -24,11 +22,9 @@ pub fn bad_keys_are_caught(
     requires distinct { AllPairs (λ p q. p ≢ q) points.now }
     requires accepted { All (KeysPass keys.part.now keys.root0 keys.root1 ckey.now addresses.now
         shares.zero.now shares.one.now) points.now }
-    ensures caught { let w =
-        difference_vector keys.entry.part.now keys.entry.root0 keys.entry.root1 addresses.now in
-        let r = challenge_rs ckey.now addresses.now in
-        let s = challenge_ss ckey.now addresses.now in
-        IsBadChallenge w r s ⊎ (length points.now ≤ 5) }
+    ensures caught { IsCaught
+        (difference_vector keys.entry.part.now keys.entry.root0 keys.entry.root1 addresses.now)
+        ckey.now addresses.now points.now }
 {
     read_bytes(keys.part);
     read_words(&[keys.root0, keys.root1]);
@@ -47,8 +43,7 @@ pub fn honest_keys_are_accepted(
     choices: &[u128; 16],
     sigma: u128,
 )
-    requires equal { (address : ℕ) → address < 2 ^ 128 → address ≢ target
-        → leaf_of keys.part.now 0 keys.root0 address ≡ leaf_of keys.part.now 1 keys.root1 address }
+    requires equal { AgreeOffTarget keys.part.now keys.root0 keys.root1 target }
     requires distinct { AllPairs (λ p q. p ≢ q) addresses.now }
     requires registered { Contains addresses.now target }
     ensures accepted { HonestKeysPass keys.entry.part.now keys.entry.root0 keys.entry.root1 target

@@ -1,10 +1,9 @@
 //! Both servers' audit of a write as one call, and the two laws on what they accept. The laws' functions
 //! only read their arguments: their contracts are the laws.
 ghost use Rattle.std.specs.Prelude.{◌≡◌, ◌≢◌, ℕ, ◌<◌, ◌≤◌, ◌↔◌, ◌⊎◌, length, All, AllPairs, IsTrue, slice_index};
-ghost use Rattle.audit_rules.specs.Audit.{difference, whole_proof, PassesAt};
-ghost use Rattle.audit_rules.specs.BadWrites.{HasTwo, IsBadChallenge};
-ghost use Rattle.audit_rules.specs.Challenges.{challenge_rs, challenge_ss, sums_under};
-ghost use Rattle.snip_proof.specs.Passing.{HonestLeavesPass, LeavesPass};
+ghost use Rattle.audit_rules.specs.Audit.{difference};
+ghost use Rattle.audit_rules.specs.BadWrites.{HasTwo};
+ghost use Rattle.snip_proof.specs.Passing.{AgreeElsewhere, HonestLeavesPass, IsCaught, LeavesPass, WholePasses};
 
 use crate::both::{ProofShares, WriteLeaves};
 use crate::servers::{close_share, judge, open_share};
@@ -25,10 +24,8 @@ pub fn servers_accept(
     requires one { length leaves.one.now ≡ length addresses.now }
     ensures accept { IsTrue result ↔ LeavesPass leaves.entry.zero.now leaves.entry.one.now
         ckey.now addresses.now shares.entry.zero.now shares.entry.one.now sigma }
-    ensures passes { let sums = sums_under ckey.now addresses.now in
-        IsTrue result
-        ↔ PassesAt (sums (difference leaves.entry.zero.now leaves.entry.one.now))
-        (whole_proof shares.entry.zero.now shares.entry.one.now) sigma }
+    ensures passes { IsTrue result ↔ WholePasses leaves.entry.zero.now leaves.entry.one.now
+        ckey.now addresses.now shares.entry.zero.now shares.entry.one.now sigma }
 {
     read_words(leaves.zero);
     read_words(leaves.one);
@@ -62,10 +59,8 @@ pub fn accepted_points_are_few(
     requires distinct { AllPairs (λ p q. p ≢ q) points.now }
     requires accepted { All (LeavesPass leaves.zero.now leaves.one.now ckey.now addresses.now
         shares.zero.now shares.one.now) points.now }
-    ensures caught { let w = difference leaves.entry.zero.now leaves.entry.one.now in
-        let r = challenge_rs ckey.now addresses.now in
-        let s = challenge_ss ckey.now addresses.now in
-        IsBadChallenge w r s ⊎ (length points.now ≤ 5) }
+    ensures caught { IsCaught (difference leaves.entry.zero.now leaves.entry.one.now)
+        ckey.now addresses.now points.now }
 {
     read_words(leaves.zero);
     read_words(leaves.one);
@@ -88,9 +83,7 @@ pub fn honest_writes_are_accepted(
     requires one { length leaves.one.now ≡ length addresses.now }
     requires place { place < length addresses.now }
     requires distinct { AllPairs (λ p q. p ≢ q) addresses.now }
-    requires equal { (i : ℕ) → i < length addresses.now
-        → slice_index addresses.now i ≢ slice_index addresses.now place
-        → slice_index leaves.zero.now i ≡ slice_index leaves.one.now i }
+    requires equal { AgreeElsewhere leaves.zero.now leaves.one.now addresses.now place }
     ensures accepted { HonestLeavesPass leaves.entry.zero.now leaves.entry.one.now place
         ckey.now addresses.now choices.now sigma }
 {
