@@ -25,7 +25,7 @@ use crate::stored::Stored;
 use crate::storing::entry_of;
 use crate::task::Task;
 use client_core::AskFault;
-use client_restart::{Ended, NoteFault, KeptClient, OwnedBox};
+use client_restart::{Ended, KeptClient, NoteFault, OwnedBox};
 use desk_entries::{
     Entry, MOST_AT_ONCE, NamedBoxes, Reading, Standing, addresses, are_new, has_outcome, is_name,
     is_retired, is_retiring, letters_of, name_of, named, shown_of, waiting,

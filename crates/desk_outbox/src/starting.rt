@@ -19,7 +19,7 @@ use crate::fault::StartFault;
 use crate::outbox::{OUTBOX_LIMIT, Outbox};
 use crate::place::Place;
 use client_core::Request;
-use client_restart::{ClientOpening, NoteFault, KeptClient};
+use client_restart::{ClientOpening, KeptClient, NoteFault};
 use desk_draws::Draws;
 use desk_letters::seal;
 use desk_texts::{CardHead, Head, Sheet, print, read_sheet};

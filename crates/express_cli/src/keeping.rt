@@ -15,7 +15,7 @@ use crate::texts::{OUT_OF_MEMORY, say, say_fault};
 use express_words::outside::{Net, Sink, Source};
 use node_journal::Disk;
 use node_serve::open_kept;
-use settings_text::{HELPER, ServeSettings, read_serve};
+use settings_text::{ServeSettings, read_serve};
 use std::alloc::Global;
 use wire_frames::Gather;
 
@@ -28,7 +28,6 @@ fn keep_by<K: Sink, N: Net, D: Disk>(
     net: &mut N,
     disk: D,
 ) -> (End, D)
-    requires role { settings.now.role ≤ HELPER }
     requires limits { KeepsLimits settings.now.settings.width settings.now.settings.boxes
         settings.now.settings.lanes settings.now.settings.window }
     ensures tells { Prints (SettingsMay D.disk settings.now

@@ -13,7 +13,7 @@ use crate::texts::{OUT_OF_MEMORY, say, say_fault};
 use express_words::NoMemory;
 use express_words::outside::{Net, Sink};
 use node_serve::{Never, Node, open_node};
-use settings_text::{HELPER, ServeSettings, read_serve};
+use settings_text::{ServeSettings, read_serve};
 use std::alloc::Global;
 use wire_frames::Gather;
 
@@ -38,7 +38,6 @@ fn opened(
     settings: &ServeSettings,
     seed: &[u8; 32],
 ) -> Result<(Node, Gather), NoMemory>
-    requires role { settings.now.role ≤ HELPER }
     requires limits { KeepsLimits settings.now.settings.width settings.now.settings.boxes
         settings.now.settings.lanes settings.now.settings.window }
     ensures opened { IfOk result (λ r. IsOpened settings.now seed.now r.0) }
@@ -55,7 +54,6 @@ fn serve_by<K: Sink, N: Net>(
     out: &mut K,
     net: &mut N,
 ) -> End
-    requires role { settings.now.role ≤ HELPER }
     requires limits { KeepsLimits settings.now.settings.width settings.now.settings.boxes
         settings.now.settings.lanes settings.now.settings.window }
     ensures ends { Prints (ServeMay settings.now

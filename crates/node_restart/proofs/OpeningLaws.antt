@@ -3,8 +3,8 @@ use Rattle.std.proofs.Common.{◌≡◌, ℕ, ◌<◌, ◌^◌, List, take, drop
 use Rattle.std.proofs.lemmas.Nat.{from_be_bytes-to_be_bytes_2, from_be_bytes-to_be_bytes_4}
 use Rattle.std.specs.Int.{w16, w32, to_be_bytes, from_be_bytes}
 use Rattle.node_restart.specs.declared.opening.Opening.{Opening}
-use Rattle.node_restart.specs.declared.opening.Role.{Role}
-use Rattle.node_restart.specs.declared.opening.Role.TheVariants.{Leader, Helper}
+use Rattle.express_words.specs.declared.role.Role.{Role}
+use Rattle.express_words.specs.declared.role.Role.TheVariants.{Leader, Helper}
 use Rattle.node_restart.specs.Openings.{IsOpening, opening_record, role_number}
 
 pub one_role : (a b : Role) → role_number a ≡ role_number b → a ≡ b

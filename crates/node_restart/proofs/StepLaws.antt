@@ -17,8 +17,8 @@ use Rattle.node_restart.specs.declared.frames.Sender.TheVariants.{Client, Peer}
 use Rattle.node_restart.specs.Frames.{Handed, IsOneFrame}
 use Rattle.node_restart.specs.Steps.{step_of, lead_client, lead_peer, help_client, help_peer, fold_from, opened, opened_as, settings_of, role_of}
 use Rattle.node_restart.specs.declared.opening.Opening.{Opening}
-use Rattle.node_restart.specs.declared.opening.Role.{Role}
-use Rattle.node_restart.specs.declared.opening.Role.TheVariants.{Leader, Helper}
+use Rattle.express_words.specs.declared.role.Role.{Role}
+use Rattle.express_words.specs.declared.role.Role.TheVariants.{Leader, Helper}
 use Rattle.express_words.specs.declared.settings.Settings.{Settings}
 
 lead_stays : (a : LeaderState) (w : Result PlainFrame Refusal) → (IsOk w → ⊥) → (leader_clients.on_whole a w).leader ≡ a

@@ -3,8 +3,8 @@ use Rattle.std.specs.Prelude.{◌≡◌, ℕ, List, ◌∷◌, ◌++◌, length}
 use Rattle.std.specs.Int.{w16, w32, to_be_bytes}
 use Rattle.express_words.specs.Limits.{KeepsLimits}
 use Rattle.node_restart.specs.declared.opening.Opening.{Opening}
-use Rattle.node_restart.specs.declared.opening.Role.{Role}
-use Rattle.node_restart.specs.declared.opening.Role.TheVariants.{Leader, Helper}
+use Rattle.express_words.specs.declared.role.Role.{Role}
+use Rattle.express_words.specs.declared.role.Role.TheVariants.{Leader, Helper}
 
 abbrev pub role_number : Role → ℕ
 role_number Leader = 0

@@ -19,8 +19,8 @@ use Rattle.node_restart.specs.declared.did.Did.TheVariants as did
 use Rattle.node_restart.specs.declared.frames.Sender.{Sender}
 use Rattle.node_restart.specs.declared.frames.Sender.TheVariants.{Client, Peer}
 use Rattle.node_restart.specs.declared.opening.Opening.{Opening}
-use Rattle.node_restart.specs.declared.opening.Role.{Role}
-use Rattle.node_restart.specs.declared.opening.Role.TheVariants as role
+use Rattle.express_words.specs.declared.role.Role.{Role}
+use Rattle.express_words.specs.declared.role.Role.TheVariants as role
 use Rattle.node_restart.specs.Frames.{Handed}
 
 -- the server after a step, what it did, and the bytes that it wrote

@@ -14,9 +14,10 @@ mod server;
 mod steps;
 
 pub use did::Did;
+pub use express_words::Role;
 pub use fault::KeepFault;
 pub use frames::Sender;
 pub use kept::Kept;
-pub use opening::{Opening, Role};
+pub use opening::Opening;
 pub use server::Core;
 pub use steps::{help_client, help_peer, lead_client, lead_peer};

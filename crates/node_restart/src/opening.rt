@@ -3,19 +3,10 @@ ghost use Rattle.std.specs.Prelude.{◌≡◌, ◌∷◌, [], IsNone, IfSome, Is
 ghost use Rattle.std.specs.Int.{w16, w32, to_be_bytes, from_be_bytes};
 ghost use Rattle.node_restart.specs.Openings.{IsOpening, opening_record, role_number};
 
-use express_words::Settings;
+use express_words::{Role, Settings};
 
 /// How many bytes the record of an opening has.
 pub(crate) const OPENING_LEN: usize = 45;
-
-/// Which of the two servers.
-#[derive(Clone, Copy, Debug, PartialEq, Eq)]
-pub enum Role {
-    /// Server 0.
-    Leader,
-    /// Server 1.
-    Helper,
-}
 
 /// How a server is opened: which of the two it is, the settings, and the seed of its draws.
 #[derive(Clone, Copy, Debug, PartialEq, Eq)]

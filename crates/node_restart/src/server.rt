@@ -9,9 +9,9 @@ ghost use Rattle.node_restart.specs.Steps.{opened, step_of, settings_of, role_of
 
 use crate::did::Did;
 use crate::frames::Sender;
-use crate::opening::{Opening, Role};
+use crate::opening::Opening;
 use crate::steps::{help_client, help_peer, lead_client, lead_peer};
-use express_words::NoMemory;
+use express_words::{NoMemory, Role};
 use helper_core::Helper;
 use leader_core::Leader;
 use std::alloc::Global;

@@ -1,11 +1,9 @@
 -- How a server is opened, from its settings or from its journal.
-use Rattle.std.specs.Prelude.{◌≡◌, ◌≢◌, ◌⊎◌, ℕ, nat_eq, cond, true, false, List, [], ◌++◌, codes}
+use Rattle.std.specs.Prelude.{◌≡◌, ◌≢◌, ◌⊎◌, ℕ, true, false, List, [], ◌++◌, codes}
 use Rattle.node_journal.specs.Disk.{DiskSeen, Within, IsUntouched}
 use Rattle.node_journal.specs.Records.{content, IsUndamaged}
 use Rattle.node_journal.specs.declared.fault.JournalFault.TheVariants.{Closed, NotEmpty, Full, Damaged}
 use Rattle.node_restart.specs.declared.opening.Opening.{Opening}
-use Rattle.node_restart.specs.declared.opening.Role.{Role}
-use Rattle.node_restart.specs.declared.opening.Role.TheVariants as role
 use Rattle.node_restart.specs.declared.server.Core.{Core}
 use Rattle.node_restart.specs.declared.fault.KeepFault.TheVariants.{Journal, Foreign}
 use Rattle.node_restart.specs.Faults.{CountsFault}
@@ -15,18 +13,13 @@ use Rattle.node_restart.specs.Openings.{IsOpening}
 use Rattle.node_restart.specs.Steps.{fold}
 use Rattle.node_restart.specs.Texts as restart
 use Rattle.settings_text.specs.declared.serve.ServeSettings.{ServeSettings}
-use Rattle.settings_text.specs.declared.serve.TheConstants.{LEADER}
 use Rattle.node_serve.specs.declared.key.SettingsKey.{SettingsKey}
 use Rattle.node_serve.specs.declared.key.SettingsKey.TheVariants as key
 use Rattle.node_serve.specs.declared.open_fault.OpenFault.{OpenFault}
 use Rattle.node_serve.specs.declared.open_fault.OpenFault.TheVariants as opens
 
--- the opening that settings and a seed spell
-abbrev pub role_by : ℕ → Role
-role_by number = cond (nat_eq number LEADER) role.Leader role.Helper
-
 abbrev pub opening_of : ServeSettings → List ℕ → Opening
-opening_of s seed = record { role = role_by s.role; settings = s.settings; seed = seed }
+opening_of s seed = record { role = s.role; settings = s.settings; seed = seed }
 
 -- ---- two openings
 

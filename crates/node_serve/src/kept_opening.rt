@@ -8,8 +8,8 @@ ghost use Rattle.node_serve.specs.KeptOpening.{IsOfOpening, IsCauseOf, LeavesDis
 use crate::key::first_difference;
 use crate::open_fault::OpenFault;
 use node_journal::{Disk, JournalFault};
-use node_restart::{KeepFault, Kept, Opening, Role};
-use settings_text::{HELPER, LEADER, ServeSettings};
+use node_restart::{KeepFault, Kept, Opening};
+use settings_text::ServeSettings;
 use std::alloc::Global;
 
 /// So many bytes of its disk a server's journal uses at most.
@@ -17,16 +17,10 @@ pub const JOURNAL_LIMIT: u64 = 1 << 30;
 
 /// The opening that these settings and this seed spell.
 fn opening_of(settings: &ServeSettings, seed: &[u8; 32]) -> Opening
-    requires role { settings.now.role ≤ HELPER }
-    ensures value { result ≡ opening_of settings.now seed.now }
+    ensures { result ≡ opening_of settings.now seed.now }
 {
-    let role = if settings.role == LEADER {
-        Role::Leader
-    } else {
-        Role::Helper
-    };
     Opening {
-        role,
+        role: settings.role,
         settings: settings.settings,
         seed: *seed,
     }
@@ -61,7 +55,6 @@ pub fn open_kept<D: Disk>(
     seed: &[u8; 32],
     disk: D,
 ) -> Result<Kept<D>, (OpenFault, D)>
-    requires role { settings.now.role ≤ HELPER }
     requires limits { KeepsLimits settings.now.settings.width settings.now.settings.boxes
         settings.now.settings.lanes settings.now.settings.window }
     // A disk with no byte gives a new server, and another one its journal's.

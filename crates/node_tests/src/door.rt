@@ -3,10 +3,10 @@
 use crate::hidden::Hidden;
 use crate::nets::{HiddenNet, net_of};
 use crate::told::is_told;
-use express_words::{NoMemory, Settings, Text};
+use express_words::{NoMemory, Role, Settings, Text};
 use node_restart::KeepFault;
 use node_serve::{Halt, Never, Node, Stop, Tally, host, open_node};
-use settings_text::{HELPER, ServeSettings};
+use settings_text::ServeSettings;
 use std::alloc::{AllocError, Global};
 use std::test::Fail;
 use wire_frames::Gather;
@@ -23,7 +23,7 @@ const SETTINGS: Settings = Settings {
 
 fn helper(alloc: Global) -> Result<Hidden<Node>, NoMemory> {
     let settings = ServeSettings {
-        role: HELPER,
+        role: Role::Helper,
         listen: Text::from_string(String::new(alloc)),
         peer: Text::from_string(String::new(alloc)),
         settings: SETTINGS,

@@ -1,11 +1,12 @@
 -- A server's settings are read exactly.
-use Rattle.std.proofs.Common.{◌≡◌, ◌≢◌, ◌⊎◌, inl, inr, ℕ, nat_eq, Bool, true, false, cond, List, [], codes, Option, Some, None, Ok, refl, sym, ◌∙◌, ap, subst}
-use Rattle.std.proofs.lemmas.Bool.{eqb-true, eqb-false}
+use Rattle.std.proofs.Common.{◌≡◌, ◌⊎◌, inl, inr, ℕ, Bool, true, false, cond, List, [], codes, Option, Some, None, Ok, refl, sym, ◌∙◌, ap, subst}
 use Rattle.std.proofs.lemmas.Slice.Eq.{bytes_eq-Decides}
 use Rattle.std.specs.Str.{bytes_eq}
 use Rattle.toml.specs.Data as toml
 use Rattle.toml.specs.Data.{Data, Members, as_str}
 use Rattle.express_words.specs.declared.settings.Settings.{Settings}
+use Rattle.express_words.specs.declared.role.Role.{Role}
+use Rattle.express_words.specs.declared.role.Role.TheVariants.{Leader, Helper}
 use Rattle.settings_text.specs.declared.serve.ServeSettings.{ServeSettings}
 use Rattle.settings_text.specs.Keys.{◌>>=◌, needed}
 use Rattle.settings_text.specs.Meanings.{Has, IsWrong, NoneIs, MeansNumber, MeansText, MeansWidth}
@@ -26,59 +27,37 @@ if_named {A} name word a b others h = at_test (bytes_eq name word) refl h
 pub named_string : (value : Data) (name word : List ℕ) → as_str value ≡ Some name → name ≡ word → value ≡ toml.string word
 named_string value name word h same = is_string value name h ∙ ap toml.string same
 
-role_found : (value : Data) (role : ℕ) → role_in value ≡ Some role → MeansRole role value
+role_found : (value : Data) (role : Role) → role_in value ≡ Some role → MeansRole role value
 unfolding role_in
 role_found value role h =
     let at = some_then role_of (as_str value) role h in
-    at_leader at.0 at.1 (if_named at.0 (codes "leader") 0 role _ at.2)
+    at_leader at.0 at.1 (if_named at.0 (codes "leader") Leader role _ at.2)
   where
-    at_helper : (name : List ℕ) → as_str value ≡ Some name → ((name ≡ codes "helper") × (1 ≡ role)) ⊎ (None ≡ Some role) → MeansRole role value
-    at_helper name there (inl is) = inr (sym is.1, named_string value name (codes "helper") there is.0)
+    at_helper : (name : List ℕ) → as_str value ≡ Some name → ((name ≡ codes "helper") × (Helper ≡ role)) ⊎ (None ≡ Some role) → MeansRole role value
+    at_helper name there (inl is) = subst (λ r. MeansRole r value) is.1 (named_string value name (codes "helper") there is.0)
     at_helper name there (inr none) = cc
 
     at_leader : (name : List ℕ) → as_str value ≡ Some name
-        → ((name ≡ codes "leader") × (0 ≡ role)) ⊎ (cond (bytes_eq name (codes "helper")) (Some 1) None ≡ Some role) → MeansRole role value
-    at_leader name there (inl is) = inl (sym is.1, named_string value name (codes "leader") there is.0)
-    at_leader name there (inr other) = at_helper name there (if_named name (codes "helper") 1 role None other)
+        → ((name ≡ codes "leader") × (Leader ≡ role)) ⊎ (cond (bytes_eq name (codes "helper")) (Some Helper) None ≡ Some role) → MeansRole role value
+    at_leader name there (inl is) = subst (λ r. MeansRole r value) is.1 (named_string value name (codes "leader") there is.0)
+    at_leader name there (inr other) = at_helper name there (if_named name (codes "helper") Helper role None other)
 
-role_only : (value : Data) (role : ℕ) → MeansRole role value → role_in value ≡ Some role
+role_only : (value : Data) (role : Role) → MeansRole role value → role_in value ≡ Some role
 unfolding role_in
-role_only value role (inl h) = rw (h.1, h.0) refl
-role_only value role (inr h) = rw (h.1, h.0) refl
+role_only value Leader h = rw h refl
+role_only value Helper h = rw h refl
 
 role_read : ReadsAs role_in MeansRole
 role_read = record { found = role_found; only = role_only }
 
 -- ---- the peer
 
-peer_exact : (role : ℕ) (keys : Members) → IsExact (peer_of role keys) (HasPeer role keys) (IsWrong (codes "peer") (HasPeer role keys))
+peer_exact : (role : Role) (keys : Members) → IsExact (peer_of role keys) (HasPeer role keys) (IsWrong (codes "peer") (HasPeer role keys))
 unfolding peer_of
-peer_exact role keys = at_test (nat_eq role 0) refl
-  where
-    leads : role ≡ 0 → (peer : List ℕ) → HasPeer role keys peer → Has (codes "peer") MeansText keys peer
-    leads zero peer (inl h) = h.1
-    leads zero peer (inr h) = absurd (h.0 zero)
-
-    helps : role ≢ 0 → (peer : List ℕ) → HasPeer role keys peer → peer ≡ []
-    helps some peer (inl h) = absurd (some h.0)
-    helps some peer (inr h) = h.1
-
-    at_test : (t : Bool) → nat_eq role 0 ≡ t
-        → IsExact (cond t (needed (codes "peer") as_str keys) (Ok [])) (HasPeer role keys) (IsWrong (codes "peer") (HasPeer role keys))
-    at_test true e =
-        let zero = eqb-true role 0 e in
-        as_well (needed (codes "peer") as_str keys) (Has (codes "peer") MeansText keys) (HasPeer role keys) (IsWrong (codes "peer") (Has (codes "peer") MeansText keys)) (IsWrong (codes "peer") (HasPeer role keys))
-        (λ peer h. inl (zero, h)) (leads zero)
-        (λ named h. (h.0, λ peer right. h.1 peer (leads zero peer right)))
-        (λ named h. (h.0, λ peer right. h.1 peer (inl (zero, right))))
-        (needed_exact (codes "peer") as_str MeansText keys text_read)
-    at_test false e =
-        let some = eqb-false role 0 e in
-        as_well (Ok []) (λ peer. peer ≡ []) (HasPeer role keys) NoneIs (IsWrong (codes "peer") (HasPeer role keys))
-        (λ peer h. inr (some, h)) (helps some)
-        (λ named h. absurd h)
-        (λ named h. h.1 [] (inr (some, refl)))
-        (done [])
+peer_exact Leader keys = needed_exact (codes "peer") as_str MeansText keys text_read
+peer_exact Helper keys =
+    as_well (Ok []) (λ peer. peer ≡ []) (HasPeer Helper keys) NoneIs (IsWrong (codes "peer") (HasPeer Helper keys))
+    (λ peer h. h) (λ peer h. h) (λ named h. absurd h) (λ named h. h.1 [] refl) (done [])
 
 -- ---- the limits
 
@@ -114,7 +93,7 @@ limits_exact keys =
 
 abbrev pub Chain : Members → ServeSettings → Type 0
 Chain keys s =
-    (role : ℕ) × Has (codes "role") MeansRole keys role
+    (role : Role) × Has (codes "role") MeansRole keys role
     × ((listen : List ℕ) × Has (codes "listen") MeansText keys listen
     × ((peer : List ℕ) × HasPeer role keys peer
     × ((settings : Settings) × HasLimits keys settings

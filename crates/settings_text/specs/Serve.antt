@@ -1,26 +1,28 @@
 -- The keys of a server's settings, in the order in which they are judged.
-use Rattle.std.specs.Prelude.{ℕ, ◌==◌, if◌then◌else◌, List, [], codes}
+use Rattle.std.specs.Prelude.{ℕ, if◌then◌else◌, List, [], codes}
 use Rattle.std.specs.Prelude.{Option, Some, None, option_and_then, Result, Ok}
 use Rattle.std.specs.Str.{bytes_eq}
 use Rattle.toml.specs.Data.{Data, Members, as_str}
 use Rattle.express_words.specs.declared.settings.Settings.{Settings}
 use Rattle.settings_text.specs.declared.serve.ServeSettings.{ServeSettings}
-use Rattle.settings_text.specs.declared.serve.TheConstants.{LEADER, HELPER}
+use Rattle.express_words.specs.declared.role.Role.{Role}
+use Rattle.express_words.specs.declared.role.Role.TheVariants.{Leader, Helper}
 use Rattle.settings_text.specs.Keys.{◌>>=◌, needed}
 use Rattle.settings_text.specs.Values.{number_in, width_in}
 
-abbrev pub role_of : List ℕ → Option ℕ
+abbrev pub role_of : List ℕ → Option Role
 role_of name =
-    if bytes_eq name (codes "leader") then Some LEADER
-    else if bytes_eq name (codes "helper") then Some HELPER
+    if bytes_eq name (codes "leader") then Some Leader
+    else if bytes_eq name (codes "helper") then Some Helper
     else None
 
-unfoldable pub role_in : Data → Option ℕ
+unfoldable pub role_in : Data → Option Role
 role_in value = option_and_then role_of (as_str value)
 
 -- a leader needs its helper's place, and a helper doesn't look at it
-unfoldable pub peer_of : ℕ → Members → Result (List ℕ) (List ℕ)
-peer_of role table = if role == LEADER then needed (codes "peer") as_str table else Ok []
+unfoldable pub peer_of : Role → Members → Result (List ℕ) (List ℕ)
+peer_of Leader table = needed (codes "peer") as_str table
+peer_of Helper table = Ok []
 
 unfoldable pub settings_of : Members → Result Settings (List ℕ)
 settings_of table = do

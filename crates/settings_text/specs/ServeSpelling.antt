@@ -1,22 +1,22 @@
 -- The grammar of a server's settings, key by key.
-use Rattle.std.specs.Prelude.{◌≡◌, ◌≢◌, ◌⊎◌, ℕ, List, [], codes}
+use Rattle.std.specs.Prelude.{◌≡◌, ℕ, List, [], codes}
 use Rattle.toml.specs.Data as toml
 use Rattle.toml.specs.Data.{Data, Members}
 use Rattle.express_words.specs.declared.settings.Settings.{Settings}
+use Rattle.express_words.specs.declared.role.Role.{Role}
+use Rattle.express_words.specs.declared.role.Role.TheVariants.{Leader, Helper}
 use Rattle.settings_text.specs.declared.serve.ServeSettings.{ServeSettings}
 use Rattle.settings_text.specs.Meanings.{SpellsTable, Has, FaultIn, FaultAt, FaultUnder, NoneIs, FaultOfText}
 use Rattle.settings_text.specs.Meanings.{MeansNumber, MeansText, MeansWidth}
 
--- the leader is 0, the helper 1
-abbrev pub MeansRole : ℕ → Data → Type 0
-MeansRole role value =
-    ((role ≡ 0) × (value ≡ toml.string (codes "leader")))
-    ⊎ ((role ≡ 1) × (value ≡ toml.string (codes "helper")))
+abbrev pub MeansRole : Role → Data → Type 0
+MeansRole Leader value = value ≡ toml.string (codes "leader")
+MeansRole Helper value = value ≡ toml.string (codes "helper")
 
 -- a leader's peer is a text; a helper has none, whatever stands there
-abbrev pub HasPeer : ℕ → Members → List ℕ → Type 0
-HasPeer role keys peer =
-    ((role ≡ 0) × Has (codes "peer") MeansText keys peer) ⊎ ((role ≢ 0) × (peer ≡ []))
+abbrev pub HasPeer : Role → Members → List ℕ → Type 0
+HasPeer Leader keys peer = Has (codes "peer") MeansText keys peer
+HasPeer Helper keys peer = peer ≡ []
 
 -- what stands under each key of the limits
 pub record HasLimits (keys : Members) (s : Settings) : Type 0 where

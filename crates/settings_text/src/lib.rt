@@ -23,4 +23,4 @@ pub use express_texts::TextFault;
 pub use laws::{carry_is_read_exactly, client_is_read_exactly, serve_is_read_exactly};
 pub use owned::OwnedBox;
 pub use requests::{Asking, MOST_REQUESTS};
-pub use serve::{HELPER, LEADER, MOST_CONNECTIONS, ServeSettings, read_serve};
+pub use serve::{MOST_CONNECTIONS, ServeSettings, read_serve};

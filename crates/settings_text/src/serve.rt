@@ -14,15 +14,9 @@ use crate::tables::table_of;
 use crate::values::text_at;
 use express_texts::TextFault;
 use express_words::limits::{LEAST_WIDTH, MOST_BOXES, MOST_LANES, MOST_WINDOW};
-use express_words::{Settings, Text};
+use express_words::{Role, Settings, Text};
 use std::alloc::Global;
 use toml::Table;
-
-/// The role of the server that takes the clients' requests, and leads the other one.
-pub const LEADER: u8 = 0;
-
-/// The role of the server that carries out the leader's commands.
-pub const HELPER: u8 = 1;
 
 /// A server takes at most so many connections.
 pub const MOST_CONNECTIONS: u32 = 1_000_000;
@@ -30,8 +24,8 @@ pub const MOST_CONNECTIONS: u32 = 1_000_000;
 /// What one server is, and how many connections it serves.
 #[derive(Drop)]
 pub struct ServeSettings {
-    /// `LEADER` or `HELPER`.
-    pub role: u8,
+    /// Which of the two servers it is.
+    pub role: Role,
     /// Where it listens, as `127.0.0.1:7000`.
     pub listen: Text,
     /// Where a leader's helper listens; empty for a helper.
@@ -42,21 +36,19 @@ pub struct ServeSettings {
     pub connections: u32,
 }
 
-fn role_of(name: &str) -> Option<u8>
-    ensures value { result ≡ role_of name.now }
-    ensures least { IfSome result (λ role. role ≤ HELPER) }
+fn role_of(name: &str) -> Option<Role>
+    ensures { result ≡ role_of name.now }
 {
     match name {
-        "leader" => Some(LEADER),
-        "helper" => Some(HELPER),
+        "leader" => Some(Role::Leader),
+        "helper" => Some(Role::Helper),
         _ => None,
     }
 }
 
 #[tactic(auto, unfolding(crate::specs::Serve::role_in))]
-fn role(alloc: Global, table: &Table) -> Result<u8, TextFault>
+fn role(alloc: Global, table: &Table) -> Result<Role, TextFault>
     ensures value { Gives (λ role. role) result (needed (codes "role") role_in (table_view table.now)) }
-    ensures known { IfOk result (λ role. role ≤ HELPER) }
 {
     let found = match text_at(table, "role") {
         Some(name) => role_of(name),
@@ -70,15 +62,13 @@ fn role(alloc: Global, table: &Table) -> Result<u8, TextFault>
 
 // Where the helper listens, which a leader needs and a helper doesn't look at.
 #[tactic(auto, unfolding(crate::specs::Serve::peer_of))]
-fn peer(alloc: Global, role: u8, table: &Table) -> Result<Text, TextFault>
-    requires { role ≤ HELPER }
+fn peer(alloc: Global, role: Role, table: &Table) -> Result<Text, TextFault>
     ensures value { Gives (λ peer. peer) result (peer_of role (table_view table.now)) }
-    ensures alone { IfOk result (λ peer. role ≡ HELPER → peer ≡ []) }
+    ensures alone { IfOk result (λ peer. role ≡ Role.Helper → peer ≡ []) }
 {
-    if role == LEADER {
-        text(alloc, table, "peer")
-    } else {
-        Ok(Text::from_string(String::new(alloc)))
+    match role {
+        Role::Leader => text(alloc, table, "peer"),
+        Role::Helper => Ok(Text::from_string(String::new(alloc))),
     }
 }
 
@@ -102,12 +92,11 @@ fn settings(alloc: Global, table: &Table) -> Result<Settings, TextFault>
 #[tactic(auto, unfolding(crate::specs::Serve::serve_of))]
 fn serve_of(alloc: Global, table: &Table) -> Result<ServeSettings, TextFault>
     ensures value { Gives (λ s. s) result (serve_of (table_view table.now)) }
-    ensures role { IfOk result (λ s. s.role ≤ HELPER) }
     ensures limits { IfOk result (λ s.
         KeepsLimits s.settings.width s.settings.boxes s.settings.lanes s.settings.window) }
     ensures some { IfOk result (λ s. 1 ≤ s.connections) }
     ensures few { IfOk result (λ s. s.connections ≤ MOST_CONNECTIONS) }
-    ensures alone { IfOk result (λ s. s.role ≡ HELPER → s.peer ≡ []) }
+    ensures alone { IfOk result (λ s. s.role ≡ Role.Helper → s.peer ≡ []) }
 {
     let role = role(alloc, table)?;
     let listen = text(alloc, table, "listen")?;
@@ -125,12 +114,11 @@ fn serve_of(alloc: Global, table: &Table) -> Result<ServeSettings, TextFault>
 
 fn settings_in(alloc: Global, text: &[u8]) -> Result<ServeSettings, TextFault>
     ensures judges { Gives (λ s. s) result (judged serve_of text.now) }
-    ensures role { IfOk result (λ s. s.role ≤ HELPER) }
     ensures limits { IfOk result (λ s.
         KeepsLimits s.settings.width s.settings.boxes s.settings.lanes s.settings.window) }
     ensures some { IfOk result (λ s. 1 ≤ s.connections) }
     ensures few { IfOk result (λ s. s.connections ≤ MOST_CONNECTIONS) }
-    ensures alone { IfOk result (λ s. s.role ≡ HELPER → s.peer ≡ []) }
+    ensures alone { IfOk result (λ s. s.role ≡ Role.Helper → s.peer ≡ []) }
 {
     let table = table_of(alloc, text)?;
     serve_of(alloc, &table)
@@ -142,12 +130,11 @@ fn settings_in(alloc: Global, text: &[u8]) -> Result<ServeSettings, TextFault>
 pub fn read_serve(alloc: Global, text: &[u8]) -> Result<ServeSettings, TextFault>
     ensures spells { Judges SpellsServe IsBadServeKey text.now result }
     ensures judges { Gives (λ s. s) result (judged serve_of text.now) }
-    ensures role { IfOk result (λ s. s.role ≤ HELPER) }
     ensures limits { IfOk result (λ s.
         KeepsLimits s.settings.width s.settings.boxes s.settings.lanes s.settings.window) }
     ensures some { IfOk result (λ s. 1 ≤ s.connections) }
     ensures few { IfOk result (λ s. s.connections ≤ MOST_CONNECTIONS) }
-    ensures alone { IfOk result (λ s. s.role ≡ HELPER → s.peer ≡ []) }
+    ensures alone { IfOk result (λ s. s.role ≡ Role.Helper → s.peer ≡ []) }
 {
     settings_in(alloc, text)
 }

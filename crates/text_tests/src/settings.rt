@@ -1,8 +1,9 @@
 //! One server's settings, one client's and one carrier's, the first wrong key of each, and texts that aren't
 //! TOML.
 use crate::told::is_told;
+use express_words::Role;
 use settings_text::{
-    Asking, CarryJob, CarrySettings, ClientSettings, LEADER, ServeSettings, TextFault, read_carry,
+    Asking, CarryJob, CarrySettings, ClientSettings, ServeSettings, TextFault, read_carry,
     read_client, read_serve,
 };
 use std::alloc::{AllocError, Global};
@@ -87,10 +88,9 @@ fn server_in(alloc: Global, text: &[u8]) -> Result<ServeSettings, TextFault> {
 }
 
 fn server_told(server: &ServeSettings, told: &mut String) -> Result<(), AllocError> {
-    let role = if server.role == LEADER {
-        "leader"
-    } else {
-        "helper"
+    let role = match server.role {
+        Role::Leader => "leader",
+        Role::Helper => "helper",
     };
     write!(
         told,
