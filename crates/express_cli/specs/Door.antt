@@ -60,6 +60,16 @@ abbrev pub HaltMay : {S F : Type 0} → Keeper S F → Halt F → End → List �
 HaltMay keeper halt.Door end text = Said NetFault net_fault_text end text
 HaltMay keeper (halt.Log fault) end text = keeper.tells fault end text
 
+-- it ended at the door, or at one of these faults of the log
+abbrev pub EndsAtFirst : {F : Type 0} → (F → Type 0) → Halt F → Type 0
+EndsAtFirst first halt.Door = Unit {0}
+EndsAtFirst first (halt.Log fault) = first fault
+
+-- the log's count of failures is what its fault says, and stays where it ended at the door
+abbrev pub HaltCounts : {F : Type 0} → (F → ℕ → ℕ → Type 0) → Halt F → (before now : ℕ) → Type 0
+HaltCounts rises halt.Door before now = now ≡ before
+HaltCounts rises (halt.Log fault) before now = rises fault before now
+
 -- An accept failed, or the log refused a frame, which ended the run; no answer went out to its connection.
 pub record Halted {S F : Type 0} (keeper : Keeper S F) (shown : Seen → Type 0) (settings : ServeSettings)
     (old new : Standing S) (end : End) (text : List ℕ) : Type 0 where

@@ -4,7 +4,7 @@ ghost use Rattle.node_restart.specs.Frames.{Handed};
 ghost use Rattle.node_serve.specs.Tallies.{tally_text};
 ghost use Rattle.node_serve.specs.Visits.{standing};
 ghost use Rattle.express_cli.specs.Around.{Shown, around};
-ghost use Rattle.express_cli.specs.Door.{DoorMay, ListeningMay, ServedMay, TallyMay, keeper, listening};
+ghost use Rattle.express_cli.specs.Door.{DoorMay, EndsAtFirst, HaltCounts, HaltMay, ListeningMay, ServedMay, TallyMay, keeper, listening};
 ghost use Rattle.express_cli.specs.Ends.{DiskCounts, Prints};
 ghost use Rattle.express_cli.specs.Talking.{IsOut, ServeAnnounces};
 ghost use Rattle.express_cli.specs.declared.ends.End.{End as Ends};
@@ -17,7 +17,7 @@ use settings_text::ServeSettings;
 use std::alloc::{AllocError, Global};
 use wire_frames::Gather;
 
-/// A server that can tell why its log refused a frame, which ends it.
+/// A server that can tell why it ended early.
 pub(crate) trait TellsFaults: Logged {
     /// Its log hasn't failed.
     ghost whole: { Self → Type 0 };
@@ -28,11 +28,12 @@ pub(crate) trait TellsFaults: Logged {
     /// What is told of a fault, and the end of the run by it.
     ghost tells: { Self.Fault → Ends → List ℕ → Type 0 };
 
-    /// Tells why the log refused a frame.
-    fn tell<K: Sink>(alloc: Global, out: &mut K, fault: Self::Fault) -> End
-        requires first { first fault }
-        ensures tells { Prints (tells fault) (K.seen out.old) (K.seen out.new) result }
-        ensures counts { (before now : ℕ) → Self.rises fault before now → DiskCounts result before now };
+    /// Tells why it ended before it had served all its connections.
+    fn tell_halt<K: Sink>(alloc: Global, out: &mut K, halt: Halt<Self::Fault>) -> End
+        requires first { EndsAtFirst first halt }
+        ensures tells { Prints (HaltMay (keeper Self.log tells) halt) (K.seen out.old) (K.seen out.new) result }
+        ensures counts { (before now : ℕ) → HaltCounts Self.rises halt before now
+            → DiskCounts result before now };
 
     /// Where a log hadn't failed, its first fault is one of those.
     ghost stops_first: { (a b : Self) (taken : List Handed) (refused : Handed) (why : Self.Fault) → whole a
@@ -80,10 +81,7 @@ fn serve_all<S: TellsFaults, K: Sink, N: Net>(
         net,
     ) {
         Ok(tally) => tell_tally(alloc, out, tally),
-        Err(stop) => match stop.halt {
-            Halt::Door => say(out, NET_FAULT, End::NetFault),
-            Halt::Log(fault) => S::tell(alloc, out, fault),
-        },
+        Err(stop) => S::tell_halt(alloc, out, stop.halt),
     }
 }
 

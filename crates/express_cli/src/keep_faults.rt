@@ -3,17 +3,19 @@ ghost use Rattle.std.specs.Prelude.{◌≡◌, ◌≢◌, ◌⊎◌, ◌≤◌, 
 ghost use Rattle.node_restart.specs.Faults.{CountsFault};
 ghost use Rattle.node_serve.specs.FirstFaults.{IsFirstFault};
 ghost use Rattle.node_serve.specs.KeptOpening.{CountsOpen, IsOfOpening, key_text};
+ghost use Rattle.node_serve.specs.JournalLog.{rises};
+ghost use Rattle.express_cli.specs.Door.{EndsAtFirst, HaltCounts, HaltMay, journal_keeper};
 ghost use Rattle.express_cli.specs.Ends.{DiskCounts, Prints, SaidOrWants};
 ghost use Rattle.express_cli.specs.KeepFaults.{KeepFaultMay, fault_line};
 ghost use Rattle.express_cli.specs.Keeping.{OpenFaultMay};
 
 use crate::door::TellsFaults;
 use crate::ends::End;
-use crate::texts::{OUT_OF_MEMORY, say, say_bad_key};
+use crate::texts::{NET_FAULT, OUT_OF_MEMORY, say, say_bad_key};
 use express_words::outside::Sink;
 use node_journal::{Disk, JournalFault};
 use node_restart::{KeepFault, Kept};
-use node_serve::{OpenFault, SettingsKey};
+use node_serve::{Halt, OpenFault, SettingsKey};
 use std::alloc::{AllocError, Global};
 
 const DISK_FAULT: &str = "disk fault\n";
@@ -30,8 +32,16 @@ impl<D: Disk> TellsFaults for Kept<D> {
 
     ghost tells = { KeepFaultMay };
 
-    fn tell<K: Sink>(alloc: Global, out: &mut K, fault: KeepFault) -> End {
-        tell_fault(alloc, out, fault)
+    fn tell_halt<K: Sink>(alloc: Global, out: &mut K, halt: Halt<KeepFault>) -> End
+        requires first { EndsAtFirst IsFirstFault halt }
+        ensures tells { Prints (HaltMay (journal_keeper D.disk) halt) (K.seen out.old) (K.seen out.new) result }
+        ensures counts { (before now : ℕ) → HaltCounts rises halt before now
+            → DiskCounts result before now }
+    {
+        match halt {
+            Halt::Door => say(out, NET_FAULT, End::NetFault),
+            Halt::Log(fault) => tell_fault(alloc, out, fault),
+        }
     }
 
     ghost stops_first = { first_fault D.disk };

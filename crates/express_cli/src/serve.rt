@@ -3,16 +3,17 @@ ghost use Rattle.std.specs.Prelude.{◌≡◌, ◌≢◌, ◌≤◌, ◌⊎◌, 
 ghost use Rattle.express_words.specs.Limits.{KeepsLimits};
 ghost use Rattle.node_serve.specs.Opening.{IsOpened};
 ghost use Rattle.express_cli.specs.Around.{around};
-ghost use Rattle.express_cli.specs.Ends.{Prints};
+ghost use Rattle.express_cli.specs.Door.{HaltCounts, HaltMay, no_keeper};
+ghost use Rattle.express_cli.specs.Ends.{DiskCounts, Prints};
 ghost use Rattle.express_cli.specs.Talking.{ServeAnnounces, ServeMay, TalkMay, ToldFirst};
 ghost use Rattle.express_cli.specs.declared.words.NetCommand.TheVariants.{Serve};
 
 use crate::door::{TellsFaults, listen_and_serve};
 use crate::ends::End;
-use crate::texts::{OUT_OF_MEMORY, say, say_fault};
+use crate::texts::{NET_FAULT, OUT_OF_MEMORY, say, say_fault};
 use express_words::NoMemory;
 use express_words::outside::{Net, Sink};
-use node_serve::{Never, Node, open_node};
+use node_serve::{Halt, Never, Node, open_node};
 use settings_text::{ServeSettings, read_serve};
 use std::alloc::Global;
 use wire_frames::Gather;
@@ -25,8 +26,15 @@ impl TellsFaults for Node {
 
     ghost tells = { λ why end text. ⊥ };
 
-    fn tell<K: Sink>(_alloc: Global, _out: &mut K, fault: Never) -> End {
-        match fault {}
+    fn tell_halt<K: Sink>(_alloc: Global, out: &mut K, halt: Halt<Never>) -> End
+        ensures tells { Prints (HaltMay no_keeper halt) (K.seen out.old) (K.seen out.new) result }
+        ensures counts { (before now : ℕ) → HaltCounts (λ why a b. ⊥) halt before now
+            → DiskCounts result before now }
+    {
+        match halt {
+            Halt::Door => say(out, NET_FAULT, End::NetFault),
+            Halt::Log(fault) => match fault {},
+        }
     }
 
     ghost stops_first = { λ a b taken refused why whole stops. stops };
