@@ -24,6 +24,10 @@ pub record Outside : Type 0 where
 abbrev pub around : {C : Type 0} → List ℕ → (before now : Seen) → (C → Seen) → Around
 around seed before now shows = record { seed = seed; before = before; now = now; shown = Shown shows }
 
+-- so of a net before a call and after it
+abbrev pub over : {N C : Type 0} → (N → Seen) → (C → Seen) → List ℕ → (old new : N) → Around
+over seen shows seed old new = around seed (seen old) (seen new) shows
+
 abbrev pub outside : (input out : Seen) → Outside
 outside input out = record {
   content = input.content;

@@ -152,7 +152,11 @@ abbrev pub Keeps : {D Z : Type 0} → List (String Z) → (D → DiskSeen) → (
 Keeps words shows counted old new net disk after status =
     AsksKeep (map string_bytes words) → KeepRan shows counted old new net disk after status
 
+-- the words ask for anything else, or for nothing
+abbrev pub AsksOther : {Z : Type 0} → List (String Z) → Type 0
+AsksOther words = AsksKeep (map string_bytes words) → ⊥
+
 -- what is promised for all other words: the run is `run`'s
 abbrev pub OtherRan : {Z : Type 0} → List (String Z) → (old new : Outside) → Around → (status : ℕ) → Type 0
 OtherRan words old new net status =
-    (AsksKeep (map string_bytes words) → ⊥) → Ran (map string_bytes words) old new net status
+    AsksOther words → Ran (map string_bytes words) old new net status

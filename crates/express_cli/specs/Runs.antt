@@ -8,7 +8,7 @@ use Rattle.input_reading.specs.Reading.{GaveAll, GaveSome, most_bytes}
 use Rattle.express_cli.specs.Mills.{mill_text}
 use Rattle.express_cli.specs.Ends.{PrintsBy, WorkMay, usage_text, read_fault_text, out_of_memory_text}
 use Rattle.express_cli.specs.Ends.{too_long_text}
-use Rattle.express_cli.specs.Around.{Around, Outside}
+use Rattle.express_cli.specs.Around.{Around, Outside, Seen}
 use Rattle.express_cli.specs.Talking.{TalkMay, WantsFirst, IsStill, LeavesNothing, BreaksOff}
 use Rattle.express_cli.specs.declared.words.Command.{Command}
 use Rattle.express_cli.specs.declared.words.NetCommand.{NetCommand}
@@ -24,6 +24,10 @@ UnreadMay from to before now TooLong text =
     GaveSome from to (λ n. n ≡ most_bytes + 1) × (text ≡ too_long_text)
 UnreadMay from to before now OutOfMemory text = text ≡ out_of_memory_text
 UnreadMay from to before now other text = ⊥
+
+-- so of an input that showed this before and shows that now
+abbrev pub UnreadOf : (old new : Seen) → End → List ℕ → Type 0
+UnreadOf old new end text = UnreadMay old.content new.content old.faults new.faults end text
 
 -- an end that comes before any call on a net
 abbrev pub WaitsForNet : End → Type 0

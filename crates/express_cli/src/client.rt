@@ -1,6 +1,6 @@
 //! Works a client's requests off over a net.
 ghost use Rattle.std.specs.Prelude.{◌≡◌, ◌≢◌, ◌≤◌};
-ghost use Rattle.express_cli.specs.Around.{around};
+ghost use Rattle.express_cli.specs.Around.{over};
 ghost use Rattle.express_cli.specs.Ends.{Prints};
 ghost use Rattle.express_cli.specs.Talking.{LeftNothing, TalkMay, ToldFirst};
 ghost use Rattle.express_cli.specs.declared.words.NetCommand.TheVariants.{Client};
@@ -22,12 +22,12 @@ pub fn client<K: Sink, N: Net>(
     net: &mut N,
 ) -> End
     ensures ends { Prints (TalkMay Client text.now
-        (around seed.now (N.seen net.old) (N.seen net.new) N.Conn.seen))
+        (over N.seen N.Conn.seen seed.now net.old net.new))
         (K.seen out.old) (K.seen out.new) result }
     ensures breaks { ToldFirst result Client text.now
-        (around seed.now (N.seen net.old) (N.seen net.new) N.Conn.seen) (K.seen out.old) (K.seen out.new) }
+        (over N.seen N.Conn.seen seed.now net.old net.new) (K.seen out.old) (K.seen out.new) }
     ensures waits { result ≡ End.BadKey → net.new ≡ net.old }
-    ensures early { LeftNothing (around seed.now (N.seen net.old) (N.seen net.new) N.Conn.seen) }
+    ensures early { LeftNothing (over N.seen N.Conn.seen seed.now net.old net.new) }
 {
     let settings = match read_client(alloc, text) {
         Ok(settings) => settings,

@@ -3,7 +3,7 @@ ghost use Rattle.std.specs.Prelude.{◌≡◌, ◌⊎◌, ◌≤◌, ◌++◌, �
 ghost use Rattle.node_restart.specs.Frames.{Handed};
 ghost use Rattle.node_serve.specs.Tallies.{tally_text};
 ghost use Rattle.node_serve.specs.Visits.{standing};
-ghost use Rattle.express_cli.specs.Around.{Shown, around};
+ghost use Rattle.express_cli.specs.Around.{Shown, over};
 ghost use Rattle.express_cli.specs.Door.{DoorMay, EndsAtFirst, HaltCounts, HaltMay, ListeningMay, ServedMay, TallyMay, keeper, listening};
 ghost use Rattle.express_cli.specs.Ends.{DiskCounts, Prints};
 ghost use Rattle.express_cli.specs.Talking.{IsOut, ServeAnnounces};
@@ -122,7 +122,7 @@ pub(crate) fn listen_and_serve<S: TellsFaults, K: Sink, N: Net>(
         (standing server.old (N.seen net.old)) (standing server.new (N.seen net.new)))
         (K.seen out.old) (K.seen out.new) result }
     ensures announces { ServeAnnounces result settings.now
-        (around [] (N.seen net.old) (N.seen net.new) N.Conn.seen) (K.seen out.old) (K.seen out.new) }
+        (over N.seen N.Conn.seen [] net.old net.new) (K.seen out.old) (K.seen out.new) }
     ensures counts { DiskCounts result (S.failures server.old) (S.failures server.new) }
 {
     match net.listen(settings.listen.as_str()) {

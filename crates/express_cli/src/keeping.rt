@@ -1,7 +1,7 @@
 //! Is a server with a journal.
 ghost use Rattle.std.specs.Prelude.{◌≡◌, ◌≢◌, ◌≤◌, ◌⊎◌};
 ghost use Rattle.express_words.specs.Limits.{KeepsLimits};
-ghost use Rattle.express_cli.specs.Around.{FailedLast, around, outside};
+ghost use Rattle.express_cli.specs.Around.{FailedLast, over, outside};
 ghost use Rattle.express_cli.specs.Ends.{DiskCounts, Prints};
 ghost use Rattle.express_cli.specs.Keeping.{Announces, KeepComesTo, InputCounts, SettingsMay, TextMay};
 ghost use Rattle.express_cli.specs.Talking.{ServeAnnounces, ToldFirst};
@@ -31,10 +31,10 @@ fn keep_by<K: Sink, N: Net, D: Disk>(
     requires limits { KeepsLimits settings.now.settings.width settings.now.settings.boxes
         settings.now.settings.lanes settings.now.settings.window }
     ensures tells { Prints (SettingsMay D.disk settings.now
-        (around seed.now (N.seen net.old) (N.seen net.new) N.Conn.seen)
+        (over N.seen N.Conn.seen seed.now net.old net.new)
         disk result.1) (K.seen out.old) (K.seen out.new) result.0 }
     ensures announces { ServeAnnounces result.0 settings.now
-        (around seed.now (N.seen net.old) (N.seen net.new) N.Conn.seen) (K.seen out.old) (K.seen out.new) }
+        (over N.seen N.Conn.seen seed.now net.old net.new) (K.seen out.old) (K.seen out.new) }
     ensures disk { DiskCounts result.0 (D.Counted.seen disk).faults (D.Counted.seen result.1).faults }
 {
     let Ok(mut gather) = Gather::open(alloc) else {
@@ -59,10 +59,10 @@ fn keep_text<K: Sink, N: Net, D: Disk>(
     disk: D,
 ) -> (End, D)
     ensures tells { Prints (TextMay D.disk text.now
-        (around seed.now (N.seen net.old) (N.seen net.new) N.Conn.seen)
+        (over N.seen N.Conn.seen seed.now net.old net.new)
         disk result.1) (K.seen out.old) (K.seen out.new) result.0 }
     ensures announces { ToldFirst result.0 Serve text.now
-        (around seed.now (N.seen net.old) (N.seen net.new) N.Conn.seen) (K.seen out.old) (K.seen out.new) }
+        (over N.seen N.Conn.seen seed.now net.old net.new) (K.seen out.old) (K.seen out.new) }
     ensures disk { DiskCounts result.0 (D.Counted.seen disk).faults (D.Counted.seen result.1).faults }
 {
     match read_serve(alloc, text) {
@@ -83,14 +83,14 @@ pub(crate) fn keep<S: Source, K: Sink, N: Net, D: Disk>(
 ) -> (End, D)
     ensures tells { KeepComesTo D.disk (outside (S.seen input.old) (K.seen out.old))
         (outside (S.seen input.new) (K.seen out.new))
-        (around seed.now (N.seen net.old) (N.seen net.new) N.Conn.seen)
+        (over N.seen N.Conn.seen seed.now net.old net.new)
         disk result.1 result.0 }
     ensures disk { DiskCounts result.0 (D.Counted.seen disk).faults (D.Counted.seen result.1).faults }
     ensures input { InputCounts result.0 (outside (S.seen input.old) (K.seen out.old))
         (outside (S.seen input.new) (K.seen out.new)) }
     ensures announces { Announces result.0 (outside (S.seen input.old) (K.seen out.old))
         (outside (S.seen input.new) (K.seen out.new))
-        (around seed.now (N.seen net.old) (N.seen net.new) N.Conn.seen) }
+        (over N.seen N.Conn.seen seed.now net.old net.new) }
     ensures last_take { result.0 ≡ End.ReadFault → FailedLast S.seen input.old input.new }
 {
     match input_of(alloc, input, out) {

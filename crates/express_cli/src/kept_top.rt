@@ -1,11 +1,10 @@
 //! The top call with a journal.
 ghost use Rattle.std.specs.Prelude.{◌≡◌, ◌≢◌, ◌≤◌, [], ◌∷◌, Contains, map, string_bytes};
 ghost use Rattle.express_words.specs.Causes.{Rose};
-ghost use Rattle.express_cli.specs.Around.{FailedLast, around, outside};
+ghost use Rattle.express_cli.specs.Around.{FailedLast, over, outside};
 ghost use Rattle.express_cli.specs.CommandLine.{AskSome, AskTalk};
 ghost use Rattle.express_cli.specs.Laws.{Laws};
-ghost use Rattle.express_cli.specs.Keeping.{Keeps, OtherRan};
-ghost use Rattle.express_cli.specs.KeepWord.{AsksKeep};
+ghost use Rattle.express_cli.specs.Keeping.{AsksOther, Keeps, OtherRan};
 
 use crate::asking::asks_keep;
 use crate::ends::status_of;
@@ -35,19 +34,19 @@ pub fn run_kept<S: Source, K: Sink, N: Net, D: Disk>(
     // For all other words it is `run`, and no call is made on the disk.
     ensures ran { OtherRan words.now.items (outside (S.seen input.old) (K.seen out.old))
         (outside (S.seen input.new) (K.seen out.new))
-        (around seed.now (N.seen net.old) (N.seen net.new) N.Conn.seen) result.0 }
-    ensures disk_rests { (AsksKeep (map string_bytes words.now.items) → ⊥) → result.1 ≡ disk }
-    ensures input_rests { (AsksKeep (map string_bytes words.now.items) → ⊥)
+        (over N.seen N.Conn.seen seed.now net.old net.new) result.0 }
+    ensures disk_rests { AsksOther words.now.items → result.1 ≡ disk }
+    ensures input_rests { AsksOther words.now.items
         → (AskSome (map string_bytes words.now.items) → ⊥) → input.new ≡ input.old }
-    ensures net_rests { (AsksKeep (map string_bytes words.now.items) → ⊥)
+    ensures net_rests { AsksOther words.now.items
         → (AskTalk (map string_bytes words.now.items) → ⊥) → net.new ≡ net.old }
-    ensures net_waits { (AsksKeep (map string_bytes words.now.items) → ⊥)
+    ensures net_waits { AsksOther words.now.items
         → Contains (2 ∷ 3 ∷ 4 ∷ 8 ∷ []) result.0 → net.new ≡ net.old }
     ensures laws { Laws }
     ensures kept { Keeps words.now.items D.disk D.Counted.seen
         (outside (S.seen input.old) (K.seen out.old))
         (outside (S.seen input.new) (K.seen out.new))
-        (around seed.now (N.seen net.old) (N.seen net.new) N.Conn.seen) disk result.1 result.0 }
+        (over N.seen N.Conn.seen seed.now net.old net.new) disk result.1 result.0 }
     // Nothing is taken from the input after a fault of it.
     ensures last_take { result.0 ≡ 4 → FailedLast S.seen input.old input.new }
     // The disk failed only where its count rose.

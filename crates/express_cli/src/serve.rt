@@ -2,7 +2,7 @@
 ghost use Rattle.std.specs.Prelude.{◌≡◌, ◌≢◌, ◌≤◌, ◌⊎◌, List, ℕ, IfOk};
 ghost use Rattle.express_words.specs.Limits.{KeepsLimits};
 ghost use Rattle.node_serve.specs.Opening.{IsOpened};
-ghost use Rattle.express_cli.specs.Around.{around};
+ghost use Rattle.express_cli.specs.Around.{over};
 ghost use Rattle.express_cli.specs.Door.{HaltCounts, HaltMay, no_keeper};
 ghost use Rattle.express_cli.specs.Ends.{DiskCounts, Prints};
 ghost use Rattle.express_cli.specs.Talking.{ServeAnnounces, ServeMay, TalkMay, ToldFirst};
@@ -65,10 +65,10 @@ fn serve_by<K: Sink, N: Net>(
     requires limits { KeepsLimits settings.now.settings.width settings.now.settings.boxes
         settings.now.settings.lanes settings.now.settings.window }
     ensures ends { Prints (ServeMay settings.now
-        (around seed.now (N.seen net.old) (N.seen net.new) N.Conn.seen))
+        (over N.seen N.Conn.seen seed.now net.old net.new))
         (K.seen out.old) (K.seen out.new) result }
     ensures announces { ServeAnnounces result settings.now
-        (around seed.now (N.seen net.old) (N.seen net.new) N.Conn.seen) (K.seen out.old) (K.seen out.new) }
+        (over N.seen N.Conn.seen seed.now net.old net.new) (K.seen out.old) (K.seen out.new) }
     ensures settings { result ≢ End.BadKey }
 {
     match opened(alloc, settings, seed) {
@@ -89,10 +89,10 @@ pub fn serve<K: Sink, N: Net>(
     net: &mut N,
 ) -> End
     ensures ends { Prints (TalkMay Serve text.now
-        (around seed.now (N.seen net.old) (N.seen net.new) N.Conn.seen))
+        (over N.seen N.Conn.seen seed.now net.old net.new))
         (K.seen out.old) (K.seen out.new) result }
     ensures breaks { ToldFirst result Serve text.now
-        (around seed.now (N.seen net.old) (N.seen net.new) N.Conn.seen) (K.seen out.old) (K.seen out.new) }
+        (over N.seen N.Conn.seen seed.now net.old net.new) (K.seen out.old) (K.seen out.new) }
     ensures waits { result ≡ End.BadKey → net.new ≡ net.old }
 {
     match read_serve(alloc, text) {

@@ -1,6 +1,6 @@
 //! The work of a command over a net.
 ghost use Rattle.std.specs.Prelude.{◌≡◌, ◌≢◌, ◌≤◌};
-ghost use Rattle.express_cli.specs.Around.{around};
+ghost use Rattle.express_cli.specs.Around.{over};
 ghost use Rattle.express_cli.specs.Ends.{Prints};
 ghost use Rattle.express_cli.specs.Talking.{LeavesNothing, TalkMay, ToldFirst};
 
@@ -22,13 +22,13 @@ pub fn talk<K: Sink, N: Net>(
     net: &mut N,
 ) -> End
     ensures ends { Prints (TalkMay command text.now
-        (around seed.now (N.seen net.old) (N.seen net.new) N.Conn.seen))
+        (over N.seen N.Conn.seen seed.now net.old net.new))
         (K.seen out.old) (K.seen out.new) result }
     ensures breaks { ToldFirst result command text.now
-        (around seed.now (N.seen net.old) (N.seen net.new) N.Conn.seen) (K.seen out.old) (K.seen out.new) }
+        (over N.seen N.Conn.seen seed.now net.old net.new) (K.seen out.old) (K.seen out.new) }
     ensures waits { result ≡ End.BadKey → net.new ≡ net.old }
     ensures early { LeavesNothing command
-        (around seed.now (N.seen net.old) (N.seen net.new) N.Conn.seen) }
+        (over N.seen N.Conn.seen seed.now net.old net.new) }
 {
     match command {
         NetCommand::Serve => serve(alloc, text, seed, out, net),

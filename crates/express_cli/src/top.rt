@@ -1,7 +1,7 @@
 //! The top call.
 ghost use Rattle.std.specs.Prelude.{◌≡◌, ◌≢◌, ◌≤◌, ◌∷◌, [], Contains, map, string_bytes};
 ghost use Rattle.express_cli.specs.CommandLine.{AskSome, AskTalk};
-ghost use Rattle.express_cli.specs.Around.{FailedLast, around, outside};
+ghost use Rattle.express_cli.specs.Around.{FailedLast, over, outside};
 ghost use Rattle.express_cli.specs.Runs.{ComesTo, MayLeave, ToldInTime, WaitsForNet};
 ghost use Rattle.express_cli.specs.Ran.{Ran};
 ghost use Rattle.express_cli.specs.Laws.{Laws};
@@ -32,11 +32,11 @@ fn finish<S: Source, K: Sink, N: Net>(
     ensures ends { ComesTo (map string_bytes words.now.items)
         (outside (S.seen input.old) (K.seen out.old))
         (outside (S.seen input.new) (K.seen out.new))
-        (around seed.now (N.seen net.old) (N.seen net.new) N.Conn.seen) result }
+        (over N.seen N.Conn.seen seed.now net.old net.new) result }
     ensures breaks { ToldInTime (map string_bytes words.now.items)
         (outside (S.seen input.old) (K.seen out.old))
         (outside (S.seen input.new) (K.seen out.new))
-        (around seed.now (N.seen net.old) (N.seen net.new) N.Conn.seen) result }
+        (over N.seen N.Conn.seen seed.now net.old net.new) result }
     ensures last_take { result ≡ End.ReadFault → FailedLast S.seen input.old input.new }
     // A fault of the input is told as that, and as nothing else.
     ensures source { result ≢ End.ReadFault → result ≢ End.WriteFault
@@ -47,7 +47,7 @@ fn finish<S: Source, K: Sink, N: Net>(
     ensures net_rests { (AskTalk (map string_bytes words.now.items) → ⊥) → net.new ≡ net.old }
     ensures net_waits { WaitsForNet result → net.new ≡ net.old }
     ensures early { MayLeave (map string_bytes words.now.items)
-        (around seed.now (N.seen net.old) (N.seen net.new) N.Conn.seen) }
+        (over N.seen N.Conn.seen seed.now net.old net.new) }
 {
     match task_of(alloc, words) {
         Err(_) => say(out, OUT_OF_MEMORY, End::OutOfMemory),
@@ -82,7 +82,7 @@ pub fn run<S: Source, K: Sink, N: Net>(
     ensures ran { Ran (map string_bytes words.now.items)
         (outside (S.seen input.old) (K.seen out.old))
         (outside (S.seen input.new) (K.seen out.new))
-        (around seed.now (N.seen net.old) (N.seen net.new) N.Conn.seen) result }
+        (over N.seen N.Conn.seen seed.now net.old net.new) result }
     ensures laws { Laws }
     // Nothing is taken from the input after a fault of it.
     ensures last_take { result ≡ 4 → FailedLast S.seen input.old input.new }

@@ -1,5 +1,5 @@
 -- The state of the run's rules, read from the code's state.
-use Rattle.std.specs.Prelude.{◌≡◌, ℕ, ◌<◌, List, [], length, Option, Some, None, slice_get}
+use Rattle.std.specs.Prelude.{◌≡◌, ℕ, ◌<◌, List, [], length, OnOk, Option, Result, Some, None, slice_get}
 use Rattle.mailbox_rules.specs.Requests.{Request}
 use Rattle.step_rules.specs.Client.{Client, opened_client}
 use Rattle.token_rules.specs.Tokens.{put}
@@ -56,6 +56,13 @@ with_asker w c a outcomes = record w {
   told = put w.told c a.told;
   outcomes = outcomes_in outcomes;
 }
+
+-- The client of a lane and the outcomes go on by this step, whatever the rest of the world is; where memory is
+-- wanting nothing is said.
+abbrev pub AskerMoves : {T E : Type 0} → (FrameWorld → FrameWorld) → ℕ → (old new : Asker)
+    → (before now : List OutcomeLine) → Result T E → Type 0
+AskerMoves step lane old new before now result =
+    (w : FrameWorld) → OnOk result (with_asker w lane new now ≡ step (with_asker w lane old before))
 
 -- From old to new the state goes on by this step.
 abbrev pub Moves : (FrameWorld → FrameWorld) → State → State → Type 0

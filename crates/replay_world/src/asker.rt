@@ -24,11 +24,10 @@ pub struct Asker {
 impl Asker {
     ghost use Rattle.std.specs.Prelude.{◌≡◌, ◌+◌, [], ◌++◌, ◌∷◌, IfOk, OnOk};
     ghost use Rattle.express_words.specs.Limits.{KeepsLimits};
-    ghost use Rattle.run_rules.specs.Letters.{FrameWorld};
     ghost use Rattle.run_rules.specs.Run.{asks, goes_on, notes, to_client};
     ghost use Rattle.step_rules.specs.ClientReplies.{on_reply};
     ghost use Rattle.replay_world.specs.Parts.{outcomes_in, request_in, told_in};
-    ghost use Rattle.replay_world.specs.View.{fresh, requests_of, with_asker};
+    ghost use Rattle.replay_world.specs.View.{AskerMoves, fresh, requests_of};
 
     /// A client of this lane, which was asked nothing.
     pub fn open(alloc: Global, header: &Header, lane: u16) -> Result<Asker, NoMemory>
@@ -84,8 +83,8 @@ impl Asker {
         lane: u16,
         outcomes: &mut Vec<OutcomeLine>,
     ) -> Result<(), NoMemory>
-        ensures moved { (w : FrameWorld) → OnOk result (with_asker w lane self.new outcomes.new.items
-            ≡ goes_on (with_asker w lane self.old outcomes.old.items) lane (requests_of self.old)) }
+        ensures moved { AskerMoves (λ w. goes_on w lane (requests_of self.old)) lane self.old self.new
+            outcomes.old.items outcomes.new.items result }
     {
         while let Some(asked) = self.waiting.pop_front() {
             match self.client.ask(&request_of(&asked)) {
@@ -107,8 +106,8 @@ impl Asker {
         asked: &Asked,
         outcomes: &mut Vec<OutcomeLine>,
     ) -> Result<(), NoMemory>
-        ensures moved { (w : FrameWorld) → OnOk result (with_asker w lane self.new outcomes.new.items
-            ≡ asks (with_asker w lane self.old outcomes.old.items) lane (request_in asked.now)) }
+        ensures moved { AskerMoves (λ w. asks w lane (request_in asked.now)) lane self.old self.new
+            outcomes.old.items outcomes.new.items result }
     {
         self.waiting.push_back(asked.copied(alloc)?)?;
         if self.client.is_idle() {
@@ -126,8 +125,8 @@ impl Asker {
         frame: &[u8],
         outcomes: &mut Vec<OutcomeLine>,
     ) -> Result<(), NoMemory>
-        ensures moved { (w : FrameWorld) → OnOk result (with_asker w lane self.new outcomes.new.items
-            ≡ to_client (with_asker w lane self.old outcomes.old.items) lane (on_reply self.old.client frame.now)) }
+        ensures moved { AskerMoves (λ w. to_client w lane (on_reply self.old.client frame.now)) lane
+            self.old self.new outcomes.old.items outcomes.new.items result }
     {
         match self.client.on_reply(frame, &mut self.message) {
             Progress::Finished(outcome) => {
