@@ -1,6 +1,5 @@
 //! Whole writes of 1,024 bytes: a client, the leader and the helper, with each frame handed over at once.
 ghost use Rattle.std.specs.Prelude.{◌≡◌, ◌<◌};
-ghost use Rattle.express_words.specs.Limits.{KeepsLimits};
 
 use crate::parts::WIDTH;
 use chacha_expand::children;
@@ -44,9 +43,7 @@ fn front(bytes: &[u8], count: usize) -> &[u8] {
 }
 
 impl Servers {
-    fn open(alloc: Global, settings: &Settings) -> Result<Servers, NoMemory>
-        requires { KeepsLimits settings.now.width settings.now.boxes settings.now.lanes settings.now.window }
-    {
+    fn open(alloc: Global, settings: &Settings) -> Result<Servers, NoMemory> {
         Ok(Servers {
             leader: Leader::open(alloc, settings, &[1; 32])?,
             helper: Helper::open(alloc, settings, &[2; 32])?,

@@ -1,5 +1,5 @@
 -- What is said of the disk's count of faults, by how a run ends.
-use Rattle.std.proofs.Common.{◌≡◌, ◌⊎◌, inl, inr, ℕ, List, Option, sym, subst, arith}
+use Rattle.std.proofs.Common.{◌≡◌, ◌≢◌, ◌⊎◌, inl, inr, ℕ, List, Option, codes, refl, sym, subst, arith}
 use Rattle.express_words.specs.Causes.{Rose}
 use Rattle.node_journal.specs.declared.fault.JournalFault.TheVariants.{Closed, NotEmpty, Disk}
 use Rattle.node_restart.specs.Faults.{CountsFault}
@@ -9,7 +9,7 @@ use Rattle.node_serve.specs.FirstFaults.{IsFirstFault}
 use Rattle.express_texts.specs.declared.fault.TextFault.{TextFault}
 use Rattle.express_texts.specs.declared.fault.TextFault.TheVariants as fault
 use Rattle.express_cli.specs.Ends.{DiskCounts, FaultMay, PrintsBy}
-use Rattle.express_cli.specs.KeepFaults.{end_by}
+use Rattle.express_cli.specs.KeepFaults.{end_by, fault_line}
 use Rattle.express_cli.specs.declared.ends.End.{End}
 use Rattle.express_cli.specs.declared.ends.End.TheVariants as ends
 
@@ -42,6 +42,10 @@ told_counts told end before now (inr failed) h =
     let Counts : End → Type 0 = λ x. DiskCounts x before now in
     subst Counts (sym failed) (either told before now h)
 
+pub counts_as : (end other : End) (before now : ℕ) → end ≡ other → DiskCounts other before now → DiskCounts end before now
+counts_as end other before now same h =
+    let Counts : End → Type 0 = λ x. DiskCounts x before now in subst Counts (sym same) h
+
 -- the disk's count by a fault is that of the end by it
 pub fault_counts : (fault : KeepFault) (before now : ℕ) → IsFirstFault fault → CountsFault before now fault
     → DiskCounts (end_by fault) before now
@@ -49,3 +53,17 @@ fault_counts (Journal Closed) before now first h = absurd first
 fault_counts (Journal NotEmpty) before now first h = absurd first
 fault_counts (Journal (Disk faults)) before now first h = omega (arith, h.1)
 fault_counts _ before now first h = h
+
+-- and stays where the fault isn't told as the disk's
+pub unfailed : (fault : KeepFault) (before now : ℕ) → end_by fault ≢ ends.DiskFault → CountsFault before now fault → now ≡ before
+unfailed (Journal Closed) before now other h = absurd (other refl)
+unfailed (Journal NotEmpty) before now other h = absurd (other refl)
+unfailed (Journal (Disk faults)) before now other h = absurd (other refl)
+unfailed _ before now other h = h
+
+-- what is told of a fault of the disk is its line
+pub disk_line : (fault : KeepFault) → IsFirstFault fault → end_by fault ≡ ends.DiskFault → codes "disk fault\n" ≡ fault_line fault
+disk_line (Journal Closed) first is = absurd first
+disk_line (Journal NotEmpty) first is = absurd first
+disk_line (Journal (Disk faults)) first is = refl
+disk_line _ first is = cc

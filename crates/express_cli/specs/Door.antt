@@ -1,44 +1,35 @@
--- What may come of a server at its door, whatever keeps its frames.
-use Rattle.std.specs.Prelude.{◌≡◌, ◌⊎◌, false, true, List, ℕ, ◌++◌, codes, Ok, Err}
+-- What may come of a server at its door, whatever keeps its frames: its log, and what is told where the log
+-- refuses one.
+use Rattle.std.specs.Prelude.{◌≡◌, ◌⊎◌, false, true, List, [], ℕ, ◌++◌, codes, Ok, Err}
 use Rattle.express_words.specs.Calls.{Listened, Adds}
 use Rattle.express_words.specs.Causes.{Rose}
-use Rattle.node_journal.specs.Disk.{DiskSeen}
 use Rattle.settings_text.specs.declared.serve.ServeSettings.{ServeSettings}
 use Rattle.node_serve.specs.Hosting.{Hosts}
-use Rattle.node_serve.specs.JournalLog.{journal_log}
 use Rattle.node_serve.specs.Logs.{Log}
-use Rattle.node_serve.specs.NoLog.{node_log}
 use Rattle.node_serve.specs.Tallies.{tally_text}
 use Rattle.node_serve.specs.Visits.{DoorBy, Standing, standing}
 use Rattle.node_serve.specs.declared.never.Never.{Never}
-use Rattle.node_serve.specs.declared.node.Node.{Node}
 use Rattle.node_serve.specs.declared.stop.Halt.{Halt}
 use Rattle.node_serve.specs.declared.stop.Halt.TheVariants as halt
 use Rattle.node_serve.specs.declared.stop.Stop.{Stop}
 use Rattle.node_serve.specs.declared.tally.Tally.{Tally}
-use Rattle.node_restart.specs.declared.fault.KeepFault.{KeepFault}
-use Rattle.node_restart.specs.Kept.{KeptState}
-use Rattle.express_cli.specs.Around.{Seen}
+use Rattle.express_cli.specs.Around.{Around, Seen, over}
 use Rattle.express_cli.specs.Ends.{Said, SaidOrWants, net_fault_text}
-use Rattle.express_cli.specs.KeepFaults.{KeepFaultMay}
 use Rattle.express_cli.specs.declared.ends.End.{End}
 use Rattle.express_cli.specs.declared.ends.End.TheVariants.{Done, NetFault, WriteFault}
 
--- what keeps a server's frames: its log, and what is told where the log refuses one
-pub record Keeper (S F : Type 0) : Type 1 where
-  pub log : Log S F
-  pub tells : F → End → List ℕ → Type 0
+-- a server and its net before it served and now, and what the net's connections may show
+pub record Doorway (S : Type 0) : Type 1 where
+  pub shown : Seen → Type 0
+  pub old : Standing S
+  pub new : Standing S
 
-abbrev pub keeper : {S F : Type 0} → Log S F → (F → End → List ℕ → Type 0) → Keeper S F
-keeper log tells = record { log = log; tells = tells }
+abbrev pub doorway_of : {S : Type 0} → Around → (old new : S) → Doorway S
+doorway_of net old new =
+    record { shown = net.shown; old = standing old net.before; new = standing new net.now }
 
--- a server whose frames go nowhere, which refuses none
-abbrev pub no_keeper : Keeper Node Never
-no_keeper = record { log = node_log; tells = λ why end text. ⊥ }
-
--- a server whose frames go to its journal
-abbrev pub journal_keeper : {D : Type 0} → (D → DiskSeen) → Keeper (KeptState D) KeepFault
-journal_keeper disk = record { log = journal_log disk; tells = KeepFaultMay }
+abbrev pub doorway : {S N C : Type 0} → (N → Seen) → (C → Seen) → (old new : S) → (before now : N) → Doorway S
+doorway seen shows old new before now = doorway_of (over seen shows [] before now) old new
 
 abbrev pub listening : List ℕ
 listening = codes "listening\n"
@@ -48,17 +39,25 @@ abbrev pub TallyMay : Tally → End → List ℕ → Type 0
 TallyMay tally end text = SaidOrWants Done (tally_text tally ++ codes "\n") end text
 
 -- All connections of the settings were served.
-pub record ServedAll {S F : Type 0} (keeper : Keeper S F) (shown : Seen → Type 0) (settings : ServeSettings)
-    (old new : Standing S) (end : End) (text : List ℕ) : Type 0 where
+pub record ServedAll {S F : Type 0} (log : Log S F) (settings : ServeSettings) (door : Doorway S) (end : End)
+    (text : List ℕ) : Type 0 where
   pub tally : Tally
-  pub serves : Hosts keeper.log settings.peer shown settings.connections old new (Ok tally)
-  pub doors : new.net.doors ≡ old.net.doors
+  pub serves : Hosts log settings.peer door.shown settings.connections door.old door.new (Ok tally)
+  pub doors : door.new.net.doors ≡ door.old.net.doors
   pub says : TallyMay tally end text
 
+-- what is told of a fault of the log, and how the run ends then
+abbrev pub Tells : Type 0 → Type 1
+Tells F = F → End → List ℕ → Type 0
+
+-- so of a log that refuses none
+abbrev pub NeverMay : Tells Never
+NeverMay why end text = ⊥
+
 -- what is said of why it ended early
-abbrev pub HaltMay : {S F : Type 0} → Keeper S F → Halt F → End → List ℕ → Type 0
-HaltMay keeper halt.Door end text = Said NetFault net_fault_text end text
-HaltMay keeper (halt.Log fault) end text = keeper.tells fault end text
+abbrev pub HaltMay : {F : Type 0} → Tells F → Halt F → End → List ℕ → Type 0
+HaltMay tells halt.Door end text = Said NetFault net_fault_text end text
+HaltMay tells (halt.Log fault) end text = tells fault end text
 
 -- it ended at the door, or at one of these faults of the log
 abbrev pub EndsAtFirst : {F : Type 0} → (F → Type 0) → Halt F → Type 0
@@ -71,54 +70,54 @@ HaltCounts rises halt.Door before now = now ≡ before
 HaltCounts rises (halt.Log fault) before now = rises fault before now
 
 -- An accept failed, or the log refused a frame, which ended the run; no answer went out to its connection.
-pub record Halted {S F : Type 0} (keeper : Keeper S F) (shown : Seen → Type 0) (settings : ServeSettings)
-    (old new : Standing S) (end : End) (text : List ℕ) : Type 0 where
+pub record Halted {S F : Type 0} (log : Log S F) (tells : Tells F) (settings : ServeSettings)
+    (door : Doorway S) (end : End) (text : List ℕ) : Type 0 where
   pub stop : Stop F
-  pub halts : Hosts keeper.log settings.peer shown settings.connections old new (Err stop)
-  pub doors : DoorBy {T = Tally} (Err stop.halt) old.net.doors new.net.doors
-  pub says : HaltMay keeper stop.halt end text
+  pub halts : Hosts log settings.peer door.shown settings.connections door.old door.new (Err stop)
+  pub doors : DoorBy {T = Tally} (Err stop.halt) door.old.net.doors door.new.net.doors
+  pub says : HaltMay tells stop.halt end text
 
--- what may come of serving at the open door
-abbrev pub ServedMay : {S F : Type 0} → Keeper S F → (Seen → Type 0) → ServeSettings → (old new : Standing S)
-    → End → List ℕ → Type 0
-ServedMay keeper shown settings old new end text =
-    ServedAll keeper shown settings old new end text ⊎ Halted keeper shown settings old new end text
+-- what may come of a server of these settings at a door
+abbrev pub AtDoorway : Type 0 → Type 0 → Type 1
+AtDoorway S F = Log S F → Tells F → ServeSettings → Doorway S → End → List ℕ → Type 0
+
+-- where the door is open
+abbrev pub ServedMay : {S F : Type 0} → AtDoorway S F
+ServedMay log tells settings door end text =
+    ServedAll log settings door end text ⊎ Halted log tells settings door end text
 
 -- The sink failed where it was to be told that it listens: nothing was served.
-pub record Unheard {S : Type 0} (old new : Standing S) (end : End) (text : List ℕ) : Type 0 where
-  pub stays : new ≡ old
+pub record Unheard {S : Type 0} (door : Doorway S) (end : End) (text : List ℕ) : Type 0 where
+  pub stays : door.new ≡ door.old
   pub says : Said WriteFault listening end text
 
 -- It told that it listens, and then serving came to this.
-abbrev pub Heard : {S F : Type 0} → Keeper S F → (Seen → Type 0) → ServeSettings → (old new : Standing S)
-    → End → List ℕ → Type 0
-Heard keeper shown settings old new end text =
-    (said : List ℕ) × ServedMay keeper shown settings old new end said × (text ≡ listening ++ said)
+abbrev pub Heard : {S F : Type 0} → AtDoorway S F
+Heard log tells settings door end text =
+    (said : List ℕ) × ServedMay log tells settings door end said × (text ≡ listening ++ said)
 
-abbrev pub ListeningMay : {S F : Type 0} → Keeper S F → (Seen → Type 0) → ServeSettings
-    → (old new : Standing S) → End → List ℕ → Type 0
-ListeningMay keeper shown settings old new end text =
-    Heard keeper shown settings old new end text ⊎ Unheard old new end text
+abbrev pub ListeningMay : {S F : Type 0} → AtDoorway S F
+ListeningMay log tells settings door end text =
+    Heard log tells settings door end text ⊎ Unheard door end text
 
 -- It listened where its settings say, was to tell so, and serving came to this.
-pub record Hosted {S F : Type 0} (keeper : Keeper S F) (shown : Seen → Type 0) (settings : ServeSettings)
-    (old new : Standing S) (end : End) (text : List ℕ) : Type 0 where
+pub record Hosted {S F : Type 0} (log : Log S F) (tells : Tells F) (settings : ServeSettings)
+    (door : Doorway S) (end : End) (text : List ℕ) : Type 0 where
   pub at_door : Seen
-  pub listens : Adds old.net.calls at_door.calls (Listened settings.listen false)
-  pub faults : at_door.faults ≡ old.net.faults
-  pub doors : at_door.doors ≡ old.net.doors
-  pub served : ListeningMay keeper shown settings (standing old.server at_door) new end text
+  pub listens : Adds door.old.net.calls at_door.calls (Listened settings.listen false)
+  pub faults : at_door.faults ≡ door.old.net.faults
+  pub doors : at_door.doors ≡ door.old.net.doors
+  pub served : ListeningMay log tells settings (record door { old = standing door.old.server at_door }) end text
 
 -- Its listen failed: no other call was made, and nothing was kept.
-pub record ListenFailed {S : Type 0} (settings : ServeSettings) (old new : Standing S) (end : End)
+pub record ListenFailed {S : Type 0} (settings : ServeSettings) (door : Doorway S) (end : End)
     (text : List ℕ) : Type 0 where
-  pub call : Adds old.net.calls new.net.calls (Listened settings.listen true)
-  pub doors : Rose old.net.doors new.net.doors
-  pub stays : new.server ≡ old.server
+  pub call : Adds door.old.net.calls door.new.net.calls (Listened settings.listen true)
+  pub doors : Rose door.old.net.doors door.new.net.doors
+  pub stays : door.new.server ≡ door.old.server
   pub says : Said NetFault net_fault_text end text
 
--- what may come of a server at its door
-abbrev pub DoorMay : {S F : Type 0} → Keeper S F → (Seen → Type 0) → ServeSettings → (old new : Standing S)
-    → End → List ℕ → Type 0
-DoorMay keeper shown settings old new end text =
-    Hosted keeper shown settings old new end text ⊎ ListenFailed settings old new end text
+-- where the door isn't open yet
+abbrev pub DoorMay : {S F : Type 0} → AtDoorway S F
+DoorMay log tells settings door end text =
+    Hosted log tells settings door end text ⊎ ListenFailed settings door end text

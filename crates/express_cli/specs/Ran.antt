@@ -3,7 +3,7 @@
 use Rattle.std.specs.Prelude.{◌≡◌, ◌≢◌, ℕ, ◌+◌, ◌<◌, ◌≤◌, Bool, List, [], ◌∷◌, length, Contains, IfSome}
 use Rattle.clap.specs.Words.{Text}
 use Rattle.express_words.specs.Causes.{Rose}
-use Rattle.express_words.specs.Streams.{Took, TookPrefix}
+use Rattle.express_words.specs.Streams.{TookPrefix}
 use Rattle.schedule_text.specs.Spelling.{SpellsSchedule}
 use Rattle.schedule_text.specs.declared.schedule.Schedule.{Schedule}
 use Rattle.replay_world.specs.Played.{output_of}
@@ -15,103 +15,97 @@ use Rattle.settings_text.specs.declared.carry.CarrySettings.{CarrySettings}
 use Rattle.settings_text.specs.declared.client.ClientSettings.{ClientSettings}
 use Rattle.settings_text.specs.declared.serve.ServeSettings.{ServeSettings}
 use Rattle.express_cli.specs.CommandLine.{Asks, AsksMill, AsksNet, AskSome, AskNothing}
-use Rattle.input_reading.specs.Reading.{most_bytes, GaveSome, GaveMore}
+use Rattle.input_reading.specs.Reading.{most_bytes, GaveMore}
 use Rattle.express_cli.specs.Batches.{SortsOut, batch_text}
 use Rattle.express_cli.specs.Cloaks.{old_view, new_view, cloak_text}
 use Rattle.express_cli.specs.Mills.{mill_text}
 use Rattle.express_cli.specs.Work.{IsBad}
 use Rattle.express_cli.specs.Ends.{bad_line, bad_settings, usage_text, read_fault_text, too_long_text}
-use Rattle.express_cli.specs.Around.{Around, Outside}
+use Rattle.express_cli.specs.Around.{Around, IsUnread, ReadSome, Streams, Wrote}
 use Rattle.express_cli.specs.Talking.{SpellsServe, SpellsClient, SpellsCarry, IsBadKey}
 use Rattle.express_cli.specs.Talking.{ServeMay, ClientMay, CarryMay}
-use Rattle.express_cli.specs.Runs.{MayCome, MayLeave, SinkFailed}
-use Rattle.express_cli.specs.Headline.{RanWell, Told, Worked, Refused, BrokeOff, WantsMemory}
+use Rattle.express_cli.specs.Runs.{MayLeave, RunMay, SinkFailed}
+use Rattle.express_cli.specs.Headline.{Refused, Talked, Told, WantsMemory, Well, Worked}
 use Rattle.express_cli.specs.declared.words.Command.{Command}
 use Rattle.express_cli.specs.declared.words.Command.TheVariants.{Replay, Batch, Cloak}
 use Rattle.express_cli.specs.declared.words.NetCommand.{NetCommand}
 use Rattle.express_cli.specs.declared.words.NetCommand.TheVariants.{Serve, Client, Carry}
 use Rattle.express_cli.specs.declared.ends.End.{End}
+use Rattle.express_cli.specs.declared.ends.End.TheVariants.{NetFault}
 
--- nothing kept the run from its work: neither the input nor the sink failed, and memory was found
-abbrev pub Well : Outside → Outside → ℕ → Type 0
-Well old new status = RanWell old.input_faults new.input_faults old.output_faults new.output_faults status
-
-abbrev pub Wrote : Outside → Outside → List ℕ → Type 0
-Wrote old new text = Took old.written new.written text
-
-pub record Ran (words : List Text) (old new : Outside) (net : Around) (status : ℕ) : Type 0 where
+pub record Ran (words : List Text) (streams : Streams) (net : Around) (status : ℕ) : Type 0 where
   -- Where a schedule is to be replayed, input and sink tell their bytes, neither fails and memory is found,
   -- the status is 0 and the output of the schedule that the bytes read spell is written.
-  pub headline : Asks words Replay → Well old new status
-      → IfSome old.content (λ s. (schedule : Schedule) → SpellsSchedule schedule s.left
-      → length s.left ≤ most_bytes → (status ≡ 0) × Wrote old new (output_of schedule))
+  pub headline : Asks words Replay → Well streams status
+      → IfSome streams.input.content (λ s. (schedule : Schedule) → SpellsSchedule schedule s.left
+      → length s.left ≤ most_bytes → (status ≡ 0) × Wrote streams (output_of schedule))
   -- Likewise of pairs of closings it is written which a sort of all of them rejects, and how many ranges it
   -- judges.
-  pub batch : Asks words Batch → Well old new status
-      → IfSome old.content (λ s. (pairs : Pairs) → SpellsBatch pairs s.left → length s.left ≤ most_bytes
+  pub batch : Asks words Batch → Well streams status
+      → IfSome streams.input.content (λ s. (pairs : Pairs) → SpellsBatch pairs s.left → length s.left ≤ most_bytes
       → (status ≡ 0) × ((rejected : List Bool) × (judged : ℕ) × SortsOut pairs rejected judged
-      × Wrote old new (batch_text rejected judged)))
+      × Wrote streams (batch_text rejected judged)))
   -- Likewise of a game both views are written, which are equal: the viewer's of the one write, and of the
   -- other under the moved choice.
-  pub cloak : Asks words Cloak → Well old new status
-      → IfSome old.content (λ s. (game : CloakGame) → SpellsGame game s.left → length s.left ≤ most_bytes
-      → (status ≡ 0) × (new_view game ≡ old_view game) × Wrote old new (cloak_text game))
+  pub cloak : Asks words Cloak → Well streams status
+      → IfSome streams.input.content (λ s. (game : CloakGame) → SpellsGame game s.left → length s.left ≤ most_bytes
+      → (status ≡ 0) × (new_view game ≡ old_view game) × Wrote streams (cloak_text game))
   -- Likewise, whatever the command, the first bad line of another text is named, and an input that is too
   -- long is refused.
-  pub names_bad_line : (command : Command) → Asks words command → Well old new status
-      → IfSome old.content (λ s. (n : ℕ) → IsBad command n s.left → length s.left ≤ most_bytes
-      → (status ≡ 3) × Wrote old new (bad_line n))
-  pub refuses_too_long : AskSome words → Well old new status
-      → IfSome old.content (λ s. most_bytes < length s.left → (status ≡ 8) × Wrote old new too_long_text)
+  pub names_bad_line : (command : Command) → Asks words command → Well streams status
+      → IfSome streams.input.content (λ s. (n : ℕ) → IsBad command n s.left → length s.left ≤ most_bytes
+      → (status ≡ 3) × Wrote streams (bad_line n))
+  pub refuses_too_long : AskSome words → Well streams status
+      → IfSome streams.input.content (λ s. most_bytes < length s.left → (status ≡ 8) × Wrote streams too_long_text)
   -- Where the mill of a number is asked for, the sink doesn't fail and memory is found, the text of its run
   -- is written, whatever the input is, which isn't read.
-  pub mill : (n : ℕ) → AsksMill words n → ¬ Rose old.output_faults new.output_faults → status ≢ 7
-      → (status ≡ 0) × (new.content ≡ old.content) × Wrote old new (mill_text n)
+  pub mill : (n : ℕ) → AsksMill words n → ¬ Rose streams.out.faults streams.out_now.faults → status ≢ 7
+      → (status ≡ 0) × IsUnread streams × Wrote streams (mill_text n)
   -- Likewise a server of the settings listens, and serves as many connections as they say with one core; the
   -- text tells how many had each answer. Status 6 comes where the listen or an accept failed, which ends the
   -- run.
-  pub serve : AsksNet words Serve → Well old new status
-      → IfSome old.content (λ s. (settings : ServeSettings) → SpellsServe settings s.left
-      → length s.left ≤ most_bytes → Told (ServeMay settings net) old.written new.written status)
+  pub serve : AsksNet words Serve → Well streams status
+      → IfSome streams.input.content (λ s. (settings : ServeSettings) → SpellsServe settings s.left
+      → length s.left ≤ most_bytes → Told (ServeMay settings net) streams status)
   -- Likewise a client of the settings works their requests off, by exchanges with its servers and no other
   -- call; the text tells what became of each. Status 6 comes where an exchange failed, which ends the run.
-  pub client : AsksNet words Client → Well old new status
-      → IfSome old.content (λ s. (settings : ClientSettings) → SpellsClient settings s.left
-      → length s.left ≤ most_bytes → Told (ClientMay settings net) old.written new.written status)
+  pub client : AsksNet words Client → Well streams status
+      → IfSome streams.input.content (λ s. (settings : ClientSettings) → SpellsClient settings s.left
+      → length s.left ≤ most_bytes → Told (ClientMay settings net) streams status)
   -- Likewise a carrier of the settings sends its file, a part to each address, or fetches one from its boxes.
-  pub carry : AsksNet words Carry → Well old new status
-      → IfSome old.content (λ s. (settings : CarrySettings) → SpellsCarry settings s.left
-      → length s.left ≤ most_bytes → Told (CarryMay settings net) old.written new.written status)
+  pub carry : AsksNet words Carry → Well streams status
+      → IfSome streams.input.content (λ s. (settings : CarrySettings) → SpellsCarry settings s.left
+      → length s.left ≤ most_bytes → Told (CarryMay settings net) streams status)
   -- Likewise the first key of other settings that is missing or wrong is named.
-  pub names_bad_key : (command : NetCommand) → AsksNet words command → Well old new status
-      → IfSome old.content (λ s. (key : List ℕ) → IsBadKey command key s.left → length s.left ≤ most_bytes
-      → (status ≡ 3) × Wrote old new (bad_settings key))
+  pub names_bad_key : (command : NetCommand) → AsksNet words command → Well streams status
+      → IfSome streams.input.content (λ s. (key : List ℕ) → IsBadKey command key s.left → length s.left ≤ most_bytes
+      → (status ≡ 3) × Wrote streams (bad_settings key))
   pub statuses : Contains (0 ∷ 2 ∷ 3 ∷ 4 ∷ 5 ∷ 6 ∷ 7 ∷ 8 ∷ []) status
   -- Only the usage text comes of words that ask for nothing, and the input isn't read.
-  pub usage : status ≡ 2 → AskNothing words × (new.content ≡ old.content) × Wrote old new usage_text
+  pub usage : status ≡ 2 → AskNothing words × IsUnread streams × Wrote streams usage_text
   pub usage_only : AskNothing words → Contains (2 ∷ 5 ∷ 7 ∷ []) status
-  pub worked : status ≡ 0 → Worked words old.content new.content net old.written new.written
-  pub refused : status ≡ 3 → Refused words old.content new.content net old.written new.written
-  pub read_fault : status ≡ 4 → AskSome words × Rose old.input_faults new.input_faults
-      × GaveSome old.content new.content (λ n. n ≤ most_bytes) × Wrote old new read_fault_text
+  pub worked : status ≡ 0 → Worked words streams net
+  pub refused : status ≡ 3 → Refused words streams net
+  pub read_fault : status ≡ 4 → AskSome words × Rose streams.input.faults streams.input_now.faults
+      × ReadSome streams (λ n. n ≤ most_bytes) × Wrote streams read_fault_text
   -- What went out is a part of a text that could have ended the run.
-  pub write_fault : status ≡ 5 → Rose old.output_faults new.output_faults
-      × ((end : End) × (text : List ℕ) × MayCome words old new net end text
-      × TookPrefix old.written new.written text)
+  pub write_fault : status ≡ 5 → Rose streams.out.faults streams.out_now.faults
+      × ((end : End) × (text : List ℕ) × RunMay words streams net end text
+      × TookPrefix streams.out.written streams.out_now.written text)
   -- Of a client's requests, and of the parts that a carrier sends, all were told by then but the last that
   -- came to its end: the line of each is out before the next is asked. A server that had made more calls
   -- than its listen had told that it listens: that is out before a connection is accepted.
-  pub told_in_time : status ≡ 5 → SinkFailed words old.content new.content net old.written new.written
+  pub told_in_time : status ≡ 5 → SinkFailed words streams net
   -- An answer that a client or a carrier took for one that ended early had ended: its connection had nothing
   -- left. Of a server's connections `serve` tells what each had left.
   pub early : MayLeave words net
   -- A listen, an accept or an exchange failed, after a part of the output of the command that was asked for.
-  pub net_fault : status ≡ 6 → BrokeOff words old.content new.content net old.written new.written
-  pub out_of_memory : status ≡ 7 → WantsMemory words old.content new.content net old.written new.written
-  pub too_long : status ≡ 8 → AskSome words × GaveSome old.content new.content (λ n. n ≡ most_bytes + 1)
-      × Wrote old new too_long_text
-  pub too_long_only : GaveMore old.content new.content → Contains (8 ∷ 5 ∷ 7 ∷ []) status
+  pub net_fault : status ≡ 6 → Talked NetFault words streams net
+  pub out_of_memory : status ≡ 7 → WantsMemory words streams net
+  pub too_long : status ≡ 8 → AskSome words × ReadSome streams (λ n. n ≡ most_bytes + 1)
+      × Wrote streams too_long_text
+  pub too_long_only : GaveMore streams.input.content streams.input_now.content → Contains (8 ∷ 5 ∷ 7 ∷ []) status
   -- No fault is passed over: the input's count rises only where the status is 4 or 5, the sink's only where
   -- it is 5.
-  pub source_unfailed : status ≢ 4 → status ≢ 5 → new.input_faults ≡ old.input_faults
-  pub sink_unfailed : status ≢ 5 → new.output_faults ≡ old.output_faults
+  pub source_unfailed : status ≢ 4 → status ≢ 5 → streams.input_now.faults ≡ streams.input.faults
+  pub sink_unfailed : status ≢ 5 → streams.out_now.faults ≡ streams.out.faults

@@ -1,6 +1,6 @@
 -- What comes of a command over a net, by the settings that are its input.
 use Rattle.std.specs.Prelude.{◌≡◌, ◌⊎◌, ℕ, Bool, List, ◌++◌, length}
-use Rattle.std.specs.Prelude.{Option, Ok, Err}
+use Rattle.std.specs.Prelude.{Result, Ok, Err}
 use Rattle.express_words.specs.Calls.{Listened, Adds}
 use Rattle.express_words.specs.Streams.{Took}
 use Rattle.settings_text.specs.Tables.{judged}
@@ -15,7 +15,7 @@ use Rattle.settings_text.specs.declared.carry.CarrySettings.{CarrySettings}
 use Rattle.node_serve.specs.declared.node.Node.{Node}
 use Rattle.node_serve.specs.Opening.{IsOpened}
 use Rattle.node_exchange.specs.Exchanging.{ClosedAtEnd, EndsShort}
-use Rattle.node_serve.specs.Visits.{standing}
+use Rattle.node_serve.specs.NoLog.{node_log}
 use Rattle.node_client.specs.declared.finished.Finished.{Finished}
 use Rattle.node_client.specs.Work.{WorkState}
 use Rattle.client_run.specs.Runs.{ClientRuns, RunFault, Plan, CameTo, ClientEnded, client_plan}
@@ -23,11 +23,12 @@ use Rattle.client_run.specs.Carries.{CarryRuns, SendEnded, carry_plan}
 use Rattle.client_run.specs.Telling.{TookPart, lines_of}
 use Rattle.client_run.specs.declared.cut.Untold.{Untold}
 use Rattle.client_run.specs.declared.cut.Untold.TheVariants as untold
+use Rattle.client_run.specs.declared.ran.Ran.{Ran}
 use Rattle.client_run.specs.declared.ran.RunEnd.{RunEnd}
 use Rattle.client_run.specs.declared.ran.RunEnd.TheVariants as run
 use Rattle.express_cli.specs.Around.{Around, Seen}
-use Rattle.express_cli.specs.Door.{DoorMay, listening, no_keeper}
-use Rattle.express_cli.specs.Ends.{PrintsBy, Said, bad_settings, out_of_memory_text}
+use Rattle.express_cli.specs.Door.{DoorMay, NeverMay, doorway_of, listening}
+use Rattle.express_cli.specs.Ends.{Prints, Said, SaidWanting, bad_settings, out_of_memory_text}
 use Rattle.express_cli.specs.declared.words.NetCommand.{NetCommand}
 use Rattle.express_cli.specs.declared.words.NetCommand.TheVariants.{Serve, Client, Carry}
 use Rattle.express_cli.specs.declared.ends.End.{End}
@@ -55,7 +56,7 @@ IsBadKey Carry key bytes = judged carry_of bytes ≡ Err key
 -- what may come at its door of the server that is opened from its settings and the seed
 abbrev pub AtDoor : ServeSettings → Around → End → List ℕ → Type 0
 AtDoor settings net end text = (node left : Node) × IsOpened settings net.seed node
-    × DoorMay no_keeper net.shown settings (standing node net.before) (standing left net.now) end text
+    × DoorMay node_log NeverMay settings (doorway_of net node left) end text
 
 -- nothing was done with the net
 abbrev pub IsStill : Around → Type 0
@@ -95,10 +96,11 @@ Wants plan Ended net text =
 -- The sink failed after a front of the text that was next, or of that memory was wanting for it; all that was
 -- told before went out.
 abbrev pub Breaks : (plan : Plan) → (WorkState → List Finished → List ℕ → RunEnd → Type 0) → Around
-    → (old new : Option (List ℕ)) → Type 0
+    → (old new : Seen) → Type 0
 Breaks plan Ended net old new =
     (told : List Finished) × (next : List ℕ) × CameTo plan Ended told next net.before.calls net.now.calls
-    × (TookPart (lines_of told) next old new ⊎ TookPart (lines_of told) out_of_memory_text old new)
+    × (TookPart (lines_of told) next old.written new.written
+    ⊎ TookPart (lines_of told) out_of_memory_text old.written new.written)
 
 -- ---- a client
 
@@ -107,12 +109,11 @@ abbrev pub end_by : RunEnd → End
 end_by run.Done = ends.Done
 end_by run.NetFault = ends.NetFault
 
--- what is said where a run's next text isn't told: that memory is wanting, or nothing, since the sink failed
-abbrev pub SaysUntold : Untold → End → (old new : Option (List ℕ)) → (before now : ℕ) → Type 0
-SaysUntold untold.NoMemory end old new before now =
-    PrintsBy (Said ends.OutOfMemory out_of_memory_text) old new before now end
-SaysUntold untold.Unwritten end old new before now =
-    (end ≡ ends.WriteFault) × (new ≡ old) × (now ≡ before)
+-- what is said of a run: its text; that memory was wanting for the next one; or nothing, since the sink failed
+abbrev pub SaysRun : Result Ran Untold → (old new : Seen) → End → Type 0
+SaysRun (Ok ran) old new end = Prints (Said (end_by ran.end) ran.text) old new end
+SaysRun (Err untold.NoMemory) old new end = Prints SaidWanting old new end
+SaysRun (Err untold.Unwritten) old new end = (end ≡ ends.WriteFault) × (new ≡ old)
 
 -- A client of these settings ran, and its text is told; the net's count rose only where it ended by a fault
 -- of the net.
@@ -125,7 +126,7 @@ abbrev pub ClientWants : ClientSettings → Around → List ℕ → Type 0
 ClientWants settings net text =
     let plan = client_plan settings net.seed in Wants plan (ClientEnded plan) net text
 
-abbrev pub ClientBreaks : ClientSettings → Around → (old new : Option (List ℕ)) → Type 0
+abbrev pub ClientBreaks : ClientSettings → Around → (old new : Seen) → Type 0
 ClientBreaks settings net old new =
     let plan = client_plan settings net.seed in Breaks plan (ClientEnded plan) net old new
 
@@ -150,7 +151,7 @@ CarryWants (Send id file addresses) settings net text =
     let plan = carry_plan settings net.seed in Wants plan (SendEnded (length addresses) plan) net text
 CarryWants Fetch settings net text = text ≡ out_of_memory_text
 
-abbrev pub CarryBreaks : CarryJob → CarrySettings → Around → (old new : Option (List ℕ)) → Type 0
+abbrev pub CarryBreaks : CarryJob → CarrySettings → Around → (old new : Seen) → Type 0
 CarryBreaks (Send id file addresses) settings net old new =
     let plan = carry_plan settings net.seed in Breaks plan (SendEnded (length addresses) plan) net old new
 CarryBreaks Fetch settings net old new = Unit {0}
@@ -164,14 +165,15 @@ CarryMay settings net other text = ⊥
 
 -- ---- what may come
 
+-- the settings that were read are such
+abbrev pub BySettings : {A : Type 0} → Result A (List ℕ) → (A → Type 0) → Type 0
+BySettings {A} read P = (settings : A) × (read ≡ Ok settings) × P settings
+
 -- by the settings that these bytes spell
 abbrev pub CommandMay : NetCommand → List ℕ → Around → End → List ℕ → Type 0
-CommandMay Serve bytes net end text =
-    (settings : ServeSettings) × SpellsServe settings bytes × AtDoor settings net end text
-CommandMay Client bytes net end text =
-    (settings : ClientSettings) × SpellsClient settings bytes × ClientMay settings net end text
-CommandMay Carry bytes net end text =
-    (settings : CarrySettings) × SpellsCarry settings bytes × CarryMay settings net end text
+CommandMay Serve bytes net end text = BySettings (judged serve_of bytes) (λ s. AtDoor s net end text)
+CommandMay Client bytes net end text = BySettings (judged client_of bytes) (λ s. ClientMay s net end text)
+CommandMay Carry bytes net end text = BySettings (judged carry_of bytes) (λ s. CarryMay s net end text)
 
 -- What the command's work on these bytes may come to: it is done, a fault of the net broke it off, memory was
 -- wanting, or the sink failed before a server told that it listens.
@@ -186,12 +188,12 @@ TalkMay command bytes net ends.OutOfMemory text =
 TalkMay command bytes net other text = ⊥
 
 -- a sink took these bytes, and maybe more behind them
-abbrev pub IsOut : List ℕ → (old new : Option (List ℕ)) → Type 0
-IsOut text old new = (more : List ℕ) × Took old new (text ++ more)
+abbrev pub IsOut : List ℕ → (old new : Seen) → Type 0
+IsOut text old new = (more : List ℕ) × Took old.written new.written (text ++ more)
 
 -- Where the sink failed a server of these settings had made no call but the listen, or had told before that
 -- it listens.
-abbrev pub ServeBreaks : ServeSettings → Around → (old new : Option (List ℕ)) → Type 0
+abbrev pub ServeBreaks : ServeSettings → Around → (old new : Seen) → Type 0
 ServeBreaks settings net old new =
     ((failed : Bool) × Adds net.before.calls net.now.calls (Listened settings.listen failed))
     ⊎ IsOut listening old new
@@ -199,20 +201,26 @@ ServeBreaks settings net old new =
 -- where the sink failed, that had been so, or nothing was done with the net
 abbrev pub ServeAnnounces : End → ServeSettings → Around → (old new : Seen) → Type 0
 ServeAnnounces end settings net old new =
-    end ≡ ends.WriteFault → IsStill net ⊎ ServeBreaks settings net old.written new.written
+    end ≡ ends.WriteFault → IsStill net ⊎ ServeBreaks settings net old new
+
+-- the command's work was being told, by the settings that these bytes spell
+abbrev pub CommandBreaks : NetCommand → List ℕ → Around → (old new : Seen) → Type 0
+CommandBreaks Serve bytes net old new = BySettings (judged serve_of bytes) (λ s. ServeBreaks s net old new)
+CommandBreaks Client bytes net old new = BySettings (judged client_of bytes) (λ s. ClientBreaks s net old new)
+CommandBreaks Carry bytes net old new = BySettings (judged carry_of bytes) (λ s. CarryBreaks s.job s net old new)
 
 -- What the sink has where it failed: it failed before any call on the net, or while the command's work was
 -- told.
-abbrev pub BreaksOff : NetCommand → List ℕ → Around → (old new : Option (List ℕ)) → Type 0
-BreaksOff Serve bytes net old new = IsStill net
-    ⊎ ((settings : ServeSettings) × SpellsServe settings bytes × ServeBreaks settings net old new)
-BreaksOff Client bytes net old new = IsStill net
-    ⊎ ((settings : ClientSettings) × SpellsClient settings bytes × ClientBreaks settings net old new)
-BreaksOff Carry bytes net old new = IsStill net
-    ⊎ ((settings : CarrySettings) × SpellsCarry settings bytes
-    × CarryBreaks settings.job settings net old new)
+abbrev pub BreaksOff : NetCommand → List ℕ → Around → (old new : Seen) → Type 0
+BreaksOff command bytes net old new = IsStill net ⊎ CommandBreaks command bytes net old new
 
 -- so much was told where it ended because the sink failed
 abbrev pub ToldFirst : End → NetCommand → List ℕ → Around → (old new : Seen) → Type 0
-ToldFirst end command bytes net old new =
-    end ≡ ends.WriteFault → BreaksOff command bytes net old.written new.written
+ToldFirst end command bytes net old new = end ≡ ends.WriteFault → BreaksOff command bytes net old new
+
+-- how a command's work on these bytes ends, what was told by then, and what it leaves
+pub record TalkEnds (command : NetCommand) (bytes : List ℕ) (net : Around) (old new : Seen) (end : End) : Type 0
+  where
+    pub comes : Prints (TalkMay command bytes net) old new end
+    pub in_time : ToldFirst end command bytes net old new
+    pub leaves : LeavesNothing command net

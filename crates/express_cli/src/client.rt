@@ -1,12 +1,11 @@
 //! Works a client's requests off over a net.
 ghost use Rattle.std.specs.Prelude.{◌≡◌, ◌≢◌, ◌≤◌};
 ghost use Rattle.express_cli.specs.Around.{over};
-ghost use Rattle.express_cli.specs.Ends.{Prints};
-ghost use Rattle.express_cli.specs.Talking.{LeftNothing, TalkMay, ToldFirst};
+ghost use Rattle.express_cli.specs.Talking.{TalkEnds};
 ghost use Rattle.express_cli.specs.declared.words.NetCommand.TheVariants.{Client};
 
 use crate::End;
-use crate::ran::{say_ran, say_untold};
+use crate::ran::say_run;
 use crate::texts::say_fault;
 use client_run::run_client;
 use express_words::outside::{Net, Sink};
@@ -21,20 +20,15 @@ pub fn client<K: Sink, N: Net>(
     out: &mut K,
     net: &mut N,
 ) -> End
-    ensures ends { Prints (TalkMay Client text.now
-        (over N.seen N.Conn.seen seed.now net.old net.new))
-        (K.seen out.old) (K.seen out.new) result }
-    ensures breaks { ToldFirst result Client text.now
-        (over N.seen N.Conn.seen seed.now net.old net.new) (K.seen out.old) (K.seen out.new) }
+    ensures ends { TalkEnds Client text.now
+        (over N.seen N.Conn.seen seed.now net.old net.new) (K.seen out.old) (K.seen out.new) result }
     ensures waits { result ≡ End.BadKey → net.new ≡ net.old }
-    ensures early { LeftNothing (over N.seen N.Conn.seen seed.now net.old net.new) }
 {
-    let settings = match read_client(alloc, text) {
-        Ok(settings) => settings,
-        Err(fault) => return say_fault(alloc, out, fault),
-    };
-    match run_client(alloc, &settings, seed, out, net) {
-        Ok(ran) => say_ran(out, &ran),
-        Err(why) => say_untold(out, why),
+    match read_client(alloc, text) {
+        Ok(settings) => {
+            let run = run_client(alloc, &settings, seed, out, net);
+            say_run(out, run)
+        }
+        Err(fault) => say_fault(alloc, out, fault),
     }
 }

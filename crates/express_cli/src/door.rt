@@ -2,9 +2,8 @@
 ghost use Rattle.std.specs.Prelude.{◌≡◌, ◌⊎◌, ◌≤◌, ◌++◌, ℕ, List, [], IfOk, codes, string_bytes};
 ghost use Rattle.node_restart.specs.Frames.{Handed};
 ghost use Rattle.node_serve.specs.Tallies.{tally_text};
-ghost use Rattle.node_serve.specs.Visits.{standing};
-ghost use Rattle.express_cli.specs.Around.{Shown, over};
-ghost use Rattle.express_cli.specs.Door.{DoorMay, EndsAtFirst, HaltCounts, HaltMay, ListeningMay, ServedMay, TallyMay, keeper, listening};
+ghost use Rattle.express_cli.specs.Around.{over};
+ghost use Rattle.express_cli.specs.Door.{DoorMay, EndsAtFirst, HaltCounts, HaltMay, ListeningMay, ServedMay, TallyMay, doorway, listening};
 ghost use Rattle.express_cli.specs.Ends.{DiskCounts, Prints};
 ghost use Rattle.express_cli.specs.Talking.{IsOut, ServeAnnounces};
 ghost use Rattle.express_cli.specs.declared.ends.End.{End as Ends};
@@ -31,7 +30,7 @@ pub(crate) trait TellsFaults: Logged {
     /// Tells why it ended before it had served all its connections.
     fn tell_halt<K: Sink>(alloc: Global, out: &mut K, halt: Halt<Self::Fault>) -> End
         requires first { EndsAtFirst first halt }
-        ensures tells { Prints (HaltMay (keeper Self.log tells) halt) (K.seen out.old) (K.seen out.new) result }
+        ensures tells { Prints (HaltMay tells halt) (K.seen out.old) (K.seen out.new) result }
         ensures counts { (before now : ℕ) → HaltCounts Self.rises halt before now
             → DiskCounts result before now };
 
@@ -68,18 +67,13 @@ fn serve_all<S: TellsFaults, K: Sink, N: Net>(
     net: &mut N,
 ) -> End
     requires whole { S.whole server.old }
-    ensures tells { Prints (ServedMay (keeper S.log S.tells) (Shown N.Conn.seen) settings.now
-        (standing server.old (N.seen net.old)) (standing server.new (N.seen net.new)))
+    ensures tells { Prints (ServedMay S.log S.tells settings.now
+        (doorway N.seen N.Conn.seen server.old server.new net.old net.new))
         (K.seen out.old) (K.seen out.new) result }
     ensures counts { DiskCounts result (S.failures server.old) (S.failures server.new) }
 {
-    match host(
-        server,
-        settings.peer.as_str(),
-        gather,
-        settings.connections,
-        net,
-    ) {
+    let peer = settings.peer.as_str();
+    match host(server, peer, gather, settings.connections, net) {
         Ok(tally) => tell_tally(alloc, out, tally),
         Err(stop) => S::tell_halt(alloc, out, stop.halt),
     }
@@ -95,11 +89,11 @@ fn tell_and_serve<S: TellsFaults, K: Sink, N: Net>(
     net: &mut N,
 ) -> End
     requires whole { S.whole server.old }
-    ensures tells { Prints (ListeningMay (keeper S.log S.tells) (Shown N.Conn.seen) settings.now
-        (standing server.old (N.seen net.old)) (standing server.new (N.seen net.new)))
+    ensures tells { Prints (ListeningMay S.log S.tells settings.now
+        (doorway N.seen N.Conn.seen server.old server.new net.old net.new))
         (K.seen out.old) (K.seen out.new) result }
     ensures announces { result ≡ End.WriteFault → (net.new ≡ net.old)
-        ⊎ IsOut listening (K.seen out.old).written (K.seen out.new).written }
+        ⊎ IsOut listening (K.seen out.old) (K.seen out.new) }
     ensures counts { DiskCounts result (S.failures server.old) (S.failures server.new) }
 {
     match out.put(LISTENING.as_bytes()) {
@@ -118,8 +112,8 @@ pub(crate) fn listen_and_serve<S: TellsFaults, K: Sink, N: Net>(
     net: &mut N,
 ) -> End
     requires whole { S.whole server.old }
-    ensures tells { Prints (DoorMay (keeper S.log S.tells) (Shown N.Conn.seen) settings.now
-        (standing server.old (N.seen net.old)) (standing server.new (N.seen net.new)))
+    ensures tells { Prints (DoorMay S.log S.tells settings.now
+        (doorway N.seen N.Conn.seen server.old server.new net.old net.new))
         (K.seen out.old) (K.seen out.new) result }
     ensures announces { ServeAnnounces result settings.now
         (over N.seen N.Conn.seen [] net.old net.new) (K.seen out.old) (K.seen out.new) }

@@ -3,7 +3,7 @@ ghost use Rattle.std.specs.Prelude.{◌≡◌, ◌≢◌, ◌≤◌, IfOk, IfErr
 ghost use Rattle.input_reading.specs.Reading.{GaveAll};
 ghost use Rattle.express_cli.specs.Around.{FailedLast};
 ghost use Rattle.express_cli.specs.Ends.{Prints};
-ghost use Rattle.express_cli.specs.Runs.{UnreadOf};
+ghost use Rattle.express_cli.specs.Runs.{UnreadMay};
 
 use crate::End;
 use crate::texts::{OUT_OF_MEMORY, READ_FAULT, TOO_LONG, say};
@@ -19,7 +19,7 @@ pub fn input_of<S: Source, K: Sink>(
 ) -> Result<Vec<u8>, End>
     ensures read { IfOk result (λ text. GaveAll (S.seen input.old).content
         (S.seen input.new).content text.items) }
-    ensures unread { IfErr result (λ end. Prints (UnreadOf (S.seen input.old) (S.seen input.new))
+    ensures unread { IfErr result (λ end. Prints (UnreadMay (S.seen input.old) (S.seen input.new))
         (K.seen out.old) (K.seen out.new) end) }
     ensures rests { OnOk result (out.new ≡ out.old) }
     ensures source { OnOk result ((S.seen input.new).faults ≡ (S.seen input.old).faults) }

@@ -1,7 +1,6 @@
 //! Is a server with a journal.
 ghost use Rattle.std.specs.Prelude.{◌≡◌, ◌≢◌, ◌≤◌, ◌⊎◌};
-ghost use Rattle.express_words.specs.Limits.{KeepsLimits};
-ghost use Rattle.express_cli.specs.Around.{FailedLast, over, outside};
+ghost use Rattle.express_cli.specs.Around.{FailedLast, over, streams};
 ghost use Rattle.express_cli.specs.Ends.{DiskCounts, Prints};
 ghost use Rattle.express_cli.specs.Keeping.{Announces, KeepComesTo, InputCounts, SettingsMay, TextMay};
 ghost use Rattle.express_cli.specs.Talking.{ServeAnnounces, ToldFirst};
@@ -28,14 +27,12 @@ fn keep_by<K: Sink, N: Net, D: Disk>(
     net: &mut N,
     disk: D,
 ) -> (End, D)
-    requires limits { KeepsLimits settings.now.settings.width settings.now.settings.boxes
-        settings.now.settings.lanes settings.now.settings.window }
     ensures tells { Prints (SettingsMay D.disk settings.now
         (over N.seen N.Conn.seen seed.now net.old net.new)
         disk result.1) (K.seen out.old) (K.seen out.new) result.0 }
     ensures announces { ServeAnnounces result.0 settings.now
         (over N.seen N.Conn.seen seed.now net.old net.new) (K.seen out.old) (K.seen out.new) }
-    ensures disk { DiskCounts result.0 (D.Counted.seen disk).faults (D.Counted.seen result.1).faults }
+    ensures disk { DiskCounts result.0 (D.seen disk).faults (D.seen result.1).faults }
 {
     let Ok(mut gather) = Gather::open(alloc) else {
         return (say(out, OUT_OF_MEMORY, End::OutOfMemory), disk);
@@ -63,7 +60,7 @@ fn keep_text<K: Sink, N: Net, D: Disk>(
         disk result.1) (K.seen out.old) (K.seen out.new) result.0 }
     ensures announces { ToldFirst result.0 Serve text.now
         (over N.seen N.Conn.seen seed.now net.old net.new) (K.seen out.old) (K.seen out.new) }
-    ensures disk { DiskCounts result.0 (D.Counted.seen disk).faults (D.Counted.seen result.1).faults }
+    ensures disk { DiskCounts result.0 (D.seen disk).faults (D.seen result.1).faults }
 {
     match read_serve(alloc, text) {
         Ok(settings) => keep_by(alloc, &settings, seed, out, net, disk),
@@ -81,15 +78,11 @@ pub(crate) fn keep<S: Source, K: Sink, N: Net, D: Disk>(
     net: &mut N,
     disk: D,
 ) -> (End, D)
-    ensures tells { KeepComesTo D.disk (outside (S.seen input.old) (K.seen out.old))
-        (outside (S.seen input.new) (K.seen out.new))
-        (over N.seen N.Conn.seen seed.now net.old net.new)
-        disk result.1 result.0 }
-    ensures disk { DiskCounts result.0 (D.Counted.seen disk).faults (D.Counted.seen result.1).faults }
-    ensures input { InputCounts result.0 (outside (S.seen input.old) (K.seen out.old))
-        (outside (S.seen input.new) (K.seen out.new)) }
-    ensures announces { Announces result.0 (outside (S.seen input.old) (K.seen out.old))
-        (outside (S.seen input.new) (K.seen out.new))
+    ensures tells { KeepComesTo D.disk (streams S.seen K.seen input.old input.new out.old out.new)
+        (over N.seen N.Conn.seen seed.now net.old net.new) disk result.1 result.0 }
+    ensures disk { DiskCounts result.0 (D.seen disk).faults (D.seen result.1).faults }
+    ensures input { InputCounts result.0 (streams S.seen K.seen input.old input.new out.old out.new) }
+    ensures announces { Announces result.0 (streams S.seen K.seen input.old input.new out.old out.new)
         (over N.seen N.Conn.seen seed.now net.old net.new) }
     ensures last_take { result.0 ≡ End.ReadFault → FailedLast S.seen input.old input.new }
 {

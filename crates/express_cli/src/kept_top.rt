@@ -1,7 +1,7 @@
 //! The top call with a journal.
 ghost use Rattle.std.specs.Prelude.{◌≡◌, ◌≢◌, ◌≤◌, [], ◌∷◌, Contains, map, string_bytes};
 ghost use Rattle.express_words.specs.Causes.{Rose};
-ghost use Rattle.express_cli.specs.Around.{FailedLast, over, outside};
+ghost use Rattle.express_cli.specs.Around.{FailedLast, over, streams};
 ghost use Rattle.express_cli.specs.CommandLine.{AskSome, AskTalk};
 ghost use Rattle.express_cli.specs.Laws.{Laws};
 ghost use Rattle.express_cli.specs.Keeping.{AsksOther, Keeps, OtherRan};
@@ -32,8 +32,8 @@ pub fn run_kept<S: Source, K: Sink, N: Net, D: Disk>(
     disk: D,
 ) -> (u8, D)
     // For all other words it is `run`, and no call is made on the disk.
-    ensures ran { OtherRan words.now.items (outside (S.seen input.old) (K.seen out.old))
-        (outside (S.seen input.new) (K.seen out.new))
+    ensures ran { OtherRan words.now.items
+        (streams S.seen K.seen input.old input.new out.old out.new)
         (over N.seen N.Conn.seen seed.now net.old net.new) result.0 }
     ensures disk_rests { AsksOther words.now.items → result.1 ≡ disk }
     ensures input_rests { AsksOther words.now.items
@@ -43,14 +43,13 @@ pub fn run_kept<S: Source, K: Sink, N: Net, D: Disk>(
     ensures net_waits { AsksOther words.now.items
         → Contains (2 ∷ 3 ∷ 4 ∷ 8 ∷ []) result.0 → net.new ≡ net.old }
     ensures laws { Laws }
-    ensures kept { Keeps words.now.items D.disk D.Counted.seen
-        (outside (S.seen input.old) (K.seen out.old))
-        (outside (S.seen input.new) (K.seen out.new))
-        (over N.seen N.Conn.seen seed.now net.old net.new) disk result.1 result.0 }
+    ensures kept { Keeps words.now.items D.disk D.seen
+        (streams S.seen K.seen input.old input.new out.old out.new)
+        (over N.seen N.Conn.seen seed.now net.old net.new) disk result }
     // Nothing is taken from the input after a fault of it.
     ensures last_take { result.0 ≡ 4 → FailedLast S.seen input.old input.new }
     // The disk failed only where its count rose.
-    ensures disk_fault { result.0 ≡ 10 → Rose (D.Counted.seen disk).faults (D.Counted.seen result.1).faults }
+    ensures disk_fault { result.0 ≡ 10 → Rose (D.seen disk).faults (D.seen result.1).faults }
     ensures statuses { Contains (0 ∷ 2 ∷ 3 ∷ 4 ∷ 5 ∷ 6 ∷ 7 ∷ 8 ∷ 10 ∷ 11 ∷ 12 ∷ 13 ∷ []) result.0 }
 {
     laws();

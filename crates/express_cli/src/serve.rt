@@ -1,11 +1,10 @@
 //! Is one of the two servers.
 ghost use Rattle.std.specs.Prelude.{◌≡◌, ◌≢◌, ◌≤◌, ◌⊎◌, List, ℕ, IfOk};
-ghost use Rattle.express_words.specs.Limits.{KeepsLimits};
 ghost use Rattle.node_serve.specs.Opening.{IsOpened};
 ghost use Rattle.express_cli.specs.Around.{over};
-ghost use Rattle.express_cli.specs.Door.{HaltCounts, HaltMay, no_keeper};
+ghost use Rattle.express_cli.specs.Door.{HaltCounts, HaltMay, NeverMay};
 ghost use Rattle.express_cli.specs.Ends.{DiskCounts, Prints};
-ghost use Rattle.express_cli.specs.Talking.{ServeAnnounces, ServeMay, TalkMay, ToldFirst};
+ghost use Rattle.express_cli.specs.Talking.{ServeAnnounces, ServeMay, TalkEnds};
 ghost use Rattle.express_cli.specs.declared.words.NetCommand.TheVariants.{Serve};
 
 use crate::door::{TellsFaults, listen_and_serve};
@@ -24,10 +23,10 @@ impl TellsFaults for Node {
 
     ghost first = { λ why. ⊥ };
 
-    ghost tells = { λ why end text. ⊥ };
+    ghost tells = { NeverMay };
 
     fn tell_halt<K: Sink>(_alloc: Global, out: &mut K, halt: Halt<Never>) -> End
-        ensures tells { Prints (HaltMay no_keeper halt) (K.seen out.old) (K.seen out.new) result }
+        ensures tells { Prints (HaltMay NeverMay halt) (K.seen out.old) (K.seen out.new) result }
         ensures counts { (before now : ℕ) → HaltCounts (λ why a b. ⊥) halt before now
             → DiskCounts result before now }
     {
@@ -46,8 +45,6 @@ fn opened(
     settings: &ServeSettings,
     seed: &[u8; 32],
 ) -> Result<(Node, Gather), NoMemory>
-    requires limits { KeepsLimits settings.now.settings.width settings.now.settings.boxes
-        settings.now.settings.lanes settings.now.settings.window }
     ensures opened { IfOk result (λ r. IsOpened settings.now seed.now r.0) }
 {
     let gather = Gather::open(alloc)?;
@@ -62,8 +59,6 @@ fn serve_by<K: Sink, N: Net>(
     out: &mut K,
     net: &mut N,
 ) -> End
-    requires limits { KeepsLimits settings.now.settings.width settings.now.settings.boxes
-        settings.now.settings.lanes settings.now.settings.window }
     ensures ends { Prints (ServeMay settings.now
         (over N.seen N.Conn.seen seed.now net.old net.new))
         (K.seen out.old) (K.seen out.new) result }
@@ -88,11 +83,8 @@ pub fn serve<K: Sink, N: Net>(
     out: &mut K,
     net: &mut N,
 ) -> End
-    ensures ends { Prints (TalkMay Serve text.now
-        (over N.seen N.Conn.seen seed.now net.old net.new))
-        (K.seen out.old) (K.seen out.new) result }
-    ensures breaks { ToldFirst result Serve text.now
-        (over N.seen N.Conn.seen seed.now net.old net.new) (K.seen out.old) (K.seen out.new) }
+    ensures ends { TalkEnds Serve text.now
+        (over N.seen N.Conn.seen seed.now net.old net.new) (K.seen out.old) (K.seen out.new) result }
     ensures waits { result ≡ End.BadKey → net.new ≡ net.old }
 {
     match read_serve(alloc, text) {

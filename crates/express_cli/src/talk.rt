@@ -1,8 +1,7 @@
 //! The work of a command over a net.
 ghost use Rattle.std.specs.Prelude.{◌≡◌, ◌≢◌, ◌≤◌};
 ghost use Rattle.express_cli.specs.Around.{over};
-ghost use Rattle.express_cli.specs.Ends.{Prints};
-ghost use Rattle.express_cli.specs.Talking.{LeavesNothing, TalkMay, ToldFirst};
+ghost use Rattle.express_cli.specs.Talking.{TalkEnds};
 
 use crate::End;
 use crate::carry::carry;
@@ -21,14 +20,9 @@ pub fn talk<K: Sink, N: Net>(
     out: &mut K,
     net: &mut N,
 ) -> End
-    ensures ends { Prints (TalkMay command text.now
-        (over N.seen N.Conn.seen seed.now net.old net.new))
-        (K.seen out.old) (K.seen out.new) result }
-    ensures breaks { ToldFirst result command text.now
-        (over N.seen N.Conn.seen seed.now net.old net.new) (K.seen out.old) (K.seen out.new) }
+    ensures ends { TalkEnds command text.now
+        (over N.seen N.Conn.seen seed.now net.old net.new) (K.seen out.old) (K.seen out.new) result }
     ensures waits { result ≡ End.BadKey → net.new ≡ net.old }
-    ensures early { LeavesNothing command
-        (over N.seen N.Conn.seen seed.now net.old net.new) }
 {
     match command {
         NetCommand::Serve => serve(alloc, text, seed, out, net),

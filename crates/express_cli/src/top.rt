@@ -1,8 +1,8 @@
 //! The top call.
 ghost use Rattle.std.specs.Prelude.{◌≡◌, ◌≢◌, ◌≤◌, ◌∷◌, [], Contains, map, string_bytes};
 ghost use Rattle.express_cli.specs.CommandLine.{AskSome, AskTalk};
-ghost use Rattle.express_cli.specs.Around.{FailedLast, over, outside};
-ghost use Rattle.express_cli.specs.Runs.{ComesTo, MayLeave, ToldInTime, WaitsForNet};
+ghost use Rattle.express_cli.specs.Around.{FailedLast, over, streams};
+ghost use Rattle.express_cli.specs.Runs.{RunEnds, WaitsForNet};
 ghost use Rattle.express_cli.specs.Ran.{Ran};
 ghost use Rattle.express_cli.specs.Laws.{Laws};
 
@@ -29,13 +29,8 @@ fn finish<S: Source, K: Sink, N: Net>(
     out: &mut K,
     net: &mut N,
 ) -> End
-    ensures ends { ComesTo (map string_bytes words.now.items)
-        (outside (S.seen input.old) (K.seen out.old))
-        (outside (S.seen input.new) (K.seen out.new))
-        (over N.seen N.Conn.seen seed.now net.old net.new) result }
-    ensures breaks { ToldInTime (map string_bytes words.now.items)
-        (outside (S.seen input.old) (K.seen out.old))
-        (outside (S.seen input.new) (K.seen out.new))
+    ensures ends { RunEnds (map string_bytes words.now.items)
+        (streams S.seen K.seen input.old input.new out.old out.new)
         (over N.seen N.Conn.seen seed.now net.old net.new) result }
     ensures last_take { result ≡ End.ReadFault → FailedLast S.seen input.old input.new }
     // A fault of the input is told as that, and as nothing else.
@@ -46,8 +41,6 @@ fn finish<S: Source, K: Sink, N: Net>(
     // A call on the net is made only where the words ask for work over it.
     ensures net_rests { (AskTalk (map string_bytes words.now.items) → ⊥) → net.new ≡ net.old }
     ensures net_waits { WaitsForNet result → net.new ≡ net.old }
-    ensures early { MayLeave (map string_bytes words.now.items)
-        (over N.seen N.Conn.seen seed.now net.old net.new) }
 {
     match task_of(alloc, words) {
         Err(_) => say(out, OUT_OF_MEMORY, End::OutOfMemory),
@@ -80,8 +73,7 @@ pub fn run<S: Source, K: Sink, N: Net>(
     net: &mut N,
 ) -> u8
     ensures ran { Ran (map string_bytes words.now.items)
-        (outside (S.seen input.old) (K.seen out.old))
-        (outside (S.seen input.new) (K.seen out.new))
+        (streams S.seen K.seen input.old input.new out.old out.new)
         (over N.seen N.Conn.seen seed.now net.old net.new) result }
     ensures laws { Laws }
     // Nothing is taken from the input after a fault of it.

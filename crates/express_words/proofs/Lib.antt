@@ -1,3 +1,4 @@
 pub mod Bytes
 pub mod LedgerLaws
 pub mod Pieces
+pub mod SettledLaws

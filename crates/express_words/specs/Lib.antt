@@ -6,5 +6,6 @@ pub mod Memory
 pub mod Noted
 pub mod Ranges
 pub mod Seen
+pub mod Settled
 pub mod Streams
 pub mod Texts

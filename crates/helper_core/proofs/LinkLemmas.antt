@@ -5,6 +5,8 @@ use Rattle.std.proofs.lemmas.Bool.{eq-eqb, ne_eqb, le-leb, lt-leb}
 use Rattle.frame_rules.specs.Frames.{PlainFrame}
 use Rattle.frame_rules.specs.Whole.{is_command, linked}
 use Rattle.step_rules.specs.Helper.{Helper, LinkTurn, Repeated, Ignored}
+use Rattle.helper_core.specs.Turns.{DoesLink}
+use Rattle.helper_core.specs.declared.helper.LinkTurn.TheVariants as turn
 use Rattle.step_rules.specs.HelperCommands.{arrives, arrival_steps, if_command, carried_with, carries_out, carry_steps, on_link_bytes, link_steps}
 
 get_there : (xs : List (List ℕ)) (n : ℕ) (x : List ℕ) → slice_get xs n ≡ Some x → get_or xs n [] ≡ x
@@ -82,10 +84,30 @@ module _ (h : Helper) (bytes : List ℕ) where
   next_turn f e is_next =
       (is_command_of h (linked is_command h.server.settings.width bytes) f e ∙ next_arrives h f is_next, ap (arrival_steps h) e ∙ next_steps h f is_next)
 
-pub take_front : (xs ys : List ℕ) → take (length xs) (xs ++ ys) ≡ xs
+take_front : (xs ys : List ℕ) → take (length xs) (xs ++ ys) ≡ xs
 take_front [] ys = refl
 take_front (x ∷ xs) ys = ap (λ zs. x ∷ zs) (take_front xs ys)
 
-pub drop_front : (xs ys : List ℕ) → drop (length xs) (xs ++ ys) ≡ ys
+drop_front : (xs ys : List ℕ) → drop (length xs) (xs ++ ys) ≡ ys
 drop_front [] ys = refl
 drop_front (x ∷ xs) ys = drop_front xs ys
+
+-- ---- what a turn does that carries nothing out
+
+pub does_nothing : (h : Helper) (out : List ℕ) → (let t : LinkTurn = record { helper = h; answer = Ignored } in DoesLink t h h turn.Ignored out out)
+does_nothing h out = record { helper = refl; refused = refl; answer = refl; written = refl; rest = refl; settings = refl; frame = tt }
+
+-- the kept reply is written again
+pub does_again : (h : Helper) (reply front out : List ℕ) → front ≡ reply
+    → (let t : LinkTurn = record { helper = h; answer = Repeated reply } in DoesLink t h h (turn.Repeated (length reply)) out (front ++ drop (length reply) out))
+does_again h reply front out is =
+    let rest = drop (length reply) out in
+    record {
+      helper = refl;
+      refused = refl;
+      answer = refl;
+      written = ap (λ (b : List ℕ). take (length reply) (b ++ rest)) is ∙ take_front reply rest;
+      rest = ap (λ (b : List ℕ). drop (length reply) (b ++ rest)) is ∙ drop_front reply rest;
+      settings = refl;
+      frame = tt;
+    }

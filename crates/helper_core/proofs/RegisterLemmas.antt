@@ -114,7 +114,6 @@ module _ (settings : Settings) (held : Holdings) (slots : List HelperSlot) (draw
 
   pub slot_set : (i : ℕ) (s : HelperSlot) → IsHelperSlot settings.width settings.boxes (addresses_of held.boxes) s → IsServer settings held (set slots i s)
   slot_set i s here = record {
-    limits = is.limits;
     limit = is.limit;
     within = is.within;
     width = is.width;
@@ -125,7 +124,6 @@ module _ (settings : Settings) (held : Holdings) (slots : List HelperSlot) (draw
 -- boxes with the same addresses hold the invariant
 pub same_server : (settings : Settings) (old new : Holdings) (xs : List HelperSlot) → HasSameAddresses old new → IsServer settings old xs → IsServer settings new xs
 same_server settings old new xs same now = record {
-  limits = now.limits;
   limit = same.limit ∙ now.limit;
   within = let w = now.within in let c = same.count in omega arith;
   width = same.width ∙ now.width;
@@ -150,7 +148,6 @@ more_boxes : (settings : Settings) (held : Holdings) (xs : List HelperSlot) (add
 more_boxes settings held xs address key room now =
     let b = new_box held.width address key in
     record {
-      limits = now.limits;
       limit = now.limit;
       within = rw (length-append held.boxes (b ∷ [])) (omega arith);
       width = now.width;

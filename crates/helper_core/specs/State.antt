@@ -1,7 +1,6 @@
 -- The helper's state, read from its stores.
 use Rattle.std.specs.Prelude.{◌≡◌, ℕ, ◌≤◌, List, length, slice_get, All}
 use Rattle.express_words.specs.declared.settings.Settings.{Settings}
-use Rattle.express_words.specs.Limits.{KeepsLimits}
 use Rattle.link_order.specs.Link.{Carried, IsCarried}
 use Rattle.frame_rules.specs.Spelling.{spelling, IsFrame}
 use Rattle.server_boxes.specs.Held.{Holdings, share_of}
@@ -18,7 +17,6 @@ server_in settings held slots draws seed =
 
 -- the boxes and the slots have the settings' sizes, and a slot for each lane
 pub record IsServer (settings : Settings) (held : Holdings) (slots : List HelperSlot) : Type 0 where
-  pub limits : KeepsLimits settings.width settings.boxes settings.lanes settings.window
   pub limit : held.limit ≡ settings.boxes
   pub within : length held.boxes ≤ settings.boxes
   pub width : held.width ≡ settings.width

@@ -1,15 +1,14 @@
 //! The helper over its stores and its link.
-ghost use Rattle.std.specs.Prelude.{◌≡◌, ◌+◌, ◌<◌, ◌≤◌, ◌^◌, IfOk, Some, true, length, take, drop, option_map, slice_get};
-ghost use Rattle.express_words.specs.Limits.{KeepsLimits};
-ghost use Rattle.frame_rules.specs.Spelling.{spelling, IsFrame};
+ghost use Rattle.std.specs.Prelude.{◌≡◌, ◌+◌, ◌<◌, ◌≤◌, IfOk, Some, true, length, take, drop, option_map, slice_get};
+ghost use Rattle.frame_rules.specs.Spelling.{IsFrame};
 ghost use Rattle.frame_rules.specs.Frames.{plain, plain_body};
 ghost use Rattle.frame_rules.specs.Whole.{has_width, is_command};
 ghost use Rattle.frame_rules.specs.Room.{HasRoom};
-ghost use Rattle.step_rules.specs.Refusals.{IsRefusal, AnswerLeaves};
 ghost use Rattle.step_rules.specs.Helper.{opened_helper, written};
 ghost use Rattle.step_rules.specs.HelperClients.{on_client};
 ghost use Rattle.step_rules.specs.HelperCommands.{on_link_bytes, link_steps, carried_with, carries_out, carry_steps};
-ghost use Rattle.helper_core.specs.State.{share_in, turned, IsCarriedFrame};
+ghost use Rattle.helper_core.specs.State.{share_in, IsCarriedFrame};
+ghost use Rattle.helper_core.specs.Turns.{DoesClient, DoesLink};
 
 use crate::server::Server;
 use dpf_eval::Steps;
@@ -19,7 +18,7 @@ use link_order::{Arrival, Incoming};
 use std::alloc::Global;
 use std::marker::Model;
 use std::sync::ledger::Ledger;
-use wire_frames::{command_in, encode_into, on_link};
+use wire_frames::{Received, encode_into, on_link};
 
 /// What the helper did with bytes of the leader.
 #[derive(Clone, Copy, Debug, PartialEq, Eq)]
@@ -55,8 +54,6 @@ impl Model for Helper {
 impl Helper {
     /// A helper with no boxes, which has carried nothing out. Its draws come from `seed`.
     pub fn open(alloc: Global, settings: &Settings, seed: &[u8; 32]) -> Result<Helper, NoMemory>
-        requires limits { KeepsLimits settings.now.width settings.now.boxes settings.now.lanes
-            settings.now.window }
         ensures { IfOk result (λ h. h ≡ opened_helper settings.now seed.now) }
     {
         let server = Server::open(alloc, settings, seed)?;
@@ -72,40 +69,34 @@ impl Helper {
     }
 
     /// A frame of a client: writes one reply to the front of `out`, and gives its length. Any bytes get a reply.
+    pub fn hear_client(&mut self, received: &Received<'_>, out: &mut [u8]) -> usize
+        requires room { HasRoom out.old }
+        ensures { DoesClient (on_client self.old received.now) self.old self.new result out.old out.new }
+    {
+        self.server.hear_client(received, out)
+    }
+
+    /// A frame of a client, likewise.
     pub fn on_client(&mut self, frame: &[u8], out: &mut [u8]) -> usize
         requires room { HasRoom out.old }
-        ensures helper { self.new ≡ (on_client self.old frame.now).helper }
-        ensures refused { IsRefusal (on_client self.old frame.now).reply.body → self.new ≡ self.old }
-        ensures length { result ≡ length (spelling (on_client self.old frame.now).reply) }
-        ensures written { take result out.new ≡ spelling (on_client self.old frame.now).reply }
-        ensures rest { drop result out.new ≡ drop result out.old }
-        ensures settings { self.new.server.settings ≡ self.old.server.settings }
+        ensures { DoesClient (on_client self.old frame.now) self.old self.new result out.old out.new }
     {
-        self.server.on_client(frame, out)
+        self.hear_client(&Received::of(frame), out)
     }
 
     /// Bytes of the leader: carries a command out in the order of the link's numbers, or gives the kept reply, which is
     /// written to the front of `out`. `steps` counts each node that an audit expands.
-    pub fn on_link<L: Ledger>(
+    pub fn hear_link<L: Ledger>(
         &mut self,
-        frame: &[u8],
+        received: &Received<'_>,
         out: &mut [u8],
         steps: &mut Steps<L>,
     ) -> LinkTurn
         requires room { HasRoom out.old }
-        ensures helper { self.new ≡ (on_link_bytes self.old frame.now).helper }
-        ensures refused { AnswerLeaves (on_link_bytes self.old frame.now).answer self.old self.new }
-        ensures answer { result ≡ turned (on_link_bytes self.old frame.now).answer }
-        ensures written { let reply = written (on_link_bytes self.old frame.now).answer in
-            take (length reply) out.new ≡ reply }
-        ensures rest { let count = length (written (on_link_bytes self.old frame.now).answer) in
-            drop count out.new ≡ drop count out.old }
-        ensures steps { steps.new ≡ steps.old + link_steps self.old frame.now }
-        ensures settings { self.new.server.settings ≡ self.old.server.settings }
-        // The reply to a command that is carried out now is a frame of the grammar.
-        ensures frame { IsCarriedFrame (on_link_bytes self.old frame.now).answer }
+        ensures turn { DoesLink (on_link_bytes self.old received.now) self.old self.new result out.old out.new }
+        ensures steps { steps.new ≡ steps.old + link_steps self.old received.now }
     {
-        let Some(command) = command_in(frame, self.server.width()) else {
+        let Some(command) = received.command(self.server.width()) else {
             return LinkTurn::Ignored;
         };
         match self.link.arrival(command.link) {
@@ -116,6 +107,20 @@ impl Helper {
             }
             Arrival::Next => LinkTurn::Carried(self.carry(&command, out, steps)),
         }
+    }
+
+    /// Bytes of the leader, likewise.
+    pub fn on_link<L: Ledger>(
+        &mut self,
+        frame: &[u8],
+        out: &mut [u8],
+        steps: &mut Steps<L>,
+    ) -> LinkTurn
+        requires room { HasRoom out.old }
+        ensures turn { DoesLink (on_link_bytes self.old frame.now) self.old self.new result out.old out.new }
+        ensures steps { steps.new ≡ steps.old + link_steps self.old frame.now }
+    {
+        self.hear_link(&Received::of(frame), out, steps)
     }
 
     /// Carries the next command out and keeps its reply, which has the length that is given.

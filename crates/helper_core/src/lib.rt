@@ -11,4 +11,4 @@ mod taken;
 mod uncounted;
 
 pub use helper::{Helper, LinkTurn};
-pub use uncounted::carry_command;
+pub use uncounted::{carry_command, hear_command};

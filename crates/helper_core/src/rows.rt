@@ -10,7 +10,7 @@ use crate::slot::HelperSlot;
 use crate::taken::{ClientBody, brought_by};
 use express_words::Refusal;
 use frame_rules::{Body, Frame};
-use wire_frames::{answer, refused_bytes, whole};
+use wire_frames::{Received, answer, refused_bytes};
 
 /// What a deposit or a proof does at the slot of its lane.
 fn at_lane(
@@ -36,14 +36,18 @@ fn at_lane(
 }
 
 /// What the helper answers to bytes from a client. The slot of the frame's lane alone may change.
-pub(crate) fn answer_client(slots: &mut [HelperSlot], lanes: u16, bytes: &[u8]) -> Frame<'static>
+pub(crate) fn answer_client(
+    slots: &mut [HelperSlot],
+    lanes: u16,
+    received: &Received<'_>,
+) -> Frame<'static>
     requires lanes { length slots.old ≡ lanes }
     ensures turn { AtRows lanes slots.old
-        (λ h. client_turn h bytes.now ≡ turn_in h slots.new (plain result)) }
+        (λ h. client_turn h received.now ≡ turn_in h slots.new (plain result)) }
     ensures is_frame { IsFrame (plain result) }
     ensures slots { StaySlots slots.old slots.new }
 {
-    match whole(bytes) {
+    match received.frame() {
         Err(refusal) => refused_bytes(refusal),
         Ok(frame) => match brought_by(&frame.body) {
             None => refused_bytes(Refusal::Malformed(5)),

@@ -1,6 +1,5 @@
 //! The helper's stores but for the link.
 ghost use Rattle.std.specs.Prelude.{◌≡◌, ◌<◌, ◌≤◌, IfOk, Some, length, take, drop, option_map, slice_get};
-ghost use Rattle.express_words.specs.Limits.{KeepsLimits};
 ghost use Rattle.frame_rules.specs.Spelling.{spelling};
 ghost use Rattle.frame_rules.specs.Room.{HasRoom};
 ghost use Rattle.step_rules.specs.Helper.{opened_server};
@@ -13,7 +12,7 @@ use express_words::{NoMemory, Settings};
 use server_boxes::ServerBoxes;
 use std::alloc::Global;
 use std::marker::Model;
-use wire_frames::encode_into;
+use wire_frames::{Received, encode_into};
 
 /// Server 1's boxes and shares, and what it holds of each lane.
 #[derive(Drop)]
@@ -43,8 +42,6 @@ impl Server {
         settings: &Settings,
         seed: &[u8; 32],
     ) -> Result<Server, NoMemory>
-        requires limits { KeepsLimits settings.now.width settings.now.boxes settings.now.lanes
-            settings.now.window }
         ensures { IfOk result (λ h. h ≡ opened_server settings.now seed.now) }
     {
         let boxes = ServerBoxes::open(alloc, settings.boxes, settings.width)?;
@@ -59,16 +56,16 @@ impl Server {
     }
 
     /// A frame of a client: writes one reply to the front of `out`, and gives its length.
-    pub(crate) fn on_client(&mut self, frame: &[u8], out: &mut [u8]) -> usize
+    pub(crate) fn hear_client(&mut self, received: &Received<'_>, out: &mut [u8]) -> usize
         requires room { HasRoom out.old }
-        ensures server { self.new ≡ (client_turn self.old frame.now).server }
+        ensures server { self.new ≡ (client_turn self.old received.now).server }
         ensures settings { self.new.settings ≡ self.old.settings }
         ensures draws { self.new.draws ≡ self.old.draws }
-        ensures length { result ≡ length (spelling (client_turn self.old frame.now).reply) }
-        ensures written { take result out.new ≡ spelling (client_turn self.old frame.now).reply }
+        ensures length { result ≡ length (spelling (client_turn self.old received.now).reply) }
+        ensures written { take result out.new ≡ spelling (client_turn self.old received.now).reply }
         ensures rest { drop result out.new ≡ drop result out.old }
     {
-        let reply = answer_client(&mut self.slots, self.settings.lanes, frame);
+        let reply = answer_client(&mut self.slots, self.settings.lanes, received);
         encode_into(&reply, out)
     }
 

@@ -1,5 +1,5 @@
 -- What is outstanding and the rows that wait for it, where a command is issued and where one is answered.
-use Rattle.std.proofs.Common.{◌≡◌, ◌≢◌, ◌<◌, ℕ, zero, suc, ◌+◌, ◌⊎◌, Bool, slice_get, Option, Some, None, IfSome, option_map, cond, nat_eq, List, [], ◌∷◌, ◌++◌, append-nil, length, filter, replicate, slice_set, slice_index_or, inl, inr, refl, sym, ap, subst, ◌∙◌, arith}
+use Rattle.std.proofs.Common.{◌≡◌, ◌≢◌, ◌<◌, ℕ, zero, suc, ◌+◌, ◌⊎◌, Bool, slice_get, Option, Some, None, IfSome, option_map, cond, nat_eq, List, [], ◌∷◌, ◌++◌, append-nil, length, replicate, slice_set, slice_index_or, inl, inr, refl, sym, ap, subst, ◌∙◌, arith}
 use Rattle.std.proofs.lemmas.Bool.{cases_eq, cases_lt, eq-eqb, ne_eqb}
 use Rattle.std.proofs.lemmas.List.{get_or-set_same, get_or-set_other, get_or_past, get_or-replicate, length-append, length-set, length-replicate}
 use Rattle.std.proofs.lemmas.List.Elements.{filter-append}
@@ -7,7 +7,7 @@ use Rattle.express_words.specs.declared.settings.Settings.{Settings}
 use Rattle.frame_rules.specs.Frames.{PlainFrame}
 use Rattle.frame_rules.specs.Spelling.{spelling}
 use Rattle.step_rules.specs.LeaderReplies.{resent}
-use Rattle.step_rules.specs.Leader.{Leader, Stage, Idle, Waiting, Challenged, Auditing, Settling, Done, Row, row, idle, opened_leader}
+use Rattle.step_rules.specs.Leader.{Leader, Stage, Idle, Waiting, Challenged, Auditing, Settling, Done, Row, idle, opened_leader}
 use Rattle.leader_core.specs.Awaited.{commands_of, awaited_at, awaited, AreThoseAwaited, RowsAwait}
 
 -- ---- the commands of a lane

@@ -21,7 +21,8 @@ use Rattle.leader_core.specs.declared.turn.Turn.{Turn}
 use Rattle.leader_core.specs.declared.turn.Turn.TheVariants as turn
 use Rattle.leader_core.specs.Saying.{said_in}
 use Rattle.leader_core.specs.Slots.{row_in, IsLeaderSlot}
-use Rattle.leader_core.specs.State.{leader_in, with_command, AreStores, IsLink}
+use Rattle.leader_core.specs.Commands.{with_command}
+use Rattle.leader_core.specs.State.{leader_in, AreStores, IsLink}
 use Rattle.leader_core.specs.Told.{turn_steps, WritesFront, IsTold, DoesTurn}
 use Rattle.leader_core.proofs.IssueLemmas.{issues_is, link_more}
 use Rattle.leader_core.proofs.SlotLemmas.{slot_set}
@@ -67,7 +68,7 @@ pub issue_does : (c : LeaderStores) (boxes : Holdings) (f : PlainFrame) (body : 
     DoesTurn t (record c { boxes = boxes; slots = with_item c.slots i s; link = l; draws = d }) (turn.Link number len) old new
 issue_does c boxes f body stage i s l d number len old new t boxes_are t_is is at below some row_is slot_is next free link_is order is_frame drawn number_is len_is front =
     let command = on_link f c.link.next body in
-    let more = link_more c.settings c.link c.draws d command is.link is.server.limits.3.1 next free is_frame below some drawn (subst IsOutstanding link_is order) in
+    let more = link_more c.settings c.link c.draws d command is.link c.settings.limits.3.1 next free is_frame below some drawn (subst IsOutstanding link_is order) in
     let given : Turn = turn.Link number len in
     let does : DoesTurn (issues (record (leader_in c) { draws = d }) f body stage) (record c { slots = with_item c.slots i s; link = l; draws = d }) given old new = record {
       leader =

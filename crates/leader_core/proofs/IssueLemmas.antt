@@ -18,7 +18,8 @@ use Rattle.leader_core.specs.declared.asked.Asked.TheVariants as asked
 use Rattle.leader_core.specs.declared.slot.LeaderSlot.{LeaderSlot}
 use Rattle.leader_core.specs.Asked.{asked_with, command_for, draws_for}
 use Rattle.leader_core.specs.Slots.{row_in, rows_in}
-use Rattle.leader_core.specs.State.{frame_at, frame_or, commands_in, audits_in, is_audit, leader_of, with_command, IsCommand, IsLink}
+use Rattle.leader_core.specs.Commands.{frame_at, frame_or, commands_in, audits_in, is_audit, with_command}
+use Rattle.leader_core.specs.State.{leader_of, IsCommand, IsLink}
 use Rattle.leader_core.proofs.SlotLemmas.{rows_set}
 
 -- ---- the bytes of a command are read as it

@@ -54,7 +54,6 @@ core_set c after i s is server here = record { server = slot_set c.settings afte
 -- boxes with the same addresses
 pub same_server : (settings : Settings) (old new : Holdings) (xs : List LeaderSlot) → HasSameAddresses old new → FitsSettings settings old xs → FitsSettings settings new xs
 same_server settings old new xs same now = record {
-  limits = now.limits;
   limit = same.limit ∙ now.limit;
   within = let w = now.within in let c = same.count in omega arith;
   width = same.width ∙ now.width;
@@ -82,7 +81,6 @@ more_boxes : (settings : Settings) (held : Holdings) (xs : List LeaderSlot) (add
 more_boxes settings held xs address key room now =
     let b = new_box held.width address key in
     record {
-      limits = now.limits;
       limit = now.limit;
       within = rw (length-append held.boxes (b ∷ [])) (omega arith);
       width = now.width;

@@ -16,9 +16,11 @@ use Rattle.leader_core.specs.declared.stores.LeaderStores.{LeaderStores}
 use Rattle.leader_core.specs.declared.issued.Issued.{Issued}
 use Rattle.leader_core.specs.declared.turn.Ack.{Ack}
 use Rattle.leader_core.specs.declared.turn.Ack.TheVariants as ack
-use Rattle.leader_core.specs.Replies.{settled_with, told, IsIssued}
+use Rattle.leader_core.specs.Commands.{IsIssued}
+use Rattle.leader_core.specs.Replies.{settled_with, told}
 use Rattle.leader_core.specs.Slots.{kept_of}
-use Rattle.leader_core.specs.State.{commands_in, frame_at, audits_in, is_audit, leader_in, with_command, IsCommand, AreStores, IsLink}
+use Rattle.leader_core.specs.Commands.{commands_in, frame_at, audits_in, is_audit, with_command}
+use Rattle.leader_core.specs.State.{leader_in, IsCommand, AreStores, IsLink}
 use Rattle.leader_core.specs.Told.{DoesAck, WritesFront}
 use Rattle.leader_core.proofs.IssueLemmas.{audits_more, commands_more, frame_is, is_command}
 

@@ -7,8 +7,9 @@ use Rattle.step_rules.specs.Leader.{Leader, Stage, AckTurn, row_at}
 use Rattle.step_rules.specs.LeaderReplies.{by_command, done, fits, if_audited, if_begun, if_read, if_registered, if_settled, registered_in, want_for}
 use Rattle.leader_core.specs.declared.issued.CommandOrder.{CommandOrder}
 use Rattle.leader_core.specs.declared.issued.CommandOrder.TheVariants as order
-use Rattle.leader_core.specs.Replies.{order_in, want_of_order}
-use Rattle.leader_core.specs.State.{is_audit}
+use Rattle.leader_core.specs.Commands.{order_in}
+use Rattle.leader_core.specs.Replies.{want_of_order}
+use Rattle.leader_core.specs.Commands.{is_audit}
 
 module _ (a : Leader) (c : PlainFrame) where
   abbrev by_order : Option CommandOrder → Stage → PlainBody → Option AckTurn

@@ -19,7 +19,6 @@ rows_set slots i lane s r at row_is =
 pub slot_set : (settings : Settings) (held : Holdings) (slots : List LeaderSlot) (i : ℕ) (s : LeaderSlot) → FitsSettings settings held slots →
     IsLeaderSlot settings.width settings.boxes (addresses_of held.boxes) s → FitsSettings settings held (set slots i s)
 slot_set settings held slots i s is here = record {
-  limits = is.limits;
   limit = is.limit;
   within = is.within;
   width = is.width;

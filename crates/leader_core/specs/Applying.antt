@@ -6,7 +6,8 @@ use Rattle.step_rules.specs.Leader as steps
 use Rattle.leader_core.specs.declared.applied.Applied.{Applied}
 use Rattle.leader_core.specs.declared.issued.Issued.{Issued}
 use Rattle.leader_core.specs.declared.stores.LeaderStores.{LeaderStores}
-use Rattle.leader_core.specs.Replies.{applied, applied_as, applied_settle, IsIssued}
+use Rattle.leader_core.specs.Commands.{IsIssued}
+use Rattle.leader_core.specs.Replies.{applied, applied_as, applied_settle}
 use Rattle.leader_core.specs.State.{leader_in}
 
 -- the stage of the row that waits for the command

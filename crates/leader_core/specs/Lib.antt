@@ -1,8 +1,10 @@
 pub mod Applying
 pub mod Asked
 pub mod Awaited
+pub mod Commands
 pub mod Replies
 pub mod Saying
 pub mod Slots
 pub mod State
 pub mod Told
+pub mod Turns

@@ -14,7 +14,6 @@ use Rattle.step_rules.specs.LeaderReplies.{acknowledged}
 use Rattle.leader_core.specs.declared.asked.Asked.TheVariants as asked
 use Rattle.leader_core.specs.declared.issued.CommandOrder.{CommandOrder}
 use Rattle.leader_core.specs.declared.issued.CommandOrder.TheVariants as order
-use Rattle.leader_core.specs.declared.issued.Issued.{Issued}
 use Rattle.leader_core.specs.declared.applied.Applied.{Applied}
 use Rattle.leader_core.specs.declared.applied.Applied.TheVariants as effect
 use Rattle.leader_core.specs.declared.slot.LeaderStage.{LeaderStage}
@@ -23,31 +22,11 @@ use Rattle.leader_core.specs.Slots.{kept_of}
 
 -- ---- what a command orders
 
-abbrev pub order_in : PlainBody → Option CommandOrder
-order_in (frame.LinkRegister address) = Some (order.Register address)
-order_in (frame.LinkBegin drawn part) = Some order.Begin
-order_in (frame.LinkAudit sigma opened) = Some order.Audit
-order_in (frame.LinkSettle own) = Some order.Settle
-order_in (frame.LinkRead number) = Some (order.Read number)
-order_in (frame.LinkRetire number) = Some (order.Retire number)
-order_in body = None
-
 abbrev pub want_of_order : Option CommandOrder → Want
 want_of_order (Some (order.Register address)) = Register
 want_of_order (Some (order.Read number)) = Read
 want_of_order (Some (order.Retire number)) = Read
 want_of_order other = Writes
-
--- the command of a frame
-pub record IsIssued (c : PlainFrame) (i : Issued) : Type 0 where
-  pub lane : c.lane ≡ i.lane
-  pub serial : c.serial ≡ i.serial
-  pub link : c.link ≡ i.link
-  pub order : order_in c.body ≡ i.order
-
--- what a lane's command is known by, without its body
-abbrev pub header_of : Issued → PlainFrame
-header_of i = record { lane = i.lane; serial = i.serial; link = 0; body = frame.Accepted }
 
 -- ---- what a stage waits for
 

@@ -1,15 +1,11 @@
 -- The leader's state, read from its stores.
-use Rattle.std.specs.Prelude.{◌≡◌, ℕ, ◌+◌, ◌-◌, ◌^◌, ◌<◌, ◌≤◌, Bool, true, false, Result, Ok, Err}
-use Rattle.std.specs.Prelude.{List, ◌∷◌, [], ◌++◌, length, map, filter, slice_get, slice_index_or, All}
+use Rattle.std.specs.Prelude.{◌≡◌, ℕ, ◌+◌, ◌-◌, ◌^◌, ◌<◌, ◌≤◌}
+use Rattle.std.specs.Prelude.{List, length, slice_get, slice_index_or, All}
 use Rattle.express_words.specs.declared.settings.Settings.{Settings}
 use Rattle.express_words.specs.declared.audit.ProofShare.{ProofShare}
-use Rattle.express_words.specs.declared.refusal.Refusal.{Refusal}
-use Rattle.express_words.specs.Limits.{KeepsLimits}
 use Rattle.link_order.specs.Link.{Outstanding, IsOutstanding}
-use Rattle.frame_rules.specs.Frames as frame
-use Rattle.frame_rules.specs.Frames.{PlainFrame, PlainBody}
+use Rattle.frame_rules.specs.Frames.{PlainFrame}
 use Rattle.frame_rules.specs.Spelling.{Spells}
-use Rattle.frame_rules.specs.Whole.{whole, refused_bytes}
 use Rattle.server_boxes.specs.Held.{Holdings, share_of, write_in}
 use Rattle.server_boxes.specs.declared.room.Begun.{Begun}
 use Rattle.step_rules.specs.Boxes.{addresses_of}
@@ -17,36 +13,8 @@ use Rattle.step_rules.specs.Leader as steps
 use Rattle.step_rules.specs.LeaderClients.{audits}
 use Rattle.leader_core.specs.declared.slot.LeaderSlot.{LeaderSlot}
 use Rattle.leader_core.specs.declared.stores.LeaderStores.{LeaderStores}
+use Rattle.leader_core.specs.Commands.{audits_in, commands_in, first_of, frame_at}
 use Rattle.leader_core.specs.Slots.{rows_in, IsLeaderSlot}
-
--- ---- the outstanding commands, which are kept as bytes
-
-abbrev pub frame_or : Result PlainFrame Refusal → PlainFrame
-frame_or (Ok f) = f
-frame_or (Err r) = refused_bytes r
-
-abbrev pub frame_at : List ℕ → PlainFrame
-frame_at bytes = frame_or (whole bytes)
-
-abbrev pub commands_in : List (List ℕ) → List PlainFrame
-commands_in frames = map frame_at frames
-
-abbrev pub is_audit : PlainBody → Bool
-is_audit (frame.LinkAudit sigma opened) = true
-is_audit body = false
-
--- how many of them are audits, each of which a settle may follow
-abbrev pub audits_in : List (List ℕ) → ℕ
-audits_in frames = length (filter (λ bytes. is_audit (frame_at bytes).body) frames)
-
--- one command more
-abbrev pub with_command : Outstanding → List ℕ → Outstanding
-with_command link bytes = record {
-  next = link.next + 1;
-  window = link.window;
-  size = link.size;
-  frames = link.frames ++ bytes ∷ [];
-}
 
 -- ---- the leader
 
@@ -73,13 +41,12 @@ audits_there c f b share no_slot =
 
 -- the oldest outstanding command, where one is outstanding
 abbrev pub oldest_in : LeaderStores → PlainFrame
-oldest_in c = frame_at (slice_index_or c.link.frames 0 [])
+oldest_in c = first_of c.link
 
 -- ---- what holds of it
 
 -- the boxes and the slots have the settings' sizes, and a slot for each lane
 pub record FitsSettings (settings : Settings) (held : Holdings) (slots : List LeaderSlot) : Type 0 where
-  pub limits : KeepsLimits settings.width settings.boxes settings.lanes settings.window
   pub limit : held.limit ≡ settings.boxes
   pub within : length held.boxes ≤ settings.boxes
   pub width : held.width ≡ settings.width

@@ -19,7 +19,7 @@ use crate::said::SaidToClient;
 use crate::slot::{LeaderSlot, LeaderStage, refused};
 use crate::stores::LeaderStores;
 use crate::turn::Turn;
-use crate::writing::{issue, tell};
+use crate::writing::tell;
 use chacha_expand::{draw32, token};
 use dpf_eval::Steps;
 use dpf_rules::read_number;
@@ -113,7 +113,7 @@ impl LeaderStores {
     {
         let number = self.link.next();
         let body = asked.command(part);
-        let length = issue(&mut self.link, frame, &body, out);
+        let length = self.link.issue(frame.lane, frame.serial, &body, out);
         self.slots[usize::from(frame.lane)].wait(frame.serial, number, asked, part);
         self.draws += asked.draws();
         Turn::Link(number, length)
@@ -183,7 +183,7 @@ impl LeaderStores {
         slot.serial = frame.serial;
         let opened = slot.audit(&mut self.boxes, number, begun, &proof, steps);
         let body = Body::LinkAudit { sigma, opened };
-        let length = issue(&mut self.link, frame, &body, out);
+        let length = self.link.issue(frame.lane, frame.serial, &body, out);
         self.draws += 1;
         Turn::Link(number, length)
     }

@@ -18,7 +18,7 @@ use express_words::Refusal;
 use express_words::limits::LEVELS_LEN;
 use frame_rules::{Body, Frame};
 use std::sync::ledger::Ledger;
-use wire_frames::{refused_bytes, whole};
+use wire_frames::{Received, refused_bytes};
 
 impl LeaderStores {
     /// A write of this root and public part.
@@ -43,20 +43,20 @@ impl LeaderStores {
 
     /// Bytes of a client.
     #[tactic(auto, unfolding(step_rules::specs::LeaderClients::by_kind, step_rules::specs::LeaderClients::on_whole))]
-    pub(crate) fn on_client<L: Ledger>(
+    pub(crate) fn hear_client<L: Ledger>(
         &mut self,
-        bytes: &[u8],
+        received: &Received<'_>,
         out: &mut [u8],
         steps: &mut Steps<L>,
     ) -> Turn
         requires is { AreStores self.old }
         requires room { HasRoom out.old }
-        ensures does { DoesTurn (on_client (leader_in self.old) bytes.now) self.new result out.old out.new }
+        ensures does { DoesTurn (on_client (leader_in self.old) received.now) self.new result out.old out.new }
         ensures steps { steps.new ≡ steps.old + turn_steps (leader_in self.old) (on_client
-            (leader_in self.old) bytes.now).answer }
+            (leader_in self.old) received.now).answer }
         ensures settings { self.new.settings ≡ self.old.settings }
     {
-        let frame = match whole(bytes) {
+        let frame = match received.frame() {
             Ok(frame) => frame,
             Err(refusal) => return reply(&refused_bytes(refusal), out),
         };

@@ -2,7 +2,9 @@
 ghost use Rattle.std.specs.Prelude.{◌≡◌, ◌≤◌, ◌==◌, ◌&&◌};
 ghost use Rattle.frame_rules.specs.Frames.{plain, plain_body};
 ghost use Rattle.frame_rules.specs.Spelling.{IsFrame};
-ghost use Rattle.leader_core.specs.Replies.{header_of, order_in, want_of_order};
+ghost use Rattle.frame_rules.specs.Whole.{IsAnswer};
+ghost use Rattle.leader_core.specs.Commands.{frame_for, order_in};
+ghost use Rattle.leader_core.specs.Replies.{want_of_order};
 
 use frame_rules::{Body, Frame};
 use lane_table::Want;
@@ -58,17 +60,18 @@ pub(crate) fn want_of_order(order: Option<CommandOrder>) -> Want
 }
 
 impl Issued {
-    /// The lane and the serial, in a frame of no other meaning.
-    pub(crate) fn header(self) -> Frame<'static>
-        requires { 1 ≤ self.serial }
-        ensures value { plain result ≡ header_of self }
+    /// A frame of this body for the lane's client.
+    pub(crate) fn reply<'a>(self, body: &Body<'a>) -> Frame<'a>
+        requires serial { 1 ≤ self.serial }
+        requires answer { IsAnswer (plain_body body.now) }
+        ensures value { plain result ≡ frame_for self.lane self.serial 0 (plain_body body.now) }
         ensures is_frame { IsFrame (plain result) }
     {
         Frame {
             lane: self.lane,
             serial: self.serial,
             link: 0,
-            body: Body::Accepted,
+            body: *body,
         }
     }
 

@@ -1,27 +1,25 @@
 //! The leader over its stores.
 ghost use Rattle.std.specs.Prelude.{◌≡◌, ◌↔◌, ◌+◌, ◌<◌, ◌≤◌, IfOk, IfSome, IsNone, None, Some, length, option_map, take, drop};
-ghost use Rattle.express_words.specs.Limits.{KeepsLimits};
 ghost use Rattle.frame_rules.specs.Spelling.{spelling};
 ghost use Rattle.frame_rules.specs.Room.{HasRoom};
-ghost use Rattle.step_rules.specs.Refusals.{TurnLeaves, AckLeaves};
-ghost use Rattle.step_rules.specs.Leader.{opened_leader, written};
+ghost use Rattle.step_rules.specs.Leader.{opened_leader};
 ghost use Rattle.step_rules.specs.LeaderClients.{on_client};
-ghost use Rattle.step_rules.specs.LeaderReplies.{on_reply_bytes, resent};
-ghost use Rattle.leader_core.specs.Awaited.{RowsAwait, TellsAwaited};
+ghost use Rattle.step_rules.specs.LeaderReplies.{resent};
 ghost use Rattle.leader_core.specs.State.{share_in};
-ghost use Rattle.leader_core.specs.Told.{acked, acked_bytes, sent_length, turned, turn_steps};
+ghost use Rattle.leader_core.specs.Told.{sent_length, turn_steps};
+ghost use Rattle.leader_core.specs.Turns.{DoesClient, DoesReply};
 
+use crate::commands::Commands;
 use crate::slot::idle_slots;
 use crate::stores::LeaderStores;
 use crate::turn::{Ack, Turn};
 use dpf_eval::Steps;
 use express_words::{NoMemory, Settings};
-use frame_rules::FRAME_MAX;
-use link_order::Outgoing;
 use server_boxes::ServerBoxes;
 use std::alloc::Global;
 use std::marker::Model;
 use std::sync::ledger::Ledger;
+use wire_frames::Received;
 
 /// Server 0: its boxes, its shares, what it holds of each lane, and its commands that wait for replies. All of its
 /// memory is taken when it is opened.
@@ -45,13 +43,11 @@ impl Model for Leader {
 impl Leader {
     /// A leader with no boxes, which has issued nothing. Its draws come from `seed`.
     pub fn open(alloc: Global, settings: &Settings, seed: &[u8; 32]) -> Result<Leader, NoMemory>
-        requires limits { KeepsLimits settings.now.width settings.now.boxes settings.now.lanes
-            settings.now.window }
         ensures { IfOk result (λ a. a ≡ opened_leader settings.now seed.now) }
     {
         let boxes = ServerBoxes::open(alloc, settings.boxes, settings.width)?;
         let slots = idle_slots(alloc, settings)?;
-        let link = Outgoing::open(alloc, settings.window, FRAME_MAX as u32)?;
+        let link = Commands::open(alloc, settings.window)?;
         let seed = *seed;
         Ok(Leader {
             core: LeaderStores {
@@ -67,6 +63,20 @@ impl Leader {
 
     /// A frame of a client: writes one reply or one new command to the front of `out`, or nothing where the lane's own
     /// command is outstanding. Any bytes get an answer. `steps` counts each node that an audit expands.
+    pub fn hear_client<L: Ledger>(
+        &mut self,
+        received: &Received<'_>,
+        out: &mut [u8],
+        steps: &mut Steps<L>,
+    ) -> Turn
+        requires room { HasRoom out.old }
+        ensures turn { DoesClient self.old received.now self.new result out.old out.new }
+        ensures steps { steps.new ≡ steps.old + turn_steps self.old (on_client self.old received.now).answer }
+    {
+        self.core.hear_client(received, out, steps)
+    }
+
+    /// A frame of a client, likewise.
     pub fn on_client<L: Ledger>(
         &mut self,
         frame: &[u8],
@@ -74,37 +84,27 @@ impl Leader {
         steps: &mut Steps<L>,
     ) -> Turn
         requires room { HasRoom out.old }
-        ensures leader { self.new ≡ (on_client self.old frame.now).leader }
-        ensures refused { TurnLeaves (on_client self.old frame.now).answer self.old self.new }
-        ensures answer { result ≡ turned (on_client self.old frame.now).answer }
-        ensures written { let bytes = written (on_client self.old frame.now).answer in
-            take (length bytes) out.new ≡ bytes }
-        ensures rest { let count = length (written (on_client self.old frame.now).answer) in
-            drop count out.new ≡ drop count out.old }
+        ensures turn { DoesClient self.old frame.now self.new result out.old out.new }
         ensures steps { steps.new ≡ steps.old + turn_steps self.old (on_client self.old frame.now).answer }
-        // The command that a client is told to wait for is outstanding.
-        ensures awaits { TellsAwaited self.old frame.now result }
-        ensures rows { RowsAwait self.new }
-        ensures settings { self.new.settings ≡ self.old.settings }
     {
-        self.core.on_client(frame, out, steps)
+        self.hear_client(&Received::of(frame), out, steps)
     }
 
     /// Bytes of the helper: where they are one reply that has the oldest outstanding number and fits its command, what
     /// it says is done, and a reply for the lane's client, or the settle of an audit, is written to the front of `out`.
+    pub fn hear_link_reply(&mut self, received: &Received<'_>, out: &mut [u8]) -> Ack
+        requires room { HasRoom out.old }
+        ensures { DoesReply self.old received.now self.new result out.old out.new }
+    {
+        self.core.hear_reply(received, out)
+    }
+
+    /// Bytes of the helper, likewise.
     pub fn on_link_reply(&mut self, frame: &[u8], out: &mut [u8]) -> Ack
         requires room { HasRoom out.old }
-        ensures leader { self.new ≡ (on_reply_bytes self.old frame.now).leader }
-        ensures refused { AckLeaves (on_reply_bytes self.old frame.now).ack self.old self.new }
-        ensures answer { result ≡ acked (on_reply_bytes self.old frame.now).ack }
-        ensures written { let bytes = acked_bytes (on_reply_bytes self.old frame.now).ack in
-            take (length bytes) out.new ≡ bytes }
-        ensures rest { let count = length (acked_bytes (on_reply_bytes self.old frame.now).ack) in
-            drop count out.new ≡ drop count out.old }
-        ensures rows { RowsAwait self.new }
-        ensures settings { self.new.settings ≡ self.old.settings }
+        ensures { DoesReply self.old frame.now self.new result out.old out.new }
     {
-        self.core.on_reply(frame, out)
+        self.hear_link_reply(&Received::of(frame), out)
     }
 
     /// Writes the oldest outstanding command to the front of `out` again, and gives its number and its length; None

@@ -5,33 +5,19 @@ ghost use Rattle.frame_rules.specs.Spelling.{spelling};
 ghost use Rattle.frame_rules.specs.Room.{HasRoom};
 ghost use Rattle.link_order.specs.Link.{IsOutstanding};
 ghost use Rattle.step_rules.specs.LeaderReplies.{on_reply_bytes, resent};
-ghost use Rattle.leader_core.specs.Replies.{settled_with, told, IsIssued};
-ghost use Rattle.leader_core.specs.State.{leader_in, is_audit, oldest_in, AreStores};
+ghost use Rattle.leader_core.specs.Commands.{is_audit, IsIssued};
+ghost use Rattle.leader_core.specs.Replies.{settled_with, told};
+ghost use Rattle.leader_core.specs.State.{leader_in, oldest_in, AreStores};
 ghost use Rattle.leader_core.specs.Told.{sent_length, DoesAck};
 
 use crate::applied::Applied;
-use crate::issued::{Issued, order_in};
+use crate::issued::Issued;
 use crate::stores::LeaderStores;
 use crate::turn::Ack;
-use crate::writing::{issue, put_frame};
+use crate::writing::put_frame;
 use express_words::Closing;
-use frame_rules::{Body, Frame};
-use link_order::Outgoing;
-use wire_frames::{reply_in, whole};
-
-/// Removes the oldest outstanding command.
-pub(crate) fn drop_oldest(link: &mut Outgoing)
-    requires some { 0 < length link.old.frames }
-    ensures link { link.new ≡ record link.old { frames = drop 1 link.old.frames } }
-    ensures order { IsOutstanding link.new }
-{
-    match link.oldest() {
-        Some((number, _)) => {
-            link.acknowledge(number);
-        }
-        None => unreachable!(),
-    }
-}
+use frame_rules::Body;
+use wire_frames::Received;
 
 impl LeaderStores {
     /// The oldest outstanding command.
@@ -43,16 +29,7 @@ impl LeaderStores {
         ensures lane { IfSome result (λ i. i.lane < self.now.settings.lanes) }
         ensures serial { IfSome result (λ i. 1 ≤ i.serial) }
     {
-        let (_, bytes) = self.link.oldest()?;
-        match whole(bytes) {
-            Ok(command) => Some(Issued {
-                lane: command.lane,
-                serial: command.serial,
-                link: command.link,
-                order: order_in(&command.body),
-            }),
-            Err(_) => unreachable!(),
-        }
+        self.link.oldest()
     }
 
     /// The oldest command is answered: the reply that the lane keeps is written for its client.
@@ -66,10 +43,9 @@ impl LeaderStores {
             → DoesAck (told (leader_in self.old) c) self.new result out.old out.new }
         ensures settings { self.new.settings ≡ self.old.settings }
     {
-        drop_oldest(&mut self.link);
-        let header = command.header();
+        self.link.drop_oldest();
         let body = self.slots[usize::from(command.lane)].kept();
-        let reply = Frame { body, ..header };
+        let reply = command.reply(&body);
         Ack::Reply(command.lane, put_frame(&reply, out))
     }
 
@@ -85,22 +61,22 @@ impl LeaderStores {
             → DoesAck (settled_with (leader_in self.old) c own) self.new result out.old out.new }
         ensures settings { self.new.settings ≡ self.old.settings }
     {
-        drop_oldest(&mut self.link);
+        self.link.drop_oldest();
         let number = self.link.next();
-        let header = command.header();
-        let length = issue(&mut self.link, &header, &Body::LinkSettle(own), out);
+        let body = Body::LinkSettle(own);
+        let length = self.link.issue(command.lane, command.serial, &body, out);
         Ack::Link(number, length)
     }
 
     /// Bytes of the helper.
-    pub(crate) fn on_reply(&mut self, bytes: &[u8], out: &mut [u8]) -> Ack
+    pub(crate) fn hear_reply(&mut self, received: &Received<'_>, out: &mut [u8]) -> Ack
         requires is { AreStores self.old }
         requires room { HasRoom out.old }
-        ensures does { DoesAck (on_reply_bytes (leader_in self.old) bytes.now)
+        ensures does { DoesAck (on_reply_bytes (leader_in self.old) received.now)
             self.new result out.old out.new }
         ensures settings { self.new.settings ≡ self.old.settings }
     {
-        let Some(reply) = reply_in(bytes, self.settings.width) else {
+        let Some(reply) = received.reply(self.settings.width) else {
             return Ack::Ignored;
         };
         let Some(command) = self.oldest() else {
@@ -122,7 +98,7 @@ impl LeaderStores {
         ensures count { result ≡ length (leader_in self.now).outstanding }
         ensures few { result ≤ 32 }
     {
-        match self.link.oldest() {
+        match self.link.oldest_bytes() {
             None => 0,
             Some((number, _)) => (self.link.next() - number) as usize,
         }
@@ -141,7 +117,7 @@ impl LeaderStores {
             (take x.1 out.new)) }
         ensures rest { drop (sent_length result) out.new ≡ drop (sent_length result) out.old }
     {
-        let (number, bytes) = self.link.oldest()?;
+        let (number, bytes) = self.link.oldest_bytes()?;
         let length = bytes.len();
         out[..length].copy_from_slice(bytes);
         Some((number, length))

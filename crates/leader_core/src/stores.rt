@@ -1,7 +1,7 @@
 //! The leader's stores.
+use crate::commands::Commands;
 use crate::slot::LeaderSlot;
 use express_words::Settings;
-use link_order::Outgoing;
 use server_boxes::ServerBoxes;
 
 /// Server 0's boxes and shares, what it holds of each lane, and its outstanding commands.
@@ -10,7 +10,7 @@ pub(crate) struct LeaderStores {
     pub(crate) settings: Settings,
     pub(crate) boxes: ServerBoxes,
     pub(crate) slots: Vec<LeaderSlot>,
-    pub(crate) link: Outgoing,
+    pub(crate) link: Commands,
     pub(crate) draws: u64,
     pub(crate) seed: [u8; 32],
 }

@@ -8,7 +8,7 @@ ghost use Rattle.frame_rules.specs.Room.{HasRoom};
 ghost use Rattle.link_order.specs.Link.{IsOutstanding};
 ghost use Rattle.step_rules.specs.Leader.{Leader, Reply};
 ghost use Rattle.leader_core.specs.Saying.{said_in, IsSaid};
-ghost use Rattle.leader_core.specs.State.{with_command};
+ghost use Rattle.leader_core.specs.Commands.{with_command};
 ghost use Rattle.leader_core.specs.Told.{WritesFront, IsTold};
 
 use crate::said::SaidToClient;
@@ -47,38 +47,5 @@ pub(crate) fn tell(frame: &Frame<'_>, said: &SaidToClient<'_>, out: &mut [u8]) -
     match said {
         SaidToClient::Reply(body) => reply(&answer(frame, body), out),
         SaidToClient::Waiting(number) => Turn::Waiting(*number),
-    }
-}
-
-/// Issues a command for the request of a frame, writes it, and gives its length.
-pub(crate) fn issue(
-    link: &mut Outgoing,
-    frame: &Frame<'_>,
-    body: &Body<'_>,
-    out: &mut [u8],
-) -> usize
-    requires is_frame { IsFrame (plain frame.now) }
-    requires serial { 1 ≤ frame.now.serial }
-    requires linked { is_linked (kind_of (plain_body body.now)) ≡ true }
-    requires body { IsBody (plain_body body.now) }
-    requires free { length link.old.frames < link.old.window }
-    requires size { link.old.size ≡ 8213 }
-    requires next { link.old.next < 2 ^ 64 - 1 }
-    requires room { HasRoom out.old }
-    ensures link { link.new ≡ with_command link.old (spelling (on_link (plain frame.now) link.old.next
-        (plain_body body.now))) }
-    ensures order { IsOutstanding link.new }
-    ensures is_frame { IsFrame (on_link (plain frame.now) link.old.next (plain_body body.now)) }
-    ensures length { result ≡ length (spelling (on_link (plain frame.now) link.old.next
-        (plain_body body.now))) }
-    ensures front { WritesFront (spelling (on_link (plain frame.now) link.old.next
-        (plain_body body.now))) out.old out.new }
-{
-    let number = link.next();
-    let command = on_link(frame, number, body);
-    let length = encode_into(&command, out);
-    match link.issue(&out[..length]) {
-        Ok(_) => length,
-        Err(_) => unreachable!(),
     }
 }

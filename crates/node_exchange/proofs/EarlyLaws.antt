@@ -11,9 +11,8 @@ use Rattle.node_exchange.proofs.HeldLaws.{frame_not_short, fault_not_short}
 
 pub last_is : (a b : List Call) (x y : Call) → a ++ x ∷ [] ≡ b ++ y ∷ [] → x ≡ y
 last_is [] [] x y e = cc
-last_is [] (c ∷ b) x y e = absurd (omega (arith, ap length e, length-append b (y ∷ [])))
-last_is (d ∷ a) [] x y e = absurd (omega (arith, ap length e, length-append a (x ∷ [])))
-last_is (d ∷ a) (c ∷ b) x y e = let rest : a ++ x ∷ [] ≡ b ++ y ∷ [] = cc in last_is a b x y rest
+last_is (d ∷ a) (c ∷ b) x y e = last_is a b x y cc
+last_is a b x y e = absurd (omega (arith, simp length-append at (ap length e)))
 
 -- a frame, or bytes that are none
 abbrev pub IsDecided : Result (List ℕ) Broken → Type 0
@@ -24,14 +23,11 @@ IsDecided other = ⊥
 answer_long : (r : Result (List ℕ) Broken) (given : List ℕ) → IsDecided r → IsAnswer r given → decoded given ≢ Err Short
 answer_long (Ok bytes) given decided is = frame_not_short given is.1
 answer_long (Err (broken.Wrong fault)) given decided is = fault_not_short fault given is
-answer_long (Err (broken.Early count)) given decided is = absurd decided
-answer_long (Err (broken.Fault count)) given decided is = absurd decided
+answer_long r given decided is = absurd decided
 
 no_fault : (r : Result (List ℕ) Broken) → IsDecided r → IsFault r → ⊥
-no_fault (Ok bytes) decided is = is
-no_fault (Err (broken.Wrong fault)) decided is = is
-no_fault (Err (broken.Early count)) decided is = decided
 no_fault (Err (broken.Fault count)) decided is = decided
+no_fault r decided is = search
 
 talk_long : (whole : Bool) (e : Exchange) (given taken : List ℕ) → IsDecided e.answer → IsTalk whole e given taken → decoded given ≢ Err Short
 talk_long true e given taken decided talk = answer_long e.answer given decided talk.2

@@ -1,10 +1,9 @@
 -- What is handed on of the bytes that a connection gave.
-use Rattle.std.proofs.Common.{◌≡◌, ◌≢◌, ℕ, ◌≤◌, List, [], ◌++◌, length, Result, Ok, Err, sym, ap, ◌∙◌, subst, arith, inl, inr}
+use Rattle.std.proofs.Common.{◌≡◌, ◌≢◌, ℕ, ◌≤◌, List, [], ◌++◌, length, Ok, Err, sym, ap, ◌∙◌, subst, arith, inl, inr}
 use Rattle.std.specs.Prelude.{◌⊎◌}
 use Rattle.std.proofs.lemmas.List.{append-nil, length-append}
 use Rattle.frame_rules.specs.declared.fault.FrameFault.{FrameFault}
 use Rattle.frame_rules.specs.declared.fault.FrameFault.TheVariants.{Short}
-use Rattle.frame_rules.specs.Frames.{PlainFrame}
 use Rattle.frame_rules.specs.Gathering.{gathered, Gathers}
 use Rattle.frame_rules.specs.Reading.{decoded}
 use Rattle.frame_rules.proofs.GatheringLaws.{gathers}
@@ -53,11 +52,7 @@ ends_fed r given before held is none ends =
     subst (EndsBy r) (sym (is ∙ ap (λ (x : List ℕ). gathered x given) none)) (ends_held r given ends)
 
 pub frame_not_short : (held : List ℕ) → IsOneFrame held → decoded held ≢ Err Short
-frame_not_short held (f, e) short = clash (f, length held) (sym e ∙ short) where
-  clash : (x : PlainFrame × ℕ) → (let r : Result (PlainFrame × ℕ) FrameFault = Ok x in r) ≡ Err Short → ⊥
-  clash x e = cc
+frame_not_short held (f, e) short = cc
 
 pub fault_not_short : (fault : FrameFault) (held : List ℕ) → IsNoFrame fault held → decoded held ≢ Err Short
-fault_not_short fault held (e, n) short = n (same fault Short (sym e ∙ short)) where
-  same : (c d : FrameFault) → (let r : Result (PlainFrame × ℕ) FrameFault = Err c in r) ≡ Err d → c ≡ d
-  same c d e = cc
+fault_not_short fault held (e, n) short = n cc

@@ -1,6 +1,5 @@
 -- Bytes that are taken as they are wanted.
-use Rattle.std.proofs.Common.{◌≡◌, ℕ, ◌+◌, ◌≤◌, true, leb, List, ◌++◌, length, drop, Result, Ok, Err, refl, ap, ◌∙◌, arith, inl, inr}
-use Rattle.std.specs.Prelude.{◌&&◌}
+use Rattle.std.proofs.Common.{◌≡◌, ℕ, ◌+◌, ◌≤◌, List, ◌++◌, length, drop, Result, Ok, Err, refl, ap, ◌∙◌, arith, inl, inr}
 use Rattle.std.specs.Int.{w32}
 use Rattle.std.proofs.lemmas.Bool.Decides.{nat_tests}
 use Rattle.std.proofs.lemmas.List.{length-append}
@@ -11,6 +10,7 @@ use Rattle.frame_rules.specs.Bodies.{body_in}
 use Rattle.frame_rules.specs.Frames.{PlainFrame}
 use Rattle.frame_rules.specs.Gathering.{is_short, missing, missing_from}
 use Rattle.frame_rules.specs.Reading.{length_in, header_in, decoded}
+use Rattle.frame_rules.proofs.Filling.{missing_room}
 use Rattle.frame_rules.proofs.FormLaws.{bind_ok}
 use Rattle.frame_rules.proofs.GatheringLaws.{missing_is, length_missing}
 use Rattle.frame_rules.proofs.GrammarLaws.{decoded_whole}
@@ -30,9 +30,7 @@ frame_length bytes f len e =
     (l.0, l.1, omega (arith, l.2, limits.1))
   where
     length_is : (x y : PlainFrame × ℕ) → (let r : Result (PlainFrame × ℕ) FrameFault = Ok x in r) ≡ Ok y → x.1 ≡ y.1
-    length_is x y e = ap (λ (p : PlainFrame × ℕ). p.1) (same x y e) where
-      same : (x y : PlainFrame × ℕ) → (let r : Result (PlainFrame × ℕ) FrameFault = Ok x in r) ≡ Ok y → x ≡ y
-      same x y e = cc
+    length_is x y e = cc
 
 -- a frame that was taken as it was wanted has nothing behind it
 pub one_frame : (bytes : List ℕ) (x : PlainFrame × ℕ) → decoded bytes ≡ Ok x → IsWanted bytes → IsOneFrame bytes
@@ -53,9 +51,7 @@ number_stays bytes more n e = pick (number_grows w32 0 bytes more) where
 -- a number of a right length is the length
 right_length : (bytes : List ℕ) (n : ℕ) → number_at w32 0 bytes ≡ Ok n → 17 ≤ n → n ≤ 8209 → length_in bytes ≡ Ok n
 unfolding length_in
-right_length bytes n e low high = rw (e, right n low high) refl where
-  right : (n : ℕ) → 17 ≤ n → n ≤ 8209 → leb 17 n && leb n 8209 ≡ true
-  right n low high = grind (arith, nat_tests)
+right_length bytes n e low high = grind (arith, nat_tests)
 
 four : (r : Result ℕ FrameFault) → 4 ≤ most_by r
 four (Ok n) = omega arith
@@ -74,3 +70,9 @@ more_wanted bytes more short few = by (number_at w32 0 bytes) refl where
       omega (arith, length-append bytes more, few, lacks ∙ ap (λ r. missing_from r (length bytes)) e, is, open')
   by (Err d) e =
       omega (arith, length-append bytes more, few, lacks ∙ ap (λ r. missing_from r (length bytes)) e, length_missing bytes d e, four (length_in (bytes ++ more)))
+
+-- ---- what the calls cite
+
+pub ruleset missing_laws = (missing_is, length_missing, decoded_short)
+
+pub ruleset judged_laws = (one_frame, missing_room, decoded_short)

@@ -3,7 +3,7 @@ use Rattle.std.specs.Prelude.{◌≡◌, ◌⊎◌, ℕ, Bool, true, false, List
 use Rattle.std.specs.Prelude.{Option, Some, None, Result, Ok, Err}
 use Rattle.express_words.specs.Seen.{Seen}
 use Rattle.express_words.specs.Causes.{Rose}
-use Rattle.express_words.specs.Streams.{Stream, IsAtEnd, Took, TookPrefix}
+use Rattle.express_words.specs.Streams.{IsAtEnd, Took, TookPrefix}
 use Rattle.express_words.specs.Calls.{Call, Dialled, Closed, AddsClose}
 use Rattle.frame_rules.specs.Reading.{decoded}
 use Rattle.frame_rules.specs.declared.fault.FrameFault.TheVariants.{Short}
@@ -71,14 +71,11 @@ abbrev pub CountBy : Result ℕ Broken → (before now : ℕ) → Type 0
 CountBy (Err (broken.Fault count)) before now = Rose before now × (count ≡ now)
 CountBy other before now = now ≡ before
 
--- the last call closed a connection of which this is the content at its end
-abbrev pub ClosedAtEndTold : Option (List Call) → Option Stream → Option (List ℕ) → ℕ → Type 0
-ClosedAtEndTold calls content written count =
-    IsAtEnd content × ((before : Option (List Call)) × AddsClose before calls content written count)
-
 -- the last call closed a connection that showed this, at the end of its content
 abbrev pub ClosedAtEnd : Option (List Call) → Seen → Type 0
-ClosedAtEnd calls conn = ClosedAtEndTold calls conn.content conn.written conn.faults
+ClosedAtEnd calls conn =
+    IsAtEnd conn.content
+    × ((before : Option (List Call)) × AddsClose before calls conn.content conn.written conn.faults)
 
 -- the last call closed a whole connection whose bytes are only the front of a frame
 abbrev pub EndsShort : Option (List Call) → Type 0

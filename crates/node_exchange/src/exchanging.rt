@@ -58,6 +58,7 @@ fn converse<C: Conn>(conn: &mut C, frame: &[u8], reply: &mut [u8]) -> (usize, Re
 
 /// Dials the peer, sends it a frame, and takes one frame of its answer into the front of `reply`, never more bytes
 /// than are wanted of it. Gives the length of that frame.
+#[tactic(auto, using(crate::proofs::CallLaws::dial_made))]
 pub fn exchange<N: Net>(
     net: &mut N,
     peer: &str,

@@ -32,6 +32,7 @@ fn length_of(taken: &[u8]) -> Result<u32, FrameFault>
 }
 
 /// How many bytes are missing from the length, and then from the frame.
+#[tactic(auto, using(crate::proofs::TakingLaws::missing_laws))]
 fn missing_from(taken: &[u8]) -> usize
     requires { decoded taken.now ≡ Err FrameFault.Short }
     ensures exact { result ≡ missing taken.now }
@@ -44,6 +45,7 @@ fn missing_from(taken: &[u8]) -> usize
 }
 
 /// What bytes are that were taken as they were wanted.
+#[tactic(auto, using(crate::proofs::TakingLaws::judged_laws))]
 pub fn judge(taken: &[u8]) -> Judged
     requires { IsWanted taken.now }
     ensures { IsJudged result taken.now }

@@ -1,7 +1,6 @@
 -- An opening, and the record of it.
 use Rattle.std.specs.Prelude.{◌≡◌, ℕ, List, ◌∷◌, ◌++◌, length}
 use Rattle.std.specs.Int.{w16, w32, to_be_bytes}
-use Rattle.express_words.specs.Limits.{KeepsLimits}
 use Rattle.node_restart.specs.declared.opening.Opening.{Opening}
 use Rattle.express_words.specs.declared.role.Role.{Role}
 use Rattle.express_words.specs.declared.role.Role.TheVariants.{Leader, Helper}
@@ -16,7 +15,6 @@ opening_record o =
     (0 ∷ role_number o.role ∷ to_be_bytes w32 o.settings.width) ++ to_be_bytes w32 o.settings.boxes
     ++ to_be_bytes w16 o.settings.lanes ++ o.settings.window ∷ o.seed
 
--- settings that keep the limits, and 32 bytes
+-- a seed of 32 bytes
 pub record IsOpening (o : Opening) : Type 0 where
-  pub limits : KeepsLimits o.settings.width o.settings.boxes o.settings.lanes o.settings.window
   pub seed : length o.seed ≡ 32

@@ -3,7 +3,7 @@ ghost use Rattle.std.specs.Prelude.{◌≡◌, ◌≤◌, ◌+◌, ◌↔◌, Is
 ghost use Rattle.node_restart.specs.Frames.{IsOneFrame, IsNoFrame, handed, frame_record, sender_tag};
 
 use frame_rules::FRAME_MAX;
-use wire_frames::whole;
+use wire_frames::Received;
 
 /// Room for a tag and the longest frame.
 pub(crate) const RECORD_MAX: usize = FRAME_MAX + 1;
@@ -38,12 +38,12 @@ fn sender_tagged(tag: u8) -> Option<Sender>
 
 /// Whether the bytes are exactly one frame.
 #[tactic(auto, using(frame_rules::proofs::GrammarLaws::spelling_limit))]
-pub(crate) fn is_one_frame(bytes: &[u8]) -> bool
-    ensures exact { IsTrue result ↔ IsOneFrame bytes.now }
-    ensures some { IsTrue result → 1 ≤ length bytes.now }
-    ensures few { IsTrue result → length bytes.now ≤ 8213 }
+pub(crate) fn is_one_frame(received: &Received<'_>) -> bool
+    ensures exact { IsTrue result ↔ IsOneFrame received.now }
+    ensures some { IsTrue result → 1 ≤ length received.now }
+    ensures few { IsTrue result → length received.now ≤ 8213 }
 {
-    whole(bytes).is_ok()
+    received.frame().is_ok()
 }
 
 /// The record of a frame.
@@ -62,15 +62,16 @@ pub(crate) fn put_record<'a>(
 }
 
 /// The frame of a record, and who handed it, if it is one.
-pub(crate) fn frame_in(bytes: &[u8]) -> Option<(Sender, &[u8])>
-    ensures some { IfSome result (λ x. IsOneFrame x.1.now) }
-    ensures is { IfSome result (λ x. bytes.now ≡ frame_record (handed x.0 x.1.now)) }
+pub(crate) fn frame_in(bytes: &[u8]) -> Option<(Sender, Received<'_>)>
+    ensures some { IfSome result (λ x. IsOneFrame x.1) }
+    ensures is { IfSome result (λ x. bytes.now ≡ frame_record (handed x.0 x.1)) }
     ensures none { IsNone result → IsNoFrame bytes.now }
 {
     let (tag, frame) = bytes.split_first()?;
     let sender = sender_tagged(*tag)?;
-    if is_one_frame(frame) {
-        Some((sender, frame))
+    let received = Received::of(frame);
+    if is_one_frame(&received) {
+        Some((sender, received))
     } else {
         None
     }

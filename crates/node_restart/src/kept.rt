@@ -1,6 +1,5 @@
 //! A server that writes each frame to a journal before it acts on it.
 ghost use Rattle.std.specs.Prelude.{◌≡◌, ◌≢◌, ◌↔◌, ◌≤◌, ◌<◌, ◌^◌, ℕ, List, [], true, false, length, take, drop, Some, None, IfOk, IfErr, OnOk, IfSome, IsNone, option_map};
-ghost use Rattle.express_words.specs.Limits.{KeepsLimits};
 ghost use Rattle.frame_rules.specs.Spelling.{spelling};
 ghost use Rattle.leader_core.specs.Told.{sent_length};
 ghost use Rattle.node_journal.specs.Disk.{IsUntouched, Within};
@@ -21,6 +20,7 @@ use crate::server::Core;
 use node_journal::{Disk, Journal};
 use std::alloc::Global;
 use std::marker::Model;
+use wire_frames::Received;
 
 /// A server with its journal and the journal's disk. All of the server's memory is taken when it is made.
 #[derive(Drop)]
@@ -53,8 +53,6 @@ impl<D: Disk> Kept<D> {
         disk: D,
         limit: u64,
     ) -> Result<Kept<D>, (KeepFault, D)>
-        requires settings { KeepsLimits opening.now.settings.width opening.now.settings.boxes
-            opening.now.settings.lanes opening.now.settings.window }
         requires limit { limit ≤ 2 ^ 62 }
         ensures opening { IfOk result (λ k. k.opening ≡ opening.now) }
         ensures core { IfOk result (λ k. k.core ≡ fold opening.now []) }
@@ -151,7 +149,7 @@ impl<D: Disk> Kept<D> {
         ensures keeps { KeepsFrame D.disk D.Counted.seen (handed Sender.Client frame.now)
             self.old self.new out.old out.new result }
     {
-        self.take(Sender::Client, frame, out)
+        self.take(Sender::Client, &Received::of(frame), out)
     }
 
     /// Bytes of the other server. Where they are exactly one frame they are on the disk before the step.
@@ -160,18 +158,23 @@ impl<D: Disk> Kept<D> {
         ensures keeps { KeepsFrame D.disk D.Counted.seen (handed Sender.Peer frame.now)
             self.old self.new out.old out.new result }
     {
-        self.take(Sender::Peer, frame, out)
+        self.take(Sender::Peer, &Received::of(frame), out)
     }
 
     /// A frame, of whichever sender. Where the bytes are exactly one frame they are on the disk before the
     /// step.
-    pub fn take(&mut self, sender: Sender, frame: &[u8], out: &mut [u8]) -> Result<Did, KeepFault>
+    pub fn take(
+        &mut self,
+        sender: Sender,
+        received: &Received<'_>,
+        out: &mut [u8],
+    ) -> Result<Did, KeepFault>
         requires room { HasRoom out.old }
-        ensures keeps { KeepsFrame D.disk D.Counted.seen (handed sender frame.now)
+        ensures keeps { KeepsFrame D.disk D.Counted.seen (handed sender received.now)
             self.old self.new out.old out.new result }
     {
-        match keep(&mut self.journal, &mut self.disk, sender, frame) {
-            Ok(()) => Ok(self.core.step(sender, frame, out)),
+        match keep(&mut self.journal, &mut self.disk, sender, received) {
+            Ok(()) => Ok(self.core.step(sender, received, out)),
             Err(fault) => Err(KeepFault::Journal(fault)),
         }
     }

@@ -56,9 +56,9 @@ fn step_record(core: &mut Core, bytes: &[u8]) -> Option<()>
     ensures settings { settings_of core.new ≡ settings_of core.old }
     ensures role { role_of core.new ≡ role_of core.old }
 {
-    let (sender, frame) = frame_in(bytes)?;
+    let (sender, received) = frame_in(bytes)?;
     let mut out = [0; FRAME_MAX];
-    let _ = core.step(sender, frame, &mut out);
+    let _ = core.step(sender, &received, &mut out);
     Some(())
 }
 

@@ -1,6 +1,5 @@
 //! The server whose frames are kept.
 ghost use Rattle.std.specs.Prelude.{◌≡◌, ◌↔◌, ◌<◌, ◌≤◌, IfOk, IfSome, IsNone, Some, None, length, take, drop, option_map};
-ghost use Rattle.express_words.specs.Limits.{KeepsLimits};
 ghost use Rattle.frame_rules.specs.Spelling.{spelling};
 ghost use Rattle.frame_rules.specs.Room.{HasRoom};
 ghost use Rattle.leader_core.specs.Told.{sent_length};
@@ -15,6 +14,7 @@ use express_words::{NoMemory, Role};
 use helper_core::Helper;
 use leader_core::Leader;
 use std::alloc::Global;
+use wire_frames::Received;
 
 /// A server.
 #[derive(Drop)]
@@ -26,8 +26,6 @@ pub enum Core {
 impl Core {
     /// The server before its first frame.
     pub(crate) fn open(alloc: Global, opening: &Opening) -> Result<Core, NoMemory>
-        requires limits { KeepsLimits opening.now.settings.width opening.now.settings.boxes
-            opening.now.settings.lanes opening.now.settings.window }
         ensures { IfOk result (λ core. core ≡ opened opening.now) }
     {
         match opening.role {
@@ -43,20 +41,20 @@ impl Core {
     }
 
     /// Takes one step.
-    pub(crate) fn step(&mut self, sender: Sender, frame: &[u8], out: &mut [u8]) -> Did
+    pub(crate) fn step(&mut self, sender: Sender, received: &Received<'_>, out: &mut [u8]) -> Did
         requires room { HasRoom out.old }
-        ensures takes { Takes (step_of self.old sender frame.now) self.new result out.old out.new }
+        ensures takes { Takes (step_of self.old sender received.now) self.new result out.old out.new }
         ensures settings { settings_of self.new ≡ settings_of self.old }
         ensures role { role_of self.new ≡ role_of self.old }
     {
         match self {
             Core::Lead(leader) => match sender {
-                Sender::Client => lead_client(leader, frame, out),
-                Sender::Peer => lead_peer(leader, frame, out),
+                Sender::Client => lead_client(leader, received, out),
+                Sender::Peer => lead_peer(leader, received, out),
             },
             Core::Help(helper) => match sender {
-                Sender::Client => help_client(helper, frame, out),
-                Sender::Peer => help_peer(helper, frame, out),
+                Sender::Client => help_client(helper, received, out),
+                Sender::Peer => help_peer(helper, received, out),
             },
         }
     }

@@ -1,5 +1,5 @@
 -- The first fault of a server that was opened: its journal isn't closed.
-use Rattle.std.proofs.Common.{◌≡◌, ℕ, ◌+◌, false, true, List, [], ◌∷◌, length, refl, sym, ◌∙◌, ap}
+use Rattle.std.proofs.Common.{◌≡◌, ℕ, ◌+◌, false, List, [], ◌∷◌, length, refl, ◌∙◌, ap}
 use Rattle.node_journal.specs.Disk.{DiskSeen}
 use Rattle.node_journal.specs.Journal.{JournalState, longer}
 use Rattle.node_journal.specs.declared.fault.JournalFault.TheVariants.{Closed, NotEmpty}

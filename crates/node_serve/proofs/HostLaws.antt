@@ -29,17 +29,15 @@ tally a e c l b = record { answered = a; ended = e; connection_faults = c; link_
 same_tally : (a a' e e' c c' l l' b b' : ℕ) → a ≡ a' → e ≡ e' → c ≡ c' → l ≡ l' → b ≡ b' → tally a e c l b ≡ tally a' e' c' l' b'
 same_tally a a' e e' c c' l l' b b' first second third fourth fifth = cc
 
-pub tally_more : (old new : Tally) (visits : List Visit) (v : Visit) (answer : Served) → v.answer ≡ answer
+tally_more : (old new : Tally) (visits : List Visit) (v : Visit) (answer : Served) → v.answer ≡ answer
     → old ≡ tally_of visits → CountsMore old new answer → new ≡ tally_of (visits ++ v ∷ [])
 tally_more old new visits v answer same before more =
-    let first : new.answered ≡ count_of is_answered (visits ++ v ∷ []) = counts_more is_answered visits v answer old.answered new.answered same (ap (λ (t : Tally). t.answered) before) more.answered in
-    let second : new.ended ≡ count_of is_ended (visits ++ v ∷ []) = counts_more is_ended visits v answer old.ended new.ended same (ap (λ (t : Tally). t.ended) before) more.ended in
-    let third : new.connection_faults ≡ count_of is_connection_fault (visits ++ v ∷ []) = counts_more is_connection_fault visits v answer old.connection_faults new.connection_faults same (ap (λ (t : Tally). t.connection_faults) before) more.connection_faults in
-    let fourth : new.link_faults ≡ count_of is_link_fault (visits ++ v ∷ []) = counts_more is_link_fault visits v answer old.link_faults new.link_faults same (ap (λ (t : Tally). t.link_faults) before) more.link_faults in
-    let fifth : new.bad_links ≡ count_of is_bad_link (visits ++ v ∷ []) = counts_more is_bad_link visits v answer old.bad_links new.bad_links same (ap (λ (t : Tally). t.bad_links) before) more.bad_links in
-    same_tally new.answered (count_of is_answered (visits ++ v ∷ [])) new.ended (count_of is_ended (visits ++ v ∷ []))
-    new.connection_faults (count_of is_connection_fault (visits ++ v ∷ [])) new.link_faults (count_of is_link_fault (visits ++ v ∷ []))
-    new.bad_links (count_of is_bad_link (visits ++ v ∷ [])) first second third fourth fifth
+    same_tally _ _ _ _ _ _ _ _ _ _
+    (counts_more is_answered visits v answer _ _ same (ap (λ (t : Tally). t.answered) before) more.answered)
+    (counts_more is_ended visits v answer _ _ same (ap (λ (t : Tally). t.ended) before) more.ended)
+    (counts_more is_connection_fault visits v answer _ _ same (ap (λ (t : Tally). t.connection_faults) before) more.connection_faults)
+    (counts_more is_link_fault visits v answer _ _ same (ap (λ (t : Tally). t.link_faults) before) more.link_faults)
+    (counts_more is_bad_link visits v answer _ _ same (ap (λ (t : Tally). t.bad_links) before) more.bad_links)
 
 -- ---- where a server stands after so many visits
 
@@ -57,12 +55,8 @@ hosting log peer shown start tally untaken is = record {
   tally_is = is;
 }
 
--- frames, and frames behind them
-abbrev Both : {S F : Type 0} → Log S F → Type 0
-Both {S} log = (a b c : S) (xs ys : List Handed) → log.takes a b xs → log.takes b c ys → log.takes a c (xs ++ ys)
-
 pub hosting_more : {S F : Type 0} (log : Log S F) (peer : List ℕ) (shown : Seen → Type 0) (start old new : Standing S) (number : ℕ) (tally more : Tally) (answer : Served)
-    → ((s : S) → log.takes s s []) → Both log
+    → ((s : S) → log.takes s s []) → ((a b c : S) (xs ys : List Handed) → log.takes a b xs → log.takes b c ys → log.takes a c (xs ++ ys))
     → Hosting log peer shown start old number tally → VisitEnds log peer shown (Ok answer) old new
     → CountsMore tally more answer → Hosting log peer shown start new (number + 1) more
 hosting_more log peer shown start old new number tally more answer untaken both h (v, same, (frames, is)) counts =
@@ -87,13 +81,9 @@ pub hosted : {S F : Type 0} (log : Log S F) (peer : List ℕ) (shown : Seen → 
 hosted log peer shown start end number connections tally all h =
     record { between = end; done = h.done; enough = omega (arith, h.all, all); tally_is = h.tally_is; ends = refl }
 
--- frames, and frames up to one that is refused behind them
-abbrev Stopping : {S F : Type 0} → Log S F → Type 0
-Stopping {S} {F} log = (a b c : S) (xs ys : List Handed) (h : Handed) (why : F) → log.takes a b xs → log.stops b c ys h why
-    → log.stops a c (xs ++ ys) h why
-
 pub halted : {S F : Type 0} (log : Log S F) (peer : List ℕ) (shown : Seen → Type 0) (start old new : Standing S) (number connections : ℕ) (tally : Tally) (why : Halt F)
-    → Stopping log → Hosting log peer shown start old number tally → number < connections → VisitEnds log peer shown (Err why) old new
+    → ((a b c : S) (xs ys : List Handed) (h : Handed) (why : F) → log.takes a b xs → log.stops b c ys h why → log.stops a c (xs ++ ys) h why)
+    → Hosting log peer shown start old number tally → number < connections → VisitEnds log peer shown (Err why) old new
     → Hosts log peer shown connections start new (Err (record { halt = why; tally = tally }))
 halted log peer shown start old new number connections tally halt.Door stopping h less fails =
     record { between = old; done = h.done; enough = omega (arith, h.all, less); tally_is = h.tally_is; ends = fails }

@@ -2,10 +2,8 @@ pub mod DrainLaws
 pub mod StandLaws
 pub mod LeadLaws
 pub mod DownLaws
-pub mod CompleteLaws
 pub mod TellLaws
 pub mod RespondLaws
-pub mod OutcomeLaws
 pub mod OpenLaws
 pub mod CallLaws
 pub mod VisitLaws

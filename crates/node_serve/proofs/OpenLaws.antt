@@ -1,5 +1,5 @@
 -- What is said of a disk that was handed back is said of the disk before.
-use Rattle.std.proofs.Common.{◌≡◌, ◌≢◌, ℕ, List, [], subst}
+use Rattle.std.proofs.Common.{◌≢◌, ℕ, List, []}
 use Rattle.node_journal.specs.Disk.{DiskSeen, Within, IsUntouched}
 use Rattle.node_journal.specs.Records.{content}
 use Rattle.node_journal.specs.declared.fault.JournalFault.TheVariants.{Damaged}
@@ -12,9 +12,9 @@ use Rattle.node_restart.specs.Frames.{IsForeign}
 use Rattle.node_restart.specs.Kept.{KeptState, Stands, IsDamagedAt}
 use Rattle.node_serve.specs.declared.open_fault.OpenFault.{OpenFault}
 use Rattle.node_serve.specs.declared.open_fault.OpenFault.TheVariants as opens
-use Rattle.node_serve.specs.KeptOpening.{IsReopened, IsCauseOf, LeavesDisk, CountsOpen}
+use Rattle.node_serve.specs.KeptOpening.{IsReopened, IsCauseOf}
 
-pub untouched_both : (a b c : DiskSeen) → IsUntouched a b → IsUntouched b c → IsUntouched a c
+untouched_both : (a b c : DiskSeen) → IsUntouched a b → IsUntouched b c → IsUntouched a c
 untouched_both a b c one two = record {
   gives = λ x read. one.gives x (two.gives x read);
   still = λ x read. two.still x (one.still x read);
@@ -54,15 +54,6 @@ cause_before (opens.Differs key) limit o a b still cause = (
   },
 )
 cause_before fault limit o a b still cause = tt
-
-pub leaves_all : {D : Type 0} (fault : OpenFault) (shows : D → DiskSeen) (old new : D) → IsUntouched (shows old) (shows new)
-    → LeavesDisk fault shows old new
-leaves_all (opens.Keep (Journal (Damaged at))) shows old new same = same
-leaves_all (opens.Keep (Journal fault)) shows old new same = tt
-leaves_all fault shows old new same = same
-
-pub counts_before : (fault : OpenFault) (first before now : ℕ) → before ≡ first → CountsOpen before now fault → CountsOpen first now fault
-counts_before fault first before now same counts = subst (λ n. CountsOpen n now fault) same counts
 
 pub cause_reopened : (fault : KeepFault) (limit : ℕ) (o : Opening) (reads : List ℕ → Type 0) → ((c : List ℕ) → reads c → c ≢ [])
     → OnForeign fault (λ n. (c : List ℕ) → reads c → IsForeign n (content c)) → OnDamaged fault (λ n. (c : List ℕ) → reads c → IsDamagedAt limit n c)

@@ -69,9 +69,6 @@ helps_by (Lead a) bytes new d old out help t = absurd help
 
 -- ---- and within it
 
-front_room : (w out : List ℕ) → take (length w) out ≡ w → length w ≤ length out
-front_room w out e = omega (arith, ap length e, length-take (length w) out)
-
 lead_room : (answer : leader.Answer) → told (did.Lead (turned answer)) ≤ length (leader.written answer)
 lead_room (leader.Reply reply) = omega arith
 lead_room answer = omega arith
@@ -93,7 +90,7 @@ step_room (Help h) Peer bytes = link_room _
 
 pub told_within : (core : Core) (sender : Sender) (bytes : List ℕ) (new : Core) (d : Did) (old out : List ℕ) → Takes (step_of core sender bytes) new d old out → told d ≤ length out
 told_within core sender bytes new d old out t =
-    omega (arith, ap told t.did, step_room core sender bytes, front_room (step_of core sender bytes).written out t.written)
+    omega (arith, ap told t.did, step_room core sender bytes, ap length t.written, length-take (length (step_of core sender bytes).written) out)
 
 -- ---- one exchange
 
@@ -104,14 +101,11 @@ ignored_ack ack e = absurd (cc e)
 fitting_ack : (ack : leader.Ack) → is_ignored (did.Acked (acked ack)) ≡ false → ack ≢ leader.Ignored
 fitting_ack ack e is = absurd (cc (sym e ∙ ap (λ (x : leader.Ack). is_ignored (did.Acked (acked x))) is))
 
-ignored_stays : (a : Leader) (ack : leader.Ack) (after : Leader) → AckLeaves ack a after → ack ≡ leader.Ignored → after ≡ a
-ignored_stays a ack after leaves is = subst (λ (x : leader.Ack). AckLeaves x a after) is leaves
-
 -- the exchange gave no frame
 fails_unheard : (peer : List ℕ) (core : Core) (sent : List ℕ) (got why : Broken) (x y : Option (List Call)) (what : Served) → IsLead core → got ≡ why
     → ((a : Leader) → Breaks a (Err why) what) → ExchangeOn peer (record { sent = sent; answer = Err got }) x y → Fails peer core core sent [] x y what
 fails_unheard peer (Lead a) sent got why x y what lead is breaks calls =
-    record { stays = refl; answer = Err got; broken = subst (λ (b : Broken). Breaks a (Err b) what) (sym is) (breaks a); frames_are = refl; calls = calls }
+    record { lead = a; from = refl; stays = refl; answer = Err got; broken = subst (λ (b : Broken). Breaks a (Err b) what) (sym is) (breaks a); frames_are = refl; calls = calls }
 fails_unheard peer (Help h) sent got why x y what lead is breaks calls = absurd lead
 
 pub unheard_ends : {S F : Type 0} (log : Log S F) (peer sent out : List ℕ) (got why : Broken) (what : Served) (s : S) (net : Moved Seen) → IsLead (log.core s) → got ≡ why
@@ -119,6 +113,11 @@ pub unheard_ends : {S F : Type 0} (log : Log S F) (peer sent out : List ℕ) (go
     → ExchangeEnds log peer sent out (Err (broke.Link what)) s s net
 unheard_ends log peer sent out got why what s net lead is breaks calls none =
     record { replied = tt; failed = ([], fails_unheard peer (log.core s) sent got why net.old.calls net.new.calls what lead is breaks calls, none); unkept = tt }
+
+-- the helper's answer, as it was received
+pub as_received : (peer sent got bytes : List ℕ) (x y : Option (List Call)) → bytes ≡ got → ExchangeOn peer (record { sent = sent; answer = Ok got }) x y
+    → ExchangeOn peer (record { sent = sent; answer = Ok bytes }) x y
+as_received peer sent got bytes x y is calls = subst (λ (b : List ℕ). ExchangeOn peer (record { sent = sent; answer = Ok b }) x y) (sym is) calls
 
 -- or one that was ignored
 pub fails_ignored : (peer : List ℕ) (core : Core) (sent bytes : List ℕ) (new : Core) (d : Did) (old out : List ℕ) (x y : Option (List Call)) → IsLead core
@@ -128,7 +127,9 @@ unfolding lead_peer
 fails_ignored peer (Lead a) sent bytes new d old out x y lead t ignored calls =
     let is : (on_reply_bytes a bytes).ack ≡ leader.Ignored = ignored_ack _ (ap is_ignored (sym t.did) ∙ ignored) in
     record {
-      stays = t.core ∙ ap Lead (ignored_stays a (on_reply_bytes a bytes).ack (on_reply_bytes a bytes).leader (requests a bytes) is);
+      lead = a;
+      from = refl;
+      stays = t.core ∙ ap Lead (subst (λ (x : leader.Ack). AckLeaves x a (on_reply_bytes a bytes).leader) is (requests a bytes));
       answer = Ok bytes;
       broken = (is, refl);
       frames_are = refl;
@@ -142,6 +143,8 @@ pub replies_by : (peer : List ℕ) (core : Core) (sent bytes : List ℕ) (new : 
     → Replies peer core new sent (take (told d) out) (handed Peer bytes ∷ []) x y
 unfolding lead_peer
 replies_by peer (Lead a) sent bytes new d old out x y lead t heard calls = record {
+  lead = a;
+  from = refl;
   bytes = bytes;
   step = t.core;
   fits = fitting_ack _ (ap is_ignored (sym t.did) ∙ heard);

@@ -1,5 +1,5 @@
 -- A connection that was accepted, served and closed is a visit.
-use Rattle.std.proofs.Common.{◌≡◌, ◌≢◌, ◌⊎◌, inl, inr, ℕ, ◌<◌, ◌≤◌, ◌^◌, false, List, [], ◌++◌, Option, Some, None, Result, Ok, Err, refl, sym, ap, ◌∙◌, subst, arith}
+use Rattle.std.proofs.Common.{◌≡◌, ◌≢◌, ◌⊎◌, inl, inr, ℕ, false, List, [], ◌++◌, Option, Some, None, Result, Ok, Err, refl, sym, ap, ◌∙◌, subst}
 use Rattle.express_words.specs.Seen.{Seen}
 use Rattle.express_words.specs.Streams.{Stream, Gave, IsBlank, Took}
 use Rattle.express_words.specs.Calls.{Call, Accepted, Adds, AddsClose, GivesTelling}
@@ -7,7 +7,7 @@ use Rattle.frame_rules.specs.Frames.{PlainFrame}
 use Rattle.frame_rules.specs.Gathering.{gathered}
 use Rattle.frame_rules.specs.Reading.{decoded}
 use Rattle.frame_rules.specs.declared.fault.FrameFault.{FrameFault}
-use Rattle.frame_rules.specs.declared.fault.FrameFault.TheVariants.{Short, Malformed, Version}
+use Rattle.frame_rules.specs.declared.fault.FrameFault.TheVariants.{Short}
 use Rattle.node_exchange.specs.Taking.{IsWanted}
 use Rattle.node_exchange.specs.Exchanging.{EarlyAtEnd, Makes}
 use Rattle.node_restart.specs.Frames.{Handed}
@@ -15,25 +15,21 @@ use Rattle.node_serve.specs.Draining.{FaultIn}
 use Rattle.node_serve.specs.Handling.{IsHelp}
 use Rattle.node_serve.specs.Logs.{Log}
 use Rattle.node_serve.specs.Moved.{moved, stretch}
-use Rattle.node_serve.specs.Responding.{Answers, StopsShort}
-use Rattle.node_serve.specs.Serving.{Brings, IsCut, WritesTold}
+use Rattle.node_serve.specs.Outcomes.{NothingMoves, ServeEnds}
+use Rattle.node_serve.specs.Serving.{Brings, IsCut, WritesTold, Answers, StopsShort}
 use Rattle.node_serve.specs.declared.node.Served.{Served}
 use Rattle.node_serve.specs.declared.node.Served.TheVariants as served
-use Rattle.node_serve.specs.Visits.{Visit, Standing, standing, Shown, WasThere, IsCutOff, IsStepped, ClosesWith, IsVisit, RefusedVisit, IsRefusedVisit, IsOfRefused, ClosedAs}
-use Rattle.node_serve.proofs.CallLaws.{makes_none, responds_told, stops_told, left_in, visit_made, link_at_end}
+use Rattle.node_serve.specs.Visits.{Visit, Standing, standing, Shown, WasThere, IsCutOff, IsStepped, ClosesWith, IsVisit, RefusedVisit, IsRefusedVisit, ClosedAs}
+use Rattle.node_serve.proofs.CallLaws.{makes_same, responds_told, stops_told, left_in, visit_made, link_at_end}
 
 pub is_short_or_not : (r : Result (PlainFrame × ℕ) FrameFault) → (r ≡ Err Short) ⊎ (r ≢ Err Short)
-is_short_or_not (Ok x) = inr (λ e. absurd (cc e))
 is_short_or_not (Err Short) = inl refl
-is_short_or_not (Err (Malformed place)) = inr (λ e. absurd (cc e))
-is_short_or_not (Err (Version version)) = inr (λ e. absurd (cc e))
+is_short_or_not r = inr (λ e. cc)
 
 pub cut_told : (answer : Served) (given : List ℕ) (t : Option Stream) (before now : ℕ) → IsCut answer t before now
     → IsCut answer (Some (record { given = given; left = left_in t })) before now
 cut_told served.Ended given None before now h = (refl, h.1)
-cut_told served.Ended given (Some t) before now h = h
-cut_told (served.ConnFault count) given t before now h = h
-cut_told why given t before now h = absurd h
+cut_told why given t before now h = h
 
 -- ---- what was written to a connection that had taken nothing yet
 
@@ -75,19 +71,6 @@ pub record Closes (c d t : Seen) : Type 0 where
   pub counts : ClosesWith t.faults c.faults d.faults
   pub doors : d.doors ≡ c.doors
 
--- what the call that serves a connection says: the net goes from b to c and the connection from s to t
-pub record ServedBy {S F C : Type 0} (log : Log S F) (peer : List ℕ) (shows : C → Seen) (old new : S) (answer : Served)
-    (b c s t : Seen) (held : List ℕ) : Type 0 where
-  pub cut : decoded held ≡ Err Short → IsCut answer t.content s.faults t.faults
-  pub stays : decoded held ≡ Err Short → new ≡ old
-  pub rests : decoded held ≡ Err Short → c.calls ≡ b.calls
-  pub untold : decoded held ≡ Err Short → t.written ≡ s.written
-  pub serves : decoded held ≢ Err Short → Answers log peer held (moved old new) (moved b c) (moved s t) answer
-  pub early : answer ≡ served.LinkBad → EarlyAtEnd c.calls shows
-  pub alone : IsHelp (log.core old) → c.calls ≡ b.calls
-  pub fault : FaultIn answer b.faults c.faults
-  pub doors : c.doors ≡ b.doors
-
 -- the visit that this makes
 abbrev pub VisitOf : {S F C : Type 0} → Log S F → List ℕ → (C → Seen) → Served → (old new : Standing S) → Type 0
 VisitOf log peer shows answer old new =
@@ -104,105 +87,89 @@ visit_of given taken calls answer t =
 
 visit_is : {S F C : Type 0} (log : Log S F) (peer : List ℕ) (shows : C → Seen) (old new : S) (answer : Served) (a b c d s : Seen) (conn : C) (given taken : List ℕ) (calls : List Call) (frames : List Handed)
     → Gave s.content (shows conn).content given → IsWanted given
-    → ServedBy log peer shows old new answer b c s (shows conn) (gathered [] given) → Accepts a b s → Closes c d (shows conn)
+    → (answer ≡ served.LinkBad → EarlyAtEnd c.calls shows) → FaultIn answer b.faults c.faults → c.doors ≡ b.doors → Accepts a b s → Closes c d (shows conn)
     → (s.written ≢ None → (shows conn).written ≡ Some taken) → Makes b.calls c.calls calls
     → (decoded (gathered [] given) ≡ Err Short → IsCutOff (visit_of given taken calls answer (shows conn)) old new frames)
     → (decoded (gathered [] given) ≢ Err Short → IsStepped log peer (visit_of given taken calls answer (shows conn)) old new frames c.faults)
     → VisitOf log peer shows answer (standing old a) (standing new d)
-visit_is log peer shows old new answer a b c d s conn given taken calls frames gave wanted h accept close took makes cut stepped =
+visit_is log peer shows old new answer a b c d s conn given taken calls frames gave wanted early fault doors accept close took makes cut stepped =
     let t : Seen = shows conn in
     let v : Visit = visit_of given taken calls answer t in
-    let made = visit_made a.calls b.calls c.calls d.calls s.content t.content s.written t.written v accept.call accept.tells gave refl took makes close.call in
+    let made = visit_made d.calls t.content t.written c.calls b.calls s.content s.written a.calls v accept.call accept.tells gave refl took makes close.call in
     let there : WasThere (Shown shows) v a.calls d.calls = record {
       conn = t;
       shows = (conn, refl);
       is = made.1;
-      early = λ bad. link_at_end shows a.calls b.calls c.calls d.calls t.content t.written t.faults v accept.call makes close.call (h.early bad);
+      early = λ bad. link_at_end shows d.calls t.content t.written c.calls b.calls a.calls t.faults v accept.call makes close.call (early bad);
     } in
     let is : IsVisit log peer (Shown shows) v frames (standing old a) (standing new d) = record {
       wanted = wanted;
       count = c.faults;
       cut = cut;
       stepped = stepped;
-      link = subst (λ n. FaultIn answer n c.faults) accept.faults h.fault;
+      link = subst (λ n. FaultIn answer n c.faults) accept.faults fault;
       close = close.counts;
       calls = made.0;
-      doors = close.doors ∙ h.doors ∙ accept.doors;
+      doors = close.doors ∙ doors ∙ accept.doors;
       there = there;
     } in
     (v, refl, (frames, is))
 
-visited_cut : {S F C : Type 0} (log : Log S F) (peer : List ℕ) (shows : C → Seen) (old new : S) (answer : Served) (a b c d s : Seen) (conn : C) (given : List ℕ)
-    → decoded (gathered [] given) ≡ Err Short → Gave s.content (shows conn).content given → IsWanted given
-    → ServedBy log peer shows old new answer b c s (shows conn) (gathered [] given) → Accepts a b s → Closes c d (shows conn)
-    → VisitOf log peer shows answer (standing old a) (standing new d)
-visited_cut log peer shows old new answer a b c d s conn given short gave wanted h accept close =
-    let t : Seen = shows conn in
-    let cut : IsCut answer t.content 0 t.faults = subst (λ n. IsCut answer t.content n t.faults) accept.whole (h.cut short) in
-    let off : IsCutOff (visit_of given [] [] answer t) old new [] =
-    record { answer = cut_told answer given t.content 0 t.faults cut; stays = h.stays short; none = refl; calls = refl; untold = refl } in
-    let makes : Makes b.calls c.calls [] = subst (λ (y : Option (List Call)). Makes b.calls y []) (sym (h.rests short)) (makes_none b.calls) in
-    visit_is log peer shows old new answer a b c d s conn given [] [] [] gave wanted h accept close (untouched s.written t.written accept.blank (h.untold short)) makes (λ e. off) (λ e. absurd (e short))
-
-visited_step : {S F C : Type 0} (log : Log S F) (peer : List ℕ) (shows : C → Seen) (old new : S) (answer : Served) (a b c d s : Seen) (conn : C) (given : List ℕ)
-    → decoded (gathered [] given) ≢ Err Short → Gave s.content (shows conn).content given → IsWanted given
-    → ServedBy log peer shows old new answer b c s (shows conn) (gathered [] given) → Accepts a b s → Closes c d (shows conn)
-    → VisitOf log peer shows answer (standing old a) (standing new d)
-visited_step log peer shows old new answer a b c d s conn given enough gave wanted h accept close =
-    let t : Seen = shows conn in
-    let step = h.serves enough in
-    let own = responds_told peer (log.core old) (gathered [] given) (log.core new) step.frames (stretch (moved b c)) answer step.reply step.responds h.alone in
-    let fresh : WritesTold answer s.written t.written 0 t.faults step.reply = subst (λ n. WritesTold answer s.written t.written n t.faults step.reply) accept.whole step.writes in
-    let written : Wrote answer s.written t.written t.faults step.reply = wrote answer s.written t.written t.faults step.reply accept.blank fresh in
-    let stepped : IsStepped log peer (visit_of given written.0 own.0 answer t) old new step.frames c.faults =
-    record { reply = step.reply; responds = own.2; writes = written.1; takes = step.takes; alone = own.3 } in
-    visit_is log peer shows old new answer a b c d s conn given written.0 own.0 step.frames gave wanted h accept close written.2 own.1 (λ e. absurd (enough e)) (λ e. stepped)
-
-visited_by : {S F C : Type 0} (log : Log S F) (peer : List ℕ) (shows : C → Seen) (old new : S) (answer : Served) (a b c d s : Seen) (conn : C) (given : List ℕ)
-    → (decoded (gathered [] given) ≡ Err Short) ⊎ (decoded (gathered [] given) ≢ Err Short) → Gave s.content (shows conn).content given → IsWanted given
-    → ServedBy log peer shows old new answer b c s (shows conn) (gathered [] given) → Accepts a b s → Closes c d (shows conn)
-    → VisitOf log peer shows answer (standing old a) (standing new d)
-visited_by log peer shows old new answer a b c d s conn given (inl short) = visited_cut log peer shows old new answer a b c d s conn given short
-visited_by log peer shows old new answer a b c d s conn given (inr enough) = visited_step log peer shows old new answer a b c d s conn given enough
-
-pub visited : {S F C : Type 0} (log : Log S F) (peer : List ℕ) (shows : C → Seen) (old new : S) (answer : Served) (a b c d s : Seen) (conn : C) (held : List ℕ)
+pub visited : {S F N C : Type 0} (log : Log S F) (peer : List ℕ) (nets : N → Seen) (shows : C → Seen) (old new : S) (answer : Served) (a : Seen) (b c : N) (d s : Seen) (conn : C) (held : List ℕ)
     → Brings s.content (shows conn).content held
-    → ServedBy log peer shows old new answer b c s (shows conn) held → Accepts a b s → Closes c d (shows conn)
+    → (decoded held ≡ Err Short → NothingMoves {F = F} (Ok answer) old new b c (moved s (shows conn)))
+    → ServeEnds log peer held (Ok answer) old new (moved (nets b) (nets c)) (moved s (shows conn))
+    → (answer ≡ served.LinkBad → EarlyAtEnd (nets c).calls shows) → (IsHelp (log.core old) → c ≡ b)
+    → FaultIn answer (nets b).faults (nets c).faults → (nets c).doors ≡ (nets b).doors
+    → Accepts a (nets b) s → Closes (nets c) d (shows conn)
     → VisitOf log peer shows answer (standing old a) (standing new d)
-visited log peer shows old new answer a b c d s conn held (given, gave, wanted, is) h accept close =
-    visited_by log peer shows old new answer a b c d s conn given (is_short_or_not (decoded (gathered [] given))) gave wanted
-    (subst (ServedBy log peer shows old new answer b c s (shows conn)) is h) accept close
-
--- a count of 64 bits doesn't fall
-pub fault_later : (why : Served) (before now : ℕ) → before < 2 ^ 64 → FaultIn why before now → before ≤ now
-fault_later (served.LinkFault count) before now bound h = omega (arith, h.0, bound)
-fault_later why before now bound h = omega (arith, h)
+visited {N = N} log peer nets shows old new answer a b c d s conn held (given, gave, wanted, is) cut ends early rests fault doors accept close =
+    let t : Seen = shows conn in
+    let seen = visit_is log peer shows old new answer a (nets b) (nets c) d s conn given in
+    elim (is_short_or_not (decoded (gathered [] given))) [
+      | inl short ↦
+          let nothing = cut (ap decoded is ∙ short) in
+          let off : IsCutOff (visit_of given [] [] answer t) old new [] = record {
+            answer = cut_told answer given t.content 0 t.faults (subst (λ n. IsCut answer t.content n t.faults) accept.whole nothing.cut);
+            stays = nothing.stays;
+            none = refl;
+            calls = refl;
+            untold = refl;
+          } in
+          let makes : Makes (nets b).calls (nets c).calls [] = makes_same (nets b).calls (nets c).calls (ap (λ (x : N). (nets x).calls) nothing.net_rests) in
+          seen [] [] [] gave wanted early fault doors accept close (untouched s.written t.written accept.blank nothing.writes_nothing) makes (λ e. off) (λ e. absurd (e short))
+      | inr enough ↦
+          let step : Answers log peer (gathered [] given) (moved old new) (moved (nets b) (nets c)) (moved s t) answer
+          = subst (λ (l : List ℕ). Answers log peer l (moved old new) (moved (nets b) (nets c)) (moved s t) answer) is (ends.serves (λ e. enough (sym (ap decoded is) ∙ e))) in
+          let own = responds_told peer (log.core old) (gathered [] given) (log.core new) step.frames (stretch (moved (nets b) (nets c))) answer step.reply step.responds
+          (λ help. ap (λ (x : N). (nets x).calls) (rests help)) in
+          let fresh : WritesTold answer s.written t.written 0 t.faults step.reply = subst (λ n. WritesTold answer s.written t.written n t.faults step.reply) accept.whole step.writes in
+          let written : Wrote answer s.written t.written t.faults step.reply = wrote answer s.written t.written t.faults step.reply accept.blank fresh in
+          let stepped : IsStepped log peer (visit_of given written.0 own.0 answer t) old new step.frames (nets c).faults
+          = record { reply = step.reply; responds = own.2; writes = written.1; takes = step.takes; alone = own.3 } in
+          seen written.0 own.0 step.frames gave wanted early fault doors accept close written.2 own.1 (λ e. absurd (enough e)) (λ e. stepped)
+    ]
 
 -- ---- a visit at which the log refused a frame
 
--- what the call that serves a connection says then
-pub record RefusedBy {S F : Type 0} (log : Log S F) (peer : List ℕ) (old new : S) (fault : F) (b c s t : Seen) (held : List ℕ) : Type 0 where
-  pub stops : StopsShort log peer held (moved old new) (moved b c) fault
-  pub alone : IsHelp (log.core old) → c.calls ≡ b.calls
-  pub untold : t.written ≡ s.written
-  pub unfailed : t.faults ≡ s.faults
-  pub faults : c.faults ≡ b.faults
-  pub doors : c.doors ≡ b.doors
-
-pub refused : {S F C : Type 0} (log : Log S F) (peer : List ℕ) (shows : C → Seen) (old new : S) (fault : F) (a b c d s : Seen) (conn : C) (held : List ℕ)
+pub refused : {S F N C : Type 0} (log : Log S F) (peer : List ℕ) (nets : N → Seen) (shows : C → Seen) (old new : S) (fault : F) (a : Seen) (b c : N) (d s : Seen) (conn : C) (held : List ℕ)
     → Brings s.content (shows conn).content held
-    → RefusedBy log peer old new fault b c s (shows conn) held → Accepts a b s → Closes c d (shows conn)
+    → ServeEnds log peer held (Err fault) old new (moved (nets b) (nets c)) (moved s (shows conn))
+    → (IsHelp (log.core old) → c ≡ b) → (nets c).faults ≡ (nets b).faults → (nets c).doors ≡ (nets b).doors
+    → Accepts a (nets b) s → Closes (nets c) d (shows conn)
     → (last : RefusedVisit) × IsRefusedVisit log peer (Shown shows) last fault (standing old a) (standing new d)
-refused log peer shows old new fault a b c d s conn held (given, gave, wanted, is) h accept close =
+refused {N = N} log peer nets shows old new fault a b c d s conn held (given, gave, wanted, is) ends rests faults doors accept close =
     let t : Seen = shows conn in
-    let here = subst (λ (l : List ℕ). StopsShort log peer l (moved old new) (moved b c) fault) is h.stops in
-    let whole : t.faults ≡ 0 = h.unfailed ∙ accept.whole in
-    let own = stops_told peer (log.core old) (gathered [] given) (log.core new) here.frames here.refused (stretch (moved b c)) d.faults here.far h.alone in
+    let here : StopsShort log peer (gathered [] given) (moved old new) (moved (nets b) (nets c)) fault
+    = subst (λ (l : List ℕ). StopsShort log peer l (moved old new) (moved (nets b) (nets c)) fault) is ends.stops in
+    let whole : t.faults ≡ 0 = ends.unanswered.1 ∙ accept.whole in
+    let own = stops_told peer (log.core old) (gathered [] given) (log.core new) here.frames here.refused (stretch (moved (nets b) (nets c))) d.faults here.far
+    (λ help. ap (λ (x : N). (nets x).calls) (rests help)) in
     let v : Visit = record { given = given; left = left_in t.content; taken = []; faults = 0; calls = own.0; answer = served.Answered } in
     let u : RefusedVisit = record { given = given; left = left_in t.content; calls = own.0 } in
-    let closes : AddsClose c.calls d.calls t.content t.written 0 = subst (AddsClose c.calls d.calls t.content t.written) whole close.call in
-    let made = visit_made a.calls b.calls c.calls d.calls s.content t.content s.written t.written v accept.call accept.tells gave refl (untouched s.written t.written accept.blank h.untold) own.1 closes in
-    let of : IsOfRefused d.calls u t = subst (ClosedAs d.calls given u.left [] 0 t.content t.written) (sym whole) made.1 in
+    let closes : AddsClose (nets c).calls d.calls t.content t.written 0 = subst (AddsClose (nets c).calls d.calls t.content t.written) whole close.call in
+    let made = visit_made d.calls t.content t.written (nets c).calls (nets b).calls s.content s.written a.calls v accept.call accept.tells gave refl (untouched s.written t.written accept.blank ends.unanswered.0) own.1 closes in
+    let of : ClosedAs d.calls given u.left [] 0 t.content t.written t.faults = subst (ClosedAs d.calls given u.left [] 0 t.content t.written) (sym whole) made.1 in
     let last : IsRefusedVisit log peer (Shown shows) u fault (standing old a) (standing new d) = record {
       frames = here.frames;
       refused = here.refused;
@@ -210,9 +177,9 @@ refused log peer shows old new fault a b c d s conn held (given, gave, wanted, i
       far = own.2;
       stops = here.stops;
       alone = own.3;
-      faults = close.counts.whole whole ∙ h.faults ∙ accept.faults;
+      faults = close.counts.whole whole ∙ faults ∙ accept.faults;
       calls = made.0;
-      doors = close.doors ∙ h.doors ∙ accept.doors;
+      doors = close.doors ∙ doors ∙ accept.doors;
       there = (t, (conn, refl), of);
     } in
     (u, last)

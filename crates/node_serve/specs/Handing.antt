@@ -43,6 +43,14 @@ answers_in (e ∷ others) = answer_frames e.answer ++ answers_in others
 abbrev pub around : List Exchange → List ℕ → List Exchange → List Handed
 around before bytes after = answers_in before ++ handed Client bytes ∷ answers_in after
 
+-- the exchanges that a leader made, and the frames that it was handed meanwhile
+pub record Traffic : Type 0 where
+  pub made : List Exchange
+  pub frames : List Handed
+
+abbrev pub traffic : List Exchange → List Handed → Traffic
+traffic made frames = record { made = made; frames = frames }
+
 -- ---- by what ended a leader's exchanges
 
 -- P of what is said of an exchange that ended them

@@ -1,6 +1,5 @@
 -- A server's exchanges and steps, with the frames that it was handed on the way.
 use Rattle.std.specs.Prelude.{◌≡◌, ℕ, List, [], ◌∷◌, Option, Result, Ok}
-use Rattle.std.proofs.Common.{inl, inr}
 use Rattle.express_words.specs.Calls.{Call}
 use Rattle.step_rules.specs.Leader.{Leader, Ignored}
 use Rattle.step_rules.specs.LeaderClients.{on_client}
@@ -16,7 +15,7 @@ use Rattle.node_restart.specs.declared.server.Core.{Core}
 use Rattle.node_restart.specs.declared.server.Core.TheVariants.{Lead, Help}
 use Rattle.node_restart.specs.declared.frames.Sender.TheVariants.{Peer}
 use Rattle.node_restart.specs.Frames.{Handed, handed}
-use Rattle.node_serve.specs.Handing.{answer_frames, answers_in, around}
+use Rattle.node_serve.specs.Handing.{answer_frames, answers_in, traffic}
 
 abbrev pub IsLead : Core → Type 0
 IsLead (Lead a) = Unit {0}
@@ -34,33 +33,27 @@ rounds_of (Help h) = 0
 -- ---- one exchange
 
 -- these bytes were sent, and the helper answered those, which fit
-pub record RepliesBy (peer : List ℕ) (a : Leader) (new : Core) (sent reply : List ℕ) (frames : List Handed)
+pub record Replies (peer : List ℕ) (old new : Core) (sent reply : List ℕ) (frames : List Handed)
     (before now : Option (List Call)) : Type 0 where
+  pub lead : Leader
+  pub from : old ≡ Lead lead
   pub bytes : List ℕ
-  pub step : new ≡ Lead (on_reply_bytes a bytes).leader
-  pub fits : (on_reply_bytes a bytes).ack ≡ Ignored → ⊥
-  pub reply_is : reply ≡ reply_of (on_reply_bytes a bytes).ack
+  pub step : new ≡ Lead (on_reply_bytes lead bytes).leader
+  pub fits : (on_reply_bytes lead bytes).ack ≡ Ignored → ⊥
+  pub reply_is : reply ≡ reply_of (on_reply_bytes lead bytes).ack
   pub frames_are : frames ≡ handed Peer bytes ∷ []
   pub calls : ExchangeOn peer (record { sent = sent; answer = Ok bytes }) before now
 
 -- these bytes were sent, and no reply came that fits
-pub record FailsBy (peer : List ℕ) (a : Leader) (new : Core) (sent : List ℕ) (frames : List Handed)
+pub record Fails (peer : List ℕ) (old new : Core) (sent : List ℕ) (frames : List Handed)
     (before now : Option (List Call)) (why : Served) : Type 0 where
-  pub stays : new ≡ Lead a
+  pub lead : Leader
+  pub from : old ≡ Lead lead
+  pub stays : new ≡ old
   pub answer : Result (List ℕ) Broken
-  pub broken : Breaks a answer why
+  pub broken : Breaks lead answer why
   pub frames_are : frames ≡ answer_frames answer
   pub calls : ExchangeOn peer (record { sent = sent; answer = answer }) before now
-
-abbrev pub Replies : List ℕ → Core → Core → (sent reply : List ℕ) → List Handed →
-    (before now : Option (List Call)) → Type 0
-Replies peer (Lead a) new sent reply frames before now = RepliesBy peer a new sent reply frames before now
-Replies peer (Help h) new sent reply frames before now = ⊥
-
-abbrev pub Fails : List ℕ → Core → Core → List ℕ → List Handed → (before now : Option (List Call)) →
-    Served → Type 0
-Fails peer (Lead a) new sent frames before now why = FailsBy peer a new sent frames before now why
-Fails peer (Help h) new sent frames before now why = ⊥
 
 -- ---- a drain
 
@@ -71,39 +64,29 @@ Drains peer (Lead a) told new frames reply before now =
     × (frames ≡ answers_in end.made) × ExchangesOn peer end.made before now
 Drains peer (Help h) told new frames reply before now = ⊥
 
+-- from old a leader came to new by exchanges, of which P holds
+abbrev pub ByExchanges : List ℕ → (old new : Core) → (before now : Option (List Call))
+    → (Leader → Leader → List Exchange → Type 0) → Type 0
+ByExchanges peer (Lead a) new before now P =
+    (b : Leader) × (new ≡ Lead b) × ((made : List Exchange) × ExchangesOn peer made before now × P a b made)
+ByExchanges peer (Help h) new before now P = ⊥
+
 abbrev pub DrainBreaks : List ℕ → Core → List ℕ → Core → List Handed → (before now : Option (List Call)) →
     Served → Type 0
-DrainBreaks peer (Lead a) told new frames before now why =
-    (b : Leader) × (new ≡ Lead b) × ((made : List Exchange) × BreaksInDrain (drain_start a told) b made why
-    × (frames ≡ answers_in made) × ExchangesOn peer made before now)
-DrainBreaks peer (Help h) told new frames before now why = ⊥
+DrainBreaks peer old told new frames before now why = ByExchanges peer old new before now
+    (λ a b made. BreaksInDrain (drain_start a told) b made why × (frames ≡ answers_in made))
 
 -- ---- a drain, the step at a client's frame, and a drain
 
--- what a leader was handed on that way
-abbrev pub frames_handled : {a : Leader} {bytes : List ℕ} {b : Leader} {reply : List ℕ} {made : List Exchange}
-    → Handles a bytes b reply made → List Handed
-frames_handled {a} {bytes} h = around h.before.made bytes h.after.made
-
--- and where one of the drains broke off
-abbrev pub frames_broken : (a : Leader) (bytes : List ℕ) (b : Leader) (made : List Exchange) (why : Served)
-    → BreaksDown a bytes b made why → List Handed
-frames_broken a bytes b made why (inl early) = answers_in made
-frames_broken a bytes b made why (inr late) = around late.before.made bytes late.more
-
 abbrev pub HandlesAll : List ℕ → Core → List ℕ → Core → List Handed → List ℕ →
     (before now : Option (List Call)) → Type 0
-HandlesAll peer (Lead a) bytes new frames reply before now =
-    (b : Leader) × (new ≡ Lead b) × ((made : List Exchange) × ExchangesOn peer made before now
-    × ((h : Handles a bytes b reply made) × (frames ≡ frames_handled h)))
-HandlesAll peer (Help h) bytes new frames reply before now = ⊥
+HandlesAll peer old bytes new frames reply before now =
+    ByExchanges peer old new before now (λ a b made. Handles a bytes b reply (traffic made frames))
 
 abbrev pub HandleBreaks : List ℕ → Core → List ℕ → Core → List Handed → (before now : Option (List Call)) →
     Served → Type 0
-HandleBreaks peer (Lead a) bytes new frames before now why =
-    (b : Leader) × (new ≡ Lead b) × ((made : List Exchange) × ExchangesOn peer made before now
-    × ((h : BreaksDown a bytes b made why) × (frames ≡ frames_broken a bytes b made why h)))
-HandleBreaks peer (Help h) bytes new frames before now why = ⊥
+HandleBreaks peer old bytes new frames before now why =
+    ByExchanges peer old new before now (λ a b made. BreaksDown a bytes b (traffic made frames) why)
 
 -- the step alone, and the reply that it gives at once
 abbrev pub Steps : Core → List ℕ → Core → List ℕ → Type 0

@@ -1,5 +1,5 @@
 -- What a leader does with the bytes that one connection brings, by what its helper answers.
-use Rattle.std.specs.Prelude.{◌≡◌, ◌⊎◌, ℕ, Bool, true, false, List, [], ◌++◌}
+use Rattle.std.specs.Prelude.{◌≡◌, ◌⊎◌, ℕ, Bool, true, false, List, [], ◌∷◌, ◌++◌}
 use Rattle.std.specs.Prelude.{Option, Some, None, Result, Ok, Err}
 use Rattle.express_words.specs.declared.refusal.Refusal.{Refusal}
 use Rattle.express_words.specs.declared.refusal.Refusal.TheVariants as refusal
@@ -10,6 +10,9 @@ use Rattle.frame_rules.specs.Whole.{answer}
 use Rattle.step_rules.specs.Leader.{Leader, Answer, Reply, Link, StillWaiting}
 use Rattle.step_rules.specs.LeaderClients.{on_client}
 use Rattle.node_exchange.specs.Exchanging.{Exchange}
+use Rattle.node_restart.specs.declared.frames.Sender.TheVariants.{Client}
+use Rattle.node_restart.specs.Frames.{handed}
+use Rattle.node_serve.specs.Handing.{Traffic, answers_in, around}
 use Rattle.node_serve.specs.Draining.{DrainState, drain_start, Drained, BreaksInDrain}
 use Rattle.node_serve.specs.declared.node.Served.{Served}
 use Rattle.node_serve.specs.declared.node.Served.TheVariants as served
@@ -46,39 +49,42 @@ stepped a bytes = drain_start (on_client a bytes).leader (reply_to (on_client a 
 
 -- ---- a drain, the step, and a drain
 
-pub record Handles (a : Leader) (bytes : List ℕ) (b : Leader) (reply : List ℕ)
-    (made : List Exchange) : Type 0 where
+pub record Handles (a : Leader) (bytes : List ℕ) (b : Leader) (reply : List ℕ) (t : Traffic) : Type 0 where
   pub before : DrainState
   pub after : DrainState
   pub first : Drained (drain_start a []) before
   pub second : Drained (stepped before.leader bytes) after
   pub leader : b ≡ after.leader
   pub reply_is : reply ≡ after.reply
-  pub all : made ≡ before.made ++ after.made
+  pub all : t.made ≡ before.made ++ after.made
+  pub frames : t.frames ≡ around before.made bytes after.made
 
 -- the second drain broke off
-pub record BreaksLate (a : Leader) (bytes : List ℕ) (b : Leader) (made : List Exchange)
-    (why : Served) : Type 0 where
+pub record BreaksLate (a : Leader) (bytes : List ℕ) (b : Leader) (t : Traffic) (why : Served)
+    : Type 0 where
   pub before : DrainState
   pub first : Drained (drain_start a []) before
   pub more : List Exchange
   pub second : BreaksInDrain (stepped before.leader bytes) b more why
-  pub all : made ≡ before.made ++ more
+  pub all : t.made ≡ before.made ++ more
+  pub frames : t.frames ≡ around before.made bytes more
 
 -- one of the two drains broke off; where it was the first, the leader took no step
-abbrev pub BreaksDown : Leader → List ℕ → Leader → List Exchange → Served → Type 0
-BreaksDown a bytes b made why = BreaksInDrain (drain_start a []) b made why ⊎ BreaksLate a bytes b made why
+abbrev pub BreaksDown : Leader → List ℕ → Leader → Traffic → Served → Type 0
+BreaksDown a bytes b t why =
+    (BreaksInDrain (drain_start a []) b t.made why × (t.frames ≡ answers_in t.made))
+    ⊎ BreaksLate a bytes b t why
 
 -- the client is told that the link failed, with the net's count of faults
 abbrev pub link_down : PlainFrame → ℕ → PlainFrame
 link_down f count = answer f (frame.Refused (refusal.LinkDown count))
 
 -- bytes that are no frame that a leader takes from clients get their refusal, and no exchange is made
-pub record RefusesBytes (a : Leader) (bytes : List ℕ) (b : Leader) (reply : List ℕ)
-    (made : List Exchange) : Type 0 where
+pub record RefusesBytes (a : Leader) (bytes : List ℕ) (b : Leader) (reply : List ℕ) (t : Traffic) : Type 0 where
   pub leader : b ≡ (on_client a bytes).leader
   pub reply_is : reply ≡ reply_to (on_client a bytes).answer
-  pub none : made ≡ []
+  pub none : t.made ≡ []
+  pub frames : t.frames ≡ handed Client bytes ∷ []
 
 -- what was only to be sent to the client, with no exchange broken
 abbrev pub IsSent : Served → Type 0
@@ -86,14 +92,12 @@ IsSent served.Answered = Unit {0}
 IsSent (served.ConnFault count) = Unit {0}
 IsSent other = ⊥
 
--- What a leader did, by the client's frame if the bytes are one, and by the answer: made are its exchanges,
--- count is the net's count of faults, reply what the client is to get.
-abbrev pub Leads : Option PlainFrame → Leader → List ℕ → Leader → List Exchange → ℕ → Served → List ℕ → Type 0
-Leads None a bytes b made count why reply = IsSent why × RefusesBytes a bytes b reply made
-Leads (Some f) a bytes b made count served.Answered reply = Handles a bytes b reply made
-Leads (Some f) a bytes b made count (served.ConnFault faults) reply = Handles a bytes b reply made
-Leads (Some f) a bytes b made count served.Ended reply = ⊥
-Leads (Some f) a bytes b made count (served.LinkFault faults) reply =
-    BreaksDown a bytes b made (served.LinkFault faults) × (reply ≡ spelling (link_down f count))
-Leads (Some f) a bytes b made count served.LinkBad reply =
-    BreaksDown a bytes b made served.LinkBad × (reply ≡ spelling (link_down f count))
+-- What a leader did, by the client's frame if the bytes are one, and by the answer: count is the net's count
+-- of faults, reply what the client is to get.
+abbrev pub Leads : Option PlainFrame → Leader → List ℕ → Leader → Traffic → ℕ → Served → List ℕ → Type 0
+Leads None a bytes b t count why reply = IsSent why × RefusesBytes a bytes b reply t
+Leads (Some f) a bytes b t count served.Answered reply = Handles a bytes b reply t
+Leads (Some f) a bytes b t count (served.ConnFault faults) reply = Handles a bytes b reply t
+Leads (Some f) a bytes b t count served.Ended reply = ⊥
+Leads (Some f) a bytes b t count why reply =
+    BreaksDown a bytes b t why × (reply ≡ spelling (link_down f count))

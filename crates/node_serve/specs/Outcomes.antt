@@ -9,8 +9,7 @@ use Rattle.node_serve.specs.Handing.{IfLink, IfKeep}
 use Rattle.node_serve.specs.Handling.{Replies, Fails, Drains, DrainBreaks, HandlesAll, HandleBreaks}
 use Rattle.node_serve.specs.Logs.{Log, TakesThrough, StopsUpTo}
 use Rattle.node_serve.specs.Moved.{Moved, moved}
-use Rattle.node_serve.specs.Responding.{Answers, StopsShort}
-use Rattle.node_serve.specs.Serving.{IsCut}
+use Rattle.node_serve.specs.Serving.{IsCut, Answers, StopsShort}
 use Rattle.node_serve.specs.Stopping.{Unkept, DrainStops, HandleStops}
 
 -- ---- a leader's exchanges

@@ -3,17 +3,17 @@ use Rattle.std.specs.Prelude.{◌≡◌, ◌≢◌, ◌⊎◌, ℕ, List, [], Op
 use Rattle.express_words.specs.Causes.{Rose}
 use Rattle.express_words.specs.Seen.{Seen}
 use Rattle.express_words.specs.Streams.{Stream, Gave, IsAtEnd, Took, TookPrefix}
-use Rattle.express_words.specs.Calls.{Call}
 use Rattle.frame_rules.specs.Gathering.{gathered}
 use Rattle.frame_rules.specs.Reading.{decoded}
 use Rattle.frame_rules.specs.declared.fault.FrameFault.TheVariants.{Short}
-use Rattle.frame_rules.specs.Whole.{whole}
-use Rattle.step_rules.specs.Leader.{Leader}
 use Rattle.node_exchange.specs.Taking.{IsWanted}
-use Rattle.node_serve.specs.Helping.{helper_step}
-use Rattle.node_exchange.specs.Exchanging.{Exchange, ExchangesOn}
-use Rattle.node_serve.specs.Leading.{taken_in, IsSent, Leads}
-use Rattle.node_serve.specs.Moved.{Moved}
+use Rattle.node_restart.specs.Frames.{Handed}
+use Rattle.node_serve.specs.Handling.{IsHelp}
+use Rattle.node_serve.specs.Logs.{Log}
+use Rattle.node_serve.specs.Moved.{Moved, moved, stretch}
+use Rattle.node_serve.specs.NoLog.{core_of, peer_of, node_log}
+use Rattle.node_serve.specs.Responding.{Responds}
+use Rattle.node_serve.specs.Stopping.{Stops}
 use Rattle.node_serve.specs.declared.node.Node.{Node}
 use Rattle.node_serve.specs.declared.node.Node.TheVariants as node
 use Rattle.node_serve.specs.declared.node.Served.{Served}
@@ -48,19 +48,30 @@ WritesTold served.LinkBad old new before now reply = IsPut old new before now re
 abbrev pub WritesReply : Served → (old new : Seen) → List ℕ → Type 0
 WritesReply why old new reply = WritesTold why old.written new.written old.faults new.faults reply
 
-abbrev pub IsHelper : Node → Type 0
-IsHelper (node.Help h) = Unit {0}
-IsHelper (node.Lead a peer) = ⊥
+-- ---- a server with a log
 
--- What a server did with these bytes: its step, the calls on the net from before to now, whose count of
--- faults is count then, and the reply that the client is to get.
-abbrev pub Serves : Node → List ℕ → Node → (before now : Option (List Call)) → ℕ → Served → List ℕ → Type 0
-Serves (node.Help h) bytes new before now count why reply =
-    IsSent why × (new ≡ node.Help (helper_step h bytes).helper) × (reply ≡ (helper_step h bytes).answer)
-Serves (node.Lead a peer) bytes new before now count why reply =
-    (b : Leader) × (new ≡ node.Lead b peer)
-    × ((made : List Exchange) × ExchangesOn peer made before now
-    × Leads (taken_in (whole bytes)) a bytes b made count why reply)
+-- A server with a log answered what a connection brought: its reply was written to the connection, and the
+-- log took each frame that it was handed on the way before its step.
+pub record Answers {S F : Type 0} (log : Log S F) (peer bytes : List ℕ) (server : Moved S)
+    (net conn : Moved Seen) (why : Served) : Type 0 where
+  pub reply : List ℕ
+  pub frames : List Handed
+  pub responds : Responds peer (log.core server.old) bytes (log.core server.new) frames (stretch net) why reply
+  pub writes : WritesReply why conn.old conn.new reply
+  pub takes : log.takes server.old server.new frames
+
+-- Or the log refused one of these frames, and the server took no step from then on.
+pub record StopsShort {S F : Type 0} (log : Log S F) (peer bytes : List ℕ) (server : Moved S)
+    (net : Moved Seen) (fault : F) : Type 0 where
+  pub frames : List Handed
+  pub refused : Handed
+  pub far : Stops peer (log.core server.old) bytes (log.core server.new) frames refused (stretch net)
+  pub stops : log.stops server.old server.new frames refused fault
+
+-- ---- a server whose frames go nowhere
+
+abbrev pub IsHelper : Node → Type 0
+IsHelper n = IsHelp (core_of n)
 
 -- no call failed: the count of faults didn't rise
 abbrev pub NoneFailed : (before now : ℕ) → Type 0
@@ -74,9 +85,8 @@ IsComplete (node.Lead a peer) why = (why ≡ served.Answered) ⊎ (why ≡ serve
 
 -- what a node did once a connection gave a frame, or bytes known to be none, and what was written of the reply
 abbrev pub NodeServes : List ℕ → Served → (old new : Node) → (net conn : Moved Seen) → Type 0
-NodeServes held why old new net conn = decoded held ≢ Err Short → (reply : List ℕ)
-    × Serves old held new net.old.calls net.new.calls net.new.faults why reply
-    × WritesReply why conn.old conn.new reply
+NodeServes held why old new net conn =
+    decoded held ≢ Err Short → Answers node_log (peer_of old) held (moved old new) net conn why
 
 -- and what became of that where no call of the connection or of the net failed
 abbrev pub Completes : List ℕ → Served → Node → (net conn : Moved Seen) → Type 0

@@ -4,7 +4,7 @@ use Rattle.express_words.specs.Calls.{Call}
 use Rattle.frame_rules.specs.Frames.{PlainFrame}
 use Rattle.frame_rules.specs.Whole.{whole}
 use Rattle.step_rules.specs.Leader.{Leader}
-use Rattle.node_exchange.specs.Exchanging.{Exchange, ExchangeOn, ExchangesOn}
+use Rattle.node_exchange.specs.Exchanging.{ExchangeOn}
 use Rattle.node_serve.specs.Draining.{DrainState, drain_start, IsOldest, Drained, DrainsOn}
 use Rattle.node_serve.specs.Helping.{is_from_leader}
 use Rattle.node_serve.specs.Leading.{taken_in, stepped}
@@ -13,7 +13,8 @@ use Rattle.node_restart.specs.declared.server.Core.TheVariants.{Lead, Help}
 use Rattle.node_restart.specs.declared.frames.Sender.{Sender}
 use Rattle.node_restart.specs.declared.frames.Sender.TheVariants.{Client, Peer}
 use Rattle.node_restart.specs.Frames.{Handed, handed}
-use Rattle.node_serve.specs.Handing.{answers_in, around}
+use Rattle.node_serve.specs.Handling.{ByExchanges}
+use Rattle.node_serve.specs.Handing.{Traffic, traffic, answers_in}
 use Rattle.node_serve.specs.Moved.{Stretch}
 
 -- these bytes were sent, and the helper's answer wasn't kept
@@ -26,8 +27,7 @@ pub record Unkept (peer : List ℕ) (old new : Core) (sent : List ℕ) (frames :
   pub calls : ExchangeOn peer (record { sent = sent; answer = Ok bytes }) before now
 
 -- a drain up to an answer that wasn't kept
-pub record StopsInDrain (start : DrainState) (end : Leader) (made : List Exchange) (refused : Handed)
-    : Type 0 where
+pub record StopsInDrain (start : DrainState) (end : Leader) (t : Traffic) (refused : Handed) : Type 0 where
   pub last : DrainState
   pub drains : DrainsOn start last
   pub stays : end ≡ last.leader
@@ -35,45 +35,39 @@ pub record StopsInDrain (start : DrainState) (end : Leader) (made : List Exchang
   pub oldest : IsOldest end sent
   pub bytes : List ℕ
   pub is : refused ≡ handed Peer bytes
-  pub all : made ≡ last.made ++ record { sent = sent; answer = Ok bytes } ∷ []
+  pub all : t.made ≡ last.made ++ record { sent = sent; answer = Ok bytes } ∷ []
+  pub frames : t.frames ≡ answers_in last.made
 
 abbrev pub DrainStops : List ℕ → Core → List ℕ → Core → List Handed → Handed →
     (before now : Option (List Call)) → Type 0
-DrainStops peer (Lead a) told new frames refused before now =
-    (b : Leader) × (new ≡ Lead b) × ((made : List Exchange) × ExchangesOn peer made before now
-    × ((s : StopsInDrain (drain_start a told) b made refused) × (frames ≡ answers_in s.last.made)))
-DrainStops peer (Help h) told new frames refused before now = ⊥
-
--- in the first drain
-pub record StopsEarly (a : Leader) (bytes : List ℕ) (b : Leader) (made : List Exchange) (frames : List Handed)
-    (refused : Handed) : Type 0 where
-  pub at : StopsInDrain (drain_start a []) b made refused
-  pub frames_are : frames ≡ answers_in at.last.made
+DrainStops peer old told new frames refused before now = ByExchanges peer old new before now
+    (λ a b made. StopsInDrain (drain_start a told) b (traffic made frames) refused)
 
 -- at the client's frame
-pub record StopsBetween (a : Leader) (bytes : List ℕ) (b : Leader) (made : List Exchange)
-    (frames : List Handed) (refused : Handed) : Type 0 where
+pub record StopsBetween (a : Leader) (bytes : List ℕ) (b : Leader) (t : Traffic) (refused : Handed)
+    : Type 0 where
   pub before : DrainState
   pub first : Drained (drain_start a []) before
   pub stays : b ≡ before.leader
-  pub all : made ≡ before.made
-  pub frames_are : frames ≡ answers_in made
+  pub all : t.made ≡ before.made
+  pub frames : t.frames ≡ answers_in before.made
   pub is : refused ≡ handed Client bytes
 
 -- in the second drain
-pub record StopsLate (a : Leader) (bytes : List ℕ) (b : Leader) (made : List Exchange) (frames : List Handed)
-    (refused : Handed) : Type 0 where
+pub record StopsLate (a : Leader) (bytes : List ℕ) (b : Leader) (t : Traffic) (refused : Handed)
+    : Type 0 where
   pub before : DrainState
   pub first : Drained (drain_start a []) before
-  pub more : List Exchange
+  pub more : Traffic
   pub second : StopsInDrain (stepped before.leader bytes) b more refused
-  pub all : made ≡ before.made ++ more
-  pub frames_are : frames ≡ around before.made bytes second.last.made
+  pub all : t.made ≡ before.made ++ more.made
+  pub frames : t.frames ≡ answers_in before.made ++ handed Client bytes ∷ more.frames
 
-abbrev pub StopsDown : Leader → List ℕ → Leader → List Exchange → List Handed → Handed → Type 0
-StopsDown a bytes b made frames refused =
-    StopsEarly a bytes b made frames refused
-    ⊎ (StopsBetween a bytes b made frames refused ⊎ StopsLate a bytes b made frames refused)
+-- in the first drain, at the client's frame, or in the second drain
+abbrev pub StopsDown : Leader → List ℕ → Leader → Traffic → Handed → Type 0
+StopsDown a bytes b t refused =
+    StopsInDrain (drain_start a []) b t refused
+    ⊎ (StopsBetween a bytes b t refused ⊎ StopsLate a bytes b t refused)
 
 -- at once: no exchange was made, and no step taken
 pub record StopsAtOnce (old new : Core) (frames : List Handed) (refused given : Handed) : Type 0 where
@@ -83,10 +77,8 @@ pub record StopsAtOnce (old new : Core) (frames : List Handed) (refused given : 
 
 abbrev pub HandleStops : List ℕ → Core → List ℕ → Core → List Handed → Handed →
     (before now : Option (List Call)) → Type 0
-HandleStops peer (Lead a) bytes new frames refused before now =
-    (b : Leader) × (new ≡ Lead b) × ((made : List Exchange) × ExchangesOn peer made before now
-    × StopsDown a bytes b made frames refused)
-HandleStops peer (Help h) bytes new frames refused before now = ⊥
+HandleStops peer old bytes new frames refused before now =
+    ByExchanges peer old new before now (λ a b made. StopsDown a bytes b (traffic made frames) refused)
 
 -- a leader stops at one of the frames that it is handed, by whether the connection's is one that it takes
 -- from clients

@@ -64,11 +64,6 @@ ClosedAs None given left taken count content written faults = Unit {0}
 ClosedAs (Some calls) given left taken count content written faults =
     (content ≡ Some (record { given = given; left = left })) × (written ≡ Some taken) × (faults ≡ count)
 
--- it was a connection that showed this at its close
-abbrev pub IsOf : Option (List Call) → Visit → Seen → Type 0
-IsOf calls v conn =
-    ClosedAs calls v.given v.left v.taken v.faults conn.content conn.written conn.faults
-
 -- the net's calls up to the close of the visit, which isn't among them; where it tells them now
 abbrev pub up_to_close : (before now : Option (List Call)) → Visit → Option (List Call)
 up_to_close before None v = None
@@ -84,7 +79,7 @@ LinkAtEnd shown calls = EndsShort calls → (link : Seen) × shown link × Close
 pub record WasThere (shown : Seen → Type 0) (v : Visit) (before now : Option (List Call)) : Type 0 where
   pub conn : Seen
   pub shows : shown conn
-  pub is : IsOf now v conn
+  pub is : ClosedAs now v.given v.left v.taken v.faults conn.content conn.written conn.faults
   pub early : v.answer ≡ served.LinkBad → LinkAtEnd shown (up_to_close before now v)
 
 -- ---- what a visit does
@@ -145,18 +140,12 @@ pub record DoorFails {S : Type 0} (old new : Standing S) : Type 0 where
   pub calls : Makes old.net.calls new.net.calls (Accepted true ∷ [])
 
 -- A visit that ended at a frame that the log refused: the bytes that the connection gave, those that it had
--- left at its close, and the calls that the server made on the net meanwhile.
+-- left at its close, and the calls that the server made on the net meanwhile. It took nothing, and had no
+-- fault.
 pub record RefusedVisit : Type 0 where
   pub given : List ℕ
   pub left : List ℕ
   pub calls : List Call
-
--- it took nothing, and had no fault
-abbrev pub refused_calls : RefusedVisit → List Call
-refused_calls v = Accepted false ∷ v.calls ++ Closed v.given [] true ∷ []
-
-abbrev pub IsOfRefused : Option (List Call) → RefusedVisit → Seen → Type 0
-IsOfRefused calls v conn = ClosedAs calls v.given v.left [] 0 conn.content conn.written conn.faults
 
 -- the frames that the server was handed before the one that the log refused for this fault
 pub record IsRefusedVisit {S F : Type 0} (log : Log S F) (peer : List ℕ) (shown : Seen → Type 0)
@@ -169,9 +158,11 @@ pub record IsRefusedVisit {S F : Type 0} (log : Log S F) (peer : List ℕ) (show
   pub stops : log.stops old.server new.server frames refused fault
   pub alone : IsHelp (log.core old.server) → v.calls ≡ []
   pub faults : new.net.faults ≡ old.net.faults
-  pub calls : Makes old.net.calls new.net.calls (refused_calls v)
+  pub calls : Makes old.net.calls new.net.calls
+      (Accepted false ∷ v.calls ++ Closed v.given [] true ∷ [])
   pub doors : new.net.doors ≡ old.net.doors
-  pub there : (conn : Seen) × shown conn × IsOfRefused new.net.calls v conn
+  pub there : (conn : Seen) × shown conn
+      × ClosedAs new.net.calls v.given v.left [] 0 conn.content conn.written conn.faults
 
 -- ---- by how it ended
 

@@ -18,6 +18,7 @@ use crate::node::Served;
 use express_words::outside::{Conn, Net};
 use frame_rules::FRAME_MAX;
 use node_restart::Role;
+use wire_frames::Received;
 
 /// Writes a reply, if there is one. ConnFault has the connection's count of faults where that failed.
 fn send<C: Conn>(conn: &mut C, reply: &[u8]) -> Served
@@ -36,18 +37,18 @@ fn send<C: Conn>(conn: &mut C, reply: &[u8]) -> Served
 
 fn serve_helper<C: Conn, S: Logged>(
     server: &mut S,
-    frame: &[u8],
+    received: &Received<'_>,
     conn: &mut C,
 ) -> Result<Served, S::Fault>
     requires help { IsHelp (S.log.core server.old) }
-    ensures ends { AnswersAlone S.log frame.now result server.old server.new (shown C.seen conn.old conn.new) }
+    ensures ends { AnswersAlone S.log received.now result server.old server.new (shown C.seen conn.old conn.new) }
     ensures sent { IfOk result IsSent }
     ensures untouched { OnErr result (conn.new ≡ conn.old) }
     ensures content { (C.seen conn.new).content ≡ (C.seen conn.old).content }
     ensures counts { CountsLog S.rises (S.failures server.old) (S.failures server.new) result }
 {
     let mut out = [0u8; FRAME_MAX];
-    match step_helper(server, frame, &mut out) {
+    match step_helper(server, received, &mut out) {
         Ok(told) => Ok(send(conn, &out[..told])),
         Err(fault) => Err(fault),
     }
@@ -56,19 +57,19 @@ fn serve_helper<C: Conn, S: Logged>(
 // Bytes that are no frame that a leader takes from clients get their refusal, and no exchange is made.
 fn refuse<C: Conn, S: Logged>(
     server: &mut S,
-    frame: &[u8],
+    received: &Received<'_>,
     conn: &mut C,
 ) -> Result<Served, S::Fault>
     requires lead { IsLead (S.log.core server.old) }
-    requires none { None ≡ taken_in (whole frame.now) }
-    ensures ends { AnswersAlone S.log frame.now result server.old server.new (shown C.seen conn.old conn.new) }
+    requires none { None ≡ taken_in (whole received.now) }
+    ensures ends { AnswersAlone S.log received.now result server.old server.new (shown C.seen conn.old conn.new) }
     ensures sent { IfOk result IsSent }
     ensures untouched { OnErr result (conn.new ≡ conn.old) }
     ensures content { (C.seen conn.new).content ≡ (C.seen conn.old).content }
     ensures counts { CountsLog S.rises (S.failures server.old) (S.failures server.new) result }
 {
     let mut out = [0u8; FRAME_MAX];
-    match step_leader(server, frame, &mut out) {
+    match step_leader(server, received, &mut out) {
         Ok(told) => Ok(send(conn, &out[..told])),
         Err(fault) => Err(fault),
     }
@@ -77,12 +78,12 @@ fn refuse<C: Conn, S: Logged>(
 fn serve_leader<C: Conn, N: Net, S: Logged>(
     server: &mut S,
     peer: &str,
-    frame: &[u8],
+    received: &Received<'_>,
     conn: &mut C,
     net: &mut N,
 ) -> Result<Served, S::Fault>
     requires lead { IsLead (S.log.core server.old) }
-    ensures ends { AnswerEnds S.log peer.now frame.now result server.old server.new
+    ensures ends { AnswerEnds S.log peer.now received.now result server.old server.new
         (shown N.seen net.old net.new) (shown C.seen conn.old conn.new) }
     ensures early { IfOk result (λ why. why ≡ Served.LinkBad → EarlyAtEnd (N.seen net.new).calls N.Conn.seen) }
     ensures fault { IfOk result (λ why. FaultIn why (N.seen net.old).faults (N.seen net.new).faults) }
@@ -92,12 +93,11 @@ fn serve_leader<C: Conn, N: Net, S: Logged>(
     ensures content { (C.seen conn.new).content ≡ (C.seen conn.old).content }
     ensures counts { CountsLog S.rises (S.failures server.old) (S.failures server.new) result }
 {
-    let client = match taken_in(frame) {
-        Some(client) => client,
-        None => return refuse(server, frame, conn),
+    let Some(client) = taken_in(received) else {
+        return refuse(server, received, conn);
     };
     let mut out = [0u8; FRAME_MAX];
-    match handle(server, peer, frame, net, &mut out) {
+    match handle(server, peer, received, net, &mut out) {
         Ok(told) => Ok(send(conn, &out[..told])),
         Err(Broke::Link(why)) => {
             let told = say_link_down(&client, net.faults(), &mut out);
@@ -112,11 +112,11 @@ fn serve_leader<C: Conn, N: Net, S: Logged>(
 pub(crate) fn answer<C: Conn, N: Net, S: Logged>(
     server: &mut S,
     peer: &str,
-    frame: &[u8],
+    received: &Received<'_>,
     conn: &mut C,
     net: &mut N,
 ) -> Result<Served, S::Fault>
-    ensures ends { AnswerEnds S.log peer.now frame.now result server.old server.new
+    ensures ends { AnswerEnds S.log peer.now received.now result server.old server.new
         (shown N.seen net.old net.new) (shown C.seen conn.old conn.new) }
     ensures early { IfOk result (λ why. why ≡ Served.LinkBad → EarlyAtEnd (N.seen net.new).calls N.Conn.seen) }
     ensures fault { IfOk result (λ why. FaultIn why (N.seen net.old).faults (N.seen net.new).faults) }
@@ -128,7 +128,7 @@ pub(crate) fn answer<C: Conn, N: Net, S: Logged>(
     ensures helper_rests { IsHelp (S.log.core server.old) → net.new ≡ net.old }
 {
     match server.role() {
-        Role::Leader => serve_leader(server, peer, frame, conn, net),
-        Role::Helper => serve_helper(server, frame, conn),
+        Role::Leader => serve_leader(server, peer, received, conn, net),
+        Role::Helper => serve_helper(server, received, conn),
     }
 }

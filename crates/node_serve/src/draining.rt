@@ -14,6 +14,7 @@ use crate::node::Served;
 use express_words::outside::Net;
 use node_exchange::{Broken, exchange};
 use node_restart::Sender;
+use wire_frames::Received;
 
 /// One exchange: the command of `size` bytes at the front of `out` goes to the helper, and its answer to the leader.
 /// Gives the length of the reply for the client, which stands at the front of `out` then; 0 where a settle follows.
@@ -44,7 +45,8 @@ fn exchange_one<N: Net, S: Logged>(
         Err(Broken::Early(_)) => return Err(Broke::Link(Served::LinkBad)),
         Err(Broken::Wrong(_)) => return Err(Broke::Link(Served::LinkBad)),
     };
-    match server.hand(Sender::Peer, &answer[..count], out) {
+    let received = Received::of(&answer[..count]);
+    match server.hand(Sender::Peer, &received, out) {
         Ok(did) => {
             if is_ignored(did) {
                 Err(Broke::Link(Served::LinkBad))

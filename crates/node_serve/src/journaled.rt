@@ -4,6 +4,7 @@ ghost use Rattle.std.specs.Prelude.{Some, None};
 use crate::logged::Logged;
 use node_journal::Disk;
 use node_restart::{Did, KeepFault, Kept, Role, Sender};
+use wire_frames::Received;
 
 impl<D: Disk> Logged for Kept<D> {
     ghost use Rattle.node_restart.proofs.KeepLaws.{keeps_none, keeps_both};
@@ -22,8 +23,13 @@ impl<D: Disk> Logged for Kept<D> {
         self.opening().role
     }
 
-    fn hand(&mut self, sender: Sender, frame: &[u8], out: &mut [u8]) -> Result<Did, KeepFault> {
-        self.take(sender, frame, out)
+    fn hand(
+        &mut self,
+        sender: Sender,
+        received: &Received<'_>,
+        out: &mut [u8],
+    ) -> Result<Did, KeepFault> {
+        self.take(sender, received, out)
     }
 
     fn oldest(&self, out: &mut [u8]) -> Option<usize> {

@@ -1,6 +1,5 @@
 //! A server is opened, from its settings or from its journal.
 ghost use Rattle.std.specs.Prelude.{◌≡◌, ◌≢◌, ◌≤◌, ℕ, List, [], IfOk, IfErr};
-ghost use Rattle.express_words.specs.Limits.{KeepsLimits};
 ghost use Rattle.node_journal.specs.Disk.{IsUntouched};
 ghost use Rattle.node_serve.specs.KeptOpening.{opening_of, IsOpenedOn, IsReopened};
 ghost use Rattle.node_serve.specs.KeptOpening.{IsOfOpening, IsCauseOf, LeavesDisk, CountsOpen};
@@ -27,6 +26,7 @@ fn opening_of(settings: &ServeSettings, seed: &[u8; 32]) -> Opening
 }
 
 /// The server of the journal on a disk, if it was opened with the same role and settings.
+#[tactic(auto, using(crate::proofs::OpenLaws::cause_reopened))]
 fn open_again<D: Disk>(alloc: Global, opening: &Opening, disk: D) -> Result<Kept<D>, (OpenFault, D)>
     requires some { (c : List ℕ) → (D.disk disk).reads c → c ≢ [] }
     ensures reopened { IfOk result (IsReopened D.disk JOURNAL_LIMIT opening.now disk) }
@@ -55,8 +55,6 @@ pub fn open_kept<D: Disk>(
     seed: &[u8; 32],
     disk: D,
 ) -> Result<Kept<D>, (OpenFault, D)>
-    requires limits { KeepsLimits settings.now.settings.width settings.now.settings.boxes
-        settings.now.settings.lanes settings.now.settings.window }
     // A disk with no byte gives a new server, and another one its journal's.
     ensures opened { IfOk result (IsOpenedOn D.disk JOURNAL_LIMIT (opening_of settings.now seed.now) disk) }
 

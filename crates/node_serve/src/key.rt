@@ -1,8 +1,8 @@
 //! A setting's name.
-ghost use Rattle.std.specs.Prelude.{◌≡◌, ◌↔◌, IsTrue, Some, IsNone, IfSome};
+ghost use Rattle.std.specs.Prelude.{Some, IsNone, IfSome};
 ghost use Rattle.node_serve.specs.KeptOpening.{key_text, IsSame, DiffersAt};
 
-use node_restart::{Opening, Role};
+use node_restart::Opening;
 use std::fmt;
 
 /// What two openings are compared by, in this order.
@@ -29,27 +29,13 @@ impl fmt::Display for SettingsKey {
     }
 }
 
-fn is_same_role(a: Role, b: Role) -> bool
-    ensures { IsTrue result ↔ (a ≡ b) }
-{
-    match a {
-        Role::Leader => match b {
-            Role::Leader => true,
-            Role::Helper => false,
-        },
-        Role::Helper => match b {
-            Role::Leader => false,
-            Role::Helper => true,
-        },
-    }
-}
-
 /// The first setting in which an opening differs from another, if there is one. Seeds aren't compared.
+#[tactic(auto, using(express_words::proofs::SettledLaws::one_settings))]
 pub(crate) fn first_difference(a: &Opening, b: &Opening) -> Option<SettingsKey>
     ensures some { IfSome result (λ key. DiffersAt key a.now b.now) }
     ensures none { IsNone result → IsSame a.now b.now }
 {
-    if !is_same_role(a.role, b.role) {
+    if a.role != b.role {
         Some(SettingsKey::Role)
     } else if a.settings.width != b.settings.width {
         Some(SettingsKey::Width)

@@ -23,7 +23,7 @@ use express_words::Refusal;
 use express_words::outside::Net;
 use frame_rules::{Body, FRAME_MAX, Frame};
 use node_restart::Sender;
-use wire_frames::{answer, encode_into, whole};
+use wire_frames::{Received, answer, encode_into};
 
 /// Whether the leader takes it from clients: kinds 2 to 5 and 16.
 fn is_taken(body: &Body<'_>) -> bool
@@ -41,20 +41,14 @@ fn is_taken(body: &Body<'_>) -> bool
 }
 
 /// The frame that the bytes are, if the leader takes it from clients.
-pub(crate) fn taken_in(bytes: &[u8]) -> Option<Frame<'_>>
-    ensures exact { option_map plain result ≡ taken_in (whole_bytes bytes.now) }
+pub(crate) fn taken_in<'a>(received: &Received<'a>) -> Option<Frame<'a>>
+    ensures exact { option_map plain result ≡ taken_in (whole_bytes received.now) }
     ensures is_frame { IfSome result (λ f. IsFrame (plain f)) }
     ensures class { IfSome result (λ f. is_from_client (plain_body f.body) ≡ true) }
 {
-    match whole(bytes) {
-        Ok(frame) => {
-            if is_taken(&frame.body) {
-                Some(frame)
-            } else {
-                None
-            }
-        }
-        Err(_) => None,
+    match received.frame() {
+        Ok(frame) if is_taken(&frame.body) => Some(frame),
+        _ => None,
     }
 }
 
@@ -62,20 +56,20 @@ pub(crate) fn taken_in(bytes: &[u8]) -> Option<Frame<'_>>
 /// length is given, 0 where there is none yet.
 pub(crate) fn step_leader<S: Logged>(
     server: &mut S,
-    frame: &[u8],
+    received: &Received<'_>,
     out: &mut [u8],
 ) -> Result<usize, S::Fault>
     requires room { HasRoom out.old }
     requires lead { IsLead (S.log.core server.old) }
-    ensures steps { IfOk result (λ n. Steps (S.log.core server.old) frame.now (S.log.core server.new)
+    ensures steps { IfOk result (λ n. Steps (S.log.core server.old) received.now (S.log.core server.new)
         (take n out.new)) }
     ensures within { IfOk result (λ n. n ≤ length out.new) }
-    ensures takes { OnOk result (S.log.takes server.old server.new (handed Client frame.now ∷ [])) }
-    ensures stops { IfErr result (S.log.stops server.old server.new [] (handed Client frame.now)) }
+    ensures takes { OnOk result (S.log.takes server.old server.new (handed Client received.now ∷ [])) }
+    ensures stops { IfErr result (S.log.stops server.old server.new [] (handed Client received.now)) }
     ensures no_step { OnErr result (S.log.core server.new ≡ S.log.core server.old) }
     ensures counts { CountsLog S.rises (S.failures server.old) (S.failures server.new) result }
 {
-    match server.hand(Sender::Client, frame, out) {
+    match server.hand(Sender::Client, received, out) {
         Ok(did) => Ok(told(did)),
         Err(fault) => Err(fault),
     }
@@ -86,13 +80,13 @@ pub(crate) fn step_leader<S: Logged>(
 pub(crate) fn handle<N: Net, S: Logged>(
     server: &mut S,
     peer: &str,
-    frame: &[u8],
+    received: &Received<'_>,
     net: &mut N,
     out: &mut [u8],
 ) -> Result<usize, Broke<S::Fault>>
     requires room { HasRoom out.old }
     requires lead { IsLead (S.log.core server.old) }
-    ensures ends { HandleEnds S.log peer.now frame.now out.new result server.old server.new
+    ensures ends { HandleEnds S.log peer.now received.now out.new result server.old server.new
         (shown N.seen net.old net.new) }
     ensures within { IfOk result (λ n. n ≤ length out.new) }
     ensures early { IfLink result (λ why. why ≡ Served.LinkBad → EarlyAtEnd (N.seen net.new).calls N.Conn.seen) }
@@ -105,7 +99,7 @@ pub(crate) fn handle<N: Net, S: Logged>(
         Ok(_) => {}
         Err(why) => return Err(why),
     }
-    match step_leader(server, frame, out) {
+    match step_leader(server, received, out) {
         Ok(told) => drain(server, peer, net, out, told, &mut answer),
         Err(fault) => Err(Broke::Keep(fault)),
     }

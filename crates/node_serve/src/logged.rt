@@ -7,6 +7,7 @@ ghost use Rattle.node_restart.specs.Steps.{resent_by, role_of, step_of, Takes};
 ghost use Rattle.node_serve.specs.Logs.{CountsLog, Log};
 
 use node_restart::{Did, Role, Sender};
+use wire_frames::Received;
 
 /// A server with its log: a journal, or nowhere. Each frame that it is handed goes to the log before its step.
 pub trait Logged {
@@ -28,12 +29,17 @@ pub trait Logged {
 
     /// Hands the server a frame: the log takes it, and then the server takes its step. What it writes stands at the
     /// front of `out`.
-    fn hand(&mut self, sender: Sender, frame: &[u8], out: &mut [u8]) -> Result<Did, Self::Fault>
+    fn hand(
+        &mut self,
+        sender: Sender,
+        received: &Received<'_>,
+        out: &mut [u8],
+    ) -> Result<Did, Self::Fault>
         requires room { HasRoom out.old }
-        ensures step { IfOk result (λ did. Takes (step_of (log.core self.old) sender frame.now) (log.core self.new) did
+        ensures step { IfOk result (λ did. Takes (step_of (log.core self.old) sender received.now) (log.core self.new) did
             out.old out.new) }
-        ensures takes { OnOk result (log.takes self.old self.new (handed sender frame.now ∷ [])) }
-        ensures stops { IfErr result (log.stops self.old self.new [] (handed sender frame.now)) }
+        ensures takes { OnOk result (log.takes self.old self.new (handed sender received.now ∷ [])) }
+        ensures stops { IfErr result (log.stops self.old self.new [] (handed sender received.now)) }
         ensures no_step { OnErr result (log.core self.new ≡ log.core self.old) }
         ensures counts { CountsLog rises (failures self.old) (failures self.new) result };
 

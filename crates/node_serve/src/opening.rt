@@ -1,6 +1,5 @@
 //! A server is opened.
 ghost use Rattle.std.specs.Prelude.{◌≤◌, IfOk};
-ghost use Rattle.express_words.specs.Limits.{KeepsLimits};
 ghost use Rattle.node_serve.specs.Opening.{IsOpened};
 
 use crate::node::Node;
@@ -12,8 +11,6 @@ use std::alloc::Global;
 
 /// Opens the server of the settings' role, with their limits and this seed.
 pub fn open_node(alloc: Global, settings: &ServeSettings, seed: &[u8; 32]) -> Result<Node, NoMemory>
-    requires limits { KeepsLimits settings.now.settings.width settings.now.settings.boxes settings.now.settings.lanes
-        settings.now.settings.window }
     ensures opened { IfOk result (λ node. IsOpened settings.now seed.now node) }
 {
     match settings.role {

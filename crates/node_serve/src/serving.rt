@@ -73,7 +73,8 @@ pub fn serve<C: Conn, N: Net, S: Logged>(
     match gather_frame(conn, gather) {
         Reading::Failed => Ok(Served::ConnFault(conn.faults())),
         Reading::Ended => Ok(Served::Ended),
-        Reading::Whole => answer(server, peer, gather.held(), conn, net),
-        Reading::Wrong(_) => answer(server, peer, gather.held(), conn, net),
+        Reading::Whole | Reading::Wrong(_) => {
+            answer(server, peer, &gather.received(), conn, net)
+        }
     }
 }

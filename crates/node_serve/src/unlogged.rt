@@ -7,6 +7,7 @@ use crate::node::Node;
 use helper_core::Helper;
 use leader_core::Leader;
 use node_restart::{Did, Role, Sender, help_client, help_peer, lead_client, lead_peer};
+use wire_frames::Received;
 
 impl Logged for Leader {
     ghost use Rattle.node_restart.specs.declared.server.Core.TheVariants.{Lead};
@@ -24,10 +25,15 @@ impl Logged for Leader {
         Role::Leader
     }
 
-    fn hand(&mut self, sender: Sender, frame: &[u8], out: &mut [u8]) -> Result<Did, Never> {
+    fn hand(
+        &mut self,
+        sender: Sender,
+        received: &Received<'_>,
+        out: &mut [u8],
+    ) -> Result<Did, Never> {
         match sender {
-            Sender::Client => Ok(lead_client(self, frame, out)),
-            Sender::Peer => Ok(lead_peer(self, frame, out)),
+            Sender::Client => Ok(lead_client(self, received, out)),
+            Sender::Peer => Ok(lead_peer(self, received, out)),
         }
     }
 
@@ -61,10 +67,15 @@ impl Logged for Helper {
         Role::Helper
     }
 
-    fn hand(&mut self, sender: Sender, frame: &[u8], out: &mut [u8]) -> Result<Did, Never> {
+    fn hand(
+        &mut self,
+        sender: Sender,
+        received: &Received<'_>,
+        out: &mut [u8],
+    ) -> Result<Did, Never> {
         match sender {
-            Sender::Client => Ok(help_client(self, frame, out)),
-            Sender::Peer => Ok(help_peer(self, frame, out)),
+            Sender::Client => Ok(help_client(self, received, out)),
+            Sender::Peer => Ok(help_peer(self, received, out)),
         }
     }
 
@@ -98,10 +109,15 @@ impl Logged for Node {
         }
     }
 
-    fn hand(&mut self, sender: Sender, frame: &[u8], out: &mut [u8]) -> Result<Did, Never> {
+    fn hand(
+        &mut self,
+        sender: Sender,
+        received: &Received<'_>,
+        out: &mut [u8],
+    ) -> Result<Did, Never> {
         match self {
-            Node::Lead(leader, _) => leader.hand(sender, frame, out),
-            Node::Help(helper) => helper.hand(sender, frame, out),
+            Node::Lead(leader, _) => leader.hand(sender, received, out),
+            Node::Help(helper) => helper.hand(sender, received, out),
         }
     }
 

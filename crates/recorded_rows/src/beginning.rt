@@ -1,17 +1,13 @@
 //! How a server begins.
-ghost use Rattle.express_words.specs.Limits.{KeepsLimits};
-
 use crate::fault::{Fault, Result};
 use crate::fields::{first_of, number_of};
 use express_words::Settings;
 use node_restart::{Opening, Role};
 
-/// How a server begins, with settings that keep their limits.
+/// How a server begins.
 #[derive(Clone, Copy)]
 pub(crate) struct Beginning {
     pub(crate) opening: Opening,
-    ghost limits: { KeepsLimits opening.settings.width opening.settings.boxes opening.settings.lanes
-        opening.settings.window },
 }
 
 impl Beginning {

@@ -12,6 +12,7 @@ use leader_core::Leader;
 use node_restart::{Did, Role, Sender, help_client, help_peer, lead_client, lead_peer};
 use node_serve::Node;
 use std::alloc::Global;
+use wire_frames::Received;
 
 /// A server without a journal. A leader's helper is at the address `helper`.
 pub(crate) type Plain = Hidden<Node>;
@@ -31,14 +32,14 @@ impl Plain {
         Ok(Hidden { inside })
     }
 
-    fn step(&mut self, sender: Sender, frame: &[u8], out: &mut [u8]) -> Did
+    fn step(&mut self, sender: Sender, received: &Received<'_>, out: &mut [u8]) -> Did
         requires room { HasRoom out.old }
     {
         match (&mut self.inside, sender) {
-            (Node::Lead(leader, _), Sender::Client) => lead_client(leader, frame, out),
-            (Node::Lead(leader, _), Sender::Peer) => lead_peer(leader, frame, out),
-            (Node::Help(helper), Sender::Client) => help_client(helper, frame, out),
-            (Node::Help(helper), Sender::Peer) => help_peer(helper, frame, out),
+            (Node::Lead(leader, _), Sender::Client) => lead_client(leader, received, out),
+            (Node::Lead(leader, _), Sender::Peer) => lead_peer(leader, received, out),
+            (Node::Help(helper), Sender::Client) => help_client(helper, received, out),
+            (Node::Help(helper), Sender::Peer) => help_peer(helper, received, out),
         }
     }
 
@@ -50,7 +51,7 @@ impl Plain {
         frame: &[u8],
     ) -> Result<(Did, Vec<u8>)> {
         let mut out = [0u8; FRAME_MAX];
-        let did = self.step(sender, frame, &mut out);
+        let did = self.step(sender, &Received::of(frame), &mut out);
         Ok((did, Vec::from_slice(alloc, front_of(&out, written(did)))?))
     }
 

@@ -125,4 +125,4 @@ mills_count n low =
     let keeps : KeepsRules s = mill_keeps n low in
     let few : length (events_in s.events) ≤ 20000 = let size : length (events_in s.events) ≡ length s.events = length-map s.events _ in let most = keeps.few in omega (arith, size, most) in
     mill_comes (mill_address (mill_seed n)) (apart (mill_seed n)) (mill_message (mill_seed n)) s.header.settings s.header.seed (events_in s.events) n refl refl
-    keeps.limits (of_clients s.header.settings [] s.events keeps.events (mill_from_clients n)) few (events_are n)
+    s.header.settings.limits (of_clients s.header.settings [] s.events keeps.events (mill_from_clients n)) few (events_are n)

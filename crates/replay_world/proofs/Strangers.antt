@@ -196,18 +196,18 @@ schedule_fits schedule rules =
 pub of_every_schedule : (P : Book → FrameWorld → World → Type 0) → AtEveryEnd P → OfEverySchedule P
 unfolding run_of
 of_every_schedule P h schedule rules =
-    h schedule.header.settings schedule.header.seed (strangers_in schedule) (events_in schedule.events) rules.limits
+    h schedule.header.settings schedule.header.seed (strangers_in schedule) (events_in schedule.events) schedule.header.settings.limits
     (schedule_fits schedule rules) (omega (arith, rules.few, length-map schedule.events event_in))
 
 pub history_is_of_run : HistoryIsOfRun
 unfolding run_of
 history_is_of_run schedule rules =
-    runs_are_one schedule.header.settings schedule.header.seed (strangers_in schedule) (events_in schedule.events) rules.limits
+    runs_are_one schedule.header.settings schedule.header.seed (strangers_in schedule) (events_in schedule.events) schedule.header.settings.limits
     (schedule_fits schedule rules) (omega (arith, rules.few, length-map schedule.events event_in))
 
 pub strangers_were_brought : StrangersWereBrought
 strangers_were_brought schedule i e rules at strange =
-    commands_were_brought schedule.header.settings schedule.header.seed (strangers_in schedule) (events_in schedule.events) rules.limits
+    commands_were_brought schedule.header.settings schedule.header.seed (strangers_in schedule) (events_in schedule.events) schedule.header.settings.limits
     (schedule_fits schedule rules) (omega (arith, rules.few, length-map schedule.events event_in)) i e at strange
 
 -- ---- what is told, and a finish
@@ -217,7 +217,7 @@ schedules_tell schedule client rules honest =
     let settings = schedule.header.settings in
     let o = oracle_of (runs_of schedule).acts in
     let events = token_events (events_in schedule.events) in
-    let room : 0 < settings.window = omega (arith, rules.limits.3.0) in (
+    let room : 0 < settings.window = omega (arith, settings.limits.3.0) in (
       outcomes_numbered o settings.width settings.boxes settings.window (strangers_in schedule) events room client,
       outcomes_account o settings.width settings.boxes settings.window (strangers_in schedule) events client room honest,
     )
@@ -244,7 +244,7 @@ schedules_answer schedule client number before after rules is small =
     let all : events_in schedule.events ≡ events_in before ++ run.Finish client ∷ events_in after =
     ap events_in is ∙ in_parts before (Finish client ∷ after) in
     let few : length (events_in schedule.events) ≤ 20000 = omega (arith, rules.few, length-map schedule.events event_in) in
-    rw all (finish_answers settings schedule.header.seed foreign (events_in before) (events_in after) client number rules.limits
+    rw all (finish_answers settings schedule.header.seed foreign (events_in before) (events_in after) client number settings.limits
     (subst (AreFitting settings foreign) all (schedule_fits schedule rules)) honest (subst (λ es. length es ≤ 20000) all few) small)
 
 pub finishes_drain : FinishesDrain
@@ -261,4 +261,4 @@ finishes_drain schedule client before rules is busy =
     let few : length (events_in schedule.events) ≤ 20000 = omega (arith, rules.few, length-map schedule.events event_in) in
     let fits = front_fits settings foreign (events_in before) (run.Finish client ∷ []) (subst (AreFitting settings foreign) all (schedule_fits schedule rules)) in
     let size = ap length all ∙ length-append (events_in before) (run.Finish client ∷ []) in
-    rw all (finish_drains settings schedule.header.seed foreign (events_in before) client rules.limits fits honest (omega (arith, few, size)) busy)
+    rw all (finish_drains settings schedule.header.seed foreign (events_in before) client settings.limits fits honest (omega (arith, few, size)) busy)

@@ -23,7 +23,6 @@ pub struct Asker {
 
 impl Asker {
     ghost use Rattle.std.specs.Prelude.{◌≡◌, ◌+◌, [], ◌++◌, ◌∷◌, IfOk, OnOk};
-    ghost use Rattle.express_words.specs.Limits.{KeepsLimits};
     ghost use Rattle.run_rules.specs.Run.{asks, goes_on, notes, to_client};
     ghost use Rattle.step_rules.specs.ClientReplies.{on_reply};
     ghost use Rattle.replay_world.specs.Parts.{outcomes_in, request_in, told_in};
@@ -31,7 +30,6 @@ impl Asker {
 
     /// A client of this lane, which was asked nothing.
     pub fn open(alloc: Global, header: &Header, lane: u16) -> Result<Asker, NoMemory>
-        requires limits { KeepsLimits header.now.settings.width header.now.settings.boxes header.now.settings.lanes header.now.settings.window }
         ensures client { IfOk result (λ a. a.client ≡ fresh header.now lane) }
         ensures waiting { IfOk result (λ a. a.waiting.items ≡ []) }
         ensures told { IfOk result (λ a. a.told ≡ 0) }

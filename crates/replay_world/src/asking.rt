@@ -1,6 +1,5 @@
 //! What a client is asked, and the clients of all lanes.
 ghost use Rattle.std.specs.Prelude.{◌≡◌, length, IfOk};
-ghost use Rattle.express_words.specs.Limits.{KeepsLimits};
 ghost use Rattle.client_core.specs.Requests.{plain_request};
 ghost use Rattle.replay_world.specs.Parts.{request_in};
 ghost use Rattle.replay_world.specs.View.{AreFresh};
@@ -28,7 +27,6 @@ pub fn request_of(asked: &Asked) -> Request<'_>
 
 /// A client for each lane.
 pub fn all_askers(alloc: Global, header: &Header) -> Result<Vec<Asker>, NoMemory>
-    requires limits { KeepsLimits header.now.settings.width header.now.settings.boxes header.now.settings.lanes header.now.settings.window }
     ensures count { IfOk result (λ askers. length askers.items ≡ header.now.settings.lanes) }
     ensures fresh { IfOk result (λ askers. AreFresh header.now askers.items) }
 {

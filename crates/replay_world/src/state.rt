@@ -31,7 +31,6 @@ pub struct State {
 
 impl State {
     ghost use Rattle.std.specs.Prelude.{◌≡◌, ◌<◌, ◌≤◌, length, IfOk, OnOk};
-    ghost use Rattle.express_words.specs.Limits.{KeepsLimits};
     ghost use Rattle.schedule_text.specs.Rules.{EventKeepsRules};
     ghost use Rattle.run_rules.specs.Letters.{opened, leader_seed, helper_seed};
     ghost use Rattle.step_rules.specs.Helper.{opened_helper};
@@ -42,7 +41,6 @@ impl State {
 
     /// The servers with no boxes, the clients with no request, and an empty pool.
     pub fn open(alloc: Global, header: &Header) -> Result<State, NoMemory>
-        requires limits { KeepsLimits header.now.settings.width header.now.settings.boxes header.now.settings.lanes header.now.settings.window }
         ensures opened { IfOk result (λ s. run_in header.now s ≡ opened header.now.settings header.now.seed) }
         ensures fit { IfOk result (IsFit header.now) }
     {
@@ -58,7 +56,6 @@ impl State {
         leader: Leader,
         helper: Helper,
     ) -> Result<State, NoMemory>
-        requires limits { KeepsLimits header.now.settings.width header.now.settings.boxes header.now.settings.lanes header.now.settings.window }
         requires leader { leader ≡ opened_leader header.now.settings (leader_seed header.now.seed) }
         requires helper { helper ≡ opened_helper header.now.settings (helper_seed header.now.seed) }
         ensures opened { IfOk result (λ s. run_in header.now s ≡ opened header.now.settings header.now.seed) }

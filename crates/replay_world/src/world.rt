@@ -41,7 +41,6 @@ impl World {
     ghost use Rattle.std.specs.Prelude.{◌≡◌, ◌<◌, ◌≤◌, All, OnOk, IfOk, Err, [], string_bytes};
     ghost use Rattle.express_words.specs.Causes.{Rose};
     ghost use Rattle.express_words.specs.Streams.{Took, TookPrefix};
-    ghost use Rattle.express_words.specs.Limits.{KeepsLimits};
     ghost use Rattle.run_rules.specs.Run.{happens};
     ghost use Rattle.schedule_text.specs.Rules.{KeepsRulesAfter};
     ghost use Rattle.replay_world.specs.Messages.{HasNoOther};
@@ -50,7 +49,6 @@ impl World {
 
     /// A world in which nothing has happened.
     pub fn open(alloc: Global, header: &Header) -> Result<World, NoMemory>
-        requires limits { KeepsLimits header.now.settings.width header.now.settings.boxes header.now.settings.lanes header.now.settings.window }
         ensures schedule { IfOk result (λ world. played world ≡ record { header = header.now; events = [] }) }
         ensures whole { IfOk result IsWhole }
     {

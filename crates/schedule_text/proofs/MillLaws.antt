@@ -170,12 +170,6 @@ mill_keeps n low =
     let registers = mill_registers seed 64 in
     let writes = mill_writes seed n in
     record {
-      limits = (
-        (omega arith, omega arith, refl),
-        (omega arith, omega arith),
-        (omega arith, omega arith),
-        (omega arith, omega arith),
-      );
       events =
           plain_keep (mill_header n).settings [] (registers ++ writes ++ mill_reads 64) tt
           (plain_join (mill_header 0).settings (registers ++ writes) (mill_reads 64)

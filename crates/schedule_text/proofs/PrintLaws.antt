@@ -12,7 +12,6 @@ use Rattle.frame_rules.proofs.Digits.{be_again}
 use Rattle.frame_rules.proofs.GrammarLaws.{bytes_of}
 use Rattle.hex.specs.Hex.{IsBytes, lower_digits, encode_with, encode_lower}
 use Rattle.hex.proofs.HexLemmas.{decode_of-encode_lower, decode_sized-encode_lower}
-use Rattle.express_words.specs.Limits.{KeepsLimits}
 use Rattle.express_words.specs.declared.settings.Settings.{Settings}
 use Rattle.schedule_text.specs.declared.schedule.Asked.{Asked}
 use Rattle.schedule_text.specs.declared.schedule.Asked.TheVariants.{Register, Write, Read, Retire}
@@ -84,12 +83,9 @@ events_spelled settings before [] h = tt
 events_spelled settings before (event ∷ events) h =
     ((event_spelled settings event h.0.0, h.0.1), events_spelled settings (before ++ event ∷ []) events h.1)
 
-header_spelled : (header : Header)
-    → KeepsLimits header.settings.width header.settings.boxes header.settings.lanes header.settings.window
-    → length header.seed ≡ 32 → AreBytes header.seed → SpellsHeader header (header_text header)
+header_spelled : (header : Header) → length header.seed ≡ 32 → AreBytes header.seed → SpellsHeader header (header_text header)
 unfolding header_text
-header_spelled header limits sized bytes = record {
-  limits = limits;
+header_spelled header sized bytes = record {
   digits = encode_lower header.seed;
   seed = decode_sized-encode_lower header.seed 32 sized (bytes_of header.seed bytes);
   text = refl;
@@ -184,11 +180,10 @@ event_no_lf settings (Inject server bytes) few h =
     (HasNoLf-append (server_letter server) (codes " " ++ encode_lower bytes) (letter_no_lf server)
     (HasNoLf-append (codes " ") (encode_lower bytes) (search arith) (HasNoLf-hex bytes)))
 
-header_no_lf : (header : Header)
-    → KeepsLimits header.settings.width header.settings.boxes header.settings.lanes header.settings.window
-    → HasNoLf (header_text header)
+header_no_lf : (header : Header) → HasNoLf (header_text header)
 unfolding header_text
-header_no_lf header limits =
+header_no_lf header =
+    let limits = header.settings.limits in
     HasNoLf-append (codes "express 1 ") _ (search arith)
     (HasNoLf-spaced header.settings.width _ (let h = limits.0.1 in omega (arith, h))
     (HasNoLf-spaced header.settings.boxes _ (let h = limits.1.1 in omega (arith, h))
@@ -229,9 +224,9 @@ printed_spelled schedule h sized bytes =
       map event_text schedule.events,
       subst (λ (text : List ℕ). AreLines (first ∷ map event_text schedule.events) text)
           (sym (append_assoc first (codes "\n") (flat_map event_line schedule.events)))
-          (are_lines schedule.header.settings first [] schedule.events h.limits.2.1
-          (header_no_lf schedule.header h.limits) h.events),
-      header_spelled schedule.header h.limits sized bytes,
+          (are_lines schedule.header.settings first [] schedule.events schedule.header.settings.limits.2.1
+          (header_no_lf schedule.header) h.events),
+      header_spelled schedule.header sized bytes,
       events_spelled schedule.header.settings [] schedule.events h.events,
       h.few,
     )

@@ -110,7 +110,6 @@ events_keep settings before (event ∷ events) (line ∷ lines) h = (
 
 pub keeps_rules : (schedule : Schedule) (text : List ℕ) → SpellsSchedule schedule text → KeepsRules schedule
 keeps_rules schedule text (first, lines, are, head, events, few) = record {
-  limits = head.limits;
   events = events_keep schedule.header.settings [] schedule.events lines events;
   few = few;
 }

@@ -17,7 +17,7 @@ use Rattle.schedule_text.proofs.HeaderLaws.{header_found, header_only}
 use Rattle.schedule_text.proofs.LinesLaws.{HasLanes, events_found, events_only, events_bad, bad_only}
 
 lanes_of : (header : Header) (line : List ℕ) → SpellsHeader header line → HasLanes header.settings
-lanes_of header line h = (omega (arith, h.limits.2.0), omega (arith, h.limits.2.1))
+lanes_of header line h = let limits = header.settings.limits in (omega (arith, limits.2.0), omega (arith, limits.2.1))
 
 no_header : (line : List ℕ) → header_of line ≡ None → (header : Header) → SpellsHeader header line → ⊥
 no_header line none header spelled = let some = header_only line header spelled in cc
@@ -129,7 +129,7 @@ bad_is_first text n (first ∷ lines, are, inr (header, head, r)) =
 pub header_lanes : (line : List ℕ) (header : Header) → header_of line ≡ Some header
     → (0 < header.settings.lanes) × (header.settings.lanes ≤ 256)
 header_lanes line header is =
-    let limits = (header_found line header is).limits in (omega (arith, limits.2.0), limits.2.1)
+    let limits = header.settings.limits in (omega (arith, limits.2.0), limits.2.1)
 
 below_lanes : (settings : Settings) (event : Event) (line : List ℕ) → settings.lanes ≤ 256
     → SpellsEvent settings event line → IsBelow 256 (client_of event)

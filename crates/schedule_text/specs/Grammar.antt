@@ -2,6 +2,7 @@
 use Rattle.std.specs.Prelude.{ℕ, ◌+◌, ◌-◌, ◌%◌, ◌==◌, ◌&&◌, not, Bool, true, if◌then◌else◌, length, List, []}
 use Rattle.std.specs.Prelude.{◌∷◌, ◌++◌, codes, Option, Some, None, Result, Ok, Err, option_map}
 use Rattle.express_words.specs.declared.settings.Settings.{Settings}
+use Rattle.express_words.specs.Settled.{settled}
 use Rattle.schedule_text.specs.declared.schedule.Header.{Header}
 use Rattle.schedule_text.specs.declared.schedule.Asked.{Asked}
 use Rattle.schedule_text.specs.declared.schedule.Asked.TheVariants.{Register, Write, Read, Retire}
@@ -121,7 +122,6 @@ unfoldable pub header_of : List ℕ → Option Header
 header_of line = do
   rest ← after (codes "express 1 ") line
   width ← number_at 16 4096 rest
-  _ ← wanted (width.0 % 16 == 0)
   rest ← after (codes " ") width.1
   boxes ← number_at 1 4096 rest
   rest ← after (codes " ") boxes.1
@@ -130,11 +130,8 @@ header_of line = do
   window ← number_at 1 32 rest
   rest ← after (codes " ") window.1
   seed ← seed_of rest
-  Some (record {
-    settings =
-        record { width = width.0; boxes = boxes.0; lanes = lanes.0; window = window.0 };
-    seed = seed;
-  })
+  settings ← settled width.0 boxes.0 lanes.0 window.0
+  Some (record { settings = settings; seed = seed })
 
 -- ---- the whole text
 

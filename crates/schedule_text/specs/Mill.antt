@@ -1,5 +1,6 @@
 -- The schedule of a mill: 20 clients register 64 boxes, write so many messages, and read all boxes.
-use Rattle.std.specs.Prelude.{ℕ, zero, suc, ◌+◌, ◌*◌, ◌/◌, ◌%◌, ◌^◌, List, [], ◌∷◌, ◌++◌, take, replicate}
+use Rattle.std.specs.Prelude.{ℕ, zero, suc, ◌+◌, ◌*◌, ◌/◌, ◌%◌, ◌^◌, List, [], ◌∷◌, ◌++◌, take, replicate, refl}
+use Rattle.std.proofs.Math.Dec.{lit≤}
 use Rattle.std.specs.Int.{w64, w128, to_le_bytes, from_be_bytes}
 use Rattle.dpf_rules.specs.Expansion.{draw32}
 use Rattle.schedule_text.specs.declared.schedule.Asked.{Asked}
@@ -15,7 +16,13 @@ mill_seed n = to_le_bytes w64 n ++ replicate 24 0
 
 abbrev pub mill_header : ℕ → Header
 mill_header n = record {
-  settings = record { width = 1024; boxes = 64; lanes = 20; window = 1 };
+  settings = record {
+    width = 1024;
+    boxes = 64;
+    lanes = 20;
+    window = 1;
+    limits = ((lit≤ tt, lit≤ tt, refl), (lit≤ tt, lit≤ tt), (lit≤ tt, lit≤ tt), (lit≤ tt, lit≤ tt));
+  };
   seed = mill_seed n;
 }
 

@@ -1,7 +1,6 @@
 -- The rules that a schedule keeps.
 use Rattle.std.specs.Prelude.{◌≡◌, ℕ, ◌≤◌, ◌<◌, ◌^◌, length, List, [], ◌∷◌, ◌++◌}
 use Rattle.dpf_rules.specs.Bytes.{AreBytes}
-use Rattle.express_words.specs.Limits.{KeepsLimits}
 use Rattle.express_words.specs.declared.settings.Settings.{Settings}
 use Rattle.frame_rules.specs.declared.frame.TheConstants.{FRAME_MAX}
 use Rattle.schedule_text.specs.Lanes.{MayFollow}
@@ -42,9 +41,7 @@ EventsKeepRules settings before [] = Unit {0}
 EventsKeepRules settings before (event ∷ events) =
     KeepsRulesAfter settings before event × EventsKeepRules settings (before ++ event ∷ []) events
 
--- the limits of the settings, and the rules of at most 20,000 events
+-- the rules of at most 20,000 events
 pub record KeepsRules (schedule : Schedule) : Type 0 where
-  pub limits : KeepsLimits schedule.header.settings.width schedule.header.settings.boxes
-      schedule.header.settings.lanes schedule.header.settings.window
   pub events : EventsKeepRules schedule.header.settings [] schedule.events
   pub few : length schedule.events ≤ MOST_EVENTS

@@ -3,7 +3,6 @@ use Rattle.std.specs.Prelude.{◌≡◌, ◌⊎◌, ℕ, ◌+◌, ◌≤◌, ◌
 use Rattle.std.specs.Prelude.{◌∷◌, ◌++◌, codes, Ok}
 use Rattle.std.specs.Fmt.{decimal}
 use Rattle.hex.specs.Hex.{decode_of, decode_sized}
-use Rattle.express_words.specs.Limits.{KeepsLimits}
 use Rattle.express_words.specs.declared.settings.Settings.{Settings}
 use Rattle.frame_rules.specs.declared.frame.TheConstants.{FRAME_MAX}
 use Rattle.schedule_text.specs.declared.schedule.Asked.{Asked}
@@ -67,8 +66,6 @@ SpellsEvent settings (Inject server bytes) line = SpellsInject server bytes line
 
 -- The header of a schedule.
 pub record SpellsHeader (header : Header) (line : List ℕ) : Type 0 where
-  pub limits : KeepsLimits header.settings.width header.settings.boxes header.settings.lanes
-      header.settings.window
   pub digits : List ℕ
   pub seed : decode_sized digits 32 ≡ Ok header.seed
   pub text : line ≡ codes "express 1 "

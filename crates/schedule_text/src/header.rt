@@ -14,9 +14,6 @@ pub fn header_of(line: &[u8]) -> Option<Header>
 {
     let rest = after(b"express 1 ", line)?;
     let (width, rest) = number_at(u64::from(LEAST_WIDTH), u64::from(MOST_WIDTH), rest)?;
-    if width % 16 != 0 {
-        return None;
-    }
     let rest = after(b" ", rest)?;
     let (boxes, rest) = number_at(1, u64::from(MOST_BOXES), rest)?;
     let rest = after(b" ", rest)?;
@@ -25,11 +22,6 @@ pub fn header_of(line: &[u8]) -> Option<Header>
     let (window, rest) = number_at(1, u64::from(MOST_WINDOW), rest)?;
     let rest = after(b" ", rest)?;
     let seed = seed_of(rest)?;
-    let settings = Settings {
-        width: width as u32,
-        boxes: boxes as u32,
-        lanes: lanes as u16,
-        window: window as u8,
-    };
+    let settings = Settings::new(width as u32, boxes as u32, lanes as u16, window as u8)?;
     Some(Header { settings, seed })
 }

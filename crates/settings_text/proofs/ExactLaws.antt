@@ -24,27 +24,27 @@ pub record IsExact {A : Type 0} (read : Result A (List ℕ)) (Right : A → Type
 one_value : {A : Type 0} (read : Result A (List ℕ)) (a b : A) → read ≡ Ok a → read ≡ Ok b → a ≡ b
 one_value read a b one two = cc
 
-not_both : {A : Type 0} (read : Result A (List ℕ)) (a : A) (named : List ℕ) → read ≡ Ok a → read ≡ Err named → ⊥
+pub not_both : {A : Type 0} (read : Result A (List ℕ)) (a : A) (named : List ℕ) → read ≡ Ok a → read ≡ Err named → ⊥
 not_both read a named one two = cc
 
 same_key : {A : Type 0} (read : Result A (List ℕ)) (key named : List ℕ) → read ≡ Err key → read ≡ Err named → key ≡ named
 same_key read key named one two = cc
 
--- one key, and then the next
-pub and_then : {A B : Type 0} (first : Result A (List ℕ)) (next : A → Result B (List ℕ)) (Right : A → Type 0) (Bad : List ℕ → Type 0) (Next : A → B → Type 0) (Later : A → List ℕ → Type 0)
-    → IsExact first Right Bad → ((a : A) → IsExact (next a) (Next a) (Later a))
+-- one key, and then the next, for which it is known what the first has
+pub and_so : {A B : Type 0} (first : Result A (List ℕ)) (next : A → Result B (List ℕ)) (Right : A → Type 0) (Bad : List ℕ → Type 0) (Next : A → B → Type 0) (Later : A → List ℕ → Type 0)
+    → IsExact first Right Bad → ((a : A) → Right a → IsExact (next a) (Next a) (Later a))
     → IsExact (first >>= next) (λ b. (a : A) × Right a × Next a b) (FaultIn Bad Right Later)
-and_then {A} {B} (Ok x) next Right Bad Next Later one rest = record {
-  found = λ b h. (x, one.found x refl, (rest x).found b h);
-  only = λ b h. ap next (one_value (Ok x) x h.0 refl (one.only h.0 h.1)) ∙ (rest h.0).only b h.2;
-  bad = λ named h. inr (x, one.found x refl, (rest x).bad named h);
+and_so {A} {B} (Ok x) next Right Bad Next Later one rest = record {
+  found = λ b h. (x, one.found x refl, (rest x (one.found x refl)).found b h);
+  only = λ b h. ap next (one_value (Ok x) x h.0 refl (one.only h.0 h.1)) ∙ (rest h.0 h.1).only b h.2;
+  bad = λ named h. inr (x, one.found x refl, (rest x (one.found x refl)).bad named h);
   only_bad = λ named h. named_so named h;
 }
   where
     named_so : (named : List ℕ) → Bad named ⊎ ((a : A) × Right a × Later a named) → next x ≡ Err named
     named_so named (inl bad) = absurd (not_both (Ok x) x named refl (one.only_bad named bad))
-    named_so named (inr later) = ap next (one_value (Ok x) x later.0 refl (one.only later.0 later.1)) ∙ (rest later.0).only_bad named later.2
-and_then {A} {B} (Err key) next Right Bad Next Later one rest = record {
+    named_so named (inr later) = ap next (one_value (Ok x) x later.0 refl (one.only later.0 later.1)) ∙ (rest later.0 later.1).only_bad named later.2
+and_so {A} {B} (Err key) next Right Bad Next Later one rest = record {
   found = λ b h. absurd (not_both (Err key) b key h refl);
   only = λ b h. absurd (not_both (Err key) h.0 key (one.only h.0 h.1) refl);
   bad = λ named h. inl (one.bad named (ap (λ (k : List ℕ). failed {A = A} k) (same_key (Err key) key named refl h)));
@@ -54,6 +54,11 @@ and_then {A} {B} (Err key) next Right Bad Next Later one rest = record {
     named_so : (named : List ℕ) → Bad named ⊎ ((a : A) × Right a × Later a named) → failed {A = B} key ≡ Err named
     named_so named (inl bad) = ap (λ (k : List ℕ). failed {A = B} k) (same_key (Err key) key named refl (one.only_bad named bad))
     named_so named (inr later) = absurd (not_both (Err key) later.0 key (one.only later.0 later.1) refl)
+
+pub and_then : {A B : Type 0} (first : Result A (List ℕ)) (next : A → Result B (List ℕ)) (Right : A → Type 0) (Bad : List ℕ → Type 0) (Next : A → B → Type 0) (Later : A → List ℕ → Type 0)
+    → IsExact first Right Bad → ((a : A) → IsExact (next a) (Next a) (Later a))
+    → IsExact (first >>= next) (λ b. (a : A) × Right a × Next a b) (FaultIn Bad Right Later)
+and_then first next Right Bad Next Later one rest = and_so first next Right Bad Next Later one (λ a right. rest a)
 
 -- behind the last key
 pub done : {A : Type 0} (a : A) → IsExact (Ok a) (λ b. b ≡ a) NoneIs

@@ -4,16 +4,18 @@ use Rattle.std.proofs.lemmas.Slice.Eq.{bytes_eq-Decides}
 use Rattle.std.specs.Str.{bytes_eq}
 use Rattle.toml.specs.Data as toml
 use Rattle.toml.specs.Data.{Data, Members, as_str}
+use Rattle.express_words.specs.Settled.{settled}
+use Rattle.express_words.proofs.SettledLaws.{settings_settle, settled_numbers}
 use Rattle.express_words.specs.declared.settings.Settings.{Settings}
 use Rattle.express_words.specs.declared.role.Role.{Role}
 use Rattle.express_words.specs.declared.role.Role.TheVariants.{Leader, Helper}
 use Rattle.settings_text.specs.declared.serve.ServeSettings.{ServeSettings}
 use Rattle.settings_text.specs.Keys.{◌>>=◌, needed}
 use Rattle.settings_text.specs.Meanings.{Has, IsWrong, NoneIs, MeansNumber, MeansText, MeansWidth}
-use Rattle.settings_text.specs.Serve.{role_of, role_in, peer_of, settings_of, serve_of}
+use Rattle.settings_text.specs.Serve.{role_of, role_in, peer_of, of_numbers, settings_of, serve_of}
 use Rattle.settings_text.specs.ServeSpelling.{MeansRole, HasPeer, HasLimits, HasServe, FaultOfLimits, FaultOfServe}
 use Rattle.settings_text.specs.Values.{number_in, width_in}
-use Rattle.settings_text.proofs.ExactLaws.{IsExact, ReadsAs, and_then, as_well, done, needed_exact}
+use Rattle.settings_text.proofs.ExactLaws.{IsExact, ReadsAs, and_so, and_then, as_well, done, needed_exact, not_both}
 use Rattle.settings_text.proofs.MeaningLaws.{is_string, number_read, some_then, text_read, width_read}
 
 -- one name more
@@ -68,22 +70,47 @@ LimitsChain keys s =
     × ((boxes : ℕ) × Has (codes "boxes") (MeansNumber 1 4096) keys boxes
     × ((lanes : ℕ) × Has (codes "lanes") (MeansNumber 1 256) keys lanes
     × ((window : ℕ) × Has (codes "window") (MeansNumber 1 32) keys window
-    × (s ≡ record { width = width; boxes = boxes; lanes = lanes; window = window }))))
+    × (settled width boxes lanes window ≡ Some s))))
 
 limits_has : (keys : Members) (s : Settings) → LimitsChain keys s → HasLimits keys s
 limits_has keys s (width, w, (boxes, b, (lanes, n, (window, i, is)))) =
-    subst (HasLimits keys) (sym is) (record { width = w; boxes = b; lanes = n; window = i })
+    let are = settled_numbers width boxes lanes window s is in
+    record {
+      width = subst (Has (codes "width") (MeansWidth 16) keys) (sym are.0) w;
+      boxes = subst (Has (codes "boxes") (MeansNumber 1 4096) keys) (sym are.1) b;
+      lanes = subst (Has (codes "lanes") (MeansNumber 1 256) keys) (sym are.2) n;
+      window = subst (Has (codes "window") (MeansNumber 1 32) keys) (sym are.3) i;
+    }
 
 has_limits : (keys : Members) (s : Settings) → HasLimits keys s → LimitsChain keys s
-has_limits keys s h = (s.width, h.width, (s.boxes, h.boxes, (s.lanes, h.lanes, (s.window, h.window, refl))))
+has_limits keys s h = (s.width, h.width, (s.boxes, h.boxes, (s.lanes, h.lanes, (s.window, h.window, settings_settle s))))
+
+numbers_make : (r : Option Settings) (s : Settings) → of_numbers r ≡ Ok s → r ≡ Some s
+numbers_make (Some t) s is = cc is
+numbers_make None s is = cc is
+
+settled_exact : (s : Settings) → IsExact (of_numbers (settled s.width s.boxes s.lanes s.window)) (λ t. settled s.width s.boxes s.lanes s.window ≡ Some t) NoneIs
+settled_exact s = record {
+  found = λ t h. numbers_make _ t h;
+  only = λ t h. ap of_numbers h;
+  bad = λ named h. not_both _ s named (ap of_numbers (settings_settle s)) h;
+  only_bad = λ named h. absurd h;
+}
 
 limits_chain : (keys : Members) → IsExact (settings_of keys) (LimitsChain keys) (FaultOfLimits keys)
 unfolding settings_of
 limits_chain keys =
-    and_then _ _ _ _ _ _ (needed_exact (codes "width") (width_in 16) (MeansWidth 16) keys (width_read 16)) (λ width.
-    and_then _ _ _ _ _ _ (needed_exact (codes "boxes") (number_in 1 4096) (MeansNumber 1 4096) keys (number_read 1 4096)) (λ boxes.
-    and_then _ _ _ _ _ _ (needed_exact (codes "lanes") (number_in 1 256) (MeansNumber 1 256) keys (number_read 1 256)) (λ lanes.
-    and_then _ _ _ _ _ _ (needed_exact (codes "window") (number_in 1 32) (MeansNumber 1 32) keys (number_read 1 32)) (λ window. done _))))
+    and_so _ _ _ _ _ _ (needed_exact (codes "width") (width_in 16) (MeansWidth 16) keys (width_read 16)) (λ width w.
+    and_so _ _ _ _ _ _ (needed_exact (codes "boxes") (number_in 1 4096) (MeansNumber 1 4096) keys (number_read 1 4096)) (λ boxes b.
+    and_so _ _ _ _ _ _ (needed_exact (codes "lanes") (number_in 1 256) (MeansNumber 1 256) keys (number_read 1 256)) (λ lanes n.
+    and_so _ _ _ _ _ _ (needed_exact (codes "window") (number_in 1 32) (MeansNumber 1 32) keys (number_read 1 32)) (λ window i.
+    settled_exact (record {
+      width = width;
+      boxes = boxes;
+      lanes = lanes;
+      window = window;
+      limits = ((w.2.0.1, w.2.0.2, w.2.1), (b.2.1, b.2.2), (n.2.1, n.2.2), (i.2.1, i.2.2));
+    })))))
 
 limits_exact : (keys : Members) → IsExact (settings_of keys) (HasLimits keys) (FaultOfLimits keys)
 limits_exact keys =

@@ -1,8 +1,9 @@
 -- The keys of a server's settings, in the order in which they are judged.
 use Rattle.std.specs.Prelude.{ℕ, if◌then◌else◌, List, [], codes}
-use Rattle.std.specs.Prelude.{Option, Some, None, option_and_then, Result, Ok}
+use Rattle.std.specs.Prelude.{Option, Some, None, option_and_then, Result, Ok, Err}
 use Rattle.std.specs.Str.{bytes_eq}
 use Rattle.toml.specs.Data.{Data, Members, as_str}
+use Rattle.express_words.specs.Settled.{settled}
 use Rattle.express_words.specs.declared.settings.Settings.{Settings}
 use Rattle.settings_text.specs.declared.serve.ServeSettings.{ServeSettings}
 use Rattle.express_words.specs.declared.role.Role.{Role}
@@ -24,13 +25,18 @@ unfoldable pub peer_of : Role → Members → Result (List ℕ) (List ℕ)
 peer_of Leader table = needed (codes "peer") as_str table
 peer_of Helper table = Ok []
 
+-- settings, which the numbers within these bounds always make
+abbrev pub of_numbers : Option Settings → Result Settings (List ℕ)
+of_numbers (Some settings) = Ok settings
+of_numbers None = Err (codes "width")
+
 unfoldable pub settings_of : Members → Result Settings (List ℕ)
 settings_of table = do
   width ← needed (codes "width") (width_in 16) table
   boxes ← needed (codes "boxes") (number_in 1 4096) table
   lanes ← needed (codes "lanes") (number_in 1 256) table
   window ← needed (codes "window") (number_in 1 32) table
-  Ok (record { width = width; boxes = boxes; lanes = lanes; window = window })
+  of_numbers (settled width boxes lanes window)
 
 unfoldable pub serve_of : Members → Result ServeSettings (List ℕ)
 serve_of table = do

@@ -1,6 +1,5 @@
 //! The settings of a server.
 ghost use Rattle.std.specs.Prelude.{◌≡◌, ◌≤◌, [], codes, IfOk, IfSome};
-ghost use Rattle.express_words.specs.Limits.{KeepsLimits};
 ghost use Rattle.toml.specs.View.{table_view};
 ghost use Rattle.settings_text.specs.Judging.{Gives, Judges};
 ghost use Rattle.settings_text.specs.Keys.{needed};
@@ -75,7 +74,6 @@ fn peer(alloc: Global, role: Role, table: &Table) -> Result<Text, TextFault>
 #[tactic(auto, unfolding(crate::specs::Serve::settings_of))]
 fn settings(alloc: Global, table: &Table) -> Result<Settings, TextFault>
     ensures value { Gives (λ s. s) result (settings_of (table_view table.now)) }
-    ensures limits { IfOk result (λ s. KeepsLimits s.width s.boxes s.lanes s.window) }
 {
     let width = width(alloc, table, LEAST_WIDTH)?;
     let boxes = number(alloc, table, "boxes", 1, MOST_BOXES)?;
@@ -92,8 +90,6 @@ fn settings(alloc: Global, table: &Table) -> Result<Settings, TextFault>
 #[tactic(auto, unfolding(crate::specs::Serve::serve_of))]
 fn serve_of(alloc: Global, table: &Table) -> Result<ServeSettings, TextFault>
     ensures value { Gives (λ s. s) result (serve_of (table_view table.now)) }
-    ensures limits { IfOk result (λ s.
-        KeepsLimits s.settings.width s.settings.boxes s.settings.lanes s.settings.window) }
     ensures some { IfOk result (λ s. 1 ≤ s.connections) }
     ensures few { IfOk result (λ s. s.connections ≤ MOST_CONNECTIONS) }
     ensures alone { IfOk result (λ s. s.role ≡ Role.Helper → s.peer ≡ []) }
@@ -114,8 +110,6 @@ fn serve_of(alloc: Global, table: &Table) -> Result<ServeSettings, TextFault>
 
 fn settings_in(alloc: Global, text: &[u8]) -> Result<ServeSettings, TextFault>
     ensures judges { Gives (λ s. s) result (judged serve_of text.now) }
-    ensures limits { IfOk result (λ s.
-        KeepsLimits s.settings.width s.settings.boxes s.settings.lanes s.settings.window) }
     ensures some { IfOk result (λ s. 1 ≤ s.connections) }
     ensures few { IfOk result (λ s. s.connections ≤ MOST_CONNECTIONS) }
     ensures alone { IfOk result (λ s. s.role ≡ Role.Helper → s.peer ≡ []) }
@@ -130,8 +124,6 @@ fn settings_in(alloc: Global, text: &[u8]) -> Result<ServeSettings, TextFault>
 pub fn read_serve(alloc: Global, text: &[u8]) -> Result<ServeSettings, TextFault>
     ensures spells { Judges SpellsServe IsBadServeKey text.now result }
     ensures judges { Gives (λ s. s) result (judged serve_of text.now) }
-    ensures limits { IfOk result (λ s.
-        KeepsLimits s.settings.width s.settings.boxes s.settings.lanes s.settings.window) }
     ensures some { IfOk result (λ s. 1 ≤ s.connections) }
     ensures few { IfOk result (λ s. s.connections ≤ MOST_CONNECTIONS) }
     ensures alone { IfOk result (λ s. s.role ≡ Role.Helper → s.peer ≡ []) }

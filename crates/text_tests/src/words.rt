@@ -9,13 +9,7 @@ use std::test::Fail;
 fn is_taken(width: u32, window: u8) -> bool {
     match Settings::new(width, 4, 1, window) {
         Some(found) => {
-            let wanted = Settings {
-                width,
-                boxes: 4,
-                lanes: 1,
-                window,
-            };
-            found == wanted
+            found.width == width && found.window == window && found.boxes == 4 && found.lanes == 1
         }
         None => false,
     }

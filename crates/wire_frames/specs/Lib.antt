@@ -1,4 +1,5 @@
 pub mod Answers
 pub mod Fronts
 pub mod Headers
+pub mod Judging
 pub mod Writing

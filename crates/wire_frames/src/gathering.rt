@@ -10,6 +10,7 @@ ghost use Rattle.frame_rules.specs.Gathering.{is_short, gathered, IsHeld, fed, m
 use crate::FRAME_MAX;
 use crate::decoding::decode;
 use crate::fields::u32_at;
+use crate::received::Received;
 use express_words::NoMemory;
 use frame_rules::FrameFault;
 use std::alloc::Global;
@@ -187,6 +188,13 @@ impl Gather {
         ensures shortest { IsHeld self.now }
     {
         &self.held
+    }
+
+    /// What was taken, judged.
+    pub fn received(&self) -> Received<'_>
+        ensures { result ≡ self.now }
+    {
+        Received::of(&self.held)
     }
 
     /// Holds nothing again.

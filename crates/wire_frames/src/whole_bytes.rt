@@ -5,8 +5,8 @@ ghost use Rattle.frame_rules.specs.Spelling.{IsFrame, Spells};
 ghost use Rattle.frame_rules.specs.Whole.{whole as whole_bytes, linked, refused_bytes};
 ghost use Rattle.frame_rules.specs.Whole.{is_command, is_reply, has_width};
 
-use crate::classes::{has_width, is_command, is_reply};
 use crate::decoding::decode;
+use crate::received::Received;
 use express_words::Refusal;
 use frame_rules::{Frame, FrameFault};
 
@@ -34,41 +34,21 @@ pub fn whole(bytes: &[u8]) -> Result<Frame<'_>, Refusal>
 }
 
 /// The command that the bytes are, if they are exactly one, and of this width in bytes.
-#[tactic(auto, unfolding(frame_rules::specs::Whole::linked))]
 pub fn command_in(bytes: &[u8], width: u32) -> Option<Frame<'_>>
     ensures exact { option_map plain result ≡ linked is_command width bytes.now }
     ensures spelled { IfSome result (λ f. Spells (plain f) bytes.now) }
     ensures class { IfSome result (λ f. is_command (plain_body f.body) ≡ true) }
     ensures width { IfSome result (λ f. has_width width (plain_body f.body) ≡ true) }
 {
-    match whole(bytes) {
-        Ok(frame) => {
-            if is_command(&frame.body) && has_width(&frame.body, width) {
-                Some(frame)
-            } else {
-                None
-            }
-        }
-        Err(_) => None,
-    }
+    Received::of(bytes).command(width)
 }
 
 /// The reply that the bytes are, if they are exactly one, and of this width in bytes.
-#[tactic(auto, unfolding(frame_rules::specs::Whole::linked))]
 pub fn reply_in(bytes: &[u8], width: u32) -> Option<Frame<'_>>
     ensures exact { option_map plain result ≡ linked is_reply width bytes.now }
     ensures spelled { IfSome result (λ f. Spells (plain f) bytes.now) }
     ensures class { IfSome result (λ f. is_reply (plain_body f.body) ≡ true) }
     ensures width { IfSome result (λ f. has_width width (plain_body f.body) ≡ true) }
 {
-    match whole(bytes) {
-        Ok(frame) => {
-            if is_reply(&frame.body) && has_width(&frame.body, width) {
-                Some(frame)
-            } else {
-                None
-            }
-        }
-        Err(_) => None,
-    }
+    Received::of(bytes).reply(width)
 }

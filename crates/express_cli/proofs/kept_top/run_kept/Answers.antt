@@ -1,40 +1,75 @@
-use Rattle.std.proofs.Common.{◌∙◌, sym}
-use Rattle.express_cli.specs.Around.{Around, around, outside}
+use Rattle.std.proofs.Common.{◌∙◌, sym, ◌≡◌, ℕ, [], ◌∷◌, All, Contains, lit<, refl}
+use Rattle.express_cli.specs.Around.{Around, Streams, over, streams}
 use Rattle.express_cli.specs.Keeping.{KeepMay}
-use Rattle.express_cli.proofs.OneWord.{asked, unasked}
-use Rattle.express_cli.proofs.StatusLaws.{disk_fault, more_statuses, not_ten, statuses}
 use Rattle.express_cli.proofs.Writing.{sink_stays}
+use Rattle.std.proofs.lemmas.List.Elements.{All-contains, All-from_recursion, Contains-append_left}
+use Rattle.express_words.specs.Causes.{Rose}
+use Rattle.express_cli.specs.Ends.{DiskCounts, status_of}
+use Rattle.express_cli.specs.declared.ends.End.{End}
+use Rattle.express_cli.specs.declared.ends.End.TheVariants as ends
 use Rattle.express_cli.proofs.kept_top.run_kept.Goals as goal
+
+statuses : (end : End) → Contains (0 ∷ 2 ∷ 3 ∷ 4 ∷ 5 ∷ 6 ∷ 7 ∷ 8 ∷ 10 ∷ 11 ∷ 12 ∷ 13 ∷ []) (status_of end)
+statuses ends.Done = (0, lit< tt, refl)
+statuses ends.Usage = (1, lit< tt, refl)
+statuses (ends.BadLine n) = (2, lit< tt, refl)
+statuses ends.BadKey = (2, lit< tt, refl)
+statuses ends.ReadFault = (3, lit< tt, refl)
+statuses ends.WriteFault = (4, lit< tt, refl)
+statuses ends.NetFault = (5, lit< tt, refl)
+statuses ends.OutOfMemory = (6, lit< tt, refl)
+statuses ends.TooLong = (7, lit< tt, refl)
+statuses ends.DiskFault = (8, lit< tt, refl)
+statuses ends.JournalFull = (9, lit< tt, refl)
+statuses (ends.JournalDamaged at) = (10, lit< tt, refl)
+statuses (ends.JournalForeign n) = (11, lit< tt, refl)
+
+disk_fault : (end : End) (before now : ℕ) → status_of end ≡ 10 → DiskCounts end before now → Rose before now
+disk_fault ends.DiskFault before now is counts = counts
+disk_fault _ before now is counts = cc
+
+-- the statuses of a run without a journal
+more_statuses : (status : ℕ) → Contains (0 ∷ 2 ∷ 3 ∷ 4 ∷ 5 ∷ 6 ∷ 7 ∷ 8 ∷ []) status
+    → Contains (0 ∷ 2 ∷ 3 ∷ 4 ∷ 5 ∷ 6 ∷ 7 ∷ 8 ∷ 10 ∷ 11 ∷ 12 ∷ 13 ∷ []) status
+more_statuses status h =
+    Contains-append_left (0 ∷ 2 ∷ 3 ∷ 4 ∷ 5 ∷ 6 ∷ 7 ∷ 8 ∷ []) (10 ∷ 11 ∷ 12 ∷ 13 ∷ []) status h
+
+not_ten : (status : ℕ) → Contains (0 ∷ 2 ∷ 3 ∷ 4 ∷ 5 ∷ 6 ∷ 7 ∷ 8 ∷ []) status → status ≡ 10 → ⊥
+not_ten status h =
+    let Other : ℕ → Type 0 = λ n. n ≡ 10 → ⊥ in
+    let all : All Other (0 ∷ 2 ∷ 3 ∷ 4 ∷ 5 ∷ 6 ∷ 7 ∷ 8 ∷ []) =
+    All-from_recursion Other (0 ∷ 2 ∷ 3 ∷ 4 ∷ 5 ∷ 6 ∷ 7 ∷ 8 ∷ [])
+    ((λ e. cc), ((λ e. cc), ((λ e. cc), ((λ e. cc), ((λ e. cc), ((λ e. cc), ((λ e. cc), ((λ e. cc), tt)))))))) in
+    All-contains Other (0 ∷ 2 ∷ 3 ∷ 4 ∷ 5 ∷ 6 ∷ 7 ∷ 8 ∷ []) status all h
 
 pub returns-then-asks_keep-clause-kept : goal.returns-then-asks_keep-clause-kept
 returns-then-asks_keep-clause-kept g c asks =
-    let net : Around = around c.args.seed.now (g.N.Counted.seen c.args.net.now) (g.N.Counted.seen c.keep-end.new.net) g.N.Conn.Counted.seen in
-    let old = outside (g.S.Counted.seen c.args.input.now) (g.K.Counted.seen c.args.out.now) in
-    let new = outside (g.S.Counted.seen c.keep-end.new.input) (g.K.Counted.seen c.keep-end.new.out) in
+    let net : Around = over g.N.Counted.seen g.N.Conn.Counted.seen c.args.seed.now c.args.net.now c.keep-end.new.net in
+    let io : Streams = streams g.S.Counted.seen g.K.Counted.seen c.args.input.now c.keep-end.new.input c.args.out.now c.keep-end.new.out in
     record {
       ending = c.keep-end.result.0;
       status_is = c.status_of.ensures;
       came = c.keep-end.ensures.tells;
       disk_counts = c.keep-end.ensures.disk;
       input_counts = c.keep-end.ensures.input;
-      output_counts = sink_stays (KeepMay g.D.Disk.disk old new net c.args.disk c.keep-end.result.1) old.written new.written _ _ c.keep-end.result.0 c.keep-end.ensures.tells;
+      output_counts = sink_stays (KeepMay g.D.Disk.disk io net c.args.disk c.keep-end.result.1) io.out io.out_now c.keep-end.result.0 c.keep-end.ensures.tells;
       announces = c.keep-end.ensures.announces;
     }
 
 pub returns-then-asks_keep-clause-ran : goal.returns-then-asks_keep-clause-ran
-returns-then-asks_keep-clause-ran g c other = absurd (other (asked _ _ c.if-asks_keep.true c.asks_keep.ensures))
+returns-then-asks_keep-clause-ran g c other = absurd (other (c.asks_keep.ensures.0 c.if-asks_keep.true))
 
 pub returns-then-asks_keep-clause-disk_rests : goal.returns-then-asks_keep-clause-disk_rests
-returns-then-asks_keep-clause-disk_rests g c other = absurd (other (asked _ _ c.if-asks_keep.true c.asks_keep.ensures))
+returns-then-asks_keep-clause-disk_rests g c other = absurd (other (c.asks_keep.ensures.0 c.if-asks_keep.true))
 
 pub returns-then-asks_keep-clause-input_rests : goal.returns-then-asks_keep-clause-input_rests
-returns-then-asks_keep-clause-input_rests g c other = absurd (other (asked _ _ c.if-asks_keep.true c.asks_keep.ensures))
+returns-then-asks_keep-clause-input_rests g c other = absurd (other (c.asks_keep.ensures.0 c.if-asks_keep.true))
 
 pub returns-then-asks_keep-clause-net_rests : goal.returns-then-asks_keep-clause-net_rests
-returns-then-asks_keep-clause-net_rests g c other = absurd (other (asked _ _ c.if-asks_keep.true c.asks_keep.ensures))
+returns-then-asks_keep-clause-net_rests g c other = absurd (other (c.asks_keep.ensures.0 c.if-asks_keep.true))
 
 pub returns-then-asks_keep-clause-net_waits : goal.returns-then-asks_keep-clause-net_waits
-returns-then-asks_keep-clause-net_waits g c other = absurd (other (asked _ _ c.if-asks_keep.true c.asks_keep.ensures))
+returns-then-asks_keep-clause-net_waits g c other = absurd (other (c.asks_keep.ensures.0 c.if-asks_keep.true))
 
 pub returns-then-asks_keep-clause-disk_fault : goal.returns-then-asks_keep-clause-disk_fault
 returns-then-asks_keep-clause-disk_fault g c is =
@@ -44,7 +79,7 @@ pub returns-then-asks_keep-clause-statuses : goal.returns-then-asks_keep-clause-
 returns-then-asks_keep-clause-statuses g c = rw c.status_of.ensures (statuses c.keep-end.result.0)
 
 pub returns-else-asks_keep-clause-kept : goal.returns-else-asks_keep-clause-kept
-returns-else-asks_keep-clause-kept g c asks = absurd (unasked _ _ c.if-asks_keep.false c.asks_keep.ensures asks)
+returns-else-asks_keep-clause-kept g c asks = absurd (cc (c.asks_keep.ensures.1 asks, c.if-asks_keep.false))
 
 pub returns-else-asks_keep-clause-ran : goal.returns-else-asks_keep-clause-ran
 returns-else-asks_keep-clause-ran g c other = c.run.ensures.ran

@@ -19,6 +19,13 @@ pub returns-in-Err-NoMemory : goal.returns-in-Err-NoMemory
 returns-in-Err-NoMemory g c = record {
   ends = λ text spelled.
       let same = c.in-Err-NoMemory.ensures.memory (ap Err c.in-Err-NoMemory.field-0-is) in
-      unmoved (WorkMay Replay text) _ _ _ _ _ _ _ (ap (λ out. (g.K.Counted.seen out).written) same) (ap (λ out. (g.K.Counted.seen out).faults) same)
+      unmoved (WorkMay Replay text) _ _ (g.K.Counted.seen c.say.new.out) _ (ap g.K.Counted.seen same)
       (said (WorkMay Replay text) _ _ _ _ OutOfMemory _ _ refl c.say.ensures.says);
+}
+
+pub returns-in-Ok : goal.returns-in-Ok
+returns-in-Ok g c = record {
+  ends = λ text spelled.
+      let world = c.args.world.now in
+      (output_of (played world), (played world, spelled, refl), c.in-Ok.ensures.ok, c.in-Ok.ensures.unfailed);
 }

@@ -11,3 +11,6 @@ returns-in-None-clause-foreign g c = (
     λ d read. (records_from c.next.new.self.end d, c.in-Ok-Some.ensures.first_of_more c.in-Ok-Some.len (cc) d read),
   ),
 )
+
+pub returns-in-Some-clause-undamaged : goal.returns-in-Some-clause-undamaged
+returns-in-Some-clause-undamaged g c ok d read whole = c.in-Ok-Some.ensures.still_undamaged c.in-Ok-Some.len (cc) d read whole

@@ -10,8 +10,8 @@ returns-in-Ok-clause-ends g c = λ peer net.
     record {
       answers = record {
         reply = take c.in-Ok.told c.step_leader.new.out;
-        frames = handed Client c.args.frame.now ∷ [];
-        responds = responds_refused peer (core c.args.server.now) c.args.frame.now (core c.step_leader.new.server) (take c.in-Ok.told c.step_leader.new.out) net c.send.result c.requires.none c.send.ensures.sent c.in-Ok.ensures.steps;
+        frames = handed Client c.args.received.now ∷ [];
+        responds = responds_refused peer (core c.args.server.now) c.args.received.now (core c.step_leader.new.server) (take c.in-Ok.told c.step_leader.new.out) net c.send.result c.requires.none c.send.ensures.sent c.in-Ok.ensures.steps;
         writes = c.send.ensures.writes;
         takes = c.in-Ok.ensures.takes;
       };
@@ -25,8 +25,8 @@ returns-in-Err-clause-ends g c = λ peer net.
       answers = tt;
       stops = record {
         frames = [];
-        refused = handed Client c.args.frame.now;
-        far = stops_refused peer (core c.args.server.now) c.args.frame.now (core c.step_leader.new.server) net c.requires.lead c.requires.none c.in-Err.ensures.no_step;
+        refused = handed Client c.args.received.now;
+        far = stops_refused peer (core c.args.server.now) c.args.received.now (core c.step_leader.new.server) net c.requires.lead c.requires.none c.in-Err.ensures.no_step;
         stops = c.in-Err.ensures.stops;
       };
     }

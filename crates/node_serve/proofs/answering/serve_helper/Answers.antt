@@ -11,8 +11,8 @@ returns-in-Ok-clause-ends g c = λ peer net.
     record {
       answers = record {
         reply = take c.in-Ok.told c.step_helper.new.out;
-        frames = handed (sender_at_helper c.args.frame.now) c.args.frame.now ∷ [];
-        responds = responds_helped peer (core c.args.server.now) c.args.frame.now (core c.step_helper.new.server) (take c.in-Ok.told c.step_helper.new.out) (stretch (moved net net)) c.send.result c.send.ensures.sent c.in-Ok.ensures.helps;
+        frames = handed (sender_at_helper c.args.received.now) c.args.received.now ∷ [];
+        responds = responds_helped peer (core c.args.server.now) c.args.received.now (core c.step_helper.new.server) (take c.in-Ok.told c.step_helper.new.out) (stretch (moved net net)) c.send.result c.send.ensures.sent c.in-Ok.ensures.helps;
         writes = c.send.ensures.writes;
         takes = c.in-Ok.ensures.takes;
       };
@@ -26,8 +26,8 @@ returns-in-Err-clause-ends g c = λ peer net.
       answers = tt;
       stops = record {
         frames = [];
-        refused = handed (sender_at_helper c.args.frame.now) c.args.frame.now;
-        far = stops_helped peer (core c.args.server.now) c.args.frame.now (core c.step_helper.new.server) (stretch (moved net net)) c.requires.help c.in-Err.ensures.no_step;
+        refused = handed (sender_at_helper c.args.received.now) c.args.received.now;
+        far = stops_helped peer (core c.args.server.now) c.args.received.now (core c.step_helper.new.server) (stretch (moved net net)) c.requires.help c.in-Err.ensures.no_step;
         stops = c.in-Err.ensures.stops;
       };
     }

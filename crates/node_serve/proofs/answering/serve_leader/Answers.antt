@@ -8,8 +8,8 @@ use Rattle.node_serve.proofs.LeadLaws.{if_ok, linked, unkept}
 use Rattle.node_serve.proofs.RespondLaws.{responds_all, responds_down, breaks_link, sent_fault, stops_down}
 use Rattle.node_serve.proofs.answering.serve_leader.Goals as goal
 
-pub returns-in-None-clause-fault : goal.returns-in-None-clause-fault
-returns-in-None-clause-fault g c = if_ok c.refuse.result _ _ (λ why sent. sent_fault why _ sent) c.refuse.ensures.sent
+pub returns-in_default-clause-fault : goal.returns-in_default-clause-fault
+returns-in_default-clause-fault g c = if_ok c.refuse.result _ _ (λ why sent. sent_fault why _ sent) c.refuse.ensures.sent
 
 pub returns-in-Ok-clause-ends : goal.returns-in-Ok-clause-ends
 returns-in-Ok-clause-ends g c =
@@ -21,7 +21,7 @@ returns-in-Ok-clause-ends g c =
       answers = record {
         reply = reply;
         frames = h.0;
-        responds = responds_all c.args.peer.now (core c.args.server.now) c.args.frame.now (core c.handle.new.server) h.0 reply net c.send.result (plain c.in-Some.client) c.in-Some.ensures.exact c.send.ensures.sent h.1;
+        responds = responds_all c.args.peer.now (core c.args.server.now) c.args.received.now (core c.handle.new.server) h.0 reply net c.send.result (plain c.in-Some.client) c.in-Some.ensures.exact c.send.ensures.sent h.1;
         writes = c.send.ensures.writes;
         takes = h.2;
       };
@@ -41,8 +41,8 @@ returns-in-Err-Link-clause-ends g c =
       answers = record {
         reply = reply;
         frames = h.0;
-        responds = responds_down c.args.peer.now (core c.args.server.now) c.args.frame.now (core c.handle.new.server) h.0 reply net why (plain c.in-Some.client) c.in-Some.ensures.exact said h.1;
-        writes = writes_down why sent.result _ _ _ _ reply (breaks_link c.args.peer.now (core c.args.server.now) c.args.frame.now (core c.handle.new.server) h.0 _ _ why h.1) sent.ensures.sent sent.ensures.writes;
+        responds = responds_down c.args.peer.now (core c.args.server.now) c.args.received.now (core c.handle.new.server) h.0 reply net why (plain c.in-Some.client) c.in-Some.ensures.exact said h.1;
+        writes = writes_down why sent.result _ _ _ _ reply (breaks_link c.args.peer.now (core c.args.server.now) c.args.received.now (core c.handle.new.server) h.0 _ _ why h.1) sent.ensures.sent sent.ensures.writes;
         takes = h.2;
       };
       stops = tt;
@@ -58,7 +58,7 @@ returns-in-Err-Keep-clause-ends g c =
       stops = record {
         frames = h.0;
         refused = h.1.0;
-        far = stops_down c.args.peer.now (core c.args.server.now) c.args.frame.now (core c.handle.new.server) h.0 h.1.0 net (plain c.in-Some.client) c.in-Some.ensures.exact h.1.1;
+        far = stops_down c.args.peer.now (core c.args.server.now) c.args.received.now (core c.handle.new.server) h.0 h.1.0 net (plain c.in-Some.client) c.in-Some.ensures.exact h.1.1;
         stops = h.1.2;
       };
     }

@@ -1,6 +1,7 @@
-use Rattle.std.proofs.Common.{ℕ, [], ◌++◌, Err, take, refl, ◌∙◌, arith}
+use Rattle.std.proofs.Common.{◌≡◌, ℕ, [], ◌++◌, Err, None, take, refl, ◌∙◌, arith, rules}
+use Rattle.node_restart.specs.Steps.{resent_by}
 use Rattle.node_serve.proofs.LeadLaws.{if_link, if_keep}
-use Rattle.node_serve.proofs.StandLaws.{stands_first, stands_more, stands_broken, stands_stopped}
+use Rattle.node_serve.proofs.StandLaws.{stands_first, stands_more, stands_ended, stands_broken, stands_stopped}
 use Rattle.node_serve.proofs.draining.drain.Goals as goal
 
 pub draining-init : goal.draining-init
@@ -55,4 +56,16 @@ returns-in-Err-clause-ends g c =
           g.met.S.Logged.halts _ _ _ s.0 h.0 h.1.0 fault s.2 h.1.2,
         ),
       )) off.unkept;
+    }
+
+pub returns-clause-ends : goal.returns-clause-ends
+returns-clause-ends g c =
+    let s = c.draining.invariant.stands in
+    let core = g.S.Logged.log.core in
+    let empty : resent_by (core c.draining.server) ≡ None = search rules in
+    let same : c.oldest.new.out ≡ c.draining.out = search rules in
+    record {
+      drained = rw same (s.0, stands_ended (core c.args.server.now) _ _ (core c.draining.server) _ _ _ _ s.1 empty, s.2);
+      broken = tt;
+      stopped = tt;
     }

@@ -6,7 +6,7 @@ use Rattle.node_serve.specs.Handling.{Replies}
 use Rattle.node_exchange.specs.declared.exchanging.Broken.{Broken}
 use Rattle.node_exchange.specs.declared.exchanging.Broken.TheVariants as broken
 use Rattle.node_exchange.proofs.EarlyLaws.{IsDecided, exchange_long}
-use Rattle.node_serve.proofs.TellLaws.{unheard_ends, fails_ignored, replies_by, nearer_by, told_within}
+use Rattle.node_serve.proofs.TellLaws.{as_received, unheard_ends, fails_ignored, replies_by, nearer_by, told_within}
 use Rattle.node_serve.proofs.draining.exchange_one.Goals as goal
 
 pub returns-in-Err-Fault-clause-ends : goal.returns-in-Err-Fault-clause-ends
@@ -27,14 +27,15 @@ returns-in-Err-Wrong-clause-ends g c =
 pub returns-then-is_ignored-clause-ends : goal.returns-then-is_ignored-clause-ends
 returns-then-is_ignored-clause-ends g c =
     let core = g.S.Logged.log.core in
-    let bytes : List ℕ = take c.in-Ok.count c.exchange.new.reply in
+    let sent : List ℕ = take c.args.size c.args.out.now in
+    let bytes = c.of-received.result in
     let step = c.in-Ok-hand.ensures in
     record {
       replied = tt;
       failed = (
         handed Peer bytes ∷ [],
-        fails_ignored c.args.peer.now (core c.args.server.now) (take c.args.size c.args.out.now) bytes (core c.hand.new.self) c.in-Ok-hand.did
-            c.args.out.now c.hand.new.out _ _ c.requires.lead step.step (sym c.is_ignored.ensures ∙ c.if-is_ignored.true) c.in-Ok.ensures.calls,
+        fails_ignored c.args.peer.now (core c.args.server.now) sent bytes (core c.hand.new.self) c.in-Ok-hand.did
+            c.args.out.now c.hand.new.out _ _ c.requires.lead step.step (sym c.is_ignored.ensures ∙ c.if-is_ignored.true) (as_received c.args.peer.now sent _ bytes _ _ c.of-received.ensures c.in-Ok.ensures.calls),
         step.takes,
       );
       unkept = tt;
@@ -45,7 +46,7 @@ returns-else-is_ignored-clause-ends g c =
     let core = g.S.Logged.log.core in
     let net = g.N.Counted.seen in
     let sent : List ℕ = take c.args.size c.args.out.now in
-    let bytes : List ℕ = take c.in-Ok.count c.exchange.new.reply in
+    let bytes = c.of-received.result in
     let step = c.in-Ok-hand.ensures in
     record {
       replied = (
@@ -53,7 +54,7 @@ returns-else-is_ignored-clause-ends g c =
         subst (λ (n : ℕ). Replies c.args.peer.now (core c.args.server.now) (core c.hand.new.self) sent (take n c.hand.new.out) (handed Peer bytes ∷ [])
             (net c.args.net.now).calls (net c.exchange.new.net).calls) (sym c.told.ensures)
             (replies_by c.args.peer.now (core c.args.server.now) sent bytes (core c.hand.new.self) c.in-Ok-hand.did c.args.out.now c.hand.new.out _ _
-            c.requires.lead step.step (sym c.is_ignored.ensures ∙ c.if-is_ignored.false) c.in-Ok.ensures.calls),
+            c.requires.lead step.step (sym c.is_ignored.ensures ∙ c.if-is_ignored.false) (as_received c.args.peer.now sent _ bytes _ _ c.of-received.ensures c.in-Ok.ensures.calls)),
         step.takes,
       );
       failed = tt;
@@ -63,17 +64,17 @@ returns-else-is_ignored-clause-ends g c =
 pub returns-else-is_ignored-clause-within : goal.returns-else-is_ignored-clause-within
 returns-else-is_ignored-clause-within g c =
     let S = g.S.Logged in
-    omega (arith, c.told.ensures, told_within (S.log.core c.args.server.now) Peer (take c.in-Ok.count c.exchange.new.reply) (S.log.core c.hand.new.self) c.in-Ok-hand.did c.args.out.now c.hand.new.out c.in-Ok-hand.ensures.step)
+    omega (arith, c.told.ensures, told_within (S.log.core c.args.server.now) Peer c.of-received.result (S.log.core c.hand.new.self) c.in-Ok-hand.did c.args.out.now c.hand.new.out c.in-Ok-hand.ensures.step)
 
 pub returns-else-is_ignored-clause-nearer : goal.returns-else-is_ignored-clause-nearer
 returns-else-is_ignored-clause-nearer g c =
     let S = g.S.Logged in
-    nearer_by (S.log.core c.args.server.now) (take c.in-Ok.count c.exchange.new.reply) (S.log.core c.hand.new.self) c.in-Ok-hand.did c.args.out.now c.hand.new.out c.requires.lead
+    nearer_by (S.log.core c.args.server.now) c.of-received.result (S.log.core c.hand.new.self) c.in-Ok-hand.did c.args.out.now c.hand.new.out c.requires.lead
     c.in-Ok-hand.ensures.step (sym c.is_ignored.ensures ∙ c.if-is_ignored.false)
 
 pub returns-in-Err-clause-ends : goal.returns-in-Err-clause-ends
 returns-in-Err-clause-ends g c =
-    let bytes : List ℕ = take c.in-Ok.count c.exchange.new.reply in
+    let bytes = c.of-received.result in
     record {
       replied = tt;
       failed = tt;
@@ -81,7 +82,7 @@ returns-in-Err-clause-ends g c =
         [],
         (
           handed Peer bytes,
-          record { stays = c.in-Err.ensures.no_step; none = refl; bytes = bytes; is = refl; calls = c.in-Ok.ensures.calls },
+          record { stays = c.in-Err.ensures.no_step; none = refl; bytes = bytes; is = refl; calls = as_received c.args.peer.now _ _ bytes _ _ c.of-received.ensures c.in-Ok.ensures.calls },
           c.in-Err.ensures.stops,
         ),
       );

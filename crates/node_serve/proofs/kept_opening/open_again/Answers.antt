@@ -1,7 +1,16 @@
-use Rattle.node_serve.specs.declared.kept_opening.TheConstants.{JOURNAL_LIMIT}
-use Rattle.node_serve.proofs.OpenLaws.{cause_reopened}
+use Rattle.std.proofs.Common.{subst}
+use Rattle.node_restart.specs.declared.opening.Opening.{Opening}
+use Rattle.node_serve.specs.KeptOpening.{DiffersAt}
 use Rattle.node_serve.proofs.kept_opening.open_again.Goals as goal
 
-pub returns-in-Err-clause-why : goal.returns-in-Err-clause-why
-returns-in-Err-clause-why g c =
-    cause_reopened c.in-Err.fault JOURNAL_LIMIT c.args.opening.now (g.D.Disk.disk c.args.disk).reads c.requires.some c.in-Err.ensures.foreign c.in-Err.ensures.damaged
+pub returns-in-Some-clause-why : goal.returns-in-Some-clause-why
+returns-in-Some-clause-why g c = (
+  c.requires.some,
+  record {
+    found = c.in-Ok.kept.opening;
+    is_opening = c.in-Ok.ensures.is_opening;
+    core = c.in-Ok.kept.core;
+    stands = c.in-Ok.ensures.stands;
+    differs = subst (λ (o : Opening). DiffersAt c.in-Some.key o c.args.opening.now) c.opening.ensures.value c.in-Some.ensures.some;
+  },
+)

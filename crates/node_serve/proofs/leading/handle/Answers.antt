@@ -13,12 +13,12 @@ returns-in-Err-clause-ends g c =
       handled = tt;
       broken = if_link {T = ℕ} (Err c.in-Err.why) _ _ (λ why h. (
         h.0,
-        breaks_early c.args.peer.now start c.args.frame.now _ h.0 _ _ why h.1,
+        breaks_early c.args.peer.now start c.args.received.now _ h.0 _ _ why h.1,
         h.2,
       )) off.broken;
       stopped = if_keep {T = ℕ} (Err c.in-Err.why) _ _ (λ fault h. (
         h.0,
-        (h.1.0, stops_early c.args.peer.now start c.args.frame.now _ h.0 h.1.0 _ _ h.1.1, h.1.2),
+        (h.1.0, stops_early c.args.peer.now start c.args.received.now _ h.0 h.1.0 _ _ h.1.1, h.1.2),
       )) off.stopped;
     }
 
@@ -27,7 +27,7 @@ returns-in-Ok-step_leader-clause-ends g c =
     let S = g.met.S.Logged in
     let peer = c.args.peer.now in
     let start = g.S.Logged.log.core c.args.server.now in
-    let frame = c.args.frame.now in
+    let frame = c.args.received.now in
     let client = handed Client frame in
     let one = c.in-Ok.ensures.ends.drained in
     let step = c.in-Ok-step_leader.ensures in
@@ -61,7 +61,7 @@ returns-in-Err-step_leader-clause-ends g c =
     let one = c.in-Ok.ensures.ends.drained in
     let off = c.in-Err-step_leader.ensures in
     let fault = c.in-Err-step_leader.fault in
-    let client = handed Client c.args.frame.now in
+    let client = handed Client c.args.received.now in
     record {
       handled = tt;
       broken = tt;
@@ -69,7 +69,7 @@ returns-in-Err-step_leader-clause-ends g c =
         one.0,
         (
           client,
-          stops_between c.args.peer.now (S.log.core c.args.server.now) c.args.frame.now _ _ _ one.0 _ _ one.1 off.no_step,
+          stops_between c.args.peer.now (S.log.core c.args.server.now) c.args.received.now _ _ _ one.0 _ _ one.1 off.no_step,
           subst (λ (l : List Handed). S.log.stops c.args.server.now c.step_leader.new.server l client fault) (append-nil one.0)
               (g.met.S.Logged.halts _ _ _ one.0 [] client fault one.2 off.stops),
         ),

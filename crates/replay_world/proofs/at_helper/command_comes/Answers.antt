@@ -13,6 +13,6 @@ returns-in_ok-note-in-Carried-clause-journal c =
     let frame = c.args.frame.now in
     let answer = (on_link_bytes c.args.helper.now frame).answer in
     let bytes = take c.in-Carried.length c.carry_command.new.out in
-    let is = carried_is answer c.in-Carried.length c.carry_command.new.out bytes (sym c.in-Carried.ensures.turn) refl c.carry_command.ensures.written c.carry_command.ensures.frame in
+    let is = carried_is answer c.in-Carried.length c.carry_command.new.out bytes (sym c.in-Carried.ensures.answer) refl c.carry_command.ensures.written c.carry_command.ensures.frame in
     let lines = carried_lines frame answer bytes (lines_in c.journal_line.result) is c.journal_line.ensures in
     on_ok c.post-in-Carried.result (λ p. c.in_ok-note-in-Carried.ensures ∙ ap (λ (ls : List JournalLine). journal_in c.args.journal.now.items ++ ls) lines) c.post-in-Carried.ensures

@@ -32,7 +32,7 @@ returns-clause-does g c d =
     let slot = c.audit-opened.ensures.is_slot s.settings.width s.settings.boxes
     (with_serial s.settings.width s.settings.boxes (addresses_of s.boxes.boxes) cur f.serial
     (subst (IsLeaderSlot s.settings.width s.settings.boxes (addresses_of s.boxes.boxes)) (sym c.index_mut-slot.ensures.value) (c.requires.is.server.rows c.from.result cur inside))) in
-    issue_does s c.audit-opened.new.boxes f (frame.LinkAudit point opened) (steps.Auditing c.next-number.result w share point opened) c.from.result c.audit-opened.new.self c.issue-length.new.link (s.draws + 1) c.next-number.result c.issue-length.result
+    issue_does s c.audit-opened.new.boxes f (frame.LinkAudit point opened) (steps.Auditing c.next-number.result w share point opened) c.from.result c.audit-opened.new.self c.issue-length.new.self (s.draws + 1) c.next-number.result c.issue-length.result
     c.args.out.now c.issue-length.new.out _ c.audit-opened.ensures.same t
     c.requires.is c.from.ensures c.requires.lane (client_serial (plain_body c.args.frame.now.body) c.args.frame.now.lane c.args.frame.now.serial c.requires.class c.requires.is_frame.addressed) c.audit-opened.ensures.row slot
     c.requires.next c.requires.free c.issue-length.ensures.link c.issue-length.ensures.order c.issue-length.ensures.is_frame (omega arith)

@@ -62,6 +62,6 @@ returns-clause-kept c =
       settings = refl;
       is = core_set s c.read.new.self c.from.result c.finish.new.self c.requires.is (same_server s.settings s.boxes c.read.new.self s.slots.items c.read.ensures.same c.requires.is.server)
           (c.finish.ensures.is_slot (addresses_of c.read.new.self.boxes)
-          (record { unlinked = refl; addressed = λ lane serial some. some; is_body = (own ∙ sym other, subst IsWidth (sym own) c.requires.is.server.limits.0) })
+          (record { unlinked = refl; addressed = λ lane serial some. some; is_body = (own ∙ sym other, subst IsWidth (sym own) s.settings.limits.0) })
           s.settings.width s.settings.boxes (record { room = here.rooms.room; own = own; other = other }));
     }

@@ -4,24 +4,22 @@ use Rattle.frame_rules.specs.Frames.{PlainFrame, PlainBody, plain, plain_body}
 use Rattle.frame_rules.specs.Spelling.{spelling}
 use Rattle.frame_rules.specs.Whole.{on_link}
 use Rattle.link_order.specs.Link.{Outstanding}
-use Rattle.leader_core.specs.State.{with_command}
+use Rattle.leader_core.specs.Commands.{frame_for, with_command}
 use Rattle.leader_core.proofs.LinkLemmas.{settled_does}
 use Rattle.leader_core.proofs.stores.LeaderStores.settle.Goals as goal
 
 pub returns-clause-does : goal.returns-clause-does
 returns-clause-does c f issued =
     let s = c.args.self.now in
-    let h = c.header-header.result in
-    let d = c.drop_oldest.new.link in
+    let i = c.args.command.now in
+    let d = c.drop_oldest.new.self in
     let b = frame.LinkSettle c.args.own in
-    let command = on_link (plain h) d.next b in
-    let lane = ap (λ (x : PlainFrame). x.lane) c.header-header.ensures.value ∙ sym issued.lane in
-    let serial = ap (λ (x : PlainFrame). x.serial) c.header-header.ensures.value ∙ sym issued.serial in
+    let command = frame_for i.lane i.serial d.next b in
     let next : d.next ≡ s.link.next = ap (λ (l : Outstanding). l.next) c.drop_oldest.ensures.link in
-    let command_is : command ≡ on_link f s.link.next b = ap (λ n. let x : PlainFrame = record { lane = n; serial = h.serial; link = d.next; body = b } in x) lane
-    ∙ (ap (λ n. let x : PlainFrame = record { lane = f.lane; serial = n; link = d.next; body = b } in x) serial
-    ∙ ap (λ n. let x : PlainFrame = record { lane = f.lane; serial = f.serial; link = n; body = b } in x) next) in
-    settled_does s c.issue-length.new.link f command c.args.own c.next-number.result c.issue-length.result c.args.out.now c.issue-length.new.out c.requires.is c.requires.some c.requires.audit
+    let command_is : command ≡ on_link f s.link.next b = ap (λ n. frame_for n i.serial d.next b) (sym issued.lane)
+    ∙ (ap (λ n. frame_for f.lane n d.next b) (sym issued.serial)
+    ∙ ap (λ n. frame_for f.lane f.serial n b) next) in
+    settled_does s c.issue-length.new.self f command c.args.own c.next-number.result c.issue-length.result c.args.out.now c.issue-length.new.out c.requires.is c.requires.some c.requires.audit
     (omega (arith, issued.lane, c.requires.lane)) (omega (arith, issued.serial, c.requires.serial)) command_is c.issue-length.ensures.is_frame
     (c.issue-length.ensures.link ∙ ap (λ (l : Outstanding). with_command l (spelling command)) c.drop_oldest.ensures.link) c.issue-length.ensures.order (c.next-number.ensures.number ∙ next)
     c.issue-length.ensures.length c.issue-length.ensures.front

@@ -24,7 +24,7 @@ returns-clause-does c =
     ∙ ap (λ (b : PlainBody). issues (record (leader_in s) { draws = draws }) f b stage) (sym c.command-body.ensures.body) in
     let slot = c.wait.ensures.is_slot (addresses_of s.boxes.boxes) s.settings.width s.settings.boxes
     (subst (IsLeaderSlot s.settings.width s.settings.boxes (addresses_of s.boxes.boxes)) (sym c.index_mut.ensures.value) (c.requires.is.server.rows c.from.result c.index_mut.result.now inside)) in
-    issue_does s s.boxes f (plain_body c.command-body.result) stage c.from.result c.wait.new.self c.issue-length.new.link draws c.next-number.result c.issue-length.result c.args.out.now c.issue-length.new.out _ refl t
+    issue_does s s.boxes f (plain_body c.command-body.result) stage c.from.result c.wait.new.self c.issue-length.new.self draws c.next-number.result c.issue-length.result c.args.out.now c.issue-length.new.out _ refl t
     c.requires.is c.from.ensures c.requires.lane (client_serial (plain_body c.args.frame.now.body) c.args.frame.now.lane c.args.frame.now.serial c.requires.class c.requires.is_frame.addressed) (c.wait.ensures.row ∙ ap (λ n. steps.row f.serial (steps.Waiting n asked)) c.next-number.ensures.number) slot
     c.requires.next c.requires.free c.issue-length.ensures.link c.issue-length.ensures.order c.issue-length.ensures.is_frame (omega (arith, c.draws.ensures.most))
     c.next-number.ensures.number c.issue-length.ensures.length c.issue-length.ensures.front

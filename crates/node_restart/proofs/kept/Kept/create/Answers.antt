@@ -10,7 +10,7 @@ use Rattle.node_restart.proofs.kept.Kept.create.Goals as goal
 pub invariant_of-result : goal.invariant_of-result
 invariant_of-result g c =
     record {
-      is_opening = record { limits = c.requires.settings; seed = search rules };
+      is_opening = record { seed = search rules };
       settings = ap settings_of c.in-Ok.ensures ∙ opened_settings c.args.opening.now;
       role = ap role_of c.in-Ok.ensures ∙ opened_role c.args.opening.now;
       ready = ap (λ (j : JournalState). j.ready) c.in-Ok-create.ensures.made;

@@ -18,7 +18,7 @@ invariant_of-self g c =
       role = c.step.ensures.role ∙ c.self.invariant.role;
       ready = c.keep.ensures.ready;
       in_place = c.keep.ensures.in_place;
-      stands = stands_after c.self.inside.opening c.self.inside.core c.step.new.self c.args.sender c.args.frame.now c.self.inside.journal c.keep.new.journal
+      stands = stands_after c.self.inside.opening c.self.inside.core c.step.new.self c.args.sender c.args.received.now c.self.inside.journal c.keep.new.journal
           (D.disk c.self.inside.disk).reads (D.disk c.keep.new.disk).reads c.step.ensures.takes.core (λ one. ap (λ (j : JournalState). j.closed) (c.in-Ok.ensures.writes.longer one))
           c.in-Ok.ensures.writes.added
           (λ apart. ((c.keep.ensures.writes.no_frame apart).1, λ d read. subst (λ (x : g.row.D.Denot). (D.disk x).reads d) (c.keep.ensures.writes.no_frame apart).2 read))
@@ -32,7 +32,7 @@ returns-in-Ok g c =
     let core = c.self.inside.core in
     let old = c.self.inside.journal in
     let disk = c.self.inside.disk in
-    let h = handed c.args.sender c.args.frame.now in
+    let h = handed c.args.sender c.args.received.now in
     let made : Core → JournalState → g.row.D.Denot → KeptState g.row.D.Denot =
     λ x j d. record { opening = o; core = x; journal = j; disk = d } in
     let new = made c.step.new.self c.keep.new.journal c.keep.new.disk in
@@ -45,13 +45,13 @@ returns-in-Ok g c =
       no_frame = λ apart.
           let kept = c.keep.ensures.writes.no_frame apart in (
             refl,
-            ap (λ (x : Core). made x c.keep.new.journal c.keep.new.disk) (c.step.ensures.takes.core ∙ no_frame_stays core c.args.sender c.args.frame.now apart)
+            ap (λ (x : Core). made x c.keep.new.journal c.keep.new.disk) (c.step.ensures.takes.core ∙ no_frame_stays core c.args.sender c.args.received.now apart)
                 ∙ ap (λ (j : JournalState). made core j c.keep.new.disk) kept.1
                 ∙ ap (λ (d : g.row.D.Denot). made core old d) kept.2,
           );
       added = λ one frames held. holds_push o frames h (D.disk disk).reads (D.disk c.keep.new.disk).reads held (c.in-Ok.ensures.writes.added one);
       longer = c.in-Ok.ensures.writes.longer;
-      stands = stands_after o core c.step.new.self c.args.sender c.args.frame.now old c.keep.new.journal
+      stands = stands_after o core c.step.new.self c.args.sender c.args.received.now old c.keep.new.journal
           (D.disk disk).reads (D.disk c.keep.new.disk).reads c.step.ensures.takes.core (λ one. ap (λ (j : JournalState). j.closed) (c.in-Ok.ensures.writes.longer one))
           c.in-Ok.ensures.writes.added
           (λ apart. ((c.keep.ensures.writes.no_frame apart).1, λ d read. subst (λ (x : g.row.D.Denot). (D.disk x).reads d) (c.keep.ensures.writes.no_frame apart).2 read))
@@ -76,7 +76,7 @@ returns-in-Err g c =
     let core = c.self.inside.core in
     let old = c.self.inside.journal in
     let disk = c.self.inside.disk in
-    let h = handed c.args.sender c.args.frame.now in
+    let h = handed c.args.sender c.args.received.now in
     let made : JournalState → g.row.D.Denot → KeptState g.row.D.Denot =
     λ j d. record { opening = o; core = core; journal = j; disk = d } in
     let new = made c.keep.new.journal c.keep.new.disk in

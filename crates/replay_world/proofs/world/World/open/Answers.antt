@@ -3,9 +3,6 @@ use Rattle.schedule_text.specs.declared.schedule.Schedule.{Schedule}
 use Rattle.replay_world.proofs.Playing.{run_none}
 use Rattle.replay_world.proofs.world.World.open.Goals as goal
 
-pub open-requires : goal.open-requires
-open-requires c = record { limits = c.requires.limits }
-
 pub returns-clause-whole : goal.returns-clause-whole
 returns-clause-whole c =
     let none : Schedule = record { header = c.args.header.now; events = c.new.result.items } in

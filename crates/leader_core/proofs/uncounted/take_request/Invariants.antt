@@ -1,4 +1,0 @@
-use Rattle.leader_core.proofs.uncounted.take_request.Given as goal
-
-abbrev pub ghosts-take_counted : goal.ghosts-take_counted
-ghosts-take_counted a = record { name = a.blank.name; parts = a.blank.parts }
