@@ -9,7 +9,7 @@ use Rattle.node_serve.specs.FirstFaults.{IsFirstFault}
 use Rattle.express_texts.specs.declared.fault.TextFault.{TextFault}
 use Rattle.express_texts.specs.declared.fault.TextFault.TheVariants as fault
 use Rattle.express_cli.specs.Ends.{DiskCounts, FaultMay, PrintsBy}
-use Rattle.express_cli.specs.KeepFaults.{end_by, fault_line}
+use Rattle.express_cli.specs.Keeping.{end_by, fault_line}
 use Rattle.express_cli.specs.declared.ends.End.{End}
 use Rattle.express_cli.specs.declared.ends.End.TheVariants as ends
 
@@ -36,15 +36,14 @@ either _ before now h = inl h
 -- an end that was told, or was not since the sink failed
 pub told_counts : (told end : End) (before now : ℕ) → (end ≡ told) ⊎ (end ≡ ends.WriteFault)
     → DiskCounts told before now → DiskCounts end before now
-told_counts told end before now (inl same) h =
-    let Counts : End → Type 0 = λ x. DiskCounts x before now in subst Counts (sym same) h
-told_counts told end before now (inr failed) h =
-    let Counts : End → Type 0 = λ x. DiskCounts x before now in
-    subst Counts (sym failed) (either told before now h)
+told_counts told end before now (inl same) h = rw same h
+told_counts told end before now (inr failed) h = rw failed (either told before now h)
 
-pub counts_as : (end other : End) (before now : ℕ) → end ≡ other → DiskCounts other before now → DiskCounts end before now
-counts_as end other before now same h =
-    let Counts : End → Type 0 = λ x. DiskCounts x before now in subst Counts (sym same) h
+-- likewise of a line
+pub line_counts : (told end : End) (before now : ℕ) → (end ≡ told) ⊎ ((end ≡ ends.OutOfMemory) ⊎ (end ≡ ends.WriteFault))
+    → now ≡ before → DiskCounts told before now → DiskCounts end before now
+line_counts told end before now (inl said) same h = rw said h
+line_counts told end before now (inr other) same h = told_counts ends.OutOfMemory end before now other same
 
 -- the disk's count by a fault is that of the end by it
 pub fault_counts : (fault : KeepFault) (before now : ℕ) → IsFirstFault fault → CountsFault before now fault

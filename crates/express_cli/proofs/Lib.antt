@@ -7,7 +7,7 @@ pub mod Causes
 pub mod Asked
 pub mod Exact
 pub mod Talked
-pub mod Serving
+pub mod Settling
 pub mod Telling
 pub mod MillText
 pub mod CountLaws

@@ -9,21 +9,17 @@ use Rattle.settings_text.specs.declared.carry.CarrySettings.{CarrySettings}
 use Rattle.client_run.specs.declared.cut.Untold.{Untold}
 use Rattle.client_run.specs.declared.cut.Untold.TheVariants as untold
 use Rattle.client_run.specs.declared.ran.Ran.{Ran}
-use Rattle.client_run.specs.Carries.{CarryComes, ComesBy, SendEnded, CarryRuns, carry_plan, carry_text, told_by}
-use Rattle.client_run.specs.Runs.{EndSaid, Plan, IsNext, between, outcome, ended, CameTo, EndsWith, BreaksInLine as BrokeOff, Comes, ClientEnded, ClientComes, ClientRuns, RunFault, client_plan}
+use Rattle.client_run.specs.Carries.{ComesBy, SendEnded, carry_plan}
+use Rattle.client_run.specs.Runs.{EndSaid, Plan, IsNext, between, outcome, ended, CameTo, BreaksInLine as BrokeOff, Comes, RunFault}
 use Rattle.client_run.specs.Telling.{Moment, TookPart, PutSink, lines_of, moment}
 use Rattle.client_run.specs.Texts.{outcome_line}
 use Rattle.client_run.proofs.PassedLaws.{lines_more, part_behind, took_nothing, took_part}
 use Rattle.express_cli.specs.Around.{Around, Seen}
-use Rattle.express_cli.specs.Ends.{Prints, Said, out_of_memory_text}
-use Rattle.express_cli.specs.Talking.{Breaks, CarryBreaks, CarryRan, CarryWants, ClientRan, LeftNothing, SaysRun, SpellsCarry, SpellsClient, TalkEnds, TalkMay, Wants, end_by}
-use Rattle.express_cli.specs.declared.words.NetCommand.TheVariants.{Client, Carry}
+use Rattle.express_cli.specs.Ends.{Prints, Said, SaidWanting, out_of_memory_text}
+use Rattle.express_cli.specs.Talking.{FetchMay, IsStill, JobBreaks, JobMay, PlanBreaks, PlanMay, SaysRun, Talks, end_by}
 use Rattle.express_cli.specs.declared.ends.End.{End}
 use Rattle.express_cli.specs.declared.ends.End.TheVariants as ends
-use Rattle.express_cli.proofs.Serving.{client_may, carry_may}
 use Rattle.express_cli.proofs.Writing.{follows}
-
--- ---- any plan
 
 -- so far it came where the line of the last request is cut
 came_cut : (plan : Plan) (Ended : EndSaid) (a b : Moment) (e : BrokeOff plan a b) (told : List Finished) (next : List ℕ) → IsNext plan Ended e.stand told next
@@ -52,130 +48,63 @@ said_part said text sure old mid new _ took h failed = absurd (cc failed)
 
 -- what is said of the end, behind what was told
 says : (May : End → List ℕ → Type 0) (end_is : End) (text told : List ℕ) (old mid new : Seen) (end : End)
-    → May end_is (told ++ text) → Took old.written mid.written told → mid.faults ≡ old.faults → Prints (Said end_is text) mid new end → Prints May old new end
+    → ((e : End) (t : List ℕ) → Said end_is (told ++ text) e t → May e t) → Took old.written mid.written told → mid.faults ≡ old.faults
+    → Prints (Said end_is text) mid new end → Prints May old new end
 says May end_is text told old mid new end may took same said =
-    follows (Said end_is text) May old mid new end told took same
-    (λ x t is. subst (λ (y : End). May y (told ++ t)) (sym is.0) (subst (λ (y : List ℕ). May end_is (told ++ y)) (sym is.1) may)) said
+    follows (Said end_is text) May old mid new end told took same (λ e t is. may e (told ++ t) (is.0, ap (λ (x : List ℕ). told ++ x) is.1)) said
 
--- what a plan's work comes to that isn't told to its end
-untold_says : (May : End → List ℕ → Type 0) (plan : Plan) (Ended : EndSaid) (net : Around) (why : Untold) (old mid new : Seen) (end : End)
-    → ((text : List ℕ) → Wants plan Ended net text → May ends.OutOfMemory text)
-    → Comes plan Ended (Err why) (moment net.before old) (moment net.now mid)
-    → PutSink {A = Ran} (Err why) old.faults mid.faults → SaysRun (Err why) mid new end → Prints May old new end
-untold_says May plan Ended net untold.NoMemory old mid new end may (told, next, came, took) same said =
-    says May ends.OutOfMemory out_of_memory_text (lines_of told) old mid new end (may _ (told, next, came, refl)) took same said
-untold_says May plan Ended net untold.Unwritten old mid new end may e rose (is, same) =
-    let text = lines_of e.stand.finished ++ out_of_memory_text in
-    let whole = came_cut plan Ended _ _ e e.stand.finished [] (between e.is_last.asked e.is_last.behind e.is_last.all e.is_last.works) in
-    let To : Seen → Type 0 = λ x. Prints May old x ends.WriteFault in
-    subst (λ (x : End). Prints May old new x) (sym is)
-    (subst To (sym same) (rose, (ends.OutOfMemory, text, may text (e.stand.finished, [], whole, refl), cut_prefix plan _ _ e out_of_memory_text)))
+plan_prints : (Of : Plan → EndSaid) (plan : Plan) (net : Around) (run : Result Ran Untold) (old mid new : Seen) (end : End) → Comes plan (Of plan) run (moment net.before old) (moment net.now mid)
+    → IfOk run (λ ran. RunFault ran.end net.before.faults net.now.faults) → PutSink run old.faults mid.faults → SaysRun run mid new end → Prints (PlanMay Of plan net) old new end
+plan_prints Of plan net (Ok ran) old mid new end e fault same said = says (PlanMay Of plan net) (end_by ran.end) ran.text (lines_of e.told) old mid new end
+    (λ x t is. inl (record { stand = e.stand; told = e.told; last = ran.text; by = ran.end; is_ended = e.is_ended; peers = e.peers; at = e.at; calls = e.passed.calls; fault = fault; says = is }))
+    e.passed.written same said
+plan_prints Of plan net (Err untold.NoMemory) old mid new end (told, next, came, took) fault same said =
+    says (PlanMay Of plan net) ends.OutOfMemory out_of_memory_text (lines_of told) old mid new end (λ x t is. inr (told, next, came, is)) took same said
+plan_prints Of plan net (Err untold.Unwritten) old mid new end e fault rose (is, same) =
+    let whole = came_cut plan (Of plan) _ _ e e.stand.finished [] (between e.is_last.asked e.is_last.behind e.is_last.all e.is_last.works) in
+    let all : Prints (PlanMay Of plan net) old mid ends.WriteFault =
+    (rose, (ends.OutOfMemory, lines_of e.stand.finished ++ out_of_memory_text, inr (e.stand.finished, [], whole, (refl, refl)), cut_prefix plan _ _ e out_of_memory_text)) in
+    rw (is, same) all
 
--- what went out where the sink failed
-breaks : (plan : Plan) (Ended : EndSaid) (net : Around) (run : Result Ran Untold) (old mid new : Seen) (end : End)
-    → Comes plan Ended run (moment net.before old) (moment net.now mid) → SaysRun run mid new end → end ≡ ends.WriteFault → Breaks plan Ended net old new
-breaks plan Ended net (Ok ran) old mid new end e said failed =
-    let came : CameTo plan Ended e.told ran.text net.before.calls net.now.calls
+plan_breaks : (Of : Plan → EndSaid) (plan : Plan) (net : Around) (run : Result Ran Untold) (old mid new : Seen) (end : End)
+    → Comes plan (Of plan) run (moment net.before old) (moment net.now mid) → SaysRun run mid new end → end ≡ ends.WriteFault → PlanBreaks Of plan net old new
+plan_breaks Of plan net (Ok ran) old mid new end e said failed =
+    let came : CameTo plan (Of plan) e.told ran.text net.before.calls net.now.calls
     = record { stand = e.stand; is_next = ended e.told ran.text ran.end e.is_ended; peers = e.peers; at = e.at; calls = e.passed.calls } in
     (e.told, ran.text, came, inl (said_part (end_by ran.end) ran.text (lines_of e.told) old mid new end e.passed.written said failed))
-breaks plan Ended net (Err untold.NoMemory) old mid new end (told, next, came, took) said failed =
+plan_breaks Of plan net (Err untold.NoMemory) old mid new end (told, next, came, took) said failed =
     (told, next, came, inr (said_part ends.OutOfMemory out_of_memory_text (lines_of told) old mid new end took said failed))
-breaks plan Ended net (Err untold.Unwritten) old mid new end e (is, same) failed =
+plan_breaks Of plan net (Err untold.Unwritten) old mid new end e (is, same) failed =
     let part = subst (λ (x : Seen). TookPart (lines_of e.told) (outcome_line e.last) old.written x.written) (sym same) e.passed.written in
-    (e.told, outcome_line e.last, came_cut plan Ended _ _ e e.told (outcome_line e.last) (outcome e.told e.last e.is_last), inl part)
+    (e.told, outcome_line e.last, came_cut plan (Of plan) _ _ e e.told (outcome_line e.last) (outcome e.told e.last e.is_last), inl part)
 
--- ---- a client
-
-client_ran : (settings : ClientSettings) (net : Around) (ran : Ran) (old mid : Seen)
-    → (e : EndsWith (client_plan settings net.seed) (ClientEnded (client_plan settings net.seed)) ran (moment net.before old) (moment net.now mid))
-    → RunFault ran.end net.before.faults net.now.faults → ClientRan settings net ran.end (lines_of e.told ++ ran.text)
-client_ran settings net ran old mid e fault =
-    let (worked, works, told_is, text_is, end_is) = e.is_ended in
-    let runs : ClientRuns settings net.seed net.before.calls net.now.calls (lines_of e.told ++ ran.text) ran.end = record {
-      stand = e.stand;
-      worked = worked;
-      works = works;
-      peers = e.peers;
-      at = e.at;
-      calls = e.passed.calls;
-      prints = ap (λ (x : List Finished). lines_of x ++ ran.text) told_is ∙ ap (λ (x : List ℕ). lines_of e.stand.finished ++ x) text_is;
-      ends = end_is;
-    } in
-    (runs, fault)
-
-client_prints : (settings : ClientSettings) (bytes : List ℕ) (net : Around) (run : Result Ran Untold) (old mid new : Seen) (end : End)
-    → SpellsClient settings bytes → ClientComes settings net.seed run (moment net.before old) (moment net.now mid)
-    → IfOk run (λ ran. RunFault ran.end net.before.faults net.now.faults) → PutSink run old.faults mid.faults → SaysRun run mid new end → Prints (TalkMay Client bytes net) old new end
-client_prints settings bytes net (Ok ran) old mid new end spells e fault same said =
-    says (TalkMay Client bytes net) (end_by ran.end) ran.text (lines_of e.told) old mid new end
-    (client_may settings bytes net ran.end (lines_of e.told ++ ran.text) spells (client_ran settings net ran old mid e fault)) e.passed.written same said
-client_prints settings bytes net (Err why) old mid new end spells comes fault sink said =
-    untold_says (TalkMay Client bytes net) (client_plan settings net.seed) (ClientEnded (client_plan settings net.seed)) net why old mid new end
-    (λ text wants. inr (settings, spells, wants)) comes sink said
-
-pub client_ends : (settings : ClientSettings) (bytes : List ℕ) (net : Around) (run : Result Ran Untold) (old mid new : Seen) (end : End)
-    → SpellsClient settings bytes → ClientComes settings net.seed run (moment net.before old) (moment net.now mid)
-    → IfOk run (λ ran. RunFault ran.end net.before.faults net.now.faults) → PutSink run old.faults mid.faults → SaysRun run mid new end → LeftNothing net → TalkEnds Client bytes net old new end
-client_ends settings bytes net run old mid new end spells comes fault sink said left = record {
-  comes = client_prints settings bytes net run old mid new end spells comes fault sink said;
-  in_time = λ failed. inr (settings, spells, breaks (client_plan settings net.seed) (ClientEnded (client_plan settings net.seed)) net run old mid new end comes said failed);
+-- what a plan's work came to
+pub plan_ends : (Of : Plan → EndSaid) (plan : Plan) {Leaves : Type 0} (net : Around) (run : Result Ran Untold) (old mid : Seen) {new : Seen} {end : End}
+    → Comes plan (Of plan) run (moment net.before old) (moment net.now mid) → IfOk run (λ ran. RunFault ran.end net.before.faults net.now.faults) → PutSink run old.faults mid.faults
+    → SaysRun run mid new end → Leaves → Talks (PlanMay Of plan net) (PlanBreaks Of plan net old new) Leaves net old new end
+plan_ends Of plan net run old mid {new} {end} comes fault sink said left = record {
+  comes = plan_prints Of plan net run old mid new end comes fault sink said;
+  in_time = λ failed. inr (plan_breaks Of plan net run old mid new end comes said failed);
   leaves = left;
 }
-
--- ---- a carrier
-
-send_ran : (settings : CarrySettings) (net : Around) (id : ℕ) (file addresses : List ℕ) (ran : Ran) (old mid : Seen) → settings.job ≡ Send id file addresses
-    → (e : EndsWith (carry_plan settings net.seed) (SendEnded (length addresses) (carry_plan settings net.seed)) ran (moment net.before old) (moment net.now mid))
-    → RunFault ran.end net.before.faults net.now.faults → CarryRan settings net ran.end (lines_of e.told ++ ran.text)
-send_ran settings net id file addresses ran old mid job e fault =
-    let (finished, worked, carries, carried, told_is, text_is, end_is) = e.is_ended in
-    let runs : CarryRuns settings net.seed net.before.calls net.now.calls (lines_of e.told ++ ran.text) ran.end = record {
-      client = e.stand.client;
-      finished = finished;
-      made = e.stand.made;
-      worked = worked;
-      carries = carries;
-      carried = carried;
-      peers = e.peers;
-      at = e.at;
-      calls = e.passed.calls;
-      prints = ap (λ (x : List Finished). lines_of x ++ ran.text) told_is ∙ ap (λ (x : List ℕ). lines_of (told_by finished worked) ++ x) text_is
-          ∙ sym (ap (λ (j : CarryJob). carry_text j finished worked) job);
-      ends = end_is;
-    } in
-    (runs, fault)
 
 -- a fetch tells nothing before its end
 took_none : (old mid : Seen) → mid.written ≡ old.written → Took old.written mid.written []
-took_none old mid still = subst (λ (x : Option (List ℕ)). Took old.written x []) (sym still) (took_nothing old.written)
+took_none old mid still = rw still (took_nothing old.written)
 
-carry_prints : (job : CarryJob) (settings : CarrySettings) (bytes : List ℕ) (net : Around) (run : Result Ran Untold) (old mid new : Seen) (end : End) → settings.job ≡ job
-    → SpellsCarry settings bytes → ComesBy job settings net.seed run (moment net.before old) (moment net.now mid)
-    → IfOk run (λ ran. RunFault ran.end net.before.faults net.now.faults) → PutSink run old.faults mid.faults → SaysRun run mid new end → Prints (TalkMay Carry bytes net) old new end
-carry_prints (Send id file addresses) settings bytes net (Ok ran) old mid new end job spells e fault same said =
-    says (TalkMay Carry bytes net) (end_by ran.end) ran.text (lines_of e.told) old mid new end
-    (carry_may settings bytes net ran.end (lines_of e.told ++ ran.text) spells (send_ran settings net id file addresses ran old mid job e fault)) e.passed.written same said
-carry_prints (Send id file addresses) settings bytes net (Err why) old mid new end job spells comes fault sink said =
-    untold_says (TalkMay Carry bytes net) (carry_plan settings net.seed) (SendEnded (length addresses) (carry_plan settings net.seed)) net why old mid new end
-    (λ text wants. inr (settings, spells, subst (λ (j : CarryJob). CarryWants j settings net text) (sym job) wants)) comes sink said
-carry_prints Fetch settings bytes net (Ok ran) old mid new end job spells (runs, still) fault same said =
-    says (TalkMay Carry bytes net) (end_by ran.end) ran.text [] old mid new end (carry_may settings bytes net ran.end ran.text spells (runs, fault)) (took_none old mid still) same said
-carry_prints Fetch settings bytes net (Err untold.NoMemory) old mid new end job spells still fault same said =
-    says (TalkMay Carry bytes net) ends.OutOfMemory out_of_memory_text [] old mid new end
-    (inr (settings, spells, subst (λ (j : CarryJob). CarryWants j settings net out_of_memory_text) (sym job) refl)) (took_none old mid still) same said
-carry_prints Fetch settings bytes net (Err untold.Unwritten) old mid new end job spells never fault sink said = absurd never
-
-carry_breaks : (job : CarryJob) (settings : CarrySettings) (net : Around) (run : Result Ran Untold) (old mid new : Seen) (end : End)
-    → ComesBy job settings net.seed run (moment net.before old) (moment net.now mid) → SaysRun run mid new end → end ≡ ends.WriteFault → CarryBreaks job settings net old new
-carry_breaks (Send id file addresses) settings net run old mid new end comes said failed =
-    breaks (carry_plan settings net.seed) (SendEnded (length addresses) (carry_plan settings net.seed)) net run old mid new end comes said failed
-carry_breaks Fetch settings net run old mid new end comes said failed = tt
-
-pub carry_ends : (settings : CarrySettings) (bytes : List ℕ) (net : Around) (run : Result Ran Untold) (old mid new : Seen) (end : End)
-    → SpellsCarry settings bytes → CarryComes settings net.seed run (moment net.before old) (moment net.now mid)
-    → IfOk run (λ ran. RunFault ran.end net.before.faults net.now.faults) → PutSink run old.faults mid.faults → SaysRun run mid new end → LeftNothing net → TalkEnds Carry bytes net old new end
-carry_ends settings bytes net run old mid new end spells comes fault sink said left = record {
-  comes = carry_prints settings.job settings bytes net run old mid new end refl spells comes fault sink said;
-  in_time = λ failed. inr (settings, spells, carry_breaks settings.job settings net run old mid new end comes said failed);
+-- what a carrier's job came to
+pub job_ends : (job : CarryJob) (settings : CarrySettings) {Leaves : Type 0} (net : Around) (run : Result Ran Untold) (old mid : Seen) {new : Seen} {end : End}
+    → ComesBy job settings net.seed run (moment net.before old) (moment net.now mid) → IfOk run (λ ran. RunFault ran.end net.before.faults net.now.faults) → PutSink run old.faults mid.faults
+    → SaysRun run mid new end → Leaves → Talks (JobMay job settings net) (JobBreaks job settings net old new) Leaves net old new end
+job_ends (Send id file addresses) settings net run old mid comes fault sink said left = plan_ends (SendEnded (length addresses)) (carry_plan settings net.seed) net run old mid comes fault sink said left
+job_ends Fetch settings net (Ok ran) old mid {new} {end} (runs, still) fault same said left = record {
+  comes = says (FetchMay settings net) (end_by ran.end) ran.text [] old mid new end (λ e t is. rw is.1 (inl (ran.end, runs, fault, is.0))) (took_none old mid still) same said;
+  in_time = λ failed. inr tt;
   leaves = left;
 }
+job_ends Fetch settings net (Err untold.NoMemory) old mid {new} {end} still fault same said left = record {
+  comes = says (FetchMay settings net) ends.OutOfMemory out_of_memory_text [] old mid new end (λ e t is. inr is) (took_none old mid still) same said;
+  in_time = λ failed. inr tt;
+  leaves = left;
+}
+job_ends Fetch settings net (Err untold.Unwritten) old mid never fault sink said left = absurd never

@@ -1,10 +1,10 @@
 -- What may come of a server at its door, whatever keeps its frames: its log, and what is told where the log
 -- refuses one.
-use Rattle.std.specs.Prelude.{◌≡◌, ◌⊎◌, false, true, List, [], ℕ, ◌++◌, codes, Ok, Err}
+use Rattle.std.specs.Prelude.{◌≡◌, ◌⊎◌, false, true, List, [], ℕ, ◌++◌, codes, Result, Ok, Err}
 use Rattle.express_words.specs.Calls.{Listened, Adds}
 use Rattle.express_words.specs.Causes.{Rose}
 use Rattle.settings_text.specs.declared.serve.ServeSettings.{ServeSettings}
-use Rattle.node_serve.specs.Hosting.{Hosts}
+use Rattle.node_serve.specs.Hosting.{Hosts, halt_in}
 use Rattle.node_serve.specs.Logs.{Log}
 use Rattle.node_serve.specs.Tallies.{tally_text}
 use Rattle.node_serve.specs.Visits.{DoorBy, Standing, standing}
@@ -34,18 +34,6 @@ doorway seen shows old new before now = doorway_of (over seen shows [] before no
 abbrev pub listening : List ℕ
 listening = codes "listening\n"
 
--- how many connections had each answer, unless memory is wanting for its line
-abbrev pub TallyMay : Tally → End → List ℕ → Type 0
-TallyMay tally end text = SaidOrWants Done (tally_text tally ++ codes "\n") end text
-
--- All connections of the settings were served.
-pub record ServedAll {S F : Type 0} (log : Log S F) (settings : ServeSettings) (door : Doorway S) (end : End)
-    (text : List ℕ) : Type 0 where
-  pub tally : Tally
-  pub serves : Hosts log settings.peer door.shown settings.connections door.old door.new (Ok tally)
-  pub doors : door.new.net.doors ≡ door.old.net.doors
-  pub says : TallyMay tally end text
-
 -- what is told of a fault of the log, and how the run ends then
 abbrev pub Tells : Type 0 → Type 1
 Tells F = F → End → List ℕ → Type 0
@@ -54,37 +42,25 @@ Tells F = F → End → List ℕ → Type 0
 abbrev pub NeverMay : Tells Never
 NeverMay why end text = ⊥
 
--- what is said of why it ended early
-abbrev pub HaltMay : {F : Type 0} → Tells F → Halt F → End → List ℕ → Type 0
-HaltMay tells halt.Door end text = Said NetFault net_fault_text end text
-HaltMay tells (halt.Log fault) end text = tells fault end text
+-- what is said at its end: how many connections had each answer, unless memory is wanting for its line; or why
+-- it ended early
+abbrev pub ServedSays : {F : Type 0} → Tells F → Result Tally (Halt F) → End → List ℕ → Type 0
+ServedSays tells (Ok tally) end text = SaidOrWants Done (tally_text tally ++ codes "\n") end text
+ServedSays tells (Err halt.Door) end text = Said NetFault net_fault_text end text
+ServedSays tells (Err (halt.Log fault)) end text = tells fault end text
 
--- it ended at the door, or at one of these faults of the log
-abbrev pub EndsAtFirst : {F : Type 0} → (F → Type 0) → Halt F → Type 0
-EndsAtFirst first halt.Door = Unit {0}
-EndsAtFirst first (halt.Log fault) = first fault
-
--- the log's count of failures is what its fault says, and stays where it ended at the door
-abbrev pub HaltCounts : {F : Type 0} → (F → ℕ → ℕ → Type 0) → Halt F → (before now : ℕ) → Type 0
-HaltCounts rises halt.Door before now = now ≡ before
-HaltCounts rises (halt.Log fault) before now = rises fault before now
-
--- An accept failed, or the log refused a frame, which ended the run; no answer went out to its connection.
-pub record Halted {S F : Type 0} (log : Log S F) (tells : Tells F) (settings : ServeSettings)
+-- All connections of the settings were served; or an accept failed, or the log refused a frame, which ended the
+-- run: no answer went out to its connection.
+pub record Served {S F : Type 0} (log : Log S F) (tells : Tells F) (settings : ServeSettings)
     (door : Doorway S) (end : End) (text : List ℕ) : Type 0 where
-  pub stop : Stop F
-  pub halts : Hosts log settings.peer door.shown settings.connections door.old door.new (Err stop)
-  pub doors : DoorBy {T = Tally} (Err stop.halt) door.old.net.doors door.new.net.doors
-  pub says : HaltMay tells stop.halt end text
+  pub result : Result Tally (Stop F)
+  pub hosts : Hosts log settings.peer door.shown settings.connections door.old door.new result
+  pub doors : DoorBy (halt_in result) door.old.net.doors door.new.net.doors
+  pub says : ServedSays tells (halt_in result) end text
 
 -- what may come of a server of these settings at a door
 abbrev pub AtDoorway : Type 0 → Type 0 → Type 1
 AtDoorway S F = Log S F → Tells F → ServeSettings → Doorway S → End → List ℕ → Type 0
-
--- where the door is open
-abbrev pub ServedMay : {S F : Type 0} → AtDoorway S F
-ServedMay log tells settings door end text =
-    ServedAll log settings door end text ⊎ Halted log tells settings door end text
 
 -- The sink failed where it was to be told that it listens: nothing was served.
 pub record Unheard {S : Type 0} (door : Doorway S) (end : End) (text : List ℕ) : Type 0 where
@@ -94,7 +70,7 @@ pub record Unheard {S : Type 0} (door : Doorway S) (end : End) (text : List ℕ)
 -- It told that it listens, and then serving came to this.
 abbrev pub Heard : {S F : Type 0} → AtDoorway S F
 Heard log tells settings door end text =
-    (said : List ℕ) × ServedMay log tells settings door end said × (text ≡ listening ++ said)
+    (said : List ℕ) × Served log tells settings door end said × (text ≡ listening ++ said)
 
 abbrev pub ListeningMay : {S F : Type 0} → AtDoorway S F
 ListeningMay log tells settings door end text =

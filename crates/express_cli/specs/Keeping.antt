@@ -1,26 +1,51 @@
 -- What one run of `keep` comes to.
-use Rattle.std.specs.Prelude.{◌≡◌, ◌≢◌, ◌⊎◌, ℕ, List, String, map, string_bytes}
+use Rattle.std.specs.Prelude.{◌≡◌, ◌≢◌, ◌⊎◌, ℕ, List, [], ◌∷◌, ◌++◌, String, codes, map, string_bytes}
+use Rattle.clap.specs.Words.{Text}
 use Rattle.node_journal.specs.Disk.{DiskSeen}
-use Rattle.settings_text.specs.Serve.{serve_of}
-use Rattle.settings_text.specs.Tables.{judged}
+use Rattle.node_journal.specs.declared.fault.JournalFault.TheVariants.{Full, Damaged}
 use Rattle.settings_text.specs.declared.serve.ServeSettings.{ServeSettings}
 use Rattle.node_restart.specs.Kept.{KeptState}
-use Rattle.node_serve.specs.KeptOpening.{IsCreated, IsReopened, IsOfOpening, IsCauseOf, LeavesDisk}
+use Rattle.node_restart.specs.Texts.{fault_text}
+use Rattle.node_restart.specs.declared.fault.KeepFault.{KeepFault}
+use Rattle.node_restart.specs.declared.fault.KeepFault.TheVariants.{Journal, NoMemory, Foreign}
+use Rattle.node_serve.specs.KeptOpening.{IsOpenedOn, IsOfOpening, IsCauseOf, LeavesDisk}
 use Rattle.node_serve.specs.KeptOpening.{opening_of, key_text}
 use Rattle.node_serve.specs.declared.open_fault.OpenFault.{OpenFault}
 use Rattle.node_serve.specs.declared.open_fault.OpenFault.TheVariants as opening
 use Rattle.node_serve.specs.JournalLog.{journal_log}
 use Rattle.express_cli.specs.Around.{Around, Read, Seen, Streams}
-use Rattle.express_cli.specs.Ends.{BadKeyMay, DiskCounts, Prints, SaidWanting, status_of}
-use Rattle.express_cli.specs.Talking.{BySettings, IsBadKey, IsStill, BreaksOff}
+use Rattle.express_cli.specs.Ends.{BadKeyMay, DiskCounts, SaidOrWants, SaidWanting, status_of}
+use Rattle.express_cli.specs.Talking.{BreaksBy, IsStill, Kind, MayBy, Talks, server}
 use Rattle.express_cli.specs.Ran.{Ran}
 use Rattle.express_cli.specs.Runs.{UnreadMay}
-use Rattle.express_cli.specs.declared.words.NetCommand.TheVariants.{Serve}
 use Rattle.express_cli.specs.declared.ends.End.{End}
-use Rattle.express_cli.specs.declared.ends.End.TheVariants.{ReadFault, WriteFault}
+use Rattle.express_cli.specs.declared.ends.End.TheVariants.{ReadFault, WriteFault, OutOfMemory, DiskFault}
+use Rattle.express_cli.specs.declared.ends.End.TheVariants.{JournalFull, JournalDamaged, JournalForeign}
 use Rattle.express_cli.specs.Door.{DoorMay, doorway_of}
-use Rattle.express_cli.specs.KeepFaults.{KeepFaultMay}
-use Rattle.express_cli.specs.KeepWord.{AsksKeep}
+
+-- ---- a fault
+
+-- how the program ends by a fault
+abbrev pub end_by : KeepFault → End
+end_by (Journal (Full end)) = JournalFull
+end_by (Journal (Damaged at)) = JournalDamaged at
+end_by (Journal why) = DiskFault
+end_by NoMemory = OutOfMemory
+end_by (Foreign number) = JournalForeign number
+
+abbrev pub fault_line : KeepFault → List ℕ
+fault_line fault = fault_text fault ++ codes "\n"
+
+-- what is said of a fault, unless memory is wanting for its text
+abbrev pub KeepFaultMay : KeepFault → End → List ℕ → Type 0
+KeepFaultMay fault end text = SaidOrWants (end_by fault) (fault_line fault) end text
+
+-- what is said of a server that isn't opened
+abbrev pub OpenFaultMay : OpenFault → End → List ℕ → Type 0
+OpenFaultMay (opening.Keep fault) end text = KeepFaultMay fault end text
+OpenFaultMay (opening.Differs key) end text = BadKeyMay (key_text key) end text
+
+-- ---- a server
 
 -- a journal uses so many bytes of its disk at most
 abbrev pub limit : ℕ
@@ -32,15 +57,9 @@ pub record Opened {D : Type 0} (shows : D → DiskSeen) (settings : ServeSetting
     (disk after : D) (end : End) (text : List ℕ) : Type 0 where
   pub old : KeptState D
   pub new : KeptState D
-  pub opened : IsCreated shows limit (opening_of settings net.seed) disk old
-      ⊎ IsReopened shows limit (opening_of settings net.seed) disk old
+  pub opened : IsOpenedOn shows limit (opening_of settings net.seed) disk old
   pub served : DoorMay (journal_log shows) KeepFaultMay settings (doorway_of net old new) end text
   pub handed_back : after ≡ new.disk
-
--- what is said of a server that isn't opened
-abbrev pub OpenFaultMay : OpenFault → End → List ℕ → Type 0
-OpenFaultMay (opening.Keep fault) end text = KeepFaultMay fault end text
-OpenFaultMay (opening.Differs key) end text = BadKeyMay (key_text key) end text
 
 -- The server wasn't opened; no call was made on the net.
 pub record Unopened {D : Type 0} (shows : D → DiskSeen) (settings : ServeSettings) (net : Around)
@@ -64,63 +83,56 @@ SettingsMay shows settings net disk after end text =
     ⊎ (Unopened shows settings net disk after end text
     ⊎ (Untouched net disk after × SaidWanting end text))
 
--- the first bad key of these bytes is named, unless memory is wanting
-abbrev pub MisspeltMay : List ℕ → End → List ℕ → Type 0
-MisspeltMay bytes end text =
-    ((key : List ℕ) × IsBadKey Serve key bytes × BadKeyMay key end text) ⊎ SaidWanting end text
+-- a server with a journal
+abbrev pub keeper : {D : Type 0} → (D → DiskSeen) → (disk after : D) → Kind
+keeper shows disk after = record server {
+  May = λ settings net end text. SettingsMay shows settings net disk after end text;
+  Rests = λ net. Untouched net disk after;
+}
 
--- what may come of a text, by the settings that it spells, if any
-abbrev pub TextMay : {D : Type 0} → (D → DiskSeen) → List ℕ → Around → (disk after : D) → End
-    → List ℕ → Type 0
-TextMay shows bytes net disk after end text =
-    BySettings (judged serve_of bytes) (λ settings. SettingsMay shows settings net disk after end text)
-    ⊎ (Untouched net disk after × MisspeltMay bytes end text)
+-- ---- a run
 
 -- The input gave all its bytes, and they came to this.
-abbrev pub ReadAll : {D : Type 0} → (D → DiskSeen) → Streams → Around → (disk after : D) → End → List ℕ
-    → Type 0
-ReadAll shows streams net disk after end text =
-    (bytes : List ℕ) × Read streams bytes × TextMay shows bytes net disk after end text
+abbrev pub ReadAll : Kind → Streams → Around → End → List ℕ → Type 0
+ReadAll kind streams net end text = (bytes : List ℕ) × Read streams bytes × MayBy kind bytes net end text
 
 -- what may come of a run of `keep`, whose input may be one that isn't read to its end
 abbrev pub KeepMay : {D : Type 0} → (D → DiskSeen) → Streams → Around → (disk after : D) → End → List ℕ
     → Type 0
 KeepMay shows streams net disk after end text =
-    ReadAll shows streams net disk after end text
+    ReadAll (keeper shows disk after) streams net end text
     ⊎ (Untouched net disk after × UnreadMay streams.input streams.input_now end text)
 
--- What came of it was written, or a front of that where the sink failed.
-abbrev pub KeepComesTo : {D : Type 0} → (D → DiskSeen) → Streams → Around → (disk after : D) → End → Type 0
-KeepComesTo shows streams net disk after end =
-    Prints (KeepMay shows streams net disk after) streams.out streams.out_now end
+-- Where the sink failed, the input gave all its bytes and by the settings that they spell it was told that the
+-- server listens before a connection was accepted.
+abbrev pub KeepBreaks : Streams → Around → Type 0
+KeepBreaks streams net =
+    (bytes : List ℕ) × Read streams bytes × BreaksBy server bytes net streams.out streams.out_now
+
+-- How it ends. The count of faults of its disk is told.
+abbrev pub KeepEnds : {D : Type 0} → (D → DiskSeen) → (D → Seen) → Streams → Around → (disk after : D) → End
+    → Type 0
+KeepEnds shows counted streams net disk after end =
+    Talks (KeepMay shows streams net disk after) (KeepBreaks streams net)
+    (DiskCounts end (counted disk).faults (counted after).faults) net streams.out streams.out_now end
 
 -- the input failed only where that is told, or where the sink failed and hides it
 abbrev pub InputCounts : End → Streams → Type 0
 InputCounts end streams = end ≢ ReadFault → end ≢ WriteFault → streams.input_now.faults ≡ streams.input.faults
 
--- the sink failed only where that is told
-abbrev pub OutputCounts : End → Streams → Type 0
-OutputCounts end streams = end ≢ WriteFault → streams.out_now.faults ≡ streams.out.faults
-
--- Where the sink failed, nothing was done with the net, or the input gave all its bytes and by the settings
--- that they spell it was told that the server listens before a connection was accepted.
-abbrev pub Announces : End → Streams → Around → Type 0
-Announces end streams net =
-    end ≡ WriteFault → IsStill net
-    ⊎ ((bytes : List ℕ) × Read streams bytes × BreaksOff Serve bytes net streams.out streams.out_now)
-
--- What one run of `keep` promises, by its status. A disk shows what is on it, and its count of faults.
+-- What one run of `keep` promises, by its status. A disk shows what is on it, and its count of faults. No fault
+-- is passed over, and a server tells that it listens before it accepts a connection.
 pub record KeepRan {D : Type 0} (shows : D → DiskSeen) (counted : D → Seen) (streams : Streams) (net : Around)
     (disk after : D) (status : ℕ) : Type 0 where
   pub ending : End
   pub status_is : status ≡ status_of ending
-  pub came : KeepComesTo shows streams net disk after ending
-  -- No fault is passed over.
-  pub disk_counts : DiskCounts ending (counted disk).faults (counted after).faults
+  pub ends : KeepEnds shows counted streams net disk after ending
   pub input_counts : InputCounts ending streams
-  pub output_counts : OutputCounts ending streams
-  -- A server tells that it listens before it accepts a connection.
-  pub announces : Announces ending streams net
+  pub output_counts : ending ≢ WriteFault → streams.out_now.faults ≡ streams.out.faults
+
+-- the words are the one word `keep`
+abbrev pub AsksKeep : List Text → Type 0
+AsksKeep words = words ≡ codes "keep" ∷ []
 
 -- what is promised for the word `keep`: the status and the disk after the run
 abbrev pub Keeps : {D Z : Type 0} → List (String Z) → (D → DiskSeen) → (D → Seen) → Streams → Around → D

@@ -11,7 +11,5 @@ pub mod Runs
 pub mod Headline
 pub mod Ran
 pub mod Laws
-pub mod KeepWord
-pub mod KeepFaults
 pub mod Door
 pub mod Keeping

@@ -22,8 +22,7 @@ use Rattle.express_cli.specs.Mills.{mill_text}
 use Rattle.express_cli.specs.Work.{IsBad}
 use Rattle.express_cli.specs.Ends.{bad_line, bad_settings, usage_text, read_fault_text, too_long_text}
 use Rattle.express_cli.specs.Around.{Around, IsUnread, ReadSome, Streams, Wrote}
-use Rattle.express_cli.specs.Talking.{SpellsServe, SpellsClient, SpellsCarry, IsBadKey}
-use Rattle.express_cli.specs.Talking.{ServeMay, ClientMay, CarryMay}
+use Rattle.express_cli.specs.Talking.{Spells, IsBadKey, ServeMay, ClientMay, CarryMay}
 use Rattle.express_cli.specs.Runs.{MayLeave, RunMay, SinkFailed}
 use Rattle.express_cli.specs.Headline.{Refused, Talked, Told, WantsMemory, Well, Worked}
 use Rattle.express_cli.specs.declared.words.Command.{Command}
@@ -65,16 +64,16 @@ pub record Ran (words : List Text) (streams : Streams) (net : Around) (status : 
   -- text tells how many had each answer. Status 6 comes where the listen or an accept failed, which ends the
   -- run.
   pub serve : AsksNet words Serve → Well streams status
-      → IfSome streams.input.content (λ s. (settings : ServeSettings) → SpellsServe settings s.left
+      → IfSome streams.input.content (λ s. (settings : ServeSettings) → Spells Serve settings s.left
       → length s.left ≤ most_bytes → Told (ServeMay settings net) streams status)
   -- Likewise a client of the settings works their requests off, by exchanges with its servers and no other
   -- call; the text tells what became of each. Status 6 comes where an exchange failed, which ends the run.
   pub client : AsksNet words Client → Well streams status
-      → IfSome streams.input.content (λ s. (settings : ClientSettings) → SpellsClient settings s.left
+      → IfSome streams.input.content (λ s. (settings : ClientSettings) → Spells Client settings s.left
       → length s.left ≤ most_bytes → Told (ClientMay settings net) streams status)
   -- Likewise a carrier of the settings sends its file, a part to each address, or fetches one from its boxes.
   pub carry : AsksNet words Carry → Well streams status
-      → IfSome streams.input.content (λ s. (settings : CarrySettings) → SpellsCarry settings s.left
+      → IfSome streams.input.content (λ s. (settings : CarrySettings) → Spells Carry settings s.left
       → length s.left ≤ most_bytes → Told (CarryMay settings net) streams status)
   -- Likewise the first key of other settings that is missing or wrong is named.
   pub names_bad_key : (command : NetCommand) → AsksNet words command → Well streams status

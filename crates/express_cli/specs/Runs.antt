@@ -8,7 +8,7 @@ use Rattle.express_cli.specs.Mills.{mill_text}
 use Rattle.express_cli.specs.Ends.{Prints, WorkMay, usage_text, read_fault_text, out_of_memory_text}
 use Rattle.express_cli.specs.Ends.{too_long_text}
 use Rattle.express_cli.specs.Around.{Around, IsUnread, Read, Seen, Streams}
-use Rattle.express_cli.specs.Talking.{TalkMay, WantsFirst, IsStill, LeavesNothing, BreaksOff}
+use Rattle.express_cli.specs.Talking.{BreaksBy, IsStill, LeavesNothing, TalkMay, Talks, WantsFirst, kind_of}
 use Rattle.express_cli.specs.declared.words.Command.{Command}
 use Rattle.express_cli.specs.declared.words.NetCommand.{NetCommand}
 use Rattle.express_cli.specs.declared.ends.End.{End}
@@ -74,12 +74,16 @@ RunMay words streams net other text = ⊥
 abbrev pub MayLeave : List Text → Around → Type 0
 MayLeave words net = (command : NetCommand) → AsksNet words command → LeavesNothing command net
 
--- Where the sink failed, of a command over a net: nothing was done with the net, or the input gave all its
--- bytes, and by the command's work on them so much was told.
-abbrev pub SinkFailed : List Text → Streams → Around → Type 0
-SinkFailed words streams net =
+-- By a command over a net that the words ask for so much was told: the input gave all its bytes, and they tell
+-- its settings.
+abbrev pub MayBreak : List Text → Streams → Around → Type 0
+MayBreak words streams net =
     (command : NetCommand) → AsksNet words command
-    → IsStill net ⊎ ((bytes : List ℕ) × Read streams bytes × BreaksOff command bytes net streams.out streams.out_now)
+    → (bytes : List ℕ) × Read streams bytes × BreaksBy (kind_of command) bytes net streams.out streams.out_now
+
+-- Where the sink failed nothing had been done with the net, or so much was told.
+abbrev pub SinkFailed : List Text → Streams → Around → Type 0
+SinkFailed words streams net = IsStill net ⊎ MayBreak words streams net
 
 -- Of what may come of the run one came and its text was written; or the sink failed after a part of such a
 -- text.
@@ -88,6 +92,5 @@ ComesTo words streams net end = Prints (RunMay words streams net) streams.out st
 
 -- how a run ends, what was told by then, and what it leaves
 pub record RunEnds (words : List Text) (streams : Streams) (net : Around) (end : End) : Type 0 where
-  pub comes : ComesTo words streams net end
-  pub in_time : end ≡ WriteFault → SinkFailed words streams net
-  pub leaves : MayLeave words net
+  pub talks : Talks (RunMay words streams net) (MayBreak words streams net) (MayLeave words net) net streams.out
+      streams.out_now end

@@ -9,7 +9,7 @@ use Rattle.settings_text.specs.ServeSpelling.{IsBadServeKey}
 use Rattle.settings_text.specs.declared.carry.CarrySettings.{CarrySettings}
 use Rattle.settings_text.specs.declared.client.ClientSettings.{ClientSettings}
 use Rattle.settings_text.specs.declared.serve.ServeSettings.{ServeSettings}
-use Rattle.express_cli.specs.Talking.{IsBadKey, SpellsCarry, SpellsClient, SpellsServe}
+use Rattle.express_cli.specs.Talking.{IsBadKey, Spells}
 use Rattle.express_cli.specs.declared.words.NetCommand.{NetCommand}
 use Rattle.express_cli.specs.declared.words.NetCommand.TheVariants.{Serve, Client, Carry}
 
@@ -22,8 +22,8 @@ IsFirstBadKey Carry key text = IsBadCarryKey key text
 -- The settings that a text is read as are those that it spells, key by key, and the key that is named is the
 -- first that is missing or wrong.
 pub record SettingsAreSpelled : Type 0 where
-  pub servers : (s : ServeSettings) (text : List ℕ) → SpellsServe s text ↔ server.SpellsServe s text
-  pub clients : (s : ClientSettings) (text : List ℕ) → SpellsClient s text ↔ client.SpellsClient s text
-  pub carriers : (s : CarrySettings) (text : List ℕ) → SpellsCarry s text ↔ carrier.SpellsCarry s text
+  pub servers : (s : ServeSettings) (text : List ℕ) → Spells Serve s text ↔ server.SpellsServe s text
+  pub clients : (s : ClientSettings) (text : List ℕ) → Spells Client s text ↔ client.SpellsClient s text
+  pub carriers : (s : CarrySettings) (text : List ℕ) → Spells Carry s text ↔ carrier.SpellsCarry s text
   pub keys : (command : NetCommand) (key text : List ℕ)
       → IsBadKey command key text ↔ IsFirstBadKey command key text

@@ -1,11 +1,11 @@
 //! A server at its door: it listens, tells so, serves, and tells what came of it.
-ghost use Rattle.std.specs.Prelude.{◌≡◌, ◌⊎◌, ◌≤◌, ◌++◌, ℕ, List, [], IfOk, codes, string_bytes};
+ghost use Rattle.std.specs.Prelude.{◌≡◌, ◌≢◌, ◌⊎◌, ◌≤◌, ◌++◌, ℕ, List, [], IfOk, codes, string_bytes};
 ghost use Rattle.node_restart.specs.Frames.{Handed};
 ghost use Rattle.node_serve.specs.Tallies.{tally_text};
 ghost use Rattle.express_cli.specs.Around.{over};
-ghost use Rattle.express_cli.specs.Door.{DoorMay, EndsAtFirst, HaltCounts, HaltMay, ListeningMay, ServedMay, TallyMay, doorway, listening};
-ghost use Rattle.express_cli.specs.Ends.{DiskCounts, Prints};
-ghost use Rattle.express_cli.specs.Talking.{IsOut, ServeAnnounces};
+ghost use Rattle.express_cli.specs.Door.{DoorMay, Served, doorway};
+ghost use Rattle.express_cli.specs.Ends.{DiskCounts, Prints, SaidOrWants};
+ghost use Rattle.express_cli.specs.Talking.{ServeBreaks, Talks};
 ghost use Rattle.express_cli.specs.declared.ends.End.{End as Ends};
 
 use crate::ends::End;
@@ -27,25 +27,26 @@ pub(crate) trait TellsFaults: Logged {
     /// What is told of a fault, and the end of the run by it.
     ghost tells: { Self.Fault → Ends → List ℕ → Type 0 };
 
-    /// Tells why it ended before it had served all its connections.
-    fn tell_halt<K: Sink>(alloc: Global, out: &mut K, halt: Halt<Self::Fault>) -> End
-        requires first { EndsAtFirst first halt }
-        ensures tells { Prints (HaltMay tells halt) (K.seen out.old) (K.seen out.new) result }
-        ensures counts { (before now : ℕ) → HaltCounts Self.rises halt before now
-            → DiskCounts result before now };
+    /// Tells for which fault the log refused a frame, before it had served all its connections.
+    fn tell_fault<K: Sink>(alloc: Global, out: &mut K, fault: Self::Fault) -> End
+        requires first { first fault }
+        ensures tells { Prints (tells fault) (K.seen out.old) (K.seen out.new) result }
+        ensures counts { (before now : ℕ) → Self.rises fault before now → DiskCounts result before now };
 
     /// Where a log hadn't failed, its first fault is one of those.
     ghost stops_first: { (a b : Self) (taken : List Handed) (refused : Handed) (why : Self.Fault) → whole a
         → Self.log.stops a b taken refused why → first why };
 }
 
-// Tells how many connections had each answer.
-fn tell_tally<K: Sink>(alloc: Global, out: &mut K, tally: Tally) -> End
-    ensures tells { Prints (TallyMay tally) (K.seen out.old) (K.seen out.new) result }
-    ensures counts { (before now : ℕ) → now ≡ before → DiskCounts result before now }
+/// Says a line and comes to this end, unless memory was wanting for it.
+pub(crate) fn say_line<K: Sink>(out: &mut K, line: Result<String, AllocError>, end: End) -> End
+    requires { end ≢ End.WriteFault }
+    ensures says { (text : List ℕ) → IfOk line (λ l. string_bytes l ≡ text)
+        → Prints (SaidOrWants end text) (K.seen out.old) (K.seen out.new) result }
+    ensures only { (result ≡ end) ⊎ ((result ≡ End.OutOfMemory) ⊎ (result ≡ End.WriteFault)) }
 {
-    match tally_line(alloc, tally) {
-        Ok(line) => say(out, line.as_str(), End::Done),
+    match line {
+        Ok(line) => say(out, line.as_str(), end),
         Err(_) => say(out, OUT_OF_MEMORY, End::OutOfMemory),
     }
 }
@@ -67,38 +68,18 @@ fn serve_all<S: TellsFaults, K: Sink, N: Net>(
     net: &mut N,
 ) -> End
     requires whole { S.whole server.old }
-    ensures tells { Prints (ServedMay S.log S.tells settings.now
+    ensures tells { Prints (Served S.log S.tells settings.now
         (doorway N.seen N.Conn.seen server.old server.new net.old net.new))
         (K.seen out.old) (K.seen out.new) result }
     ensures counts { DiskCounts result (S.failures server.old) (S.failures server.new) }
 {
     let peer = settings.peer.as_str();
     match host(server, peer, gather, settings.connections, net) {
-        Ok(tally) => tell_tally(alloc, out, tally),
-        Err(stop) => S::tell_halt(alloc, out, stop.halt),
-    }
-}
-
-// Says that the server listens, and serves.
-fn tell_and_serve<S: TellsFaults, K: Sink, N: Net>(
-    alloc: Global,
-    settings: &ServeSettings,
-    server: &mut S,
-    gather: &mut Gather,
-    out: &mut K,
-    net: &mut N,
-) -> End
-    requires whole { S.whole server.old }
-    ensures tells { Prints (ListeningMay S.log S.tells settings.now
-        (doorway N.seen N.Conn.seen server.old server.new net.old net.new))
-        (K.seen out.old) (K.seen out.new) result }
-    ensures announces { result ≡ End.WriteFault → (net.new ≡ net.old)
-        ⊎ IsOut listening (K.seen out.old) (K.seen out.new) }
-    ensures counts { DiskCounts result (S.failures server.old) (S.failures server.new) }
-{
-    match out.put(LISTENING.as_bytes()) {
-        Ok(()) => serve_all(alloc, settings, server, gather, out, net),
-        Err(_) => End::WriteFault,
+        Ok(tally) => say_line(out, tally_line(alloc, tally), End::Done),
+        Err(stop) => match stop.halt {
+            Halt::Door => say(out, NET_FAULT, End::NetFault),
+            Halt::Log(fault) => S::tell_fault(alloc, out, fault),
+        },
     }
 }
 
@@ -112,15 +93,17 @@ pub(crate) fn listen_and_serve<S: TellsFaults, K: Sink, N: Net>(
     net: &mut N,
 ) -> End
     requires whole { S.whole server.old }
-    ensures tells { Prints (DoorMay S.log S.tells settings.now
+    ensures ends { Talks (DoorMay S.log S.tells settings.now
         (doorway N.seen N.Conn.seen server.old server.new net.old net.new))
-        (K.seen out.old) (K.seen out.new) result }
-    ensures announces { ServeAnnounces result settings.now
-        (over N.seen N.Conn.seen [] net.old net.new) (K.seen out.old) (K.seen out.new) }
-    ensures counts { DiskCounts result (S.failures server.old) (S.failures server.new) }
+        (ServeBreaks settings.now (over N.seen N.Conn.seen [] net.old net.new) (K.seen out.old) (K.seen out.new))
+        (DiskCounts result (S.failures server.old) (S.failures server.new))
+        (over N.seen N.Conn.seen [] net.old net.new) (K.seen out.old) (K.seen out.new) result }
 {
     match net.listen(settings.listen.as_str()) {
-        Ok(()) => tell_and_serve(alloc, settings, server, gather, out, net),
+        Ok(()) => match out.put(LISTENING.as_bytes()) {
+            Ok(()) => serve_all(alloc, settings, server, gather, out, net),
+            Err(_) => End::WriteFault,
+        },
         Err(_) => say(out, NET_FAULT, End::NetFault),
     }
 }

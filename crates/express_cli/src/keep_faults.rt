@@ -4,18 +4,16 @@ ghost use Rattle.node_restart.specs.Faults.{CountsFault};
 ghost use Rattle.node_serve.specs.FirstFaults.{IsFirstFault};
 ghost use Rattle.node_serve.specs.KeptOpening.{CountsOpen, IsOfOpening, key_text};
 ghost use Rattle.node_serve.specs.JournalLog.{rises};
-ghost use Rattle.express_cli.specs.Door.{EndsAtFirst, HaltCounts, HaltMay};
 ghost use Rattle.express_cli.specs.Ends.{DiskCounts, Prints};
-ghost use Rattle.express_cli.specs.KeepFaults.{KeepFaultMay, end_by, fault_line};
-ghost use Rattle.express_cli.specs.Keeping.{OpenFaultMay};
+ghost use Rattle.express_cli.specs.Keeping.{KeepFaultMay, OpenFaultMay, end_by, fault_line};
 
-use crate::door::TellsFaults;
+use crate::door::{TellsFaults, say_line};
 use crate::ends::End;
-use crate::texts::{NET_FAULT, OUT_OF_MEMORY, say, say_bad_key};
+use crate::texts::{say, say_bad_key};
 use express_words::outside::Sink;
 use node_journal::{Disk, JournalFault};
 use node_restart::{KeepFault, Kept};
-use node_serve::{Halt, OpenFault, SettingsKey};
+use node_serve::{OpenFault, SettingsKey};
 use std::alloc::{AllocError, Global};
 
 const DISK_FAULT: &str = "disk fault\n";
@@ -30,16 +28,12 @@ impl<D: Disk> TellsFaults for Kept<D> {
 
     ghost tells = { KeepFaultMay };
 
-    fn tell_halt<K: Sink>(alloc: Global, out: &mut K, halt: Halt<KeepFault>) -> End
-        requires first { EndsAtFirst IsFirstFault halt }
-        ensures tells { Prints (HaltMay KeepFaultMay halt) (K.seen out.old) (K.seen out.new) result }
-        ensures counts { (before now : ℕ) → HaltCounts rises halt before now
-            → DiskCounts result before now }
+    fn tell_fault<K: Sink>(alloc: Global, out: &mut K, fault: KeepFault) -> End
+        requires first { IsFirstFault fault }
+        ensures tells { Prints (KeepFaultMay fault) (K.seen out.old) (K.seen out.new) result }
+        ensures counts { (before now : ℕ) → rises fault before now → DiskCounts result before now }
     {
-        match halt {
-            Halt::Door => say(out, NET_FAULT, End::NetFault),
-            Halt::Log(fault) => tell_fault(alloc, out, fault),
-        }
+        tell_fault(alloc, out, fault)
     }
 
     ghost stops_first = { first_fault D.disk };
@@ -75,10 +69,7 @@ pub(crate) fn tell_fault<K: Sink>(alloc: Global, out: &mut K, fault: KeepFault) 
     let end = end_by(fault);
     match end {
         End::DiskFault => say(out, DISK_FAULT, end),
-        _ => match fault_line(alloc, fault) {
-            Ok(line) => say(out, line.as_str(), end),
-            Err(_) => say(out, OUT_OF_MEMORY, End::OutOfMemory),
-        },
+        _ => say_line(out, fault_line(alloc, fault), end),
     }
 }
 

@@ -1,10 +1,9 @@
 //! Is a server with a journal.
 ghost use Rattle.std.specs.Prelude.{◌≡◌, ◌≢◌, ◌≤◌, ◌⊎◌};
 ghost use Rattle.express_cli.specs.Around.{FailedLast, over, streams};
-ghost use Rattle.express_cli.specs.Ends.{DiskCounts, Prints};
-ghost use Rattle.express_cli.specs.Keeping.{Announces, KeepComesTo, InputCounts, SettingsMay, TextMay};
-ghost use Rattle.express_cli.specs.Talking.{ServeAnnounces, ToldFirst};
-ghost use Rattle.express_cli.specs.declared.words.NetCommand.TheVariants.{Serve};
+ghost use Rattle.express_cli.specs.Ends.{DiskCounts};
+ghost use Rattle.express_cli.specs.Keeping.{InputCounts, KeepEnds, keeper};
+ghost use Rattle.express_cli.specs.Talking.{Settled};
 
 use crate::door::listen_and_serve;
 use crate::ends::End;
@@ -27,12 +26,9 @@ fn keep_by<K: Sink, N: Net, D: Disk>(
     net: &mut N,
     disk: D,
 ) -> (End, D)
-    ensures tells { Prints (SettingsMay D.disk settings.now
-        (over N.seen N.Conn.seen seed.now net.old net.new)
-        disk result.1) (K.seen out.old) (K.seen out.new) result.0 }
-    ensures announces { ServeAnnounces result.0 settings.now
-        (over N.seen N.Conn.seen seed.now net.old net.new) (K.seen out.old) (K.seen out.new) }
-    ensures disk { DiskCounts result.0 (D.seen disk).faults (D.seen result.1).faults }
+    ensures ends { Settled (keeper D.disk disk result.1) settings.now
+        (DiskCounts result.0 (D.seen disk).faults (D.seen result.1).faults)
+        (over N.seen N.Conn.seen seed.now net.old net.new) (K.seen out.old) (K.seen out.new) result.0 }
 {
     let Ok(mut gather) = Gather::open(alloc) else {
         return (say(out, OUT_OF_MEMORY, End::OutOfMemory), disk);
@@ -46,28 +42,6 @@ fn keep_by<K: Sink, N: Net, D: Disk>(
     }
 }
 
-// Is the server that the text's settings describe.
-fn keep_text<K: Sink, N: Net, D: Disk>(
-    alloc: Global,
-    text: &[u8],
-    seed: &[u8; 32],
-    out: &mut K,
-    net: &mut N,
-    disk: D,
-) -> (End, D)
-    ensures tells { Prints (TextMay D.disk text.now
-        (over N.seen N.Conn.seen seed.now net.old net.new)
-        disk result.1) (K.seen out.old) (K.seen out.new) result.0 }
-    ensures announces { ToldFirst result.0 Serve text.now
-        (over N.seen N.Conn.seen seed.now net.old net.new) (K.seen out.old) (K.seen out.new) }
-    ensures disk { DiskCounts result.0 (D.seen disk).faults (D.seen result.1).faults }
-{
-    match read_serve(alloc, text) {
-        Ok(settings) => keep_by(alloc, &settings, seed, out, net, disk),
-        Err(fault) => (say_fault(alloc, out, fault), disk),
-    }
-}
-
 /// Reads the settings of a server with a journal, opens it on the disk, and serves as many connections as they say.
 /// The disk is handed back.
 pub(crate) fn keep<S: Source, K: Sink, N: Net, D: Disk>(
@@ -78,16 +52,16 @@ pub(crate) fn keep<S: Source, K: Sink, N: Net, D: Disk>(
     net: &mut N,
     disk: D,
 ) -> (End, D)
-    ensures tells { KeepComesTo D.disk (streams S.seen K.seen input.old input.new out.old out.new)
+    ensures ends { KeepEnds D.disk D.seen (streams S.seen K.seen input.old input.new out.old out.new)
         (over N.seen N.Conn.seen seed.now net.old net.new) disk result.1 result.0 }
-    ensures disk { DiskCounts result.0 (D.seen disk).faults (D.seen result.1).faults }
     ensures input { InputCounts result.0 (streams S.seen K.seen input.old input.new out.old out.new) }
-    ensures announces { Announces result.0 (streams S.seen K.seen input.old input.new out.old out.new)
-        (over N.seen N.Conn.seen seed.now net.old net.new) }
     ensures last_take { result.0 ≡ End.ReadFault → FailedLast S.seen input.old input.new }
 {
     match input_of(alloc, input, out) {
-        Ok(text) => keep_text(alloc, text.as_slice(), seed, out, net, disk),
+        Ok(text) => match read_serve(alloc, text.as_slice()) {
+            Ok(settings) => keep_by(alloc, &settings, seed, out, net, disk),
+            Err(fault) => (say_fault(alloc, out, fault), disk),
+        },
         Err(end) => (end, disk),
     }
 }

@@ -1,12 +1,11 @@
 //! The top call with a journal.
-ghost use Rattle.std.specs.Prelude.{◌≡◌, ◌≢◌, ◌≤◌, [], ◌∷◌, Contains, map, string_bytes};
+ghost use Rattle.std.specs.Prelude.{◌≡◌, ◌≢◌, ◌≤◌, ◌↔◌, [], ◌∷◌, Contains, IsTrue, codes, map, string_bytes};
 ghost use Rattle.express_words.specs.Causes.{Rose};
 ghost use Rattle.express_cli.specs.Around.{FailedLast, over, streams};
 ghost use Rattle.express_cli.specs.CommandLine.{AskSome, AskTalk};
 ghost use Rattle.express_cli.specs.Laws.{Laws};
-ghost use Rattle.express_cli.specs.Keeping.{AsksOther, Keeps, OtherRan};
+ghost use Rattle.express_cli.specs.Keeping.{AsksKeep, AsksOther, Keeps, OtherRan};
 
-use crate::asking::asks_keep;
 use crate::ends::status_of;
 use crate::keeping::keep;
 use crate::promises::laws;
@@ -14,6 +13,25 @@ use crate::top::run;
 use express_words::outside::{Net, Sink, Source};
 use node_journal::Disk;
 use std::alloc::Global;
+
+fn is_keep(word: &str) -> bool
+    ensures { IsTrue result ↔ (word.now ≡ codes "keep") }
+{
+    match word {
+        "keep" => true,
+        _ => false,
+    }
+}
+
+// Whether the words are the one word `keep`.
+fn asks_keep(words: &Vec<String>) -> bool
+    ensures { IsTrue result ↔ AsksKeep (map string_bytes words.now.items) }
+{
+    match words.as_slice() {
+        [word] => is_keep(word.as_str()),
+        _ => false,
+    }
+}
 
 /// Does what the words ask for, as `run` does, and answers the status of the program and the disk. For the one word
 /// `keep` it is `serve` with a journal on the disk: each frame is on the disk before its step, no answer goes out

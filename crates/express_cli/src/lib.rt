@@ -2,10 +2,7 @@
 //! `serve` over a server whose frames are kept.
 #![tactic(auto)]
 
-mod asking;
 mod batch;
-mod carry;
-mod client;
 mod cloak;
 mod door;
 mod drawing;
@@ -16,7 +13,6 @@ mod keeping;
 mod kept_top;
 mod mill;
 mod promises;
-mod ran;
 mod replay;
 mod serve;
 mod talk;
@@ -24,7 +20,6 @@ mod texts;
 mod top;
 mod views;
 mod words;
-mod work;
 
 pub use ends::End;
 pub use input_reading::{InputFault, LONGEST, SeedFault, read_all, seed_of};

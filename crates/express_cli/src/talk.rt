@@ -1,17 +1,43 @@
 //! The work of a command over a net.
 ghost use Rattle.std.specs.Prelude.{◌≡◌, ◌≢◌, ◌≤◌};
 ghost use Rattle.express_cli.specs.Around.{over};
-ghost use Rattle.express_cli.specs.Talking.{TalkEnds};
+ghost use Rattle.express_cli.specs.Talking.{SaysRun, TalkEnds, end_by};
 
 use crate::End;
-use crate::carry::carry;
-use crate::client::client;
 use crate::serve::serve;
+use crate::texts::{OUT_OF_MEMORY, say, say_fault};
 use crate::words::NetCommand;
+use client_run::{Ran, RunEnd, Untold, run_carry, run_client};
 use express_words::outside::{Net, Sink};
+use settings_text::{read_carry, read_client, read_serve};
 use std::alloc::Global;
 
-/// Does a command's work over the net, by the settings that the text spells.
+fn end_by(end: RunEnd) -> End
+    ensures by { result ≡ end_by end }
+    ensures written { result ≢ End.WriteFault }
+    ensures settings { result ≢ End.BadKey }
+{
+    match end {
+        RunEnd::Done => End::Done,
+        RunEnd::NetFault => End::NetFault,
+    }
+}
+
+// Prints the text of a run and comes to its end; or says that memory is wanting for the text that was next, unless
+// the sink failed before. A fault of the sink ends it too.
+fn say_run<K: Sink>(out: &mut K, run: Result<Ran, Untold>) -> End
+    ensures says { SaysRun run (K.seen out.old) (K.seen out.new) result }
+    ensures settings { result ≢ End.BadKey }
+{
+    match run {
+        Ok(ran) => say(out, ran.text.as_str(), end_by(ran.end)),
+        Err(Untold::NoMemory) => say(out, OUT_OF_MEMORY, End::OutOfMemory),
+        Err(Untold::Unwritten) => End::WriteFault,
+    }
+}
+
+/// Does a command's work over the net, by the settings that the text spells: is a server, works a client's requests
+/// off, or sends a file to its boxes or fetches one from them; and tells what came of it.
 pub fn talk<K: Sink, N: Net>(
     alloc: Global,
     command: NetCommand,
@@ -25,8 +51,23 @@ pub fn talk<K: Sink, N: Net>(
     ensures waits { result ≡ End.BadKey → net.new ≡ net.old }
 {
     match command {
-        NetCommand::Serve => serve(alloc, text, seed, out, net),
-        NetCommand::Client => client(alloc, text, seed, out, net),
-        NetCommand::Carry => carry(alloc, text, seed, out, net),
+        NetCommand::Serve => match read_serve(alloc, text) {
+            Ok(settings) => serve(alloc, &settings, seed, out, net),
+            Err(fault) => say_fault(alloc, out, fault),
+        },
+        NetCommand::Client => match read_client(alloc, text) {
+            Ok(settings) => {
+                let run = run_client(alloc, &settings, seed, out, net);
+                say_run(out, run)
+            }
+            Err(fault) => say_fault(alloc, out, fault),
+        },
+        NetCommand::Carry => match read_carry(alloc, text) {
+            Ok(settings) => {
+                let run = run_carry(alloc, &settings, seed, out, net);
+                say_run(out, run)
+            }
+            Err(fault) => say_fault(alloc, out, fault),
+        },
     }
 }

@@ -2,23 +2,38 @@
 ghost use Rattle.std.specs.Prelude.{◌≡◌, ◌≢◌, ◌≤◌, ◌∷◌, [], Contains, map, string_bytes};
 ghost use Rattle.express_cli.specs.CommandLine.{AskSome, AskTalk};
 ghost use Rattle.express_cli.specs.Around.{FailedLast, over, streams};
+ghost use Rattle.express_cli.specs.Ends.{Prints, WorkMay};
 ghost use Rattle.express_cli.specs.Runs.{RunEnds, WaitsForNet};
 ghost use Rattle.express_cli.specs.Ran.{Ran};
 ghost use Rattle.express_cli.specs.Laws.{Laws};
 
 use crate::End;
+use crate::batch::batch;
+use crate::cloak::cloak;
 use crate::ends::status_of;
 use crate::input::input_of;
 use crate::mill::mill;
 use crate::promises::laws;
+use crate::replay::replay;
 use crate::talk::talk;
 use crate::texts::{OUT_OF_MEMORY, USAGE, say};
-use crate::words::{Task, task_of};
-use crate::work::work;
+use crate::words::{Command, Task, task_of};
 use express_texts::{batch_is_read_exactly, game_is_read_exactly};
 use express_words::outside::{Net, Sink, Source};
 use schedule_text::read_exactly;
 use std::alloc::Global;
+
+// Does a command's work on the text of its input.
+fn work<K: Sink>(alloc: Global, command: Command, text: &[u8], out: &mut K) -> End
+    ensures ends { Prints (WorkMay command text.now)
+        (K.seen out.old) (K.seen out.new) result }
+{
+    match command {
+        Command::Replay => replay(alloc, text, out),
+        Command::Batch => batch(alloc, text, out),
+        Command::Cloak => cloak(alloc, text, out),
+    }
+}
 
 // Does what the words ask for.
 fn finish<S: Source, K: Sink, N: Net>(

@@ -1,45 +1,66 @@
-use Rattle.std.proofs.Common.{refl, inl, inr, ap, subst, List, [], ℕ, true, false, ◌≡◌, ◌⊎◌, Option, sym}
-use Rattle.express_words.specs.Calls.{Adds, Listened, Call}
-use Rattle.express_cli.specs.Around.{Around, over, Seen}
-use Rattle.express_cli.specs.Door.{DoorMay, doorway, listening}
-use Rattle.express_cli.specs.declared.ends.End.TheVariants.{NetFault}
+use Rattle.std.proofs.Common.{refl, inl, inr, ap, true, false}
+use Rattle.client_run.proofs.PassedLaws.{took_both}
+use Rattle.express_words.specs.Streams.{Took}
+use Rattle.node_serve.specs.Visits.{standing}
+use Rattle.std.proofs.Common.{◌≡◌, List, ℕ}
+use Rattle.express_cli.specs.Around.{Seen}
+use Rattle.express_cli.specs.Door.{DoorMay, Served, doorway, listening}
+use Rattle.express_cli.specs.Ends.{Prints}
+use Rattle.express_cli.specs.Talking.{IsOut}
+use Rattle.express_cli.specs.declared.ends.End.{End}
+use Rattle.express_cli.specs.declared.ends.End.TheVariants as ends
 use Rattle.express_cli.proofs.CountLaws.{told_counts}
-use Rattle.express_cli.proofs.Writing.{more_may, said}
-use Rattle.settings_text.specs.declared.serve.ServeSettings.{ServeSettings}
-use Rattle.express_cli.specs.Talking.{IsOut, ServeBreaks}
+use Rattle.express_cli.proofs.Writing.{follows, said}
 use Rattle.express_cli.proofs.door.listen_and_serve.Goals as goal
 
--- no call, or a listen and no other call
-only_listened : (settings : ServeSettings) (net : Around) (at_door : Option (List Call)) (old new : Seen) → Adds net.before.calls at_door (Listened settings.listen false)
-    → (net.now.calls ≡ at_door) ⊎ IsOut listening old new → ServeBreaks settings net old new
-only_listened settings net at_door old new listened (inl same) = inl (false, subst (λ (c : Option (List Call)). Adds net.before.calls c (Listened settings.listen false)) (sym same) listened)
-only_listened settings net at_door old new listened (inr out) = inr out
+-- what was told stays out where the sink fails behind it
+out_behind : (May : End → List ℕ → Type 0) (old mid new : Seen) (end : End) (text : List ℕ)
+    → Took old.written mid.written text → Prints May mid new end → end ≡ ends.WriteFault → IsOut text old new
+out_behind May old mid new ends.WriteFault text took h failed =
+    let front = h.1.3 in (front.0, took_both old.written mid.written new.written text front.0 took front.3)
+out_behind May old mid new _ text took h failed = absurd (cc failed)
 
-pub returns-in-Ok-clause-tells : goal.returns-in-Ok-clause-tells
-returns-in-Ok-clause-tells g c =
-    let Listens : List ℕ → Type 0 = λ at. Adds (g.N.Counted.seen c.args.net.now).calls (g.N.Counted.seen c.listen.new.self).calls (Listened at false) in
-    let door = doorway g.N.Counted.seen g.N.Conn.Counted.seen c.args.server.now c.tell_and_serve.new.server c.args.net.now c.tell_and_serve.new.net in
-    more_may _ (DoorMay g.S.Logged.log g.S.TellsFaults.tells c.args.settings.now door) _ _ _ _ _
-    (λ e text may. inl (record { at_door = g.N.Counted.seen c.listen.new.self; listens = subst Listens c.as_str.ensures c.in-Ok.ensures.call; faults = c.in-Ok.ensures.counts.unfailed; doors = c.in-Ok.ensures.door.kept; served = may })) c.tell_and_serve.ensures.tells
+pub returns-in-Ok-put : goal.returns-in-Ok-put
+returns-in-Ok-put g c =
+    let door = doorway g.N.Counted.seen g.N.Conn.Counted.seen c.args.server.now c.serve_all.new.server c.args.net.now c.serve_all.new.net in
+    let All : End → List ℕ → Type 0 = Served g.S.Logged.log g.S.TellsFaults.tells c.args.settings.now (record door { old = standing c.args.server.now (g.N.Counted.seen c.listen.new.self) }) in
+    let took = rw c.as_bytes.ensures.value at c.in-Ok-put.ensures.took in
+    record {
+      ends = record {
+        comes = follows All (DoorMay g.S.Logged.log g.S.TellsFaults.tells c.args.settings.now door) (g.K.Counted.seen c.args.out.now) (g.K.Counted.seen c.put.new.self) (g.K.Counted.seen c.serve_all.new.out) _ listening took c.in-Ok-put.ensures.counts.unfailed
+            (λ e text may. inl (record { at_door = g.N.Counted.seen c.listen.new.self; listens = rw c.as_str.ensures at c.in-Ok.ensures.call; faults = c.in-Ok.ensures.counts.unfailed; doors = c.in-Ok.ensures.door.kept; served = inl (text, may, refl) })) c.serve_all.ensures.tells;
+        in_time = λ failed. inr (inr (out_behind All (g.K.Counted.seen c.args.out.now) (g.K.Counted.seen c.put.new.self) (g.K.Counted.seen c.serve_all.new.out) _ listening took c.serve_all.ensures.tells failed));
+        leaves = c.serve_all.ensures.counts;
+      };
+    }
 
-pub returns-in-Err-clause-tells : goal.returns-in-Err-clause-tells
-returns-in-Err-clause-tells g c =
-    let Listens : List ℕ → Type 0 = λ at. Adds (g.N.Counted.seen c.args.net.now).calls (g.N.Counted.seen c.listen.new.self).calls (Listened at true) in
+pub returns-in-Err-put : goal.returns-in-Err-put
+returns-in-Err-put g c =
+    let listens = rw c.as_str.ensures at c.in-Ok.ensures.call in
+    record {
+      ends = record {
+        comes = (
+          c.in-Err-put.ensures.cause.failed,
+          (
+            ends.WriteFault,
+            listening,
+            inl (record { at_door = g.N.Counted.seen c.listen.new.self; listens = listens; faults = c.in-Ok.ensures.counts.unfailed; doors = c.in-Ok.ensures.door.kept; served = inr (record { stays = refl; says = (refl, refl) }) }),
+            rw c.as_bytes.ensures.value at c.in-Err-put.ensures.failed,
+          ),
+        );
+        in_time = λ failed. inr (inl (false, listens));
+        leaves = inl refl;
+      };
+    }
+
+pub returns-in-Err : goal.returns-in-Err
+returns-in-Err g c =
     let door = doorway g.N.Counted.seen g.N.Conn.Counted.seen c.args.server.now c.args.server.now c.args.net.now c.listen.new.self in
-    said (DoorMay g.S.Logged.log g.S.TellsFaults.tells c.args.settings.now door) _ _ _ _ NetFault _ _
-    (inr (record { call = subst Listens c.as_str.ensures c.in-Err.ensures.call; doors = c.in-Err.ensures.door.failed; stays = refl; says = (refl, refl) })) c.say.ensures.says
-
-pub returns-in-Err-clause-counts : goal.returns-in-Err-clause-counts
-returns-in-Err-clause-counts g c = told_counts NetFault c.say.result _ _ c.say.ensures.only refl
-
-pub returns-in-Ok-clause-announces : goal.returns-in-Ok-clause-announces
-returns-in-Ok-clause-announces g c failed =
-    let net : Around = over g.N.Counted.seen g.N.Conn.Counted.seen [] c.args.net.now c.tell_and_serve.new.net in
-    let Listens : List ℕ → Type 0 = λ at. Adds net.before.calls (g.N.Counted.seen c.listen.new.self).calls (Listened at false) in
-    inr (only_listened c.args.settings.now net (g.N.Counted.seen c.listen.new.self).calls (g.K.Counted.seen c.args.out.now) (g.K.Counted.seen c.tell_and_serve.new.out) (subst Listens c.as_str.ensures c.in-Ok.ensures.call)
-    (elim (c.tell_and_serve.ensures.announces failed) [ inl same ↦ inl (ap (λ n. (g.N.Counted.seen n).calls) same) | inr out ↦ inr out ]))
-
-pub returns-in-Err-clause-announces : goal.returns-in-Err-clause-announces
-returns-in-Err-clause-announces g c failed =
-    let Listens : List ℕ → Type 0 = λ at. Adds (g.N.Counted.seen c.args.net.now).calls (g.N.Counted.seen c.listen.new.self).calls (Listened at true) in
-    inr (inl (true, subst Listens c.as_str.ensures c.in-Err.ensures.call))
+    let call = rw c.as_str.ensures at c.in-Err.ensures.call in
+    record {
+      ends = record {
+        comes = said (DoorMay g.S.Logged.log g.S.TellsFaults.tells c.args.settings.now door) _ _ _ _ ends.NetFault _ _ (inr (record { call = call; doors = c.in-Err.ensures.door.failed; stays = refl; says = (refl, refl) })) c.say.ensures.says;
+        in_time = λ failed. inr (inl (true, call));
+        leaves = told_counts ends.NetFault c.say.result _ _ c.say.ensures.only refl;
+      };
+    }

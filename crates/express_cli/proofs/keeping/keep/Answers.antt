@@ -1,41 +1,41 @@
-use Rattle.std.proofs.Common.{refl, ap, sym, subst, inl, inr, List, ℕ}
-use Rattle.express_cli.specs.Around.{Around, Read, Seen, Streams, over, streams}
-use Rattle.express_cli.specs.Keeping.{KeepMay}
-use Rattle.express_cli.specs.declared.ends.End.{End}
+use Rattle.std.proofs.Common.{◌≡◌, refl, inl, inr, ℕ, List}
+use Rattle.node_journal.specs.Disk.{DiskSeen}
+use Rattle.express_cli.specs.Around.{Around, Read, Streams, over, streams}
+use Rattle.express_cli.specs.Ends.{FaultMay}
+use Rattle.express_cli.specs.Keeping.{KeepBreaks, KeepMay, keeper}
 use Rattle.express_cli.specs.Runs.{UnreadMay}
-use Rattle.express_cli.specs.Talking.{BreaksOff}
-use Rattle.express_cli.specs.declared.words.NetCommand.TheVariants.{Serve}
-use Rattle.express_cli.proofs.CountLaws.{quiet_counts}
-use Rattle.express_cli.proofs.Writing.{more_may, unmoved}
+use Rattle.express_cli.specs.Talking.{EndsBy, Talks}
+use Rattle.express_cli.specs.declared.ends.End.{End}
+use Rattle.express_cli.proofs.CountLaws.{quiet_counts, text_fault}
+use Rattle.express_cli.proofs.Settling.{lift, settled, still_ends, unsettled}
 use Rattle.express_cli.proofs.keeping.keep.Goals as goal
 
-pub returns-in-Ok-clause-tells : goal.returns-in-Ok-clause-tells
-returns-in-Ok-clause-tells g c =
-    let net : Around = over g.N.Counted.seen g.N.Conn.Counted.seen c.args.seed.now c.args.net.now c.keep_text.new.net in
-    let io : Streams = streams g.S.Counted.seen g.K.Counted.seen c.args.input.now c.input_of.new.input c.args.out.now c.keep_text.new.out in
-    let May : End → List ℕ → Type 0 = KeepMay g.D.Disk.disk io net c.args.disk c.keep_text.result.1 in
-    unmoved May _ _ io.out_now _ (ap g.K.Counted.seen c.in-Ok.ensures.rests)
-    (more_may _ May _ _ _ _ _ (λ e t may. inl (c.as_slice.result.now, subst (Read io) (sym c.as_slice.ensures.value) c.in-Ok.ensures.read, may)) c.keep_text.ensures.tells)
+-- the input was read, and work on it ended so
+all_read : {D : Type 0} (shows : D → DiskSeen) (disk after : D) (io : Streams) (net : Around) {Leaves : Type 0} (end : End) (bytes : List ℕ) → Read io bytes
+    → EndsBy (keeper shows disk after) bytes Leaves net io.out io.out_now end → Talks (KeepMay shows io net disk after) (KeepBreaks io net) Leaves net io.out io.out_now end
+all_read shows disk after io net end bytes read h = lift
+    (λ e text may. inl (bytes, read, may)) (elim [ inl still ↦ inl still | inr broke ↦ inr (bytes, read, broke) ]) (λ leaves. leaves) h
 
-pub returns-in-Ok-clause-announces : goal.returns-in-Ok-clause-announces
-returns-in-Ok-clause-announces g c failed =
-    let net : Around = over g.N.Counted.seen g.N.Conn.Counted.seen c.args.seed.now c.args.net.now c.keep_text.new.net in
-    let io : Streams = streams g.S.Counted.seen g.K.Counted.seen c.args.input.now c.input_of.new.input c.args.out.now c.keep_text.new.out in
-    let Broke : Seen → Type 0 = λ old. BreaksOff Serve c.as_slice.result.now net old io.out_now in
-    inr (c.as_slice.result.now, subst (Read io) (sym c.as_slice.ensures.value) c.in-Ok.ensures.read, subst Broke (ap g.K.Counted.seen c.in-Ok.ensures.rests) (c.keep_text.ensures.announces failed))
+pub returns-in-Ok-read_serve-clause-ends : goal.returns-in-Ok-read_serve-clause-ends
+returns-in-Ok-read_serve-clause-ends g c =
+    let io : Streams = streams g.S.Counted.seen g.K.Counted.seen c.args.input.now c.input_of.new.input c.args.out.now c.keep_by.new.out in
+    let net : Around = over g.N.Counted.seen g.N.Conn.Counted.seen c.args.seed.now c.args.net.now c.keep_by.new.net in
+    all_read g.D.Disk.disk c.args.disk c.keep_by.result.1 io net c.keep_by.result.0 c.as_slice.result.now (rw (← c.as_slice.ensures.value) at c.in-Ok.ensures.read)
+    (settled (keeper g.D.Disk.disk c.args.disk c.keep_by.result.1) c.as_slice.result.now c.in-Ok-read_serve.settings c.in-Ok-read_serve.ensures.judges (rw c.in-Ok.ensures.rests at c.keep_by.ensures.ends))
 
-pub returns-in-Err-clause-tells : goal.returns-in-Err-clause-tells
-returns-in-Err-clause-tells g c =
+pub returns-in-Ok-clause-ends : goal.returns-in-Ok-clause-ends
+returns-in-Ok-clause-ends g c =
+    let io : Streams = streams g.S.Counted.seen g.K.Counted.seen c.args.input.now c.input_of.new.input c.args.out.now c.say_fault.new.out in
     let net : Around = over g.N.Counted.seen g.N.Conn.Counted.seen c.args.seed.now c.args.net.now c.args.net.now in
-    let io : Streams = streams g.S.Counted.seen g.K.Counted.seen c.args.input.now c.input_of.new.input c.args.out.now c.input_of.new.out in
-    more_may (UnreadMay io.input io.input_now) (KeepMay g.D.Disk.disk io net c.args.disk c.args.disk) _ _ _ _ c.in-Err.end (λ e t may. inr ((refl, refl), may)) c.in-Err.ensures.unread
+    let says = rw c.in-Ok.ensures.rests at c.say_fault.ensures.says in
+    all_read g.D.Disk.disk c.args.disk c.args.disk io net c.say_fault.result c.as_slice.result.now (rw (← c.as_slice.ensures.value) at c.in-Ok.ensures.read)
+    (unsettled (keeper g.D.Disk.disk c.args.disk c.args.disk) c.as_slice.result.now c.in-Err-read_serve.fault refl (refl, refl)
+    (quiet_counts (FaultMay c.in-Err-read_serve.fault) _ _ _ _ c.say_fault.result _ _ (text_fault c.in-Err-read_serve.fault) says refl) c.in-Err-read_serve.ensures.judges says)
 
-pub returns-in-Err-clause-disk : goal.returns-in-Err-clause-disk
-returns-in-Err-clause-disk g c =
-    quiet_counts (UnreadMay (g.S.Counted.seen c.args.input.now) (g.S.Counted.seen c.input_of.new.input)) _ _ _ _ c.in-Err.end _ _ (λ text may. may) c.in-Err.ensures.unread refl
+pub returns-clause-ends : goal.returns-clause-ends
+returns-clause-ends g c =
+    let Unread : End → List ℕ → Type 0 = UnreadMay (g.S.Counted.seen c.args.input.now) (g.S.Counted.seen c.input_of.new.input) in
+    still_ends Unread refl (quiet_counts Unread _ _ _ _ c.in-Err.end _ _ (λ text may. may) c.in-Err.ensures.unread refl) (λ e text may. inr ((refl, refl), may)) c.in-Err.ensures.unread
 
-pub returns-in-Err-clause-input : goal.returns-in-Err-clause-input
-returns-in-Err-clause-input g c read write = c.in-Err.ensures.told read write
-
-pub returns-in-Err-clause-announces : goal.returns-in-Err-clause-announces
-returns-in-Err-clause-announces g c failed = inl refl
+pub returns-clause-input : goal.returns-clause-input
+returns-clause-input g c read write = c.in-Err.ensures.told read write

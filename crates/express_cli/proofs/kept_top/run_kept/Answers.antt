@@ -1,8 +1,8 @@
-use Rattle.std.proofs.Common.{◌∙◌, sym, ◌≡◌, ℕ, [], ◌∷◌, All, Contains, lit<, refl}
+use Rattle.std.proofs.Common.{◌∙◌, sym, ◌≡◌, ℕ, [], ◌∷◌, Contains, lit<, refl, rules}
 use Rattle.express_cli.specs.Around.{Around, Streams, over, streams}
 use Rattle.express_cli.specs.Keeping.{KeepMay}
 use Rattle.express_cli.proofs.Writing.{sink_stays}
-use Rattle.std.proofs.lemmas.List.Elements.{All-contains, All-from_recursion, Contains-append_left}
+use Rattle.std.proofs.lemmas.List.Elements.{Contains-append_left}
 use Rattle.express_words.specs.Causes.{Rose}
 use Rattle.express_cli.specs.Ends.{DiskCounts, status_of}
 use Rattle.express_cli.specs.declared.ends.End.{End}
@@ -35,12 +35,7 @@ more_statuses status h =
     Contains-append_left (0 ∷ 2 ∷ 3 ∷ 4 ∷ 5 ∷ 6 ∷ 7 ∷ 8 ∷ []) (10 ∷ 11 ∷ 12 ∷ 13 ∷ []) status h
 
 not_ten : (status : ℕ) → Contains (0 ∷ 2 ∷ 3 ∷ 4 ∷ 5 ∷ 6 ∷ 7 ∷ 8 ∷ []) status → status ≡ 10 → ⊥
-not_ten status h =
-    let Other : ℕ → Type 0 = λ n. n ≡ 10 → ⊥ in
-    let all : All Other (0 ∷ 2 ∷ 3 ∷ 4 ∷ 5 ∷ 6 ∷ 7 ∷ 8 ∷ []) =
-    All-from_recursion Other (0 ∷ 2 ∷ 3 ∷ 4 ∷ 5 ∷ 6 ∷ 7 ∷ 8 ∷ [])
-    ((λ e. cc), ((λ e. cc), ((λ e. cc), ((λ e. cc), ((λ e. cc), ((λ e. cc), ((λ e. cc), ((λ e. cc), tt)))))))) in
-    All-contains Other (0 ∷ 2 ∷ 3 ∷ 4 ∷ 5 ∷ 6 ∷ 7 ∷ 8 ∷ []) status all h
+not_ten status h is = search rules
 
 pub returns-then-asks_keep-clause-kept : goal.returns-then-asks_keep-clause-kept
 returns-then-asks_keep-clause-kept g c asks =
@@ -49,11 +44,9 @@ returns-then-asks_keep-clause-kept g c asks =
     record {
       ending = c.keep-end.result.0;
       status_is = c.status_of.ensures;
-      came = c.keep-end.ensures.tells;
-      disk_counts = c.keep-end.ensures.disk;
+      ends = c.keep-end.ensures.ends;
       input_counts = c.keep-end.ensures.input;
-      output_counts = sink_stays (KeepMay g.D.Disk.disk io net c.args.disk c.keep-end.result.1) io.out io.out_now c.keep-end.result.0 c.keep-end.ensures.tells;
-      announces = c.keep-end.ensures.announces;
+      output_counts = sink_stays (KeepMay g.D.Disk.disk io net c.args.disk c.keep-end.result.1) io.out io.out_now c.keep-end.result.0 c.keep-end.ensures.ends.comes;
     }
 
 pub returns-then-asks_keep-clause-ran : goal.returns-then-asks_keep-clause-ran
@@ -73,7 +66,7 @@ returns-then-asks_keep-clause-net_waits g c other = absurd (other (c.asks_keep.e
 
 pub returns-then-asks_keep-clause-disk_fault : goal.returns-then-asks_keep-clause-disk_fault
 returns-then-asks_keep-clause-disk_fault g c is =
-    disk_fault c.keep-end.result.0 _ _ (sym c.status_of.ensures ∙ is) c.keep-end.ensures.disk
+    disk_fault c.keep-end.result.0 _ _ (sym c.status_of.ensures ∙ is) c.keep-end.ensures.ends.leaves
 
 pub returns-then-asks_keep-clause-statuses : goal.returns-then-asks_keep-clause-statuses
 returns-then-asks_keep-clause-statuses g c = rw c.status_of.ensures (statuses c.keep-end.result.0)

@@ -1,22 +1,19 @@
-use Rattle.std.proofs.Common.{refl}
-use Rattle.settings_text.specs.Serve.{serve_of}
-use Rattle.settings_text.specs.Tables.{judged}
-use Rattle.express_cli.specs.Around.{Around, over}
-use Rattle.express_cli.specs.Talking.{ServeMay, TalkMay}
+use Rattle.std.proofs.Common.{refl, inl, inr}
+use Rattle.express_cli.specs.Ends.{out_of_memory_text}
+use Rattle.express_cli.specs.declared.ends.End.TheVariants.{OutOfMemory}
 use Rattle.express_cli.specs.declared.words.NetCommand.TheVariants.{Serve}
-use Rattle.express_cli.proofs.Writing.{more_may}
-use Rattle.express_cli.proofs.Serving.{faulty, serve_breaks, serve_may}
+use Rattle.express_cli.proofs.Settling.{lift, no_key, said_ends}
 use Rattle.express_cli.proofs.serve.serve.Goals as goal
+
+pub listen_and_serve-requires : goal.listen_and_serve-requires
+listen_and_serve-requires g c = record { whole = tt }
 
 pub returns-in-Ok-clause-ends : goal.returns-in-Ok-clause-ends
 returns-in-Ok-clause-ends g c =
-    let net : Around = over g.N.Counted.seen g.N.Conn.Counted.seen c.args.seed.now c.args.net.now c.serve_by.new.net in
-    record {
-      comes = more_may (ServeMay c.in-Ok.settings net) (TalkMay Serve c.args.text.now net) _ _ _ _ _ (serve_may c.in-Ok.settings c.args.text.now net c.in-Ok.ensures.judges) c.serve_by.ensures.ends;
-      in_time = λ failed. serve_breaks c.in-Ok.settings c.args.text.now net (g.K.Counted.seen c.args.out.now) (g.K.Counted.seen c.serve_by.new.out) c.in-Ok.ensures.judges (c.serve_by.ensures.announces failed);
-      leaves = tt;
-    }
+    lift (λ e t may. inl (c.in-Ok.node, c.listen_and_serve.new.server, c.in-Ok.ensures.opened, may)) (λ broke. broke) (λ counts. tt) c.listen_and_serve.ensures.ends
+
+pub returns-in-Ok-clause-settings : goal.returns-in-Ok-clause-settings
+returns-in-Ok-clause-settings g c = no_key Serve c.args.settings.now (returns-in-Ok-clause-ends g c)
 
 pub returns-in-Err-clause-ends : goal.returns-in-Err-clause-ends
-returns-in-Err-clause-ends g c =
-    faulty (judged serve_of c.args.text.now) Serve c.args.text.now _ c.in-Err.fault _ _ _ refl (λ key bad. bad) c.in-Err.ensures.judges c.say_fault.ensures.says
+returns-in-Err-clause-ends g c = said_ends OutOfMemory out_of_memory_text refl tt (inr (refl, (refl, refl))) c.say.ensures.says

@@ -1,13 +1,16 @@
-use Rattle.std.proofs.Common.{refl, sym, ap, inl, inr}
+use Rattle.std.proofs.Common.{refl, inl, inr}
+use Rattle.express_cli.specs.Ends.{Said, SaidWanting, usage_text}
+use Rattle.express_cli.specs.declared.ends.End.TheVariants.{Usage}
 use Rattle.express_cli.specs.declared.words.Task.TheVariants.{Work, Net, Mill}
-use Rattle.express_cli.proofs.Finishing.{asks_it, idle, milled, talked, unread, wanting, worked}
+use Rattle.express_cli.proofs.Finishing.{asks_it, milled, quiet, talk_reads, talk_waits, talked, unread, worked}
 use Rattle.express_cli.proofs.top.finish.Goals as goal
 
 pub returns-in-Err-clause-ends : goal.returns-in-Err-clause-ends
-returns-in-Err-clause-ends g c = wanting _ _ _ _ refl c.say.ensures.says
+returns-in-Err-clause-ends g c = quiet SaidWanting _ _ _ _ refl (λ e t is. rw (is.0, is.1) (inl (refl, refl))) c.say.ensures.says
 
 pub returns-in-Ok-None-clause-ends : goal.returns-in-Ok-None-clause-ends
-returns-in-Ok-None-clause-ends g c = idle _ _ _ _ refl (rw c.in-Ok-None.field-0-is at c.in-Ok-None.ensures) refl c.say-in-Ok-None.ensures.says
+returns-in-Ok-None-clause-ends g c =
+    quiet (Said Usage usage_text) _ _ _ _ refl (λ e t is. rw (is.0, is.1) (rw c.in-Ok-None.field-0-is at c.in-Ok-None.ensures, refl, refl)) c.say-in-Ok-None.ensures.says
 
 pub returns-in-Ok-Some-Mill-clause-ends : goal.returns-in-Ok-Some-Mill-clause-ends
 returns-in-Ok-Some-Mill-clause-ends g c =
@@ -17,7 +20,7 @@ returns-in-Ok-Some-Mill-clause-ends g c =
 pub returns-in-Ok-clause-ends : goal.returns-in-Ok-clause-ends
 returns-in-Ok-clause-ends g c =
     let asks = asks_it _ _ _ (Work c.in-Ok-Some-Work.command) c.in-Ok-Some-Work.field-0-is c.in-Ok-Some-Work.field-0-0-is c.in-Ok-Some-Work.ensures in
-    worked _ _ _ _ c.in-Ok-Some-Work.command _ c.as_slice.result.now _ refl asks c.in-Ok.ensures.read (sym c.as_slice.ensures.value) (ap g.K.Counted.seen c.in-Ok.ensures.rests) c.work.ensures.ends
+    worked _ _ _ _ c.in-Ok-Some-Work.command c.as_slice.result.now refl asks (rw (← c.as_slice.ensures.value) at c.in-Ok.ensures.read) (rw c.in-Ok.ensures.rests at c.work.ensures.ends)
 
 pub returns-in-Err-input_of-clause-ends : goal.returns-in-Err-input_of-clause-ends
 returns-in-Err-input_of-clause-ends g c =
@@ -27,8 +30,8 @@ returns-in-Err-input_of-clause-ends g c =
 pub returns-in-Ok-input_of-clause-ends : goal.returns-in-Ok-input_of-clause-ends
 returns-in-Ok-input_of-clause-ends g c =
     let asks = asks_it _ _ _ (Net c.in-Ok-Some-Net.command) c.in-Ok-Some-Net.field-0-is c.in-Ok-Some-Net.field-0-0-is c.in-Ok-Some-Net.ensures in
-    talked _ _ _ _ c.in-Ok-Some-Net.command _ c.as_slice-in-Ok-input_of.result.now _ asks c.in-Ok-input_of.ensures.read (sym c.as_slice-in-Ok-input_of.ensures.value)
-    (ap g.K.Counted.seen c.in-Ok-input_of.ensures.rests) c.talk.ensures.ends
+    talked _ _ _ _ c.in-Ok-Some-Net.command c.as_slice-in-Ok-input_of.result.now asks (rw (← c.as_slice-in-Ok-input_of.ensures.value) at c.in-Ok-input_of.ensures.read)
+    (rw c.in-Ok-input_of.ensures.rests at c.talk.ensures.ends)
 
 pub returns-in-Err-input_of-2-clause-ends : goal.returns-in-Err-input_of-2-clause-ends
 returns-in-Err-input_of-2-clause-ends g c =
@@ -50,3 +53,11 @@ returns-in-Ok-input_of-clause-input_rests g c none =
 pub returns-in-Err-input_of-2-clause-input_rests : goal.returns-in-Err-input_of-2-clause-input_rests
 returns-in-Err-input_of-2-clause-input_rests g c none =
     absurd (none (inr (_, asks_it _ _ _ (Net c.in-Ok-Some-Net.command) c.in-Ok-Some-Net.field-0-is c.in-Ok-Some-Net.field-0-0-is c.in-Ok-Some-Net.ensures)))
+
+pub returns-in-Ok-input_of-clause-last_take : goal.returns-in-Ok-input_of-clause-last_take
+returns-in-Ok-input_of-clause-last_take g c is =
+    absurd (talk_reads c.in-Ok-Some-Net.command c.as_slice-in-Ok-input_of.result.now c.talk.ensures.ends is)
+
+pub returns-in-Ok-input_of-clause-net_waits : goal.returns-in-Ok-input_of-clause-net_waits
+returns-in-Ok-input_of-clause-net_waits g c waits =
+    c.talk.ensures.waits (talk_waits c.in-Ok-Some-Net.command c.as_slice-in-Ok-input_of.result.now c.talk.ensures.ends waits)

@@ -1,0 +1,116 @@
+-- How work over a net ends, by how its parts end.
+use Rattle.std.proofs.Common.{◌≡◌, ◌≢◌, ◌⊎◌, inl, inr, ℕ, List, Result, Ok, Err, refl, ap, subst}
+use Rattle.express_texts.specs.declared.fault.TextFault.{TextFault}
+use Rattle.express_texts.specs.declared.fault.TextFault.TheVariants as fault
+use Rattle.settings_text.specs.Judging.{Gives}
+use Rattle.settings_text.specs.declared.carry.CarryJob.{CarryJob}
+use Rattle.settings_text.specs.declared.carry.CarryJob.TheVariants.{Send, Fetch}
+use Rattle.settings_text.specs.declared.carry.CarrySettings.{CarrySettings}
+use Rattle.settings_text.specs.declared.serve.ServeSettings.{ServeSettings}
+use Rattle.client_run.specs.Runs.{EndSaid, Plan}
+use Rattle.client_run.specs.declared.ran.RunEnd.{RunEnd}
+use Rattle.client_run.specs.declared.ran.RunEnd.TheVariants as run
+use Rattle.node_exchange.specs.Exchanging.{EarlyAtEnd}
+use Rattle.node_serve.specs.Hosting.{halt_in}
+use Rattle.node_serve.specs.NoLog.{node_log}
+use Rattle.node_serve.specs.declared.never.Never.{Never}
+use Rattle.node_serve.specs.declared.node.Node.{Node}
+use Rattle.node_serve.specs.declared.stop.Halt.{Halt}
+use Rattle.node_serve.specs.declared.stop.Halt.TheVariants as halt
+use Rattle.node_serve.specs.declared.tally.Tally.{Tally}
+use Rattle.express_cli.specs.Around.{Around, Seen, over}
+use Rattle.express_cli.specs.Door.{Doorway, ListeningMay, NeverMay, ServedSays}
+use Rattle.express_cli.specs.Ends.{FaultMay, Prints, Said}
+use Rattle.express_cli.specs.Talking.{EndsBy, IsStill, JobMay, Kind, LeftNothing, MisspeltMay, PlanMay, Settled, Talks, end_by, kind_of}
+use Rattle.express_cli.specs.declared.words.NetCommand.{NetCommand}
+use Rattle.express_cli.specs.declared.words.NetCommand.TheVariants.{Serve, Client, Carry}
+use Rattle.express_cli.specs.declared.ends.End.{End}
+use Rattle.express_cli.specs.declared.ends.End.TheVariants as ends
+use Rattle.express_cli.proofs.Writing.{more_may}
+
+-- where more may come, and as much may have been told
+pub lift : {May Could : End → List ℕ → Type 0} {Breaks Broke Leaves Left : Type 0} {net other : Around} {old new : Seen} {end : End}
+    → ((e : End) (text : List ℕ) → May e text → Could e text) → (IsStill net ⊎ Breaks → IsStill other ⊎ Broke) → (Leaves → Left)
+    → Talks May Breaks Leaves net old new end → Talks Could Broke Left other old new end
+lift {May} {Could} {end = end} f g h t = record {
+  comes = more_may May Could _ _ _ _ end f t.comes;
+  in_time = λ failed. g (t.in_time failed);
+  leaves = h t.leaves;
+}
+
+-- where nothing was done with the net
+pub still_ends : (Then : End → List ℕ → Type 0) {May : End → List ℕ → Type 0} {Breaks Leaves : Type 0} {net : Around} {old new : Seen} {end : End} → IsStill net → Leaves
+    → ((e : End) (text : List ℕ) → Then e text → May e text) → Prints Then old new end → Talks May Breaks Leaves net old new end
+still_ends Then {May} {end = end} still leaves f h = record { comes = more_may Then May _ _ _ _ end f h; in_time = λ failed. inl still; leaves = leaves }
+
+-- and this was said
+pub said_ends : (is : End) (text : List ℕ) {May : End → List ℕ → Type 0} {Breaks Leaves : Type 0} {net : Around} {old new : Seen} {end : End} → IsStill net → Leaves
+    → May is text → Prints (Said is text) old new end → Talks May Breaks Leaves net old new end
+said_ends is text still leaves may h = still_ends (Said is text) still leaves (λ e t same. rw (same.0, same.1) may) h
+
+-- the settings were read
+pub settled : (kind : Kind) (bytes : List ℕ) (settings : kind.Settings) {Leaves : Type 0} {net : Around} {old new : Seen} {end : End}
+    → kind.read bytes ≡ Ok settings → Settled kind settings Leaves net old new end → EndsBy kind bytes Leaves net old new end
+settled kind bytes settings read h = lift
+    (λ e text may. inl (settings, read, may))
+    (elim [ inl still ↦ inl still | inr breaks ↦ inr (settings, read, breaks) ]) (λ leaves. leaves) h
+
+misspelt : {A : Type 0} (read : Result A (List ℕ)) (f : TextFault) → Gives (λ (s : A). s) (Err f) read → (end : End) (text : List ℕ) → FaultMay f end text → MisspeltMay read end text
+misspelt read (fault.Wrong n) gives end text may = absurd gives
+misspelt read (fault.WrongKey key) gives end text may = inl (key, gives, may)
+misspelt read fault.NoMemory gives end text may = inr may
+
+-- they weren't
+pub unsettled : (kind : Kind) (bytes : List ℕ) (f : TextFault) {Leaves : Type 0} {net : Around} {old new : Seen} {end : End} → IsStill net → kind.Rests net → Leaves
+    → Gives (λ (s : kind.Settings). s) (Err f) (kind.read bytes) → Prints (FaultMay f) old new end → EndsBy kind bytes Leaves net old new end
+unsettled kind bytes f still rests leaves gives h = still_ends (FaultMay f) still leaves (λ e text may. inr (rests, misspelt (kind.read bytes) f gives e text may)) h
+
+pub left_nothing : {N C : Type 0} (seen : N → Seen) (shows : C → Seen) (seed : List ℕ) (old new : N)
+    → (new ≡ old) ⊎ EarlyAtEnd (seen new).calls shows → LeftNothing (over seen shows seed old new)
+left_nothing seen shows seed old new (inl same) = inl (ap seen same)
+left_nothing seen shows seed old new (inr early) = inr (λ short. let found = early short in (shows found.0, (found.0, refl), found.1))
+
+-- ---- the ends that may come of settings
+
+abbrev pub IsWorkEnd : End → Type 0
+IsWorkEnd ends.Done = Unit {0}
+IsWorkEnd ends.NetFault = Unit {0}
+IsWorkEnd ends.OutOfMemory = Unit {0}
+IsWorkEnd ends.WriteFault = Unit {0}
+IsWorkEnd other = ⊥
+
+served_end : (result : Result Tally (Halt Never)) (end : End) (text : List ℕ) → ServedSays NeverMay result end text → IsWorkEnd end
+served_end (Ok tally) end text (inl is) = rw is.0 tt
+served_end (Ok tally) end text (inr wants) = rw wants.0 tt
+served_end (Err halt.Door) end text said = rw said.0 tt
+served_end (Err (halt.Log why)) end text never = absurd never
+
+listening_end : (settings : ServeSettings) (door : Doorway Node) (end : End) (text : List ℕ) → ListeningMay node_log NeverMay settings door end text → IsWorkEnd end
+listening_end settings door end text (inl (said, served, same)) = served_end (halt_in served.result) end said served.says
+listening_end settings door end text (inr unheard) = rw unheard.says.0 tt
+
+run_end : (by : RunEnd) (end : End) → end ≡ end_by by → IsWorkEnd end
+run_end run.Done end is = rw is tt
+run_end run.NetFault end is = rw is tt
+
+plan_end : (Ended : Plan → EndSaid) (plan : Plan) (net : Around) (end : End) (text : List ℕ) → PlanMay Ended plan net end text → IsWorkEnd end
+plan_end Ended plan net end text (inl ran) = run_end ran.by end ran.says.0
+plan_end Ended plan net end text (inr (told, next, came, wants)) = rw wants.0 tt
+
+job_end : (job : CarryJob) (settings : CarrySettings) (net : Around) (end : End) (text : List ℕ) → JobMay job settings net end text → IsWorkEnd end
+job_end (Send id file addresses) settings net end text may = plan_end _ _ net end text may
+job_end Fetch settings net end text (inl (by, runs, fault, is)) = run_end by end is
+job_end Fetch settings net end text (inr wants) = rw wants.0 tt
+
+pub work_end : (command : NetCommand) (settings : (kind_of command).Settings) (net : Around) (end : End) (text : List ℕ) → (kind_of command).May settings net end text → IsWorkEnd end
+work_end Serve settings net end text (inl (node, left, opened, inl hosted)) = listening_end settings _ end text hosted.served
+work_end Serve settings net end text (inl (node, left, opened, inr failed)) = rw failed.says.0 tt
+work_end Serve settings net end text (inr (still, wants)) = rw wants.0 tt
+work_end Client settings net end text may = plan_end _ _ net end text may
+work_end Carry settings net end text may = job_end settings.job settings net end text may
+
+-- no key is named there
+pub no_key : (command : NetCommand) (settings : (kind_of command).Settings) {Leaves : Type 0} {net : Around} {old new : Seen} {end : End}
+    → Settled (kind_of command) settings Leaves net old new end → end ≢ ends.BadKey
+no_key command settings {net = net} h e =
+    let at = rw e at h.comes in work_end command settings net ends.BadKey at.0 at.1
