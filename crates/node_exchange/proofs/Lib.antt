@@ -1,4 +1,3 @@
 pub mod TakingLaws
-pub mod CallLaws
 pub mod HeldLaws
 pub mod EarlyLaws

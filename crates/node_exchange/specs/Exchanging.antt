@@ -1,11 +1,12 @@
--- One exchange with a peer, and the calls that it makes on a net.
+-- One exchange with a peer, the calls that it makes on a net, and why it may give no frame.
 use Rattle.std.specs.Prelude.{◌≡◌, ◌⊎◌, ℕ, Bool, true, false, List, [], ◌∷◌, ◌++◌, length, take}
-use Rattle.std.specs.Prelude.{Option, Some, None, Result, Ok, Err}
+use Rattle.std.specs.Prelude.{Option, Some, None, Result, Ok, Err, codes, decimal}
 use Rattle.express_words.specs.Seen.{Seen}
 use Rattle.express_words.specs.Causes.{Rose}
-use Rattle.express_words.specs.Streams.{IsAtEnd, Took, TookPrefix}
+use Rattle.express_words.specs.Streams.{IsAtEnd}
 use Rattle.express_words.specs.Calls.{Call, Dialled, Closed, AddsClose}
 use Rattle.frame_rules.specs.Reading.{decoded}
+use Rattle.frame_rules.specs.Texts.{fault_text}
 use Rattle.frame_rules.specs.declared.fault.FrameFault.TheVariants.{Short}
 use Rattle.node_exchange.specs.Taking.{IsWanted, IsOneFrame, IsNoFrame}
 use Rattle.node_exchange.specs.declared.exchanging.Broken.{Broken}
@@ -46,10 +47,6 @@ abbrev pub IsTalk : Bool → Exchange → (given taken : List ℕ) → Type 0
 IsTalk true e given taken = (taken ≡ e.sent) × IsWanted given × IsAnswer e.answer given
 IsTalk false e given taken = TookFirst e.sent given taken × IsWanted given × IsFault e.answer
 
--- From old to new a connection took all that was sent; or a front of it, and then it gave nothing.
-abbrev pub TakesFirst : Option (List ℕ) → Option (List ℕ) → (sent given : List ℕ) → Type 0
-TakesFirst old new sent given = Took old new sent ⊎ (TookPrefix old new sent × (given ≡ []))
-
 -- the calls of an exchange: a dial that failed, or a dial and the close of its connection
 abbrev pub IsExchange : List ℕ → Exchange → List Call → Type 0
 IsExchange peer e (Dialled to true ∷ []) = (to ≡ peer) × IsFault e.answer
@@ -87,3 +84,10 @@ EndsShort (Some calls) = (before : List Call) × (given : List ℕ) × (taken : 
 abbrev pub EarlyAtEnd : {C : Type 0} → Option (List Call) → (C → Seen) → Type 0
 EarlyAtEnd {C} calls shown = EndsShort calls
     → (conn : C) × ClosedAtEnd calls (shown conn)
+
+-- ---- texts
+
+abbrev pub broken_text : Broken → List ℕ
+broken_text (broken.Fault count) = codes "the net has had " ++ (decimal count ++ codes " faults")
+broken_text (broken.Early count) = codes "the answer ended after " ++ (decimal count ++ codes " bytes")
+broken_text (broken.Wrong fault) = codes "the answer is no frame: " ++ fault_text fault

@@ -1,14 +1,11 @@
 //! One frame goes to a peer, and one comes back.
-ghost use Rattle.std.specs.Prelude.{◌≡◌, ◌≢◌, ℕ, ◌≤◌, length, take, IfOk, Err, Some};
-ghost use Rattle.express_words.specs.Causes.{Rose};
-ghost use Rattle.express_words.specs.Streams.{Gave, IsAtEnd, Took};
+ghost use Rattle.std.specs.Prelude.{◌≡◌, ℕ, ◌≤◌, length, take, IfOk, Err, Some};
 ghost use Rattle.frame_rules.specs.Room.{HasRoom};
-ghost use Rattle.node_exchange.specs.Exchanging.{ExchangeOn, answer_in, CountBy, ClosedAtEnd, TakesFirst};
-ghost use Rattle.node_exchange.specs.Texts.{broken_text};
-ghost use Rattle.node_exchange.specs.Taking.{EndsBy, IsOneFrame, IsWanted};
+ghost use Rattle.node_exchange.specs.Exchanging.{ExchangeOn, answer_in, CountBy, ClosedAtEnd, broken_text};
+ghost use Rattle.node_exchange.specs.Taking.{IsOneFrame};
 
 use crate::reading::{Reading, read_frame};
-use express_words::outside::{Conn, Net};
+use express_words::outside::{Net, Sink};
 use frame_rules::FrameFault;
 use std::fmt;
 
@@ -35,30 +32,8 @@ impl fmt::Display for Broken {
     }
 }
 
-/// Sends the frame, and reads one.
-fn converse<C: Conn>(conn: &mut C, frame: &[u8], reply: &mut [u8]) -> (usize, Reading)
-    requires room { HasRoom reply.old }
-    ensures within { result.0 ≤ length reply.new }
-    ensures small { result.0 ≤ 8213 }
-    ensures gave { Gave (C.seen conn.old).content (C.seen conn.new).content (take result.0 reply.new) }
-    ensures wanted { IsWanted (take result.0 reply.new) }
-    ensures ends { result.1 ≢ Reading.Failed → EndsBy result.1 (take result.0 reply.new) }
-    ensures end { result.1 ≡ Reading.Ended → IsAtEnd (C.seen conn.new).content }
-    ensures took { result.1 ≢ Reading.Failed
-        → Took (C.seen conn.old).written (C.seen conn.new).written frame.now }
-    ensures first { TakesFirst (C.seen conn.old).written (C.seen conn.new).written frame.now (take result.0 reply.new) }
-    ensures cause { result.1 ≡ Reading.Failed → Rose (C.seen conn.old).faults (C.seen conn.new).faults }
-    ensures unfailed { result.1 ≢ Reading.Failed → (C.seen conn.new).faults ≡ (C.seen conn.old).faults }
-{
-    if conn.put(frame).is_err() {
-        return (0, Reading::Failed);
-    }
-    read_frame(conn, reply)
-}
-
 /// Dials the peer, sends it a frame, and takes one frame of its answer into the front of `reply`, never more bytes
 /// than are wanted of it. Gives the length of that frame.
-#[tactic(auto, using(crate::proofs::CallLaws::dial_made))]
 pub fn exchange<N: Net>(
     net: &mut N,
     peer: &str,
@@ -79,7 +54,11 @@ pub fn exchange<N: Net>(
         Ok(conn) => conn,
         Err(_) => return Err(Broken::Fault(net.faults())),
     };
-    let (count, reading) = converse(&mut conn, frame, reply);
+    if conn.put(frame).is_err() {
+        net.close(conn);
+        return Err(Broken::Fault(net.faults()));
+    }
+    let (count, reading) = read_frame(&mut conn, reply);
     net.close(conn);
     match reading {
         Reading::Whole => Ok(count),

@@ -3,7 +3,6 @@
 
 mod exchanging;
 mod reading;
-mod wanting;
 
 pub use exchanging::{Broken, exchange};
 pub use reading::{Reading, read_frame};

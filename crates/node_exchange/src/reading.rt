@@ -1,13 +1,17 @@
 //! One frame is read from a source.
-ghost use Rattle.std.specs.Prelude.{◌≡◌, ◌≢◌, ◌+◌, ◌<◌, ◌≤◌, length, take, drop, IfOk, OnErr, []};
+ghost use Rattle.std.specs.Prelude.{◌≡◌, ◌≢◌, ◌+◌, ◌<◌, ◌≤◌, length, take, drop, IfOk, OnErr, Err, []};
+ghost use Rattle.std.specs.Int.{w32};
 ghost use Rattle.express_words.specs.Causes.{Rose, HasCause, CountsFault};
 ghost use Rattle.express_words.specs.Streams.{Gave, IsAtEnd};
+ghost use Rattle.frame_rules.specs.Forms.{Gives, number_at};
+ghost use Rattle.frame_rules.specs.Gathering.{missing};
+ghost use Rattle.frame_rules.specs.Reading.{decoded};
 ghost use Rattle.frame_rules.specs.Room.{HasRoom};
 ghost use Rattle.node_exchange.specs.Taking.{EndsBy, IsWanted};
 
-use crate::wanting::{Judged, judge};
 use express_words::outside::{Failed, Source};
 use frame_rules::FrameFault;
+use wire_frames::decode;
 
 /// How reading one frame ended.
 #[derive(Clone, Copy, Debug, PartialEq, Eq)]
@@ -20,6 +24,31 @@ pub enum Reading {
     Ended,
     /// The source failed before either.
     Failed,
+}
+
+/// The length that the bytes begin with, once it has come.
+#[tactic(auto, unfolding(frame_rules::specs::Forms::number_at))]
+fn length_of(taken: &[u8]) -> Result<u32, FrameFault>
+    ensures { Gives (λ n. n) result (number_at w32 0 taken.now) }
+{
+    if taken.len() < 4 {
+        return Err(FrameFault::Short);
+    }
+    Ok(u32::from_be_bytes([taken[0], taken[1], taken[2], taken[3]]))
+}
+
+/// How many bytes are missing from the length, and then from the frame.
+#[tactic(auto, using(crate::proofs::TakingLaws::missing_laws))]
+fn missing_from(taken: &[u8]) -> usize
+    requires { decoded taken.now ≡ Err FrameFault.Short }
+    ensures exact { result ≡ missing taken.now }
+    ensures some { 0 < result }
+    ensures room { length taken.now + result ≤ 8213 }
+{
+    match length_of(taken) {
+        Err(_) => 4 - taken.len(),
+        Ok(length) => 4 + length as usize - taken.len(),
+    }
 }
 
 /// Takes at most `want` bytes behind the first `count`.
@@ -45,6 +74,7 @@ fn take_behind<S: Source>(
 }
 
 /// Takes bytes into the front of `into` until they are a frame or known to be none. Gives how many were taken.
+#[tactic(auto, using(crate::proofs::TakingLaws::one_frame))]
 pub fn read_frame<S: Source>(source: &mut S, into: &mut [u8]) -> (usize, Reading)
     requires room { HasRoom into.old }
     ensures within { result.0 ≤ length into.new }
@@ -60,10 +90,11 @@ pub fn read_frame<S: Source>(source: &mut S, into: &mut [u8]) -> (usize, Reading
 {
     let mut count = 0;
     'reading: loop {
-        let want = match judge(&into[..count]) {
-            Judged::Wants(want) => want,
-            Judged::Whole => return (count, Reading::Whole),
-            Judged::Wrong(fault) => return (count, Reading::Wrong(fault)),
+        let taken = &into[..count];
+        let want = match decode(taken) {
+            Ok(_) => return (count, Reading::Whole),
+            Err(FrameFault::Short) => missing_from(taken),
+            Err(fault) => return (count, Reading::Wrong(fault)),
         };
         match take_behind(source, into, count, want) {
             Err(_) => return (count, Reading::Failed),

@@ -1,12 +1,10 @@
-use Rattle.std.proofs.Common.{◌≡◌, ◌≤◌, ◌-◌, length, take}
+use Rattle.std.proofs.Common.{◌≡◌, ◌≤◌, ◌-◌, take}
 use Rattle.express_words.specs.Streams.{Gave}
 use Rattle.node_exchange.specs.Taking.{IsWanted}
 use Rattle.node_exchange.proofs.reading.read_frame.Given as goal
 
 abbrev pub invariant-reading : goal.invariant-reading
 invariant-reading g l = record {
-  within : l.count ≤ length l.into;
-  room : 8213 ≤ length l.into;
   gave : Gave (g.S.Counted.seen l.fn.source).content (g.S.Counted.seen l.source).content (take l.count l.into);
   small : l.count ≤ 8213;
   wanted : IsWanted (take l.count l.into);
