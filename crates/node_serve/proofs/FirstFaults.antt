@@ -1,16 +1,27 @@
--- The first fault of a server that was opened: its journal isn't closed.
-use Rattle.std.proofs.Common.{◌≡◌, ℕ, ◌+◌, false, List, [], ◌∷◌, length, refl, ◌∙◌, ap}
-use Rattle.node_journal.specs.Disk.{DiskSeen}
+-- The faults of a server that isn't opened, and the first fault of one that was: its journal isn't closed.
+use Rattle.std.proofs.Common.{◌≡◌, ◌≢◌, ℕ, ◌+◌, false, List, [], ◌∷◌, length, refl, ◌∙◌, ap}
+use Rattle.node_journal.specs.Disk.{DiskSeen, Within}
 use Rattle.node_journal.specs.Journal.{JournalState, longer}
-use Rattle.node_journal.specs.declared.fault.JournalFault.TheVariants.{Closed, NotEmpty}
-use Rattle.node_restart.specs.Frames.{Handed}
-use Rattle.node_restart.specs.Kept.{KeptState}
+use Rattle.node_journal.specs.Records.{content}
+use Rattle.node_journal.specs.declared.fault.JournalFault.TheVariants.{Closed, NotEmpty, Damaged}
+use Rattle.node_restart.specs.Faults.{OnForeign, OnDamaged}
+use Rattle.node_restart.specs.Frames.{Handed, IsForeign}
+use Rattle.node_restart.specs.Kept.{KeptState, IsDamagedAt}
 use Rattle.node_restart.specs.declared.fault.KeepFault.{KeepFault}
-use Rattle.node_restart.specs.declared.fault.KeepFault.TheVariants.{Journal}
+use Rattle.node_restart.specs.declared.fault.KeepFault.TheVariants.{Journal, Foreign}
+use Rattle.node_restart.specs.declared.opening.Opening.{Opening}
 use Rattle.node_restart.specs.Keeping.{IsCause, KeepsUpTo, journal_after, kept_of}
-use Rattle.node_serve.specs.KeptOpening.{IsOfOpening}
+use Rattle.node_serve.specs.KeptOpening.{IsOfOpening, IsCauseOf}
 use Rattle.node_serve.specs.declared.open_fault.OpenFault.TheVariants as opening
 use Rattle.node_serve.specs.FirstFaults.{IsFirstFault}
+
+-- what a fault says of a disk it says of that disk before, where a read gives the same
+pub cause_before : (fault : KeepFault) (limit : ℕ) (o : Opening) (first reads : List ℕ → Type 0) → Within first reads → ((c : List ℕ) → first c → c ≢ [])
+    → OnForeign fault (λ n. (c : List ℕ) → reads c → IsForeign n (content c)) → OnDamaged fault (λ n. (c : List ℕ) → reads c → IsDamagedAt limit n c)
+    → IsCauseOf (opening.Keep fault) limit o first
+cause_before (Journal (Damaged at)) limit o first reads still some foreign damaged = λ c read. (some c read, damaged c (still c read))
+cause_before (Foreign n) limit o first reads still some foreign damaged = λ c read. (some c read, foreign c (still c read))
+cause_before fault limit o first reads still some foreign damaged = tt
 
 -- frames that were kept close no journal
 after_closed : (j : JournalState) (frames : List Handed) → (journal_after j frames).closed ≡ j.closed

@@ -1,8 +1,8 @@
 -- One visit after another.
-use Rattle.std.proofs.Common.{◌≡◌, ℕ, ◌+◌, ◌<◌, cond, List, [], ◌∷◌, ◌++◌, length, Ok, Err, refl, ap, subst, arith, Bool}
-use Rattle.std.specs.Prelude.{flat_map, count_by}
+use Rattle.std.proofs.Common.{◌≡◌, ℕ, ◌+◌, ◌<◌, List, [], ◌∷◌, ◌++◌, length, Ok, Err, refl, subst, arith}
+use Rattle.std.specs.Prelude.{flat_map}
 use Rattle.std.proofs.lemmas.List.{length-append, flat_map_more}
-use Rattle.std.proofs.lemmas.List.Sums.{sum_by-append}
+use Rattle.std.proofs.lemmas.List.Sums.{fold_push}
 use Rattle.express_words.specs.Seen.{Seen}
 use Rattle.node_exchange.specs.Exchanging.{Makes}
 use Rattle.node_restart.specs.Frames.{Handed}
@@ -11,33 +11,15 @@ use Rattle.node_serve.specs.declared.node.Served.{Served}
 use Rattle.node_serve.specs.declared.stop.Halt.{Halt}
 use Rattle.node_serve.specs.declared.stop.Halt.TheVariants as halt
 use Rattle.node_serve.specs.declared.tally.Tally.{Tally}
-use Rattle.node_serve.specs.Tallies.{is_answered, is_ended, is_connection_fault, is_link_fault, is_bad_link, count_of, tally_of, CountsMore}
+use Rattle.node_serve.specs.Tallies.{counted, tally_of}
 use Rattle.node_serve.specs.Hosting.{Visited, Hosts}
 use Rattle.node_serve.specs.Visits.{Visit, visit_calls, Standing, VisitEnds, none, then}
 use Rattle.node_serve.proofs.CallLaws.{makes_none, makes_both}
 use Rattle.node_serve.proofs.VisitLaws.{visit_takes}
 
-counts_more : (is : Served → Bool) (visits : List Visit) (v : Visit) (answer : Served) (old new : ℕ) → v.answer ≡ answer
-    → old ≡ count_of is visits → new ≡ old + count_by is (answer ∷ []) → new ≡ count_of is (visits ++ v ∷ [])
-counts_more is visits v answer old new same before more =
-    let one : cond {A = ℕ} (is v.answer) 1 0 ≡ cond {A = ℕ} (is answer) 1 0 = ap (λ (x : Served). cond {A = ℕ} (is x) 1 0) same in
-    omega (arith, one, before, more, sum_by-append (λ (x : Visit). cond (is x.answer) 1 0) visits (v ∷ []))
-
-abbrev tally : (answered ended connection_faults link_faults bad_links : ℕ) → Tally
-tally a e c l b = record { answered = a; ended = e; connection_faults = c; link_faults = l; bad_links = b }
-
-same_tally : (a a' e e' c c' l l' b b' : ℕ) → a ≡ a' → e ≡ e' → c ≡ c' → l ≡ l' → b ≡ b' → tally a e c l b ≡ tally a' e' c' l' b'
-same_tally a a' e e' c c' l l' b b' first second third fourth fifth = cc
-
 tally_more : (old new : Tally) (visits : List Visit) (v : Visit) (answer : Served) → v.answer ≡ answer
-    → old ≡ tally_of visits → CountsMore old new answer → new ≡ tally_of (visits ++ v ∷ [])
-tally_more old new visits v answer same before more =
-    same_tally _ _ _ _ _ _ _ _ _ _
-    (counts_more is_answered visits v answer _ _ same (ap (λ (t : Tally). t.answered) before) more.answered)
-    (counts_more is_ended visits v answer _ _ same (ap (λ (t : Tally). t.ended) before) more.ended)
-    (counts_more is_connection_fault visits v answer _ _ same (ap (λ (t : Tally). t.connection_faults) before) more.connection_faults)
-    (counts_more is_link_fault visits v answer _ _ same (ap (λ (t : Tally). t.link_faults) before) more.link_faults)
-    (counts_more is_bad_link visits v answer _ _ same (ap (λ (t : Tally). t.bad_links) before) more.bad_links)
+    → old ≡ tally_of visits → new ≡ counted old answer → new ≡ tally_of (visits ++ v ∷ [])
+tally_more old new visits v answer same before more = rw (fold_push (λ (t : Tally) (v : Visit). counted t v.answer), same, ← before) more
 
 -- ---- where a server stands after so many visits
 
@@ -58,7 +40,7 @@ hosting log peer shown start tally untaken is = record {
 pub hosting_more : {S F : Type 0} (log : Log S F) (peer : List ℕ) (shown : Seen → Type 0) (start old new : Standing S) (number : ℕ) (tally more : Tally) (answer : Served)
     → ((s : S) → log.takes s s []) → ((a b c : S) (xs ys : List Handed) → log.takes a b xs → log.takes b c ys → log.takes a c (xs ++ ys))
     → Hosting log peer shown start old number tally → VisitEnds log peer shown (Ok answer) old new
-    → CountsMore tally more answer → Hosting log peer shown start new (number + 1) more
+    → more ≡ counted tally answer → Hosting log peer shown start new (number + 1) more
 hosting_more log peer shown start old new number tally more answer untaken both h (v, same, (frames, is)) counts =
     let done = h.done in
     record {

@@ -4,7 +4,6 @@ pub mod LeadLaws
 pub mod DownLaws
 pub mod TellLaws
 pub mod RespondLaws
-pub mod OpenLaws
 pub mod CallLaws
 pub mod VisitLaws
 pub mod HostLaws

@@ -2,19 +2,19 @@
 use Rattle.std.specs.Prelude.{◌≡◌, ◌≢◌, ◌⊎◌, ℕ, true, false, List, [], ◌++◌, codes}
 use Rattle.node_journal.specs.Disk.{DiskSeen, Within, IsUntouched}
 use Rattle.node_journal.specs.Records.{content, IsUndamaged}
-use Rattle.node_journal.specs.declared.fault.JournalFault.TheVariants.{Closed, NotEmpty, Full, Damaged}
+use Rattle.node_journal.specs.declared.fault.JournalFault.TheVariants.{Disk, Damaged}
 use Rattle.node_restart.specs.declared.opening.Opening.{Opening}
 use Rattle.node_restart.specs.declared.server.Core.{Core}
 use Rattle.node_restart.specs.declared.fault.KeepFault.TheVariants.{Journal, Foreign}
-use Rattle.node_restart.specs.Faults.{CountsFault}
-use Rattle.node_restart.specs.Frames.{Handed, IsForeign}
-use Rattle.node_restart.specs.Kept.{KeptState, HoldsFrames, Stands, IsDamagedAt}
+use Rattle.node_restart.specs.Faults.{CountsFault, IsOfReopen}
+use Rattle.node_restart.specs.Frames.{IsForeign}
+use Rattle.node_restart.specs.Kept.{KeptState, HoldsFrames, IsToldBy, Stands, IsDamagedAt}
 use Rattle.node_restart.specs.Openings.{IsOpening}
 use Rattle.node_restart.specs.Steps.{fold}
 use Rattle.node_restart.specs.Texts as restart
 use Rattle.settings_text.specs.declared.serve.ServeSettings.{ServeSettings}
-use Rattle.node_serve.specs.declared.key.SettingsKey.{SettingsKey}
-use Rattle.node_serve.specs.declared.key.SettingsKey.TheVariants as key
+use Rattle.node_serve.specs.declared.open_fault.SettingsKey.{SettingsKey}
+use Rattle.node_serve.specs.declared.open_fault.SettingsKey.TheVariants as key
 use Rattle.node_serve.specs.declared.open_fault.OpenFault.{OpenFault}
 use Rattle.node_serve.specs.declared.open_fault.OpenFault.TheVariants as opens
 
@@ -62,8 +62,7 @@ pub record IsReopened {D : Type 0} (shows : D → DiskSeen) (limit : ℕ) (o : O
   pub is_opening : IsOpening k.opening
   pub same : IsSame k.opening o
   pub stands : Stands k.opening k.core (shows disk).reads
-  pub told : (p : Opening) (frames : List Handed) (c : List ℕ) → (shows disk).reads c → IsOpening p
-      → HoldsFrames p frames (shows disk).reads → (k.opening ≡ p) × (k.core ≡ fold p frames)
+  pub told : IsToldBy (shows disk).reads k.opening k.core
   pub same_limit : k.journal.limit ≡ limit
   pub unclosed : k.journal.closed ≡ false
   pub undamaged : (c : List ℕ) → (shows k.disk).reads c → IsUndamaged limit 0 c
@@ -77,10 +76,8 @@ IsOpenedOn shows limit o disk k = IsCreated shows limit o disk k ⊎ IsReopened 
 
 -- a disk with a byte has no journal that is whole and of the form, or no call on it failed
 abbrev pub IsOfOpening : OpenFault → Type 0
-IsOfOpening (opens.Keep (Journal Closed)) = ⊥
-IsOfOpening (opens.Keep (Journal NotEmpty)) = ⊥
-IsOfOpening (opens.Keep (Journal (Full end))) = ⊥
-IsOfOpening fault = Unit {0}
+IsOfOpening (opens.Keep fault) = IsOfReopen fault
+IsOfOpening (opens.Differs key) = Unit {0}
 
 -- a server stands on the disk that was opened otherwise
 pub record StandsOther (key : SettingsKey) (o : Opening) (reads : List ℕ → Type 0) : Type 0 where
@@ -100,8 +97,7 @@ IsCauseOf fault limit o reads = Unit {0}
 
 -- but where a call on the disk failed, it is as it was
 abbrev pub LeavesDisk : {D : Type 0} → OpenFault → (D → DiskSeen) → (old new : D) → Type 0
-LeavesDisk (opens.Keep (Journal (Damaged at))) shows old new = IsUntouched (shows old) (shows new)
-LeavesDisk (opens.Keep (Journal fault)) shows old new = Unit {0}
+LeavesDisk (opens.Keep (Journal (Disk faults))) shows old new = Unit {0}
 LeavesDisk fault shows old new = IsUntouched (shows old) (shows new)
 
 abbrev pub CountsOpen : (before now : ℕ) → OpenFault → Type 0

@@ -16,5 +16,4 @@ pub mod KeptOpening
 pub mod Visits
 pub mod Tallies
 pub mod Hosting
-pub mod Texts
 pub mod FirstFaults

@@ -1,53 +1,28 @@
--- How many visits had each answer.
-use Rattle.std.specs.Prelude.{◌≡◌, ℕ, ◌+◌, Bool, true, false, List, [], ◌∷◌, ◌++◌, count_by, codes, decimal}
+-- How many visits had each answer, and the texts of a server that ended early.
+use Rattle.std.specs.Prelude.{ℕ, ◌+◌, List, ◌++◌, fold, codes, decimal, Option, Some, option_map}
 use Rattle.node_serve.specs.declared.node.Served.{Served}
 use Rattle.node_serve.specs.declared.node.Served.TheVariants as served
+use Rattle.node_serve.specs.declared.stop.Halt.{Halt}
+use Rattle.node_serve.specs.declared.stop.Halt.TheVariants.{Door, Log}
+use Rattle.node_serve.specs.declared.stop.Stop.{Stop}
 use Rattle.node_serve.specs.declared.tally.Tally.{Tally}
 use Rattle.node_serve.specs.Visits.{Visit}
 
-abbrev pub is_answered : Served → Bool
-is_answered served.Answered = true
-is_answered other = false
-
-abbrev pub is_ended : Served → Bool
-is_ended served.Ended = true
-is_ended other = false
-
-abbrev pub is_connection_fault : Served → Bool
-is_connection_fault (served.ConnFault count) = true
-is_connection_fault other = false
-
-abbrev pub is_link_fault : Served → Bool
-is_link_fault (served.LinkFault count) = true
-is_link_fault other = false
-
-abbrev pub is_bad_link : Served → Bool
-is_bad_link served.LinkBad = true
-is_bad_link other = false
-
-abbrev pub count_of : (Served → Bool) → List Visit → ℕ
-count_of is visits = count_by (λ v. is v.answer) visits
+-- with one visit more, of this answer
+abbrev pub counted : Tally → Served → Tally
+counted t served.Answered = record t { answered = t.answered + 1 }
+counted t served.Ended = record t { ended = t.ended + 1 }
+counted t (served.ConnFault count) = record t { connection_faults = t.connection_faults + 1 }
+counted t (served.LinkFault count) = record t { link_faults = t.link_faults + 1 }
+counted t served.LinkBad = record t { bad_links = t.bad_links + 1 }
 
 abbrev pub tally_of : List Visit → Tally
-tally_of visits = record {
-  answered = count_of is_answered visits;
-  ended = count_of is_ended visits;
-  connection_faults = count_of is_connection_fault visits;
-  link_faults = count_of is_link_fault visits;
-  bad_links = count_of is_bad_link visits;
-}
+tally_of visits = fold (λ t v. counted t v.answer)
+    (record { answered = 0; ended = 0; connection_faults = 0; link_faults = 0; bad_links = 0 }) visits
 
 -- how many there are in all
 abbrev pub total : Tally → ℕ
 total t = t.answered + t.ended + t.connection_faults + t.link_faults + t.bad_links
-
--- one more has this answer
-pub record CountsMore (old new : Tally) (answer : Served) : Type 0 where
-  pub answered : new.answered ≡ old.answered + count_by is_answered (answer ∷ [])
-  pub ended : new.ended ≡ old.ended + count_by is_ended (answer ∷ [])
-  pub connection_faults : new.connection_faults ≡ old.connection_faults + count_by is_connection_fault (answer ∷ [])
-  pub link_faults : new.link_faults ≡ old.link_faults + count_by is_link_fault (answer ∷ [])
-  pub bad_links : new.bad_links ≡ old.bad_links + count_by is_bad_link (answer ∷ [])
 
 -- the line that is printed of them, without its end
 abbrev pub tally_text : Tally → List ℕ
@@ -58,3 +33,12 @@ tally_text t =
     ++ (codes " connfaults " ++ (decimal t.connection_faults
     ++ (codes " linkfaults " ++ (decimal t.link_faults
     ++ (codes " linkbad " ++ decimal t.bad_links))))))))))
+
+-- where the text of a fault is this
+abbrev pub halt_text : {F : Type 0} → (F → Option (List ℕ)) → Halt F → Option (List ℕ)
+halt_text output Door = Some (codes "an accept failed")
+halt_text output (Log fault) = output fault
+
+abbrev pub stop_text : {F : Type 0} → (F → Option (List ℕ)) → Stop F → Option (List ℕ)
+stop_text output stop =
+    option_map (λ text. text ++ (codes ", " ++ tally_text stop.tally)) (halt_text output stop.halt)

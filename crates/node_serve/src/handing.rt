@@ -13,14 +13,10 @@ pub(crate) fn told(did: Did) -> usize
     match did {
         Did::Replied(length) => length,
         Did::Lead(Turn::Reply(length)) => length,
-        Did::Lead(Turn::Link(_, _)) => 0,
-        Did::Lead(Turn::Waiting(_)) => 0,
         Did::Linked(LinkTurn::Carried(length)) => length,
         Did::Linked(LinkTurn::Repeated(length)) => length,
-        Did::Linked(LinkTurn::Ignored) => 0,
         Did::Acked(Ack::Reply(_, length)) => length,
-        Did::Acked(Ack::Link(_, _)) => 0,
-        Did::Acked(Ack::Ignored) => 0,
+        _ => 0,
     }
 }
 
@@ -28,12 +24,5 @@ pub(crate) fn told(did: Did) -> usize
 pub(crate) fn is_ignored(did: Did) -> bool
     ensures { result ≡ is_ignored did }
 {
-    match did {
-        Did::Acked(Ack::Ignored) => true,
-        Did::Acked(Ack::Reply(_, _)) => false,
-        Did::Acked(Ack::Link(_, _)) => false,
-        Did::Replied(_) => false,
-        Did::Lead(_) => false,
-        Did::Linked(_) => false,
-    }
+    matches!(did, Did::Acked(Ack::Ignored))
 }

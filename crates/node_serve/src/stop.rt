@@ -19,7 +19,7 @@ pub struct Stop<F> {
 }
 
 impl<F: fmt::Display> fmt::Display for Halt<F> {
-    ghost use Rattle.node_serve.specs.Texts.{halt_text};
+    ghost use Rattle.node_serve.specs.Tallies.{halt_text};
 
     ghost output = { halt_text F.output };
 
@@ -32,7 +32,7 @@ impl<F: fmt::Display> fmt::Display for Halt<F> {
 }
 
 impl<F: fmt::Display> fmt::Display for Stop<F> {
-    ghost use Rattle.node_serve.specs.Texts.{stop_text};
+    ghost use Rattle.node_serve.specs.Tallies.{stop_text};
 
     ghost output = { stop_text F.output };
 

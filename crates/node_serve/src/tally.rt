@@ -1,6 +1,6 @@
 //! How many connections had each answer.
-ghost use Rattle.std.specs.Prelude.{◌≡◌, ◌+◌, ◌-◌, ◌<◌, ◌^◌, Some};
-ghost use Rattle.node_serve.specs.Tallies.{CountsMore, total, tally_text};
+ghost use Rattle.std.specs.Prelude.{◌≡◌, ◌+◌, ◌-◌, ◌<◌, ◌^◌, [], Some};
+ghost use Rattle.node_serve.specs.Tallies.{counted, tally_of, total, tally_text};
 
 use crate::node::Served;
 use std::fmt;
@@ -18,7 +18,7 @@ pub struct Tally {
 impl Tally {
     /// No connection yet.
     pub fn new() -> Self
-        ensures { result ≡ record { answered = 0; ended = 0; connection_faults = 0; link_faults = 0; bad_links = 0 } }
+        ensures { result ≡ tally_of [] }
     {
         Tally {
             answered: 0,
@@ -43,7 +43,7 @@ impl Tally {
     /// Counts one connection more.
     pub fn count(&mut self, answer: Served)
         requires room { total self.old < 2 ^ 32 - 1 }
-        ensures counts { CountsMore self.old self.new answer }
+        ensures counts { self.new ≡ counted self.old answer }
         ensures one_more { total self.new ≡ total self.old + 1 }
     {
         match answer {

@@ -1,36 +1,43 @@
-use Rattle.std.proofs.Common.{◌≡◌, inr, subst, IfOk, IfErr}
-use Rattle.std.proofs.lemmas.Result.{IfOk-weaker, IfErr-weaker}
-use Rattle.node_journal.specs.Disk.{IsUntouched}
-use Rattle.node_journal.specs.declared.fault.JournalFault.TheVariants.{NotEmpty}
-use Rattle.node_restart.specs.Faults.{OnNotEmpty}
-use Rattle.node_restart.specs.declared.fault.KeepFault.{KeepFault}
-use Rattle.node_restart.specs.declared.fault.KeepFault.TheVariants.{Journal}
+use Rattle.std.proofs.Common.{ℕ, List, inr, refl, rules}
+use Rattle.node_journal.specs.Disk.{Within, IsUntouched}
 use Rattle.node_restart.specs.declared.opening.Opening.{Opening}
-use Rattle.node_serve.specs.KeptOpening.{IsOpenedOn, IsReopened, IsCauseOf}
-use Rattle.node_serve.specs.declared.kept_opening.TheConstants.{JOURNAL_LIMIT}
-use Rattle.node_serve.proofs.OpenLaws.{reopened_before, cause_before}
+use Rattle.node_restart.specs.declared.server.Core.{Core}
+use Rattle.node_restart.specs.Kept.{Stands}
+use Rattle.node_restart.proofs.ReplayLaws.{untouched_trans}
 use Rattle.node_serve.proofs.kept_opening.open_kept.Goals as goal
 
-pub returns-in-Err-Journal-NotEmpty-default-clause-opened : goal.returns-in-Err-Journal-NotEmpty-default-clause-opened
-returns-in-Err-Journal-NotEmpty-default-clause-opened g c =
-    let shows = g.D.Disk.disk in
-    let made = c.in-Err-Journal-NotEmpty-default in
-    let o = c.opening_of-opening.result in
-    let again = c.open_again.result in
-    let is : made.field-0-0 ≡ Journal NotEmpty = cc (made.field-0-0-is, made.field-0-0-0-is) in
-    let untouched = subst (λ (f : KeepFault). OnNotEmpty f (IsUntouched (shows c.args.disk) (shows made.disk))) is made.ensures.not_empty_stays in
-    subst (λ (p : Opening). IfOk again (IsOpenedOn shows JOURNAL_LIMIT p c.args.disk)) c.opening_of-opening.ensures
-    (IfOk-weaker again (IsReopened shows JOURNAL_LIMIT o made.disk) (IsOpenedOn shows JOURNAL_LIMIT o c.args.disk)
-    (λ k h. inr (reopened_before shows JOURNAL_LIMIT o c.args.disk made.disk k untouched h)) c.open_again.ensures.reopened)
+stands_before : {o : Opening} {core : Core} {first reads : List ℕ → Type 0} → Within first reads → Stands o core reads → Stands o core first
+stands_before still s = record { frames = s.frames; whole = s.whole; folded = s.folded; held = λ x read. s.held x (still x read) }
 
-pub returns-in-Err-Journal-NotEmpty-default-clause-why : goal.returns-in-Err-Journal-NotEmpty-default-clause-why
-returns-in-Err-Journal-NotEmpty-default-clause-why g c =
+pub returns-in-None-clause-opened : goal.returns-in-None-clause-opened
+returns-in-None-clause-opened g c =
     let shows = g.D.Disk.disk in
-    let made = c.in-Err-Journal-NotEmpty-default in
-    let o = c.opening_of-opening.result in
-    let again = c.open_again.result in
-    let is : made.field-0-0 ≡ Journal NotEmpty = cc (made.field-0-0-is, made.field-0-0-0-is) in
-    let untouched = subst (λ (f : KeepFault). OnNotEmpty f (IsUntouched (shows c.args.disk) (shows made.disk))) is made.ensures.not_empty_stays in
-    subst (λ (p : Opening). IfErr again (λ x. IsCauseOf x.0 JOURNAL_LIMIT p (shows c.args.disk).reads)) c.opening_of-opening.ensures
-    (IfErr-weaker again (λ x. IsCauseOf x.0 JOURNAL_LIMIT o (shows made.disk).reads) (λ x. IsCauseOf x.0 JOURNAL_LIMIT o (shows c.args.disk).reads)
-    (λ x h. cause_before x.0 JOURNAL_LIMIT o (shows c.args.disk).reads (shows made.disk).reads untouched.still h) c.open_again.ensures.why)
+    let untouched : IsUntouched (shows c.args.disk) (shows c.in-Err-Journal-NotEmpty-default.disk) = search rules in
+    let r = c.in-Ok-reopen.ensures in
+    inr (record {
+      some = search rules;
+      is_opening = r.is_opening;
+      same = rw c.opening.ensures.value at (c.in-None.ensures.none refl);
+      stands = stands_before untouched.still r.stands;
+      told = λ p frames x read is held. r.told p frames x (untouched.still x read) is (λ y other. held y (untouched.gives y other));
+      same_limit = r.limit;
+      unclosed = r.still_open;
+      undamaged = r.undamaged;
+      durable = r.durable;
+      untouched = untouched_trans untouched r.untouched_ok;
+    })
+
+pub returns-in-Some-clause-why : goal.returns-in-Some-clause-why
+returns-in-Some-clause-why g c =
+    let shows = g.D.Disk.disk in
+    let untouched : IsUntouched (shows c.args.disk) (shows c.in-Err-Journal-NotEmpty-default.disk) = search rules in
+    let k = c.in-Ok-reopen.kept in (
+      search rules,
+      record {
+        found = k.opening;
+        is_opening = c.in-Ok-reopen.ensures.is_opening;
+        core = k.core;
+        stands = stands_before untouched.still c.in-Ok-reopen.ensures.stands;
+        differs = rw c.opening.ensures.value at c.in-Some.ensures.some;
+      },
+    )
