@@ -5,19 +5,13 @@ use Rattle.express_words.specs.Seen.{Seen}
 use Rattle.express_words.specs.Streams.{Stream, Gave}
 use Rattle.express_words.specs.Calls.{Call, Accepted, Closed, Adds, AddsClose, GivesTelling}
 use Rattle.node_exchange.specs.Exchanging.{Makes, Exchange, EarlyAtEnd, ExchangesOn}
-use Rattle.frame_rules.specs.Frames.{PlainFrame}
-use Rattle.frame_rules.specs.Whole.{whole}
-use Rattle.step_rules.specs.Leader.{Leader}
-use Rattle.node_restart.specs.Frames.{Handed}
-use Rattle.node_restart.specs.declared.server.Core.{Core}
-use Rattle.node_restart.specs.declared.server.Core.TheVariants.{Lead, Help}
-use Rattle.node_serve.specs.Handling.{IsHelp}
-use Rattle.node_serve.specs.Leading.{taken_in}
-use Rattle.node_serve.specs.Moved.{Stretch, meanwhile}
-use Rattle.node_serve.specs.Responding.{Responds}
-use Rattle.node_serve.specs.Stopping.{LeadStops, Stops}
+use Rattle.node_serve.specs.Handing.{IsHelp}
+use Rattle.node_serve.specs.Logs.{Log}
+use Rattle.node_serve.specs.Moved.{Moved, Calls, moved}
+use Rattle.node_serve.specs.Serving.{Answers, StopsShort}
 use Rattle.node_serve.specs.declared.node.Served.{Served}
-use Rattle.node_serve.specs.Visits.{Visit, visit_calls, Shown, ClosedAs, LinkAtEnd, up_to_close}
+use Rattle.node_serve.specs.Visits.{Contact, contact_calls, Shown, ClosedAs, LinkAtEnd, up_to_close}
+use Rattle.node_serve.proofs.RespondLaws.{helper_alone, helper_stops}
 
 pub makes_none : (a : Option (List Call)) → Makes a a []
 makes_none None = tt
@@ -49,32 +43,32 @@ told peer (e ∷ es) a b before (next, (calls, makes, is), others) =
       ),
     )
 
-pub responds_told : (peer : List ℕ) (core : Core) (bytes : List ℕ) (new : Core) (frames : List Handed) (net : Stretch) (why : Served) (reply : List ℕ)
-    → Responds peer core bytes new frames net why reply → (IsHelp core → net.now ≡ net.before)
-    → (calls : List Call) × Makes net.before net.now calls × Responds peer core bytes new frames (meanwhile calls net.count) why reply × (IsHelp core → calls ≡ [])
-responds_told peer (Help h) bytes new frames net why reply responds rests =
-    ([], makes_same net.before net.now (rests tt), responds, λ is. refl)
-responds_told peer (Lead l) bytes new frames net why reply (now, is, (made, on, leads)) rests =
-    let calls = told peer made net.before net.now [] on in
-    (calls.0, calls.1, (now, is, (made, calls.2, leads)), λ none. absurd none)
+told_none : (peer : List ℕ) (es : List Exchange) (a b : Option (List Call)) (before : List Call) (on : ExchangesOn peer es a b) → es ≡ [] → (told peer es a b before on).0 ≡ []
+unfolding told
+told_none peer [] a b before on e = refl
+told_none peer (x ∷ es) a b before on e = absurd (cc e)
 
-lead_told : (found : Option PlainFrame) (peer : List ℕ) (l : Leader) (bytes : List ℕ) (new : Core) (frames : List Handed) (refused : Handed) (net : Stretch) (count : ℕ)
-    → LeadStops found peer l bytes new frames refused net
-    → (calls : List Call) × Makes net.before net.now calls × LeadStops found peer l bytes new frames refused (meanwhile calls count)
-lead_told None peer l bytes new frames refused net count (same, at) =
-    ([], makes_same net.before net.now same, (refl, at))
-lead_told (Some f) peer l bytes new frames refused net count (now, is, (made, on, down)) =
-    let calls = told peer made net.before net.now [] on in
-    (calls.0, calls.1, (now, is, (made, calls.2, down)))
+-- what a server came to is told by its own calls alone
+pub own_calls : {S F : Type 0} (log : Log S F) (peer bytes : List ℕ) (server : Moved S) (calls : Calls) (count : ℕ) (why : Served) (Writes : List ℕ → Type 0)
+    → Answers log peer bytes server calls count why Writes
+    → (own : List Call) × Makes calls.old calls.new own × Answers log peer bytes server (moved (Some []) (Some own)) count why Writes × (IsHelp (log.core server.old) → own ≡ [])
+own_calls log peer bytes server calls count why Writes a =
+    let own = told peer a.end.made calls.old calls.new [] a.reaches.made in (
+      own.0,
+      own.1,
+      record { end = a.end; reaches = record { core = a.reaches.core; takes = a.reaches.takes; made = own.2 }; reply = a.reply; responds = a.responds; writes = a.writes },
+      λ help. told_none peer a.end.made calls.old calls.new [] a.reaches.made (helper_alone (log.core server.old) bytes a.end count why a.reply help a.responds),
+    )
 
-pub stops_told : (peer : List ℕ) (core : Core) (bytes : List ℕ) (new : Core) (frames : List Handed) (refused : Handed) (net : Stretch) (count : ℕ)
-    → Stops peer core bytes new frames refused net → (IsHelp core → net.now ≡ net.before)
-    → (calls : List Call) × Makes net.before net.now calls × Stops peer core bytes new frames refused (meanwhile calls count) × (IsHelp core → calls ≡ [])
-stops_told peer (Help h) bytes new frames refused net count stops rests =
-    ([], makes_same net.before net.now (rests tt), stops, λ is. refl)
-stops_told peer (Lead l) bytes new frames refused net count stops rests =
-    let calls = lead_told (taken_in (whole bytes)) peer l bytes new frames refused net count stops in
-    (calls.0, calls.1, calls.2, λ none. absurd none)
+pub own_short : {S F : Type 0} (log : Log S F) (peer bytes : List ℕ) (server : Moved S) (calls : Calls) (fault : F) → StopsShort log peer bytes server calls fault
+    → (own : List Call) × Makes calls.old calls.new own × StopsShort log peer bytes server (moved (Some []) (Some own)) fault × (IsHelp (log.core server.old) → own ≡ [])
+own_short log peer bytes server calls fault a =
+    let own = told peer a.end.made calls.old calls.new [] a.reaches.made in (
+      own.0,
+      own.1,
+      record { end = a.end; refused = a.refused; reaches = record { core = a.reaches.core; stops = a.reaches.stops; made = own.2 }; stops = a.stops },
+      λ help. told_none peer a.end.made calls.old calls.new [] a.reaches.made (helper_stops (log.core server.old) bytes a.end a.refused help a.stops),
+    )
 
 -- ---- an accept, these calls, and a close
 
@@ -82,32 +76,32 @@ abbrev pub left_in : Option Stream → List ℕ
 left_in None = []
 left_in (Some stream) = stream.left
 
-abbrev stream : (given left : List ℕ) → Stream
+abbrev pub stream : (given left : List ℕ) → Stream
 stream given left = record { given = given; left = left }
 
-pub visit_made : (d : Option (List Call)) (t : Option Stream) (x : Option (List ℕ)) (c b : Option (List Call)) (s : Option Stream) (w : Option (List ℕ)) (a : Option (List Call)) (v : Visit)
-    → Adds a b (Accepted false) → GivesTelling b s w → Gave s t v.given → v.left ≡ left_in t → (w ≢ None → x ≡ Some v.taken)
-    → Makes b c v.calls → AddsClose c d t x v.faults → Makes a d (visit_calls v) × ClosedAs d v.given v.left v.taken v.faults t x v.faults
-visit_made None t x c b s w a v accept tells gave left took makes close = (tt, tt)
-visit_made (Some d) (Some t) (Some x) (Some c) (Some b) (Some s) (Some w) (Some a) v accept tells gave left took makes close =
-    let given_is : t.given ≡ v.given = gave.1 ∙ ap (λ (y : List ℕ). y ++ v.given) tells.0 in
-    let taken_is : Some x ≡ Some v.taken = took (λ (e : Some w ≡ None). absurd (cc e)) in
-    let same : x ≡ v.taken = cc in
-    let last : Call = Closed v.given v.taken (v.faults == 0) in
-    let close_is : Closed t.given x (v.faults == 0) ≡ last = cc in
-    let content_is : stream t.given t.left ≡ stream v.given v.left = cc in (
-      close ∙ ap (λ (y : Call). c ++ y ∷ []) close_is ∙ ap (λ (y : List Call). y ++ last ∷ []) (makes ∙ ap (λ (y : List Call). y ++ v.calls) accept)
-          ∙ append_assoc (a ++ Accepted false ∷ []) v.calls (last ∷ []) ∙ append_assoc a (Accepted false ∷ []) (v.calls ++ last ∷ []),
+pub contact_made : (d : Option (List Call)) (t : Option Stream) (x : Option (List ℕ)) (c b : Option (List Call)) (s : Option Stream) (w : Option (List ℕ)) (a : Option (List Call)) (k : Contact)
+    → Adds a b (Accepted false) → GivesTelling b s w → Gave s t k.content.given → k.content.left ≡ left_in t → (w ≢ None → x ≡ Some k.taken)
+    → Makes b c k.calls → AddsClose c d t x k.faults → Makes a d (contact_calls k) × ClosedAs d k.content k.taken k.faults t x k.faults
+contact_made None t x c b s w a k accept tells gave left took makes close = (tt, tt)
+contact_made (Some d) (Some t) (Some x) (Some c) (Some b) (Some s) (Some w) (Some a) k accept tells gave left took makes close =
+    let given_is : t.given ≡ k.content.given = gave.1 ∙ ap (λ (y : List ℕ). y ++ k.content.given) tells.0 in
+    let taken_is : Some x ≡ Some k.taken = took (λ (e : Some w ≡ None). absurd (cc e)) in
+    let same : x ≡ k.taken = cc in
+    let last : Call = Closed k.content.given k.taken (k.faults == 0) in
+    let close_is : Closed t.given x (k.faults == 0) ≡ last = cc in
+    let content_is : stream t.given t.left ≡ stream k.content.given k.content.left = cc in (
+      close ∙ ap (λ (y : Call). c ++ y ∷ []) close_is ∙ ap (λ (y : List Call). y ++ last ∷ []) (makes ∙ ap (λ (y : List Call). y ++ k.calls) accept)
+          ∙ append_assoc (a ++ Accepted false ∷ []) k.calls (last ∷ []) ∙ append_assoc a (Accepted false ∷ []) (k.calls ++ last ∷ []),
       (ap Some content_is, taken_is, refl),
     )
-visit_made d t x c b s w a v accept tells gave left took makes close = search
+contact_made d t x c b s w a k accept tells gave left took makes close = search
 
 -- ---- the connection to the helper
 
-pub link_at_end : {C : Type 0} (shows : C → Seen) (d : Option (List Call)) (t : Option Stream) (x : Option (List ℕ)) (c b a : Option (List Call)) (n : ℕ) (v : Visit)
-    → Adds a b (Accepted false) → Makes b c v.calls → AddsClose c d t x n → EarlyAtEnd c shows → LinkAtEnd (Shown shows) (up_to_close a d v)
-link_at_end shows None t x c b a n v accept makes close early = λ short. absurd short
-link_at_end shows (Some d) (Some t) (Some x) (Some c) (Some b) (Some a) n v accept makes close early =
-    let all : c ≡ a ++ Accepted false ∷ v.calls = makes ∙ ap (λ (y : List Call). y ++ v.calls) accept ∙ append_assoc a (Accepted false ∷ []) v.calls in
+pub link_at_end : {C : Type 0} (shows : C → Seen) (d : Option (List Call)) (t : Option Stream) (x : Option (List ℕ)) (c b a : Option (List Call)) (n : ℕ) (k : Contact)
+    → Adds a b (Accepted false) → Makes b c k.calls → AddsClose c d t x n → EarlyAtEnd c shows → LinkAtEnd (Shown shows) (up_to_close a d k)
+link_at_end shows None t x c b a n k accept makes close early = λ short. absurd short
+link_at_end shows (Some d) (Some t) (Some x) (Some c) (Some b) (Some a) n k accept makes close early =
+    let all : c ≡ a ++ Accepted false ∷ k.calls = makes ∙ ap (λ (y : List Call). y ++ k.calls) accept ∙ append_assoc a (Accepted false ∷ []) k.calls in
     subst (LinkAtEnd (Shown shows)) (ap Some all) (λ short. let found = early short in (shows found.0, (found.0, refl), found.1))
-link_at_end shows d t x c b a n v accept makes close early = search
+link_at_end shows d t x c b a n k accept makes close early = search

@@ -13,9 +13,8 @@ use Rattle.node_serve.specs.declared.stop.Halt.TheVariants as halt
 use Rattle.node_serve.specs.declared.tally.Tally.{Tally}
 use Rattle.node_serve.specs.Tallies.{counted, tally_of}
 use Rattle.node_serve.specs.Hosting.{Visited, Hosts}
-use Rattle.node_serve.specs.Visits.{Visit, visit_calls, Standing, VisitEnds, none, then}
+use Rattle.node_serve.specs.Visits.{Visit, visit_calls, frames_of, Standing, VisitEnds, none, then}
 use Rattle.node_serve.proofs.CallLaws.{makes_none, makes_both}
-use Rattle.node_serve.proofs.VisitLaws.{visit_takes}
 
 tally_more : (old new : Tally) (visits : List Visit) (v : Visit) (answer : Served) → v.answer ≡ answer
     → old ≡ tally_of visits → new ≡ counted old answer → new ≡ tally_of (visits ++ v ∷ [])
@@ -32,25 +31,25 @@ pub record Hosting {S F : Type 0} (log : Log S F) (peer : List ℕ) (shown : See
 pub hosting : {S F : Type 0} (log : Log S F) (peer : List ℕ) (shown : Seen → Type 0) (start : Standing S) (tally : Tally)
     → ((s : S) → log.takes s s []) → tally ≡ tally_of [] → Hosting log peer shown start start 0 tally
 hosting log peer shown start tally untaken is = record {
-  done = record { visits = []; frames = []; made = none; takes = untaken start.server; calls = makes_none start.net.calls };
+  done = record { visits = []; made = none; takes = untaken start.server; calls = makes_none start.net.calls };
   all = refl;
   tally_is = is;
 }
 
 pub hosting_more : {S F : Type 0} (log : Log S F) (peer : List ℕ) (shown : Seen → Type 0) (start old new : Standing S) (number : ℕ) (tally more : Tally) (answer : Served)
-    → ((s : S) → log.takes s s []) → ((a b c : S) (xs ys : List Handed) → log.takes a b xs → log.takes b c ys → log.takes a c (xs ++ ys))
+    → ((a b c : S) (xs ys : List Handed) → log.takes a b xs → log.takes b c ys → log.takes a c (xs ++ ys))
     → Hosting log peer shown start old number tally → VisitEnds log peer shown (Ok answer) old new
     → more ≡ counted tally answer → Hosting log peer shown start new (number + 1) more
-hosting_more log peer shown start old new number tally more answer untaken both h (v, same, (frames, is)) counts =
+hosting_more log peer shown start old new number tally more answer both h (v, same, is) counts =
     let done = h.done in
     record {
       done = record {
         visits = done.visits ++ v ∷ [];
-        frames = done.frames ++ frames;
-        made = then done.visits done.frames old v frames new done.made is;
-        takes = both start.server old.server new.server done.frames frames done.takes (visit_takes log peer shown v frames old new untaken is);
+        made = then done.visits old v new done.made is;
+        takes = subst (log.takes start.server new.server) (flat_map_more frames_of [] done.visits v)
+            (both start.server old.server new.server (flat_map frames_of done.visits) v.frames done.takes is.takes);
         calls = subst (Makes start.net.calls new.net.calls) (flat_map_more visit_calls [] done.visits v)
-            (makes_both start.net.calls old.net.calls new.net.calls (flat_map visit_calls done.visits) (visit_calls v) done.calls is.calls);
+            (makes_both start.net.calls old.net.calls new.net.calls (flat_map visit_calls done.visits) (visit_calls v) done.calls is.contact.calls);
       };
       all = omega (arith, h.all, length-append done.visits (v ∷ []));
       tally_is = tally_more tally more done.visits v answer same h.tally_is counts;
@@ -77,6 +76,6 @@ halted log peer shown start old new number connections tally (halt.Log fault) st
   ends = record {
     last = last;
     broken = broken;
-    stops = stopping start.server old.server new.server h.done.frames broken.frames broken.refused fault h.done.takes broken.stops;
+    stops = stopping start.server old.server new.server (flat_map frames_of h.done.visits) broken.short.end.frames broken.short.refused fault h.done.takes broken.short.reaches.stops;
   };
 }

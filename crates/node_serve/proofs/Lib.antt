@@ -1,8 +1,6 @@
 pub mod DrainLaws
-pub mod StandLaws
-pub mod LeadLaws
-pub mod DownLaws
-pub mod TellLaws
+pub mod StepLaws
+pub mod ReachLaws
 pub mod RespondLaws
 pub mod CallLaws
 pub mod VisitLaws

@@ -1,88 +1,95 @@
--- What a server did, by its steps.
-use Rattle.std.proofs.Common.{◌≡◌, ℕ, List, [], ◌∷◌, Option, Some, None, refl, subst}
-use Rattle.express_words.specs.Calls.{Call}
+-- What a server did with these bytes, by the client's frame that it drains its link for.
+use Rattle.std.proofs.Common.{◌≡◌, ◌⊎◌, ℕ, List, [], Option, None, Result, Ok, Err, refl, sym, ap, ◌∙◌, subst, inl, inr}
+use Rattle.express_words.specs.declared.role.Role.{Role}
 use Rattle.express_words.specs.Seen.{Seen}
 use Rattle.frame_rules.specs.Frames.{PlainFrame}
-use Rattle.frame_rules.specs.Spelling.{spelling}
-use Rattle.frame_rules.specs.Whole.{whole}
-use Rattle.step_rules.specs.Leader.{Leader}
-use Rattle.step_rules.specs.LeaderClients.{on_client}
-use Rattle.node_serve.specs.Handing.{Traffic, traffic}
-use Rattle.node_serve.specs.Draining.{FaultIn}
-use Rattle.node_serve.specs.Leading.{taken_in, link_down, IsSent, Handles, BreaksDown, Leads}
+use Rattle.node_exchange.specs.Exchanging.{ExchangesOn}
+use Rattle.node_exchange.specs.declared.exchanging.Broken.{Broken}
+use Rattle.node_exchange.specs.declared.exchanging.Broken.TheVariants as broken
+use Rattle.node_restart.specs.declared.server.Core.{Core}
+use Rattle.node_restart.specs.Frames.{Handed}
+use Rattle.node_restart.specs.Steps.{role_of}
+use Rattle.node_serve.specs.Draining.{Course, Breaks, FaultIn}
+use Rattle.node_serve.specs.Handing.{IsHelp, drained_for}
+use Rattle.node_serve.specs.Logs.{Log}
+use Rattle.node_serve.specs.Moved.{Moved, moved}
+use Rattle.node_serve.specs.NoLog.{core_of, no_log, node_log, peer_of}
+use Rattle.node_serve.specs.Responding.{Fails, Goes, IsSent, Responds, Stops, StopsAt}
+use Rattle.node_serve.specs.Serving.{AnswersOn, IsPut, WritesTold}
+use Rattle.node_serve.specs.declared.node.Node.{Node}
 use Rattle.node_serve.specs.declared.node.Served.{Served}
 use Rattle.node_serve.specs.declared.node.Served.TheVariants as served
-use Rattle.node_serve.proofs.DownLaws.{IsLink, down_link}
-use Rattle.node_restart.specs.declared.server.Core.{Core}
-use Rattle.node_restart.specs.declared.server.Core.TheVariants.{Lead, Help}
-use Rattle.node_restart.specs.declared.frames.Sender.TheVariants.{Client}
-use Rattle.node_restart.specs.Frames.{Handed, handed}
-use Rattle.node_serve.specs.Handling.{Helps, IsHelp, IsLead, HandlesAll, HandleBreaks, Steps}
-use Rattle.node_serve.specs.Moved.{Stretch, moved, stretch}
-use Rattle.node_serve.specs.Responding.{Responds}
-use Rattle.node_serve.specs.Stopping.{HandleStops, LeadStops, Stops, sender_at_helper}
 
-led_sent : (f : PlainFrame) (a : Leader) (bytes : List ℕ) (b : Leader) (t : Traffic) (count : ℕ) (why : Served) (reply : List ℕ)
-    → IsSent why → Handles a bytes b reply t → Leads (Some f) a bytes b t count why reply
-led_sent f a bytes b t count served.Answered reply sent h = h
-led_sent f a bytes b t count (served.ConnFault n) reply sent h = h
-led_sent f a bytes b t count why reply sent h = absurd sent
+-- a server responded, by the frame that it drains for
+abbrev RespondsTo : Option PlainFrame → Core → List ℕ → Course → ℕ → Served → List ℕ → Type 0
+RespondsTo found core bytes end count why reply = (IsSent why × Goes found core bytes end × (reply ≡ end.reply)) ⊎ Fails found core bytes end count why reply
 
-led_down : (f : PlainFrame) (a : Leader) (bytes : List ℕ) (b : Leader) (t : Traffic) (count : ℕ) (why : Served) (reply : List ℕ)
-    → BreaksDown a bytes b t why → reply ≡ spelling (link_down f count) → Leads (Some f) a bytes b t count why reply
-led_down f a bytes b t count (served.LinkFault n) reply down said = (down, said)
-led_down f a bytes b t count served.LinkBad reply down said = (down, said)
-led_down f a bytes b t count why reply down said = absurd (down_link a bytes b t why down)
+pub responds_to : (core : Core) (bytes : List ℕ) (found : Option PlainFrame) (end : Course) (count : ℕ) (why : Served) (reply : List ℕ) → found ≡ drained_for (role_of core) bytes
+    → RespondsTo found core bytes end count why reply → Responds core bytes end count why reply
+responds_to core bytes found end count why reply is responds = subst (λ (f : Option PlainFrame). RespondsTo f core bytes end count why reply) is responds
 
-pub responds_all : (peer : List ℕ) (core : Core) (bytes : List ℕ) (new : Core) (frames : List Handed) (reply : List ℕ) (net : Stretch) (why : Served) (f : PlainFrame)
-    → Some f ≡ taken_in (whole bytes) → IsSent why → HandlesAll peer core bytes new frames reply net.before net.now → Responds peer core bytes new frames net why reply
-responds_all peer (Help h) bytes new frames reply net why f found sent all = absurd all
-responds_all peer (Lead a) bytes new frames reply net why f found sent (b, is, (made, calls, h)) =
-    (b, is, (made, calls, subst (λ (o : Option PlainFrame). Leads o a bytes b (traffic made frames) net.count why reply) found (led_sent f a bytes b (traffic made frames) net.count why reply sent h)))
+pub stops_to : (core : Core) (bytes : List ℕ) (found : Option PlainFrame) (end : Course) (refused : Handed) → found ≡ drained_for (role_of core) bytes → StopsAt found core bytes end refused → Stops core bytes end refused
+stops_to core bytes found end refused is stops = subst (λ (f : Option PlainFrame). StopsAt f core bytes end refused) is stops
 
-pub responds_down : (peer : List ℕ) (core : Core) (bytes : List ℕ) (new : Core) (frames : List Handed) (reply : List ℕ) (net : Stretch) (why : Served) (f : PlainFrame)
-    → Some f ≡ taken_in (whole bytes) → reply ≡ spelling (link_down f net.count) → HandleBreaks peer core bytes new frames net.before net.now why → Responds peer core bytes new frames net why reply
-responds_down peer (Help h) bytes new frames reply net why f found said all = absurd all
-responds_down peer (Lead a) bytes new frames reply net why f found said (b, is, (made, calls, h)) =
-    (b, is, (made, calls, subst (λ (o : Option PlainFrame). Leads o a bytes b (traffic made frames) net.count why reply) found (led_down f a bytes b (traffic made frames) net.count why reply h said)))
+-- ---- a helper makes no exchange
 
-pub breaks_link : (peer : List ℕ) (core : Core) (bytes : List ℕ) (new : Core) (frames : List Handed) (x y : Option (List Call)) (why : Served) → HandleBreaks peer core bytes new frames x y why → IsLink why
-breaks_link peer (Help h) bytes new frames x y why all = absurd all
-breaks_link peer (Lead a) bytes new frames x y why (b, is, (made, calls, h)) = down_link a bytes b (traffic made frames) why h
+alone : (core : Core) (bytes : List ℕ) (end : Course) (count : ℕ) (why : Served) (reply : List ℕ) → RespondsTo None core bytes end count why reply → end.made ≡ []
+alone core bytes end count why reply (inl (sent, is, same)) = ap (λ (p : Course). p.made) is
+alone core bytes end count why reply (inr fails) = absurd fails
 
-pub responds_refused : (peer : List ℕ) (core : Core) (bytes : List ℕ) (new : Core) (reply : List ℕ) (net : Seen) (why : Served)
-    → None ≡ taken_in (whole bytes) → IsSent why → Steps core bytes new reply → Responds peer core bytes new (handed Client bytes ∷ []) (stretch (moved net net)) why reply
-responds_refused peer (Help h) bytes new reply net why none sent s = absurd s
-responds_refused peer (Lead a) bytes new reply net why none sent s =
-    let b : Leader = (on_client a bytes).leader in
-    (b, s.0, ([], refl, subst (λ (o : Option PlainFrame). Leads o a bytes b (traffic [] (handed Client bytes ∷ [])) net.faults why reply) none (sent, record { leader = refl; reply_is = s.1; none = refl; frames = refl })))
+pub helper_alone : (core : Core) (bytes : List ℕ) (end : Course) (count : ℕ) (why : Served) (reply : List ℕ) → IsHelp core → Responds core bytes end count why reply → end.made ≡ []
+helper_alone core bytes end count why reply help responds =
+    alone core bytes end count why reply (subst (λ (r : Role). RespondsTo (drained_for r bytes) core bytes end count why reply) help responds)
 
-pub responds_helped : (peer : List ℕ) (core : Core) (bytes : List ℕ) (new : Core) (reply : List ℕ) (net : Stretch) (why : Served)
-    → IsSent why → Helps core bytes new reply → Responds peer core bytes new (handed (sender_at_helper bytes) bytes ∷ []) net why reply
-responds_helped peer (Lead a) bytes new reply net why sent h = absurd h
-responds_helped peer (Help a) bytes new reply net why sent h = (sent, h.0, h.1, refl)
+pub helper_stops : (core : Core) (bytes : List ℕ) (end : Course) (refused : Handed) → IsHelp core → Stops core bytes end refused → end.made ≡ []
+helper_stops core bytes end refused help stops =
+    let at = subst (λ (r : Role). StopsAt (drained_for r bytes) core bytes end refused) help stops in ap (λ (p : Course). p.made) at.0
 
--- ---- up to a frame that wasn't kept
+-- ---- what is written where an exchange broke
 
-pub stops_down : (peer : List ℕ) (core : Core) (bytes : List ℕ) (new : Core) (frames : List Handed) (refused : Handed) (net : Stretch) (f : PlainFrame)
-    → Some f ≡ taken_in (whole bytes) → HandleStops peer core bytes new frames refused net.before net.now → Stops peer core bytes new frames refused net
-stops_down peer (Help h) bytes new frames refused net f found s = absurd s
-stops_down peer (Lead a) bytes new frames refused net f found s = subst (λ (o : Option PlainFrame). LeadStops o peer a bytes new frames refused net) found s
+put_is : (sent : Served) (old new : Option (List ℕ)) (before now : ℕ) (reply : List ℕ) → IsSent sent → WritesTold sent old new before now reply → IsPut old new before now reply
+put_is served.Answered old new before now reply is w = inl w
+put_is (served.ConnFault count) old new before now reply is w = inr (w.0, w.1)
+put_is sent old new before now reply is w = absurd is
 
-pub stops_refused : (peer : List ℕ) (core : Core) (bytes : List ℕ) (new : Core) (net : Seen)
-    → IsLead core → None ≡ taken_in (whole bytes) → new ≡ core → Stops peer core bytes new [] (handed Client bytes) (stretch (moved net net))
-stops_refused peer (Help h) bytes new net lead none same = absurd lead
-stops_refused peer (Lead a) bytes new net lead none same =
-    subst (λ (o : Option PlainFrame). LeadStops o peer a bytes new [] (handed Client bytes) (stretch (moved net net))) none (refl, record { stays = same; none = refl; is = refl })
-
-pub stops_helped : (peer : List ℕ) (core : Core) (bytes : List ℕ) (new : Core) (net : Stretch)
-    → IsHelp core → new ≡ core → Stops peer core bytes new [] (handed (sender_at_helper bytes) bytes) net
-stops_helped peer (Lead a) bytes new net help same = absurd help
-stops_helped peer (Help h) bytes new net help same = record { stays = same; none = refl; is = refl }
-
--- ---- the net rests
+pub writes_down : (core : Core) (answer : Result (List ℕ) Broken) (why sent : Served) (old new : Option (List ℕ)) (before now : ℕ) (reply : List ℕ)
+    → Breaks core answer why → IsSent sent → WritesTold sent old new before now reply → WritesTold why old new before now reply
+writes_down core (Ok bytes) why sent old new before now reply (ignored, e) is w =
+    subst (λ (x : Served). WritesTold x old new before now reply) (sym e) (put_is sent old new before now reply is w)
+writes_down core (Err (broken.Fault count)) why sent old new before now reply e is w =
+    subst (λ (x : Served). WritesTold x old new before now reply) (sym e) (put_is sent old new before now reply is w)
+writes_down core (Err other) why sent old new before now reply e is w =
+    subst (λ (x : Served). WritesTold x old new before now reply) (sym e) (put_is sent old new before now reply is w)
 
 pub sent_fault : (why : Served) (n : ℕ) → IsSent why → FaultIn why n n
 sent_fault served.Answered n sent = refl
 sent_fault (served.ConnFault count) n sent = refl
 sent_fault why n sent = absurd sent
+
+-- ---- the same answers, said of another connection and of a node
+
+-- the connection had taken nothing more, and failed no more, at the later of both
+pub answers_with : {S F : Type 0} (log : Log S F) (peer bytes : List ℕ) (server : Moved S) (net : Moved Seen) (old mid new : Seen) (why : Served) → mid.written ≡ old.written → mid.faults ≡ old.faults
+    → AnswersOn log peer bytes server net (moved mid new) why → AnswersOn log peer bytes server net (moved old new) why
+answers_with log peer bytes server net old mid new why written faults a = record {
+  end = a.end;
+  reaches = a.reaches;
+  reply = a.reply;
+  responds = a.responds;
+  writes = subst (λ (w : Option (List ℕ)). WritesTold why w new.written old.faults new.faults a.reply) written
+      (subst (λ (n : ℕ). WritesTold why mid.written new.written n new.faults a.reply) faults a.writes);
+}
+
+pub of_node : {S : Type 0} (core : S → Core) (node : S → Node) (peer bytes : List ℕ) (old new : S) (net conn : Moved Seen) (why : Served) → ((s : S) → core_of (node s) ≡ core s) → ((s : S) → peer_of (node s) ≡ peer)
+    → AnswersOn (no_log core) peer bytes (moved old new) net conn why → AnswersOn node_log (peer_of (node old)) bytes (moved (node old) (node new)) net conn why
+of_node core node peer bytes old new net conn why same peers a = record {
+  end = a.end;
+  reaches = record {
+    core = same new ∙ a.reaches.core;
+    takes = peers new ∙ sym (peers old);
+    made = subst (λ (p : List ℕ). ExchangesOn p a.end.made net.old.calls net.new.calls) (sym (peers old)) a.reaches.made;
+  };
+  reply = a.reply;
+  responds = subst (λ (c : Core). Responds c bytes a.end net.new.faults why a.reply) (sym (same old)) a.responds;
+  writes = a.writes;
+}

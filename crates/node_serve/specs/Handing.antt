@@ -1,18 +1,22 @@
--- One frame is handed to a server: what it tells, and what an exchange comes to.
-use Rattle.std.specs.Prelude.{◌≡◌, ℕ, Bool, true, false, List, [], ◌∷◌, ◌++◌, Result, Ok, Err}
+-- One frame is handed to a server: whose it is, and what its step tells.
+use Rattle.std.specs.Prelude.{◌≡◌, ℕ, Bool, true, false, List, take, Option, Some, None, Result, Ok, Err}
+use Rattle.express_words.specs.declared.refusal.Refusal.{Refusal}
+use Rattle.express_words.specs.declared.role.Role.{Role}
+use Rattle.express_words.specs.declared.role.Role.TheVariants.{Leader, Helper}
+use Rattle.frame_rules.specs.Frames as frame
+use Rattle.frame_rules.specs.Frames.{PlainFrame, PlainBody}
+use Rattle.frame_rules.specs.Whole.{whole, is_command}
 use Rattle.leader_core.specs.declared.turn.Turn.TheVariants as turn
 use Rattle.leader_core.specs.declared.turn.Ack.TheVariants as ack
 use Rattle.helper_core.specs.declared.helper.LinkTurn.TheVariants as link
-use Rattle.node_serve.specs.Draining.{FaultIn}
-use Rattle.node_exchange.specs.Exchanging.{Exchange}
-use Rattle.node_exchange.specs.declared.exchanging.Broken.{Broken}
-use Rattle.node_serve.specs.declared.node.Served.{Served}
 use Rattle.node_restart.specs.declared.did.Did.{Did}
 use Rattle.node_restart.specs.declared.did.Did.TheVariants as did
+use Rattle.node_restart.specs.declared.frames.Sender.{Sender}
 use Rattle.node_restart.specs.declared.frames.Sender.TheVariants.{Client, Peer}
-use Rattle.node_restart.specs.Frames.{Handed, handed}
-use Rattle.node_serve.specs.declared.broke.Broke.{Broke}
-use Rattle.node_serve.specs.declared.broke.Broke.TheVariants as broke
+use Rattle.node_restart.specs.declared.server.Core.{Core}
+use Rattle.node_restart.specs.Steps.{Step, role_of}
+
+-- ---- what a step tells
 
 -- how many bytes a server told one that waits for them: a client, or at a helper the leader
 abbrev pub told : Did → ℕ
@@ -23,56 +27,51 @@ told (did.Linked (link.Carried length)) = length
 told (did.Acked (ack.Reply lane length)) = length
 told other = 0
 
+-- and which
+abbrev pub answer_of : Step → List ℕ
+answer_of step = take (told step.did) step.written
+
 -- whether the leader ignored bytes of the helper
 abbrev pub is_ignored : Did → Bool
 is_ignored (did.Acked ack.Ignored) = true
 is_ignored other = false
 
--- ---- what exchanges hand to a leader
+-- ---- what a connection brings
 
--- the helper's answer, where it is one frame
-abbrev pub answer_frames : Result (List ℕ) Broken → List Handed
-answer_frames (Ok bytes) = handed Peer bytes ∷ []
-answer_frames (Err why) = []
+-- what a leader takes from clients
+abbrev pub is_taken : PlainBody → Bool
+is_taken (frame.Register address key) = true
+is_taken (frame.Write root part) = true
+is_taken (frame.Read box_number token) = true
+is_taken (frame.Proof share) = true
+is_taken (frame.Retire box_number token) = true
+is_taken body = false
 
-abbrev pub answers_in : List Exchange → List Handed
-answers_in [] = []
-answers_in (e ∷ others) = answer_frames e.answer ++ answers_in others
+abbrev pub taken_if : Bool → PlainFrame → Option PlainFrame
+taken_if true f = Some f
+taken_if false f = None
 
--- the answers before a client's frame, that frame, and those after it
-abbrev pub around : List Exchange → List ℕ → List Exchange → List Handed
-around before bytes after = answers_in before ++ handed Client bytes ∷ answers_in after
+abbrev pub taken_in : Result PlainFrame Refusal → Option PlainFrame
+taken_in (Ok f) = taken_if (is_taken f.body) f
+taken_in (Err why) = None
 
--- the exchanges that a leader made, and the frames that it was handed meanwhile
-pub record Traffic : Type 0 where
-  pub made : List Exchange
-  pub frames : List Handed
+-- a leader drains its link around a client's frame that it takes, and around no other bytes
+abbrev pub drained_for : Role → List ℕ → Option PlainFrame
+drained_for Leader bytes = taken_in (whole bytes)
+drained_for Helper bytes = None
 
-abbrev pub traffic : List Exchange → List Handed → Traffic
-traffic made frames = record { made = made; frames = frames }
+-- a helper takes commands for its leader's; all else is a client's
+abbrev pub sender_if : Bool → Sender
+sender_if true = Peer
+sender_if false = Client
 
--- ---- by what ended a leader's exchanges
+abbrev pub sender_of : Result PlainFrame Refusal → Sender
+sender_of (Ok f) = sender_if (is_command f.body)
+sender_of (Err why) = Client
 
--- P of what is said of an exchange that ended them
-abbrev pub IfLink : {T F : Type 0} → Result T (Broke F) → (Served → Type 0) → Type 0
-IfLink (Ok value) P = Unit {0}
-IfLink (Err (broke.Link why)) P = P why
-IfLink (Err (broke.Keep fault)) P = Unit {0}
+abbrev pub sender_at : Role → List ℕ → Sender
+sender_at Leader bytes = Client
+sender_at Helper bytes = sender_of (whole bytes)
 
--- P of the log's fault that ended them
-abbrev pub IfKeep : {T F : Type 0} → Result T (Broke F) → (F → Type 0) → Type 0
-IfKeep (Ok value) P = Unit {0}
-IfKeep (Err (broke.Link why)) P = Unit {0}
-IfKeep (Err (broke.Keep fault)) P = P fault
-
--- the net's count of faults: it rose where an exchange's fault is told, and only then
-abbrev pub NetFault : {T F : Type 0} → Result T (Broke F) → (before now : ℕ) → Type 0
-NetFault (Ok value) before now = now ≡ before
-NetFault (Err (broke.Link why)) before now = FaultIn why before now
-NetFault (Err (broke.Keep fault)) before now = now ≡ before
-
--- and that of the log's failures, by its fault
-abbrev pub LogFault : {T F : Type 0} → (F → ℕ → ℕ → Type 0) → (before now : ℕ) → Result T (Broke F) → Type 0
-LogFault rises before now (Ok value) = now ≡ before
-LogFault rises before now (Err (broke.Link why)) = now ≡ before
-LogFault rises before now (Err (broke.Keep fault)) = rises fault before now
+abbrev pub IsHelp : Core → Type 0
+IsHelp core = role_of core ≡ Helper

@@ -2,31 +2,30 @@
 use Rattle.std.specs.Prelude.{◌≡◌, ℕ, ◌<◌, List, ◌++◌, length, flat_map, Result, Ok, Err}
 use Rattle.express_words.specs.Seen.{Seen}
 use Rattle.node_exchange.specs.Exchanging.{Makes}
-use Rattle.node_restart.specs.Frames.{Handed}
 use Rattle.node_serve.specs.Logs.{Log}
 use Rattle.node_serve.specs.declared.stop.Halt.{Halt}
 use Rattle.node_serve.specs.declared.stop.Halt.TheVariants as halt
 use Rattle.node_serve.specs.declared.stop.Stop.{Stop}
 use Rattle.node_serve.specs.declared.tally.Tally.{Tally}
 use Rattle.node_serve.specs.Tallies.{tally_of}
-use Rattle.node_serve.specs.Visits.{Visit, visit_calls, Visits, Standing, DoorFails, RefusedVisit, IsRefusedVisit}
+use Rattle.node_serve.specs.Visits.{Contact, Visit, visit_calls, frames_of, Visits, Standing, DoorFails, IsRefusedVisit}
 
 -- Visits were made one after another, and no other call; the log took the frames that the server was handed.
 pub record Visited {S F : Type 0} (log : Log S F) (peer : List ℕ) (shown : Seen → Type 0)
     (start end : Standing S) : Type 0 where
   pub visits : List Visit
-  pub frames : List Handed
-  pub made : Visits log peer shown start visits frames end
-  pub takes : log.takes start.server end.server frames
+  pub made : Visits log peer shown start visits end
+  pub takes : log.takes start.server end.server (flat_map frames_of visits)
   pub calls : Makes start.net.calls end.net.calls (flat_map visit_calls visits)
 
 -- behind these, one was made at which the log refused a frame
 pub record LogRefuses {S F : Type 0} {log : Log S F} {peer : List ℕ} {shown : Seen → Type 0}
     {start between : Standing S} (fault : F) (done : Visited log peer shown start between) (end : Standing S)
     : Type 0 where
-  pub last : RefusedVisit
+  pub last : Contact
   pub broken : IsRefusedVisit log peer shown last fault between end
-  pub stops : log.stops start.server end.server (done.frames ++ broken.frames) broken.refused fault
+  pub stops : log.stops start.server end.server (flat_map frames_of done.visits ++ broken.short.end.frames)
+      broken.short.refused fault
 
 -- behind these, an accept failed, or the log refused a frame
 abbrev pub Halts : {S F : Type 0} {log : Log S F} {peer : List ℕ} {shown : Seen → Type 0}

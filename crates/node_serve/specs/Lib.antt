@@ -1,14 +1,11 @@
-pub mod Helping
 pub mod Draining
-pub mod Leading
 pub mod Serving
 pub mod Moved
 pub mod Logs
 pub mod NoLog
 pub mod JournalLog
 pub mod Handing
-pub mod Handling
-pub mod Stopping
+pub mod Telling
 pub mod Responding
 pub mod Outcomes
 pub mod Opening

@@ -1,7 +1,10 @@
 -- A server with its log: where its frames go before its step.
 use Rattle.std.specs.Prelude.{◌≡◌, ℕ, List, Result, Ok, Err}
+use Rattle.node_exchange.specs.Exchanging.{ExchangesOn}
 use Rattle.node_restart.specs.declared.server.Core.{Core}
 use Rattle.node_restart.specs.Frames.{Handed}
+use Rattle.node_serve.specs.Draining.{Course}
+use Rattle.node_serve.specs.Moved.{Moved, Calls}
 
 -- What is said of a server with its log: which server it is; that from one state to another it was handed
 -- these frames, one after another, and took the step of each once the log had it; and that behind these it
@@ -11,14 +14,19 @@ pub record Log (S F : Type 0) : Type 1 where
   pub takes : S → S → List Handed → Type 0
   pub stops : S → S → List Handed → Handed → F → Type 0
 
--- some frames that were handed on the way, of which P holds, and which the log took
-abbrev pub TakesThrough : {S F : Type 0} → Log S F → S → S → (List Handed → Type 0) → Type 0
-TakesThrough log old new P = (frames : List Handed) × P frames × log.takes old new frames
+-- a server with its log came as far as this course, whose frames the log took, and its net made its exchanges
+pub record Reaches {S F : Type 0} (log : Log S F) (peer : List ℕ) (server : Moved S) (calls : Calls)
+    (end : Course) : Type 0 where
+  pub core : log.core server.new ≡ end.core
+  pub takes : log.takes server.old server.new end.frames
+  pub made : ExchangesOn peer end.made calls.old calls.new
 
--- some frames and one more, of which P holds, up to which the log took them
-abbrev pub StopsUpTo : {S F : Type 0} → Log S F → S → S → F → (List Handed → Handed → Type 0) → Type 0
-StopsUpTo log old new fault P =
-    (frames : List Handed) × ((refused : Handed) × P frames refused × log.stops old new frames refused fault)
+-- likewise, and behind these frames the log refused one
+pub record ReachesShort {S F : Type 0} (log : Log S F) (peer : List ℕ) (server : Moved S) (calls : Calls)
+    (end : Course) (refused : Handed) (fault : F) : Type 0 where
+  pub core : log.core server.new ≡ end.core
+  pub stops : log.stops server.old server.new end.frames refused fault
+  pub made : ExchangesOn peer end.made calls.old calls.new
 
 -- How often a log has failed, before a call and after it: the same where it took what it was given, and else
 -- what its fault says.

@@ -1,5 +1,5 @@
 -- What was before a call, and what is after it.
-use Rattle.std.specs.Prelude.{ℕ, List, [], Option, Some}
+use Rattle.std.specs.Prelude.{List, Option}
 use Rattle.express_words.specs.Calls.{Call}
 use Rattle.express_words.specs.Seen.{Seen}
 
@@ -15,15 +15,9 @@ moved old new = record { old = old; new = new }
 abbrev pub shown : {A : Type 0} → (A → Seen) → A → A → Moved Seen
 shown shows old new = record { old = shows old; new = shows new }
 
--- the calls on a net before and after, and its count of faults then
-pub record Stretch : Type 0 where
-  pub before : Option (List Call)
-  pub now : Option (List Call)
-  pub count : ℕ
+-- the calls on a net, where it tells them
+abbrev pub Calls : Type 0
+Calls = Moved (Option (List Call))
 
-abbrev pub stretch : Moved Seen → Stretch
-stretch net = record { before = net.old.calls; now = net.new.calls; count = net.new.faults }
-
--- these calls alone, and the count of faults then
-abbrev pub meanwhile : List Call → ℕ → Stretch
-meanwhile calls count = record { before = Some []; now = Some calls; count = count }
+abbrev pub calls_of : Moved Seen → Calls
+calls_of net = record { old = net.old.calls; new = net.new.calls }

@@ -8,12 +8,12 @@ use Rattle.frame_rules.specs.Reading.{decoded}
 use Rattle.frame_rules.specs.declared.fault.FrameFault.TheVariants.{Short}
 use Rattle.node_exchange.specs.Taking.{IsWanted}
 use Rattle.node_restart.specs.Frames.{Handed}
-use Rattle.node_serve.specs.Handling.{IsHelp}
-use Rattle.node_serve.specs.Logs.{Log}
-use Rattle.node_serve.specs.Moved.{Moved, moved, stretch}
+use Rattle.node_serve.specs.Draining.{Course}
+use Rattle.node_serve.specs.Handing.{IsHelp}
+use Rattle.node_serve.specs.Logs.{Log, Reaches, ReachesShort}
+use Rattle.node_serve.specs.Moved.{Moved, Calls, moved, calls_of}
 use Rattle.node_serve.specs.NoLog.{core_of, peer_of, node_log}
-use Rattle.node_serve.specs.Responding.{Responds}
-use Rattle.node_serve.specs.Stopping.{Stops}
+use Rattle.node_serve.specs.Responding.{Responds, Stops}
 use Rattle.node_serve.specs.declared.node.Node.{Node}
 use Rattle.node_serve.specs.declared.node.Node.TheVariants as node
 use Rattle.node_serve.specs.declared.node.Served.{Served}
@@ -50,23 +50,29 @@ WritesReply why old new reply = WritesTold why old.written new.written old.fault
 
 -- ---- a server with a log
 
--- A server with a log answered what a connection brought: its reply was written to the connection, and the
--- log took each frame that it was handed on the way before its step.
-pub record Answers {S F : Type 0} (log : Log S F) (peer bytes : List ℕ) (server : Moved S)
-    (net conn : Moved Seen) (why : Served) : Type 0 where
+-- A server with a log answered what a connection brought: the log took each frame that it was handed on the
+-- way before its step, and its reply was written. The count is the net's count of faults then.
+pub record Answers {S F : Type 0} (log : Log S F) (peer bytes : List ℕ) (server : Moved S) (calls : Calls)
+    (count : ℕ) (why : Served) (Writes : List ℕ → Type 0) : Type 0 where
+  pub end : Course
+  pub reaches : Reaches log peer server calls end
   pub reply : List ℕ
-  pub frames : List Handed
-  pub responds : Responds peer (log.core server.old) bytes (log.core server.new) frames (stretch net) why reply
-  pub writes : WritesReply why conn.old conn.new reply
-  pub takes : log.takes server.old server.new frames
+  pub responds : Responds (log.core server.old) bytes end count why reply
+  pub writes : Writes reply
 
 -- Or the log refused one of these frames, and the server took no step from then on.
-pub record StopsShort {S F : Type 0} (log : Log S F) (peer bytes : List ℕ) (server : Moved S)
-    (net : Moved Seen) (fault : F) : Type 0 where
-  pub frames : List Handed
+pub record StopsShort {S F : Type 0} (log : Log S F) (peer bytes : List ℕ) (server : Moved S) (calls : Calls)
+    (fault : F) : Type 0 where
+  pub end : Course
   pub refused : Handed
-  pub far : Stops peer (log.core server.old) bytes (log.core server.new) frames refused (stretch net)
-  pub stops : log.stops server.old server.new frames refused fault
+  pub reaches : ReachesShort log peer server calls end refused fault
+  pub stops : Stops (log.core server.old) bytes end refused
+
+-- the first of both over a net and a connection
+abbrev pub AnswersOn : {S F : Type 0} → Log S F → (peer bytes : List ℕ) → Moved S → (net conn : Moved Seen)
+    → Served → Type 0
+AnswersOn log peer bytes server net conn why =
+    Answers log peer bytes server (calls_of net) net.new.faults why (WritesReply why conn.old conn.new)
 
 -- ---- a server whose frames go nowhere
 
@@ -83,10 +89,10 @@ abbrev pub IsComplete : Node → Served → Type 0
 IsComplete (node.Help h) why = why ≡ served.Answered
 IsComplete (node.Lead a peer) why = (why ≡ served.Answered) ⊎ (why ≡ served.LinkBad)
 
--- what a node did once a connection gave a frame, or bytes known to be none, and what was written of the reply
+-- what a node did once a connection gave a frame, or bytes known to be none, and what was written
 abbrev pub NodeServes : List ℕ → Served → (old new : Node) → (net conn : Moved Seen) → Type 0
 NodeServes held why old new net conn =
-    decoded held ≢ Err Short → Answers node_log (peer_of old) held (moved old new) net conn why
+    decoded held ≢ Err Short → AnswersOn node_log (peer_of old) held (moved old new) net conn why
 
 -- and what became of that where no call of the connection or of the net failed
 abbrev pub Completes : List ℕ → Served → Node → (net conn : Moved Seen) → Type 0

@@ -2,13 +2,12 @@
 ghost use Rattle.std.specs.Prelude.{◌≡◌, ◌<◌, ◌≤◌, length, take, IfOk, OnOk};
 ghost use Rattle.frame_rules.specs.Room.{HasRoom};
 ghost use Rattle.node_exchange.specs.Exchanging.{EarlyAtEnd};
-ghost use Rattle.node_serve.specs.Handing.{IfLink, LogFault, NetFault};
-ghost use Rattle.node_serve.specs.Handling.{IsLead, rounds_of};
-ghost use Rattle.node_serve.specs.Moved.{shown};
-ghost use Rattle.node_serve.specs.Outcomes.{DrainEnds, ExchangeEnds};
+ghost use Rattle.node_serve.specs.Draining.{IsOldest, rounds_of};
+ghost use Rattle.node_serve.specs.Moved.{moved, shown, calls_of};
+ghost use Rattle.node_serve.specs.Outcomes.{ComesFrom, exchange_ways, drain_ways, IfLink, LogFault, NetFault};
 
 use crate::broke::Broke;
-use crate::handing::{is_ignored, told};
+use crate::handing::step;
 use crate::logged::Logged;
 use crate::node::Served;
 use express_words::outside::Net;
@@ -29,9 +28,9 @@ fn exchange_one<N: Net, S: Logged>(
     requires room { HasRoom out.old }
     requires answer_room { HasRoom answer.old }
     requires within { size ≤ length out.old }
-    requires lead { IsLead (S.log.core server.old) }
-    ensures ends { ExchangeEnds S.log peer.now (take size out.old) out.new result server.old server.new
-        (shown N.seen net.old net.new) }
+    requires oldest { IsOldest (S.log.core server.old) (take size out.old) }
+    ensures ends { ComesFrom S.log peer.now (λ p. exchange_ways p (take size out.old) out.new) result
+        (moved server.old server.new) (calls_of (shown N.seen net.old net.new)) }
     ensures within { IfOk result (λ n. n ≤ length out.new) }
     ensures nearer { OnOk result (rounds_of (S.log.core server.new) < rounds_of (S.log.core server.old)) }
     ensures early { IfLink result (λ why. why ≡ Served.LinkBad → EarlyAtEnd (N.seen net.new).calls N.Conn.seen) }
@@ -46,12 +45,12 @@ fn exchange_one<N: Net, S: Logged>(
         Err(Broken::Wrong(_)) => return Err(Broke::Link(Served::LinkBad)),
     };
     let received = Received::of(&answer[..count]);
-    match server.hand(Sender::Peer, &received, out) {
-        Ok(did) => {
-            if is_ignored(did) {
+    match step(server, Sender::Peer, &received, out) {
+        Ok(stepped) => {
+            if stepped.ignored {
                 Err(Broke::Link(Served::LinkBad))
             } else {
-                Ok(told(did))
+                Ok(stepped.told)
             }
         }
         Err(fault) => Err(Broke::Keep(fault)),
@@ -72,9 +71,8 @@ pub(crate) fn drain<N: Net, S: Logged>(
     requires room { HasRoom out.old }
     requires answer_room { HasRoom answer.old }
     requires within { told ≤ length out.old }
-    requires lead { IsLead (S.log.core server.old) }
-    ensures ends { DrainEnds S.log peer.now (take told out.old) out.new result server.old server.new
-        (shown N.seen net.old net.new) }
+    ensures ends { ComesFrom S.log peer.now (λ p. drain_ways p (take told out.old) out.new) result
+        (moved server.old server.new) (calls_of (shown N.seen net.old net.new)) }
     ensures within { IfOk result (λ n. n ≤ length out.new) }
     ensures early { IfLink result (λ why. why ≡ Served.LinkBad → EarlyAtEnd (N.seen net.new).calls N.Conn.seen) }
     ensures fault { NetFault result (N.seen net.old).faults (N.seen net.new).faults }

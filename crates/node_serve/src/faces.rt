@@ -5,7 +5,7 @@ ghost use Rattle.frame_rules.specs.declared.fault.FrameFault.TheVariants.{Short}
 ghost use Rattle.node_restart.specs.Faults.{Counts};
 ghost use Rattle.node_serve.specs.Draining.{FaultIn};
 ghost use Rattle.node_exchange.specs.Exchanging.{EarlyAtEnd};
-ghost use Rattle.node_serve.specs.Handling.{IsHelp};
+ghost use Rattle.node_serve.specs.Handing.{IsHelp};
 ghost use Rattle.node_serve.specs.JournalLog.{journal_log};
 ghost use Rattle.node_serve.specs.Moved.{shown};
 ghost use Rattle.node_serve.specs.Outcomes.{NothingMoves, ServeEnds};

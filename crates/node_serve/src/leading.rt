@@ -1,22 +1,18 @@
 //! The leader takes its step, between two drains.
-ghost use Rattle.std.specs.Prelude.{◌≡◌, ◌≤◌, [], ◌∷◌, length, take, true, IfOk, IfErr, OnOk, OnErr, IfSome, option_map};
+ghost use Rattle.std.specs.Prelude.{◌≡◌, ◌≤◌, length, take, true, IfOk};
 ghost use Rattle.frame_rules.specs.Frames.{plain, plain_body};
 ghost use Rattle.frame_rules.specs.Spelling.{spelling, IsFrame};
-ghost use Rattle.frame_rules.specs.Whole.{whole as whole_bytes, is_from_client};
+ghost use Rattle.frame_rules.specs.Whole.{is_from_client};
 ghost use Rattle.frame_rules.specs.Room.{HasRoom};
-ghost use Rattle.node_restart.specs.declared.frames.Sender.TheVariants.{Client};
-ghost use Rattle.node_restart.specs.Frames.{handed};
 ghost use Rattle.node_exchange.specs.Exchanging.{EarlyAtEnd};
-ghost use Rattle.node_serve.specs.Handing.{IfLink, LogFault, NetFault};
-ghost use Rattle.node_serve.specs.Handling.{IsLead, Steps};
-ghost use Rattle.node_serve.specs.Leading.{is_taken, taken_in, link_down};
-ghost use Rattle.node_serve.specs.Logs.{CountsLog};
-ghost use Rattle.node_serve.specs.Moved.{shown};
-ghost use Rattle.node_serve.specs.Outcomes.{HandleEnds};
+ghost use Rattle.node_serve.specs.Draining.{begun};
+ghost use Rattle.node_serve.specs.Moved.{moved, shown, calls_of};
+ghost use Rattle.node_serve.specs.Outcomes.{Comes, handle_ways, IfLink, LogFault, NetFault};
+ghost use Rattle.node_serve.specs.Responding.{link_down};
 
 use crate::broke::Broke;
 use crate::draining::drain;
-use crate::handing::told;
+use crate::handing::step;
 use crate::logged::Logged;
 use crate::node::Served;
 use express_words::Refusal;
@@ -24,56 +20,6 @@ use express_words::outside::Net;
 use frame_rules::{Body, FRAME_MAX, Frame};
 use node_restart::Sender;
 use wire_frames::{Received, answer, encode_into};
-
-/// Whether the leader takes it from clients: kinds 2 to 5 and 16.
-fn is_taken(body: &Body<'_>) -> bool
-    ensures value { result ≡ is_taken (plain_body body.now) }
-    ensures class { result ≡ true → is_from_client (plain_body body.now) ≡ true }
-{
-    match *body {
-        Body::Register { .. }
-        | Body::Write { .. }
-        | Body::Read { .. }
-        | Body::Proof(_)
-        | Body::Retire { .. } => true,
-        _ => false,
-    }
-}
-
-/// The frame that the bytes are, if the leader takes it from clients.
-pub(crate) fn taken_in<'a>(received: &Received<'a>) -> Option<Frame<'a>>
-    ensures exact { option_map plain result ≡ taken_in (whole_bytes received.now) }
-    ensures is_frame { IfSome result (λ f. IsFrame (plain f)) }
-    ensures class { IfSome result (λ f. is_from_client (plain_body f.body) ≡ true) }
-{
-    match received.frame() {
-        Ok(frame) if is_taken(&frame.body) => Some(frame),
-        _ => None,
-    }
-}
-
-/// Steps the leader with what a connection brought. A reply that it gives at once stands at the front of `out`; its
-/// length is given, 0 where there is none yet.
-pub(crate) fn step_leader<S: Logged>(
-    server: &mut S,
-    received: &Received<'_>,
-    out: &mut [u8],
-) -> Result<usize, S::Fault>
-    requires room { HasRoom out.old }
-    requires lead { IsLead (S.log.core server.old) }
-    ensures steps { IfOk result (λ n. Steps (S.log.core server.old) received.now (S.log.core server.new)
-        (take n out.new)) }
-    ensures within { IfOk result (λ n. n ≤ length out.new) }
-    ensures takes { OnOk result (S.log.takes server.old server.new (handed Client received.now ∷ [])) }
-    ensures stops { IfErr result (S.log.stops server.old server.new [] (handed Client received.now)) }
-    ensures no_step { OnErr result (S.log.core server.new ≡ S.log.core server.old) }
-    ensures counts { CountsLog S.rises (S.failures server.old) (S.failures server.new) result }
-{
-    match server.hand(Sender::Client, received, out) {
-        Ok(did) => Ok(told(did)),
-        Err(fault) => Err(fault),
-    }
-}
 
 /// Drains the link, steps the leader with a client's frame, and drains the link again. The reply stands at the front
 /// of `out`; its length is given.
@@ -85,9 +31,8 @@ pub(crate) fn handle<N: Net, S: Logged>(
     out: &mut [u8],
 ) -> Result<usize, Broke<S::Fault>>
     requires room { HasRoom out.old }
-    requires lead { IsLead (S.log.core server.old) }
-    ensures ends { HandleEnds S.log peer.now received.now out.new result server.old server.new
-        (shown N.seen net.old net.new) }
+    ensures ends { Comes S.log peer.now (handle_ways (begun (S.log.core server.old)) received.now out.new) result
+        (moved server.old server.new) (calls_of (shown N.seen net.old net.new)) }
     ensures within { IfOk result (λ n. n ≤ length out.new) }
     ensures early { IfLink result (λ why. why ≡ Served.LinkBad → EarlyAtEnd (N.seen net.new).calls N.Conn.seen) }
     ensures fault { NetFault result (N.seen net.old).faults (N.seen net.new).faults }
@@ -99,8 +44,8 @@ pub(crate) fn handle<N: Net, S: Logged>(
         Ok(_) => {}
         Err(why) => return Err(why),
     }
-    match step_leader(server, received, out) {
-        Ok(told) => drain(server, peer, net, out, told, &mut answer),
+    match step(server, Sender::Client, received, out) {
+        Ok(stepped) => drain(server, peer, net, out, stepped.told, &mut answer),
         Err(fault) => Err(Broke::Keep(fault)),
     }
 }

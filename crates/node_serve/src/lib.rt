@@ -8,7 +8,6 @@ mod broke;
 mod draining;
 mod faces;
 mod handing;
-mod helping;
 mod hosting;
 mod journaled;
 mod kept_opening;

@@ -23,7 +23,7 @@ loop-preserved g c =
     record {
       within = omega (arith, c.loop-test.true);
       sum = omega (arith, n.one_more, c.loop.invariant.sum);
-      hosting = hosting_more _ _ _ _ _ _ _ _ _ _ g.met.S.Logged.none g.met.S.Logged.both c.loop.invariant.hosting c.in-Ok.ensures.ends n.counts;
+      hosting = hosting_more _ _ _ _ _ _ _ _ _ _ g.met.S.Logged.both c.loop.invariant.hosting c.in-Ok.ensures.ends n.counts;
       door = c.in-Ok.ensures.door ∙ c.loop.invariant.door;
       failures = c.in-Ok.ensures.counts ∙ c.loop.invariant.failures;
       later = omega (arith, c.visit.ensures.later, c.loop.invariant.later);
