@@ -5,13 +5,8 @@ use Rattle.express_words.specs.Seen.{Seen}
 use Rattle.express_words.specs.Streams.{Stream, Gave}
 use Rattle.express_words.specs.Calls.{Call, Accepted, Closed, Adds, AddsClose, GivesTelling}
 use Rattle.node_exchange.specs.Exchanging.{Makes, Exchange, EarlyAtEnd, ExchangesOn}
-use Rattle.node_serve.specs.Handing.{IsHelp}
-use Rattle.node_serve.specs.Logs.{Log}
-use Rattle.node_serve.specs.Moved.{Moved, Calls, moved}
-use Rattle.node_serve.specs.Serving.{Answers, StopsShort}
-use Rattle.node_serve.specs.declared.node.Served.{Served}
+use Rattle.node_serve.specs.Moved.{Calls}
 use Rattle.node_serve.specs.Visits.{Contact, contact_calls, Shown, ClosedAs, LinkAtEnd, up_to_close}
-use Rattle.node_serve.proofs.RespondLaws.{helper_alone, helper_stops}
 
 pub makes_none : (a : Option (List Call)) → Makes a a []
 makes_none None = tt
@@ -29,7 +24,7 @@ makes_both (Some a) (Some b) (Some c) x y g h = h ∙ ap (λ (t : List Call). t 
 -- ---- a server's own calls
 
 -- the same exchanges behind other calls
-pub told : (peer : List ℕ) (es : List Exchange) (a b : Option (List Call)) (before : List Call) → ExchangesOn peer es a b
+told : (peer : List ℕ) (es : List Exchange) (a b : Option (List Call)) (before : List Call) → ExchangesOn peer es a b
     → (calls : List Call) × Makes a b calls × ExchangesOn peer es (Some before) (Some (before ++ calls))
 told peer [] a b before same = ([], makes_same a b same, ap Some (append-nil before))
 told peer (e ∷ es) a b before (next, (calls, makes, is), others) =
@@ -48,27 +43,10 @@ unfolding told
 told_none peer [] a b before on e = refl
 told_none peer (x ∷ es) a b before on e = absurd (cc e)
 
--- what a server came to is told by its own calls alone
-pub own_calls : {S F : Type 0} (log : Log S F) (peer bytes : List ℕ) (server : Moved S) (calls : Calls) (count : ℕ) (why : Served) (Writes : List ℕ → Type 0)
-    → Answers log peer bytes server calls count why Writes
-    → (own : List Call) × Makes calls.old calls.new own × Answers log peer bytes server (moved (Some []) (Some own)) count why Writes × (IsHelp (log.core server.old) → own ≡ [])
-own_calls log peer bytes server calls count why Writes a =
-    let own = told peer a.end.made calls.old calls.new [] a.reaches.made in (
-      own.0,
-      own.1,
-      record { end = a.end; reaches = record { core = a.reaches.core; takes = a.reaches.takes; made = own.2 }; reply = a.reply; responds = a.responds; writes = a.writes },
-      λ help. told_none peer a.end.made calls.old calls.new [] a.reaches.made (helper_alone (log.core server.old) bytes a.end count why a.reply help a.responds),
-    )
-
-pub own_short : {S F : Type 0} (log : Log S F) (peer bytes : List ℕ) (server : Moved S) (calls : Calls) (fault : F) → StopsShort log peer bytes server calls fault
-    → (own : List Call) × Makes calls.old calls.new own × StopsShort log peer bytes server (moved (Some []) (Some own)) fault × (IsHelp (log.core server.old) → own ≡ [])
-own_short log peer bytes server calls fault a =
-    let own = told peer a.end.made calls.old calls.new [] a.reaches.made in (
-      own.0,
-      own.1,
-      record { end = a.end; refused = a.refused; reaches = record { core = a.reaches.core; stops = a.reaches.stops; made = own.2 }; stops = a.stops },
-      λ help. told_none peer a.end.made calls.old calls.new [] a.reaches.made (helper_stops (log.core server.old) bytes a.end a.refused help a.stops),
-    )
+-- the same exchanges by their own calls alone
+pub own_calls : (peer : List ℕ) (es : List Exchange) (calls : Calls) → ExchangesOn peer es calls.old calls.new
+    → (own : List Call) × Makes calls.old calls.new own × ExchangesOn peer es (Some []) (Some own) × (es ≡ [] → own ≡ [])
+own_calls peer es calls on = let own = told peer es calls.old calls.new [] on in (own.0, own.1, own.2, told_none peer es calls.old calls.new [] on)
 
 -- ---- an accept, these calls, and a close
 

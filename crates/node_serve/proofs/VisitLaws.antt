@@ -19,7 +19,8 @@ use Rattle.node_serve.specs.Serving.{AnswersOn, Brings, IsCut, WritesTold, Stops
 use Rattle.node_serve.specs.declared.node.Served.{Served}
 use Rattle.node_serve.specs.declared.node.Served.TheVariants as served
 use Rattle.node_serve.specs.Visits.{Contact, Visit, Standing, standing, Shown, IsContact, IsCutOff, IsStepped, ClosesWith, IsVisit, IsRefusedVisit, ClosedAs}
-use Rattle.node_serve.proofs.CallLaws.{makes_same, own_calls, own_short, left_in, stream, contact_made, link_at_end}
+use Rattle.node_serve.proofs.RespondLaws.{helper_alone, helper_stops}
+use Rattle.node_serve.proofs.CallLaws.{makes_same, own_calls, left_in, stream, contact_made, link_at_end}
 
 pub is_short_or_not : (r : Result (PlainFrame × ℕ) FrameFault) → (r ≡ Err Short) ⊎ (r ≢ Err Short)
 is_short_or_not (Err Short) = inl refl
@@ -148,16 +149,21 @@ visited {S = S} {N = N} log peer nets shows old new answer a b c d s conn held u
       | inr enough ↦
           let step : AnswersOn log peer (gathered [] given) (moved old new) (moved (nets b) (nets c)) (moved s t) answer
           = subst (λ (l : List ℕ). AnswersOn log peer l (moved old new) (moved (nets b) (nets c)) (moved s t) answer) is (ends.serves (λ e. enough (sym (ap decoded is) ∙ e))) in
-          let own = own_calls log peer (gathered [] given) (moved old new) _ _ answer _ step in
-          let told = own.2 in
-          let fresh : WritesTold answer s.written t.written 0 t.faults told.reply = subst (λ n. WritesTold answer s.written t.written n t.faults told.reply) accept.whole told.writes in
-          let written : Wrote answer s.written t.written t.faults told.reply = wrote answer s.written t.written t.faults told.reply accept.blank fresh in
-          let stepped : IsStepped log peer (record { contact = contact given written.0 own.0 t; answer = answer; frames = told.end.frames }) (moved old new) (nets c).faults = record {
-            answers = record { end = told.end; reaches = told.reaches; reply = told.reply; responds = told.responds; writes = written.1 };
+          let own = own_calls peer step.end.made (calls_of (moved (nets b) (nets c))) step.reaches.made in
+          let fresh : WritesTold answer s.written t.written 0 t.faults step.reply = subst (λ n. WritesTold answer s.written t.written n t.faults step.reply) accept.whole step.writes in
+          let written : Wrote answer s.written t.written t.faults step.reply = wrote answer s.written t.written t.faults step.reply accept.blank fresh in
+          let stepped : IsStepped log peer (record { contact = contact given written.0 own.0 t; answer = answer; frames = step.end.frames }) (moved old new) (nets c).faults = record {
+            answers = record {
+              end = step.end;
+              reaches = record { core = step.reaches.core; takes = step.reaches.takes; made = own.2 };
+              reply = step.reply;
+              responds = step.responds;
+              writes = written.1;
+            };
             frames = refl;
-            alone = own.3;
+            alone = λ help. own.3 (helper_alone (log.core old) (gathered [] given) step.end (nets c).faults answer step.reply help step.responds);
           } in
-          seen written.0 own.0 told.end.frames gave wanted early fault doors accept close written.2 own.1 told.reaches.takes (λ e. absurd (enough e)) (λ e. stepped)
+          seen written.0 own.0 step.end.frames gave wanted early fault doors accept close written.2 own.1 step.reaches.takes (λ e. absurd (enough e)) (λ e. stepped)
     ]
 
 -- ---- a visit at which the log refused a frame
@@ -171,14 +177,15 @@ pub refused : {S F N C : Type 0} (log : Log S F) (peer : List ℕ) (nets : N →
 refused log peer nets shows old new fault a b c d s conn held (given, gave, wanted, is) ends faults doors accept close =
     let t : Seen = shows conn in
     let calls = calls_of (moved (nets b) (nets c)) in
-    let own = own_short log peer (gathered [] given) (moved old new) calls fault (subst (λ (l : List ℕ). StopsShort log peer l (moved old new) calls fault) is ends.stops) in
+    let here = subst (λ (l : List ℕ). StopsShort log peer l (moved old new) calls fault) is ends.stops in
+    let own = own_calls peer here.end.made calls here.reaches.made in
     let whole : t.faults ≡ 0 = ends.unanswered.1 ∙ accept.whole in
     let k = contact given [] own.0 t in (
       k,
       record {
         contact = contact_is shows a (nets b) (nets c) d s conn k gave wanted refl refl doors accept close (untouched s.written t.written accept.blank ends.unanswered.0) own.1;
-        short = own.2;
-        alone = own.3;
+        short = record { end = here.end; refused = here.refused; reaches = record { core = here.reaches.core; stops = here.reaches.stops; made = own.2 }; stops = here.stops };
+        alone = λ help. own.3 (helper_stops (log.core old) (gathered [] given) here.end here.refused help here.stops);
         untold = refl;
         whole = whole;
         faults = close.counts.whole whole ∙ faults ∙ accept.faults;
