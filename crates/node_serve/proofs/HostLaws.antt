@@ -16,9 +16,9 @@ use Rattle.node_serve.specs.Hosting.{Visited, Hosts}
 use Rattle.node_serve.specs.Visits.{Visit, visit_calls, frames_of, Standing, VisitEnds, none, then}
 use Rattle.node_serve.proofs.CallLaws.{makes_none, makes_both}
 
-tally_more : (old new : Tally) (visits : List Visit) (v : Visit) (answer : Served) → v.answer ≡ answer
-    → old ≡ tally_of visits → new ≡ counted old answer → new ≡ tally_of (visits ++ v ∷ [])
-tally_more old new visits v answer same before more = rw (fold_push (λ (t : Tally) (v : Visit). counted t v.answer), same, ← before) more
+tally_more : (old new : Tally) (visits : List Visit) (v : Visit) (why : Served) → v.answer ≡ why
+    → old ≡ tally_of visits → new ≡ counted old why → new ≡ tally_of (visits ++ v ∷ [])
+tally_more old new visits v why same before more = rw (fold_push (λ (t : Tally) (v : Visit). counted t v.answer), same, ← before) more
 
 -- ---- where a server stands after so many visits
 
