@@ -10,11 +10,10 @@ use Rattle.node_exchange.specs.Exchanging.{ExchangeOn}
 use Rattle.node_exchange.specs.Exchanging.{EndsShort, Exchange, Makes, IsExchange, answer_in}
 use Rattle.node_exchange.specs.declared.exchanging.Broken.{Broken}
 use Rattle.node_exchange.specs.declared.exchanging.Broken.TheVariants as broken
-use Rattle.node_exchange.proofs.EarlyLaws.{exchange_long}
+use Rattle.node_exchange.proofs.EarlyLaws.{exchange_short}
 use Rattle.node_client.specs.declared.peers.Peers.{Peers}
 use Rattle.node_client.specs.Steps.{dispatched}
 use Rattle.node_client.specs.Talks.{address_of}
-use Rattle.node_client.proofs.EarlyLaws.{broken_short}
 use Rattle.kept_errands.specs.Steps.{Talked}
 
 some_same : {A : Type 0} (x y : A) → Some x ≡ Some y → x ≡ y
@@ -48,8 +47,7 @@ talked peers c a b server size out address answer sent written at calls =
 -- the calls of an exchange end short only where its answer ended early
 pub early_only : (peer sent : List ℕ) (answer : Result (List ℕ) Broken) (a b : Option (List Call)) (P : Type 0)
     → ((n : ℕ) → answer ≡ Err (broken.Early n) → P) → ExchangeOn peer (record { sent = sent; answer = answer }) a b → EndsShort b → P
-early_only peer sent (Ok bytes) a b P early on ends = absurd (exchange_long peer _ a b tt on ends)
-early_only peer sent (Err why) a b P early on ends = broken_short peer _ a b why P refl (λ n e. early n (ap Err e)) on ends
+early_only peer sent answer a b P early on ends = let s = exchange_short peer (record { sent = sent; answer = answer }) a b on ends in early s.0 s.1
 
 pub early_in : (r : Result ℕ Broken) (into : List ℕ) (n : ℕ) → answer_in r into ≡ Err (broken.Early n) → r ≡ Err (broken.Early n)
 early_in (Ok count) into n e = absurd (cc e)
