@@ -14,8 +14,8 @@ use Rattle.node_serve.specs.Handing.{answer_of}
 use Rattle.node_serve.specs.Logs.{Log, Reaches}
 use Rattle.node_serve.specs.Moved.{Moved, Calls, moved}
 use Rattle.node_serve.specs.Outcomes.{Ways, Comes, exchange_ways, Replied}
-use Rattle.node_serve.specs.declared.broke.Broke.{Broke}
-use Rattle.node_serve.specs.declared.broke.Broke.TheVariants as broke
+use Rattle.node_serve.specs.declared.draining.Broke.{Broke}
+use Rattle.node_serve.specs.declared.draining.Broke.TheVariants as broke
 use Rattle.node_serve.specs.declared.node.Served.{Served}
 
 one_more : (peer : List ℕ) (es : List Exchange) (e : Exchange) (a b c : Option (List Call)) → ExchangesOn peer es a b → ExchangeOn peer e b c → ExchangesOn peer (es ++ e ∷ []) a c

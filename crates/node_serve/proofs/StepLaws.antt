@@ -16,8 +16,7 @@ use Rattle.node_restart.specs.declared.frames.Sender.{Sender}
 use Rattle.node_restart.specs.declared.frames.Sender.TheVariants.{Client, Peer}
 use Rattle.node_restart.specs.Steps.{step_of, lead_client, lead_peer, help_client, help_peer, Takes}
 use Rattle.node_serve.specs.Draining.{IsOldest, IsHeeded, rounds_of}
-use Rattle.node_serve.specs.Handing.{told, is_ignored}
-use Rattle.node_serve.specs.Telling.{Tells}
+use Rattle.node_serve.specs.Handing.{told, is_ignored, Tells}
 use Rattle.node_serve.specs.declared.handing.Stepped.{Stepped}
 use Rattle.node_serve.proofs.DrainLaws.{nearer}
 

@@ -1,5 +1,5 @@
 -- One frame is handed to a server: whose it is, and what its step tells.
-use Rattle.std.specs.Prelude.{◌≡◌, ℕ, Bool, true, false, List, take, Option, Some, None, Result, Ok, Err}
+use Rattle.std.specs.Prelude.{◌≡◌, ◌≤◌, ℕ, Bool, true, false, List, length, take, Option, Some, None, Result, Ok, Err}
 use Rattle.express_words.specs.declared.refusal.Refusal.{Refusal}
 use Rattle.express_words.specs.declared.role.Role.{Role}
 use Rattle.express_words.specs.declared.role.Role.TheVariants.{Leader, Helper}
@@ -15,6 +15,7 @@ use Rattle.node_restart.specs.declared.frames.Sender.{Sender}
 use Rattle.node_restart.specs.declared.frames.Sender.TheVariants.{Client, Peer}
 use Rattle.node_restart.specs.declared.server.Core.{Core}
 use Rattle.node_restart.specs.Steps.{Step, role_of}
+use Rattle.node_serve.specs.declared.handing.Stepped.{Stepped}
 
 -- ---- what a step tells
 
@@ -35,6 +36,13 @@ answer_of step = take (told step.did) step.written
 abbrev pub is_ignored : Did → Bool
 is_ignored (did.Acked ack.Ignored) = true
 is_ignored other = false
+
+-- the server after this step, and what is told of it, with a buffer behind it
+pub record Tells (step : Step) (core : Core) (t : Stepped) (out : List ℕ) : Type 0 where
+  pub core_is : core ≡ step.core
+  pub answer : take t.told out ≡ answer_of step
+  pub within : t.told ≤ length out
+  pub ignored : t.ignored ≡ is_ignored step.did
 
 -- ---- what a connection brings
 

@@ -5,7 +5,6 @@ pub mod Logs
 pub mod NoLog
 pub mod JournalLog
 pub mod Handing
-pub mod Telling
 pub mod Responding
 pub mod Outcomes
 pub mod Opening

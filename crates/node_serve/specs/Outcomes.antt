@@ -6,8 +6,8 @@ use Rattle.frame_rules.specs.Reading.{decoded}
 use Rattle.frame_rules.specs.declared.fault.FrameFault.TheVariants.{Short}
 use Rattle.node_restart.specs.declared.frames.Sender.TheVariants.{Peer}
 use Rattle.node_restart.specs.Frames.{Handed}
-use Rattle.node_serve.specs.declared.broke.Broke.{Broke}
-use Rattle.node_serve.specs.declared.broke.Broke.TheVariants as broke
+use Rattle.node_serve.specs.declared.draining.Broke.{Broke}
+use Rattle.node_serve.specs.declared.draining.Broke.TheVariants as broke
 use Rattle.node_serve.specs.declared.node.Served.{Served}
 use Rattle.node_serve.specs.Draining.{Course, took, exchanged, IsHeeded, DrainsOn, Drained, BreaksIn}
 use Rattle.node_serve.specs.Draining.{RefusesIn, FaultIn}

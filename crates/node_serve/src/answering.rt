@@ -11,7 +11,7 @@ ghost use Rattle.node_serve.specs.Outcomes.{AnswerEnds};
 ghost use Rattle.node_serve.specs.Responding.{IsSent};
 ghost use Rattle.node_serve.specs.Serving.{WritesReply};
 
-use crate::broke::Broke;
+use crate::draining::Broke;
 use crate::handing::{drained_for, sender_at, step};
 use crate::leading::{handle, say_link_down};
 use crate::logged::Logged;

@@ -6,7 +6,6 @@ ghost use Rattle.node_serve.specs.Draining.{IsOldest, rounds_of};
 ghost use Rattle.node_serve.specs.Moved.{moved, shown, calls_of};
 ghost use Rattle.node_serve.specs.Outcomes.{ComesFrom, exchange_ways, drain_ways, IfLink, LogFault, NetFault};
 
-use crate::broke::Broke;
 use crate::handing::step;
 use crate::logged::Logged;
 use crate::node::Served;
@@ -14,6 +13,15 @@ use express_words::outside::Net;
 use node_exchange::{Broken, exchange};
 use node_restart::Sender;
 use wire_frames::Received;
+
+/// Why a leader's exchanges and steps end early, over a log of such faults.
+#[derive(Clone, Copy, Debug, PartialEq, Eq)]
+pub(crate) enum Broke<F> {
+    /// An exchange with the helper: what is said of it.
+    Link(Served),
+    /// The log refused a frame, and its step wasn't taken.
+    Keep(F),
+}
 
 /// One exchange: the command of `size` bytes at the front of `out` goes to the helper, and its answer to the leader.
 /// Gives the length of the reply for the client, which stands at the front of `out` then; 0 where a settle follows.

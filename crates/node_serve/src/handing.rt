@@ -6,9 +6,8 @@ ghost use Rattle.frame_rules.specs.Spelling.{IsFrame};
 ghost use Rattle.frame_rules.specs.Whole.{is_from_client};
 ghost use Rattle.node_restart.specs.Frames.{handed};
 ghost use Rattle.node_restart.specs.Steps.{step_of};
-ghost use Rattle.node_serve.specs.Handing.{told, is_ignored, is_taken, drained_for, sender_at};
+ghost use Rattle.node_serve.specs.Handing.{told, is_ignored, is_taken, drained_for, sender_at, Tells};
 ghost use Rattle.node_serve.specs.Logs.{CountsLog};
-ghost use Rattle.node_serve.specs.Telling.{Tells};
 
 use crate::logged::Logged;
 use frame_rules::{Body, Frame};

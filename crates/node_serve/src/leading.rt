@@ -10,8 +10,7 @@ ghost use Rattle.node_serve.specs.Moved.{moved, shown, calls_of};
 ghost use Rattle.node_serve.specs.Outcomes.{Comes, handle_ways, IfLink, LogFault, NetFault};
 ghost use Rattle.node_serve.specs.Responding.{link_down};
 
-use crate::broke::Broke;
-use crate::draining::drain;
+use crate::draining::{Broke, drain};
 use crate::handing::step;
 use crate::logged::Logged;
 use crate::node::Served;

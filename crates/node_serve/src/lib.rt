@@ -4,7 +4,6 @@
 #![tactic(auto)]
 
 mod answering;
-mod broke;
 mod draining;
 mod faces;
 mod handing;
@@ -20,7 +19,6 @@ mod serving;
 mod stop;
 mod tally;
 mod unlogged;
-mod visiting;
 
 pub use express_words::outside;
 pub use faces::{serve_kept, serve_one};

@@ -1,5 +1,5 @@
 use Rattle.node_serve.proofs.VisitLaws.{visited, refused}
-use Rattle.node_serve.proofs.visiting.visit.Goals as goal
+use Rattle.node_serve.proofs.hosting.visit.Goals as goal
 
 pub returns-in-Ok-answer-clause-ends : goal.returns-in-Ok-answer-clause-ends
 returns-in-Ok-answer-clause-ends g c =
