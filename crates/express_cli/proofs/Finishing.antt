@@ -1,7 +1,7 @@
 -- How a run ends, by what was done for its words.
 use Rattle.std.proofs.Common.{◌≡◌, ℕ, List, Option, Some, ◌⊎◌, inl, inr, refl, subst, ap, ◌∙◌}
 use Rattle.clap.specs.Words.{Text}
-use Rattle.express_cli.specs.CommandLine.{AskNothing, Asks, AsksMill, AsksNet, AskSome, IsAsked}
+use Rattle.express_cli.specs.CommandLine.{AskNothing, Asks, AsksMill, AsksNet, AskSome}
 use Rattle.express_cli.specs.Ends.{Prints, WorkMay, MillMay}
 use Rattle.express_cli.specs.Around.{Around, IsUnread, Read, Seen, Streams}
 use Rattle.express_cli.specs.Talking.{IsStill, LeavesNothing, TalkEnds, TalkMay}
@@ -9,15 +9,10 @@ use Rattle.express_cli.specs.Runs.{RunEnds, RunMay, UnreadMay, WaitsForNet}
 use Rattle.express_cli.specs.declared.words.Command.{Command}
 use Rattle.express_cli.specs.declared.words.NetCommand.{NetCommand}
 use Rattle.express_cli.specs.declared.words.NetCommand.TheVariants.{Serve}
-use Rattle.express_cli.specs.declared.words.Task.{Task}
 use Rattle.express_cli.specs.declared.ends.End.{End}
 use Rattle.express_cli.specs.declared.ends.End.TheVariants as ends
 use Rattle.express_cli.proofs.OneReading.{same_net}
 use Rattle.express_cli.proofs.Settling.{IsWorkEnd, lift, still_ends, work_end}
-
--- the task that was found
-pub asks_it : (words : List Text) (asked : Option Task) (found task : Task) → asked ≡ Some found → found ≡ task → IsAsked words asked → IsAsked words (Some task)
-asks_it words asked found task same is h = subst (IsAsked words) (same ∙ ap Some is) h
 
 still_leaves : (command : NetCommand) (net : Around) → IsStill net → LeavesNothing command net
 still_leaves Serve net still = tt

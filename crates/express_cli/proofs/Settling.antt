@@ -87,7 +87,7 @@ served_end (Err (halt.Log why)) end text never = absurd never
 
 listening_end : (settings : ServeSettings) (door : Doorway Node) (end : End) (text : List ℕ) → ListeningMay node_log NeverMay settings door end text → IsWorkEnd end
 listening_end settings door end text (inl (said, served, same)) = served_end (halt_in served.result) end said served.says
-listening_end settings door end text (inr unheard) = rw unheard.says.0 tt
+listening_end settings door end text (inr (stays, unheard)) = rw unheard.0 tt
 
 run_end : (by : RunEnd) (end : End) → end ≡ end_by by → IsWorkEnd end
 run_end run.Done end is = rw is tt

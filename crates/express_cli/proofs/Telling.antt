@@ -16,7 +16,7 @@ use Rattle.client_run.specs.Texts.{outcome_line}
 use Rattle.client_run.proofs.PassedLaws.{lines_more, part_behind, took_nothing, took_part}
 use Rattle.express_cli.specs.Around.{Around, Seen}
 use Rattle.express_cli.specs.Ends.{Prints, Said, SaidWanting, out_of_memory_text}
-use Rattle.express_cli.specs.Talking.{FetchMay, IsStill, JobBreaks, JobMay, PlanBreaks, PlanMay, SaysRun, Talks, end_by}
+use Rattle.express_cli.specs.Talking.{IsStill, JobBreaks, JobMay, PlanBreaks, PlanMay, SaysRun, Talks, end_by}
 use Rattle.express_cli.specs.declared.ends.End.{End}
 use Rattle.express_cli.specs.declared.ends.End.TheVariants as ends
 use Rattle.express_cli.proofs.Writing.{follows}
@@ -98,12 +98,12 @@ pub job_ends : (job : CarryJob) (settings : CarrySettings) {Leaves : Type 0} (ne
     → SaysRun run mid new end → Leaves → Talks (JobMay job settings net) (JobBreaks job settings net old new) Leaves net old new end
 job_ends (Send id file addresses) settings net run old mid comes fault sink said left = plan_ends (SendEnded (length addresses)) (carry_plan settings net.seed) net run old mid comes fault sink said left
 job_ends Fetch settings net (Ok ran) old mid {new} {end} (runs, still) fault same said left = record {
-  comes = says (FetchMay settings net) (end_by ran.end) ran.text [] old mid new end (λ e t is. rw is.1 (inl (ran.end, runs, fault, is.0))) (took_none old mid still) same said;
+  comes = says (JobMay Fetch settings net) (end_by ran.end) ran.text [] old mid new end (λ e t is. rw is.1 (inl (ran.end, runs, fault, is.0))) (took_none old mid still) same said;
   in_time = λ failed. inr tt;
   leaves = left;
 }
 job_ends Fetch settings net (Err untold.NoMemory) old mid {new} {end} still fault same said left = record {
-  comes = says (FetchMay settings net) ends.OutOfMemory out_of_memory_text [] old mid new end (λ e t is. inr is) (took_none old mid still) same said;
+  comes = says (JobMay Fetch settings net) ends.OutOfMemory out_of_memory_text [] old mid new end (λ e t is. inr is) (took_none old mid still) same said;
   in_time = λ failed. inr tt;
   leaves = left;
 }

@@ -55,6 +55,13 @@ follows Then May old mid new ends.WriteFault front took same f h =
 follows Then May old mid new _ front took same f h =
     (front ++ h.0, f _ _ h.1, took_both old.written mid.written new.written front h.0 took h.2, h.3 ∙ same)
 
+-- what was taken stays out where the sink fails behind it
+pub out_behind : (May : End → List ℕ → Type 0) (old mid new : Seen) (end : End) (text : List ℕ) → Took old.written mid.written text
+    → Prints May mid new end → end ≡ ends.WriteFault → (more : List ℕ) × Took old.written new.written (text ++ more)
+out_behind May old mid new ends.WriteFault text took h failed =
+    let front = h.1.3 in (front.0, took_both old.written mid.written new.written text front.0 took front.3)
+out_behind May old mid new _ text took h failed = absurd (cc failed)
+
 -- what may be said of the first bad line may come of the work
 pub bad_line_may : (command : Command) (bytes : List ℕ) (n : ℕ) → IsBad command n bytes → (end : End) (text : List ℕ) → BadLineMay n end text → WorkMay command bytes end text
 bad_line_may command bytes n first end text (inl said) =

@@ -1,6 +1,6 @@
 -- What may come of a server at its door, whatever keeps its frames: its log, and what is told where the log
 -- refuses one.
-use Rattle.std.specs.Prelude.{◌≡◌, ◌⊎◌, false, true, List, [], ℕ, ◌++◌, codes, Result, Ok, Err}
+use Rattle.std.specs.Prelude.{◌≡◌, ◌⊎◌, false, true, List, ℕ, ◌++◌, codes, Result, Ok, Err}
 use Rattle.express_words.specs.Calls.{Listened, Adds}
 use Rattle.express_words.specs.Causes.{Rose}
 use Rattle.settings_text.specs.declared.serve.ServeSettings.{ServeSettings}
@@ -13,7 +13,7 @@ use Rattle.node_serve.specs.declared.stop.Halt.{Halt}
 use Rattle.node_serve.specs.declared.stop.Halt.TheVariants as halt
 use Rattle.node_serve.specs.declared.stop.Stop.{Stop}
 use Rattle.node_serve.specs.declared.tally.Tally.{Tally}
-use Rattle.express_cli.specs.Around.{Around, Seen, over}
+use Rattle.express_cli.specs.Around.{Around, Seen}
 use Rattle.express_cli.specs.Ends.{Said, SaidOrWants, net_fault_text}
 use Rattle.express_cli.specs.declared.ends.End.{End}
 use Rattle.express_cli.specs.declared.ends.End.TheVariants.{Done, NetFault, WriteFault}
@@ -27,9 +27,6 @@ pub record Doorway (S : Type 0) : Type 1 where
 abbrev pub doorway_of : {S : Type 0} → Around → (old new : S) → Doorway S
 doorway_of net old new =
     record { shown = net.shown; old = standing old net.before; new = standing new net.now }
-
-abbrev pub doorway : {S N C : Type 0} → (N → Seen) → (C → Seen) → (old new : S) → (before now : N) → Doorway S
-doorway seen shows old new before now = doorway_of (over seen shows [] before now) old new
 
 abbrev pub listening : List ℕ
 listening = codes "listening\n"
@@ -62,19 +59,11 @@ pub record Served {S F : Type 0} (log : Log S F) (tells : Tells F) (settings : S
 abbrev pub AtDoorway : Type 0 → Type 0 → Type 1
 AtDoorway S F = Log S F → Tells F → ServeSettings → Doorway S → End → List ℕ → Type 0
 
--- The sink failed where it was to be told that it listens: nothing was served.
-pub record Unheard {S : Type 0} (door : Doorway S) (end : End) (text : List ℕ) : Type 0 where
-  pub stays : door.new ≡ door.old
-  pub says : Said WriteFault listening end text
-
--- It told that it listens, and then serving came to this.
-abbrev pub Heard : {S F : Type 0} → AtDoorway S F
-Heard log tells settings door end text =
-    (said : List ℕ) × Served log tells settings door end said × (text ≡ listening ++ said)
-
+-- It told that it listens, and then serving came to this; or the sink failed there, and nothing was served.
 abbrev pub ListeningMay : {S F : Type 0} → AtDoorway S F
 ListeningMay log tells settings door end text =
-    Heard log tells settings door end text ⊎ Unheard door end text
+    ((said : List ℕ) × Served log tells settings door end said × (text ≡ listening ++ said))
+    ⊎ ((door.new ≡ door.old) × Said WriteFault listening end text)
 
 -- It listened where its settings say, was to tell so, and serving came to this.
 pub record Hosted {S F : Type 0} (log : Log S F) (tells : Tells F) (settings : ServeSettings)

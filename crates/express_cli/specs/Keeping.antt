@@ -75,32 +75,23 @@ pub record Unopened {D : Type 0} (shows : D → DiskSeen) (settings : ServeSetti
 abbrev pub Untouched : {D : Type 0} → Around → (disk after : D) → Type 0
 Untouched net disk after = (after ≡ disk) × IsStill net
 
--- What may come of a server of these settings. Memory may be wanting before the disk is asked.
-abbrev pub SettingsMay : {D : Type 0} → (D → DiskSeen) → ServeSettings → Around → (disk after : D)
-    → End → List ℕ → Type 0
-SettingsMay shows settings net disk after end text =
-    Opened shows settings net disk after end text
-    ⊎ (Unopened shows settings net disk after end text
-    ⊎ (Untouched net disk after × SaidWanting end text))
-
--- a server with a journal
+-- a server with a journal: it is opened, or it isn't, or memory is wanting before the disk is asked
 abbrev pub keeper : {D : Type 0} → (D → DiskSeen) → (disk after : D) → Kind
 keeper shows disk after = record server {
-  May = λ settings net end text. SettingsMay shows settings net disk after end text;
+  May = λ settings net end text.
+      Opened shows settings net disk after end text
+      ⊎ (Unopened shows settings net disk after end text
+      ⊎ (Untouched net disk after × SaidWanting end text));
   Rests = λ net. Untouched net disk after;
 }
 
 -- ---- a run
 
--- The input gave all its bytes, and they came to this.
-abbrev pub ReadAll : Kind → Streams → Around → End → List ℕ → Type 0
-ReadAll kind streams net end text = (bytes : List ℕ) × Read streams bytes × MayBy kind bytes net end text
-
--- what may come of a run of `keep`, whose input may be one that isn't read to its end
+-- what may come of a run of `keep`: of the bytes of its input, or of one that isn't read to its end
 abbrev pub KeepMay : {D : Type 0} → (D → DiskSeen) → Streams → Around → (disk after : D) → End → List ℕ
     → Type 0
 KeepMay shows streams net disk after end text =
-    ReadAll (keeper shows disk after) streams net end text
+    ((bytes : List ℕ) × Read streams bytes × MayBy (keeper shows disk after) bytes net end text)
     ⊎ (Untouched net disk after × UnreadMay streams.input streams.input_now end text)
 
 -- Where the sink failed, the input gave all its bytes and by the settings that they spell it was told that the

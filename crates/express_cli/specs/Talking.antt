@@ -158,22 +158,20 @@ pub record PlanRan (Ended : Plan → EndSaid) (plan : Plan) (net : Around) (end 
     pub fault : RunFault by net.before.faults net.now.faults
     pub says : Said (end_by by) (lines_of told ++ last) end text
 
--- so far it came by these calls, this is told of it, and this text is next
-abbrev pub Came : (Plan → EndSaid) → Plan → Around → List Finished → List ℕ → Type 0
-Came Ended plan net told next = CameTo plan (Ended plan) told next net.before.calls net.now.calls
-
 -- so it came, or memory was wanting for the text that was next: that is told, behind all that was told before
 abbrev pub PlanMay : (Plan → EndSaid) → Plan → Around → End → List ℕ → Type 0
 PlanMay Ended plan net end text =
     PlanRan Ended plan net end text
-    ⊎ ((told : List Finished) × (next : List ℕ) × Came Ended plan net told next
+    ⊎ ((told : List Finished) × (next : List ℕ)
+    × CameTo plan (Ended plan) told next net.before.calls net.now.calls
     × Said ends.OutOfMemory (lines_of told ++ out_of_memory_text) end text)
 
 -- The sink failed after a front of the text that was next, or of that memory was wanting for it; all that was
 -- told before went out.
 abbrev pub PlanBreaks : (Plan → EndSaid) → Plan → Around → (old new : Seen) → Type 0
 PlanBreaks Ended plan net old new =
-    (told : List Finished) × (next : List ℕ) × Came Ended plan net told next
+    (told : List Finished) × (next : List ℕ)
+    × CameTo plan (Ended plan) told next net.before.calls net.now.calls
     × (TookPart (lines_of told) next old.written new.written
     ⊎ TookPart (lines_of told) out_of_memory_text old.written new.written)
 
@@ -194,18 +192,14 @@ client = record {
 
 -- ---- a carrier
 
--- of a fetch nothing is told before its end
-abbrev pub FetchMay : CarrySettings → Around → End → List ℕ → Type 0
-FetchMay settings net end text =
-    ((by : RunEnd) × CarryRuns settings net.seed net.before.calls net.now.calls text by
-    × RunFault by net.before.faults net.now.faults × (end ≡ end_by by))
-    ⊎ SaidWanting end text
-
--- To send is told as a client's requests are.
+-- To send is told as a client's requests are; of a fetch nothing is told before its end.
 abbrev pub JobMay : CarryJob → CarrySettings → Around → End → List ℕ → Type 0
 JobMay (Send id file addresses) settings net end text =
     PlanMay (SendEnded (length addresses)) (carry_plan settings net.seed) net end text
-JobMay Fetch settings net end text = FetchMay settings net end text
+JobMay Fetch settings net end text =
+    ((by : RunEnd) × CarryRuns settings net.seed net.before.calls net.now.calls text by
+    × RunFault by net.before.faults net.now.faults × (end ≡ end_by by))
+    ⊎ SaidWanting end text
 
 abbrev pub JobBreaks : CarryJob → CarrySettings → Around → (old new : Seen) → Type 0
 JobBreaks (Send id file addresses) settings net old new =

@@ -3,7 +3,7 @@ ghost use Rattle.std.specs.Prelude.{◌≡◌, ◌≢◌, ◌⊎◌, ◌≤◌, 
 ghost use Rattle.node_restart.specs.Frames.{Handed};
 ghost use Rattle.node_serve.specs.Tallies.{tally_text};
 ghost use Rattle.express_cli.specs.Around.{over};
-ghost use Rattle.express_cli.specs.Door.{DoorMay, Served, doorway};
+ghost use Rattle.express_cli.specs.Door.{DoorMay, Served, doorway_of};
 ghost use Rattle.express_cli.specs.Ends.{DiskCounts, Prints, SaidOrWants};
 ghost use Rattle.express_cli.specs.Talking.{ServeBreaks, Talks};
 ghost use Rattle.express_cli.specs.declared.ends.End.{End as Ends};
@@ -69,7 +69,7 @@ fn serve_all<S: TellsFaults, K: Sink, N: Net>(
 ) -> End
     requires whole { S.whole server.old }
     ensures tells { Prints (Served S.log S.tells settings.now
-        (doorway N.seen N.Conn.seen server.old server.new net.old net.new))
+        (doorway_of (over N.seen N.Conn.seen [] net.old net.new) server.old server.new))
         (K.seen out.old) (K.seen out.new) result }
     ensures counts { DiskCounts result (S.failures server.old) (S.failures server.new) }
 {
@@ -94,7 +94,7 @@ pub(crate) fn listen_and_serve<S: TellsFaults, K: Sink, N: Net>(
 ) -> End
     requires whole { S.whole server.old }
     ensures ends { Talks (DoorMay S.log S.tells settings.now
-        (doorway N.seen N.Conn.seen server.old server.new net.old net.new))
+        (doorway_of (over N.seen N.Conn.seen [] net.old net.new) server.old server.new))
         (ServeBreaks settings.now (over N.seen N.Conn.seen [] net.old net.new) (K.seen out.old) (K.seen out.new))
         (DiskCounts result (S.failures server.old) (S.failures server.new))
         (over N.seen N.Conn.seen [] net.old net.new) (K.seen out.old) (K.seen out.new) result }

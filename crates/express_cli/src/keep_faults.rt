@@ -1,6 +1,5 @@
 //! Tells why a server with a journal ended, or wasn't opened.
 ghost use Rattle.std.specs.Prelude.{◌≡◌, ◌≢◌, ◌⊎◌, ◌≤◌, ℕ, false, IfOk, string_bytes};
-ghost use Rattle.node_restart.specs.Faults.{CountsFault};
 ghost use Rattle.node_serve.specs.FirstFaults.{IsFirstFault};
 ghost use Rattle.node_serve.specs.KeptOpening.{CountsOpen, IsOfOpening, key_text};
 ghost use Rattle.node_serve.specs.JournalLog.{rises};
@@ -18,7 +17,8 @@ use std::alloc::{AllocError, Global};
 
 const DISK_FAULT: &str = "disk fault\n";
 
-// A server with a journal that isn't closed.
+// A server with a journal that isn't closed. It says which fault ended it, or kept it from being opened, unless memory
+// is wanting; of a fault of the disk it says so without memory.
 impl<D: Disk> TellsFaults for Kept<D> {
     ghost use Rattle.node_serve.proofs.FirstFaults.{first_fault};
 
@@ -33,7 +33,11 @@ impl<D: Disk> TellsFaults for Kept<D> {
         ensures tells { Prints (KeepFaultMay fault) (K.seen out.old) (K.seen out.new) result }
         ensures counts { (before now : ℕ) → rises fault before now → DiskCounts result before now }
     {
-        tell_fault(alloc, out, fault)
+        let end = end_by(fault);
+        match end {
+            End::DiskFault => say(out, DISK_FAULT, end),
+            _ => say_line(out, fault_line(alloc, fault), end),
+        }
     }
 
     ghost stops_first = { first_fault D.disk };
@@ -59,20 +63,6 @@ fn fault_line(alloc: Global, fault: KeepFault) -> Result<String, AllocError>
     format!(in alloc; "{fault}\n")
 }
 
-/// Says which fault ended a server, or kept it from being opened, unless memory is wanting; of a fault of the disk it
-/// says so without memory.
-pub(crate) fn tell_fault<K: Sink>(alloc: Global, out: &mut K, fault: KeepFault) -> End
-    requires first { IsFirstFault fault }
-    ensures tells { Prints (KeepFaultMay fault) (K.seen out.old) (K.seen out.new) result }
-    ensures counts { (before now : ℕ) → CountsFault before now fault → DiskCounts result before now }
-{
-    let end = end_by(fault);
-    match end {
-        End::DiskFault => say(out, DISK_FAULT, end),
-        _ => say_line(out, fault_line(alloc, fault), end),
-    }
-}
-
 fn name_of(key: SettingsKey) -> &'static str
     ensures { result.now ≡ key_text key }
 {
@@ -86,13 +76,13 @@ fn name_of(key: SettingsKey) -> &'static str
 }
 
 /// Says why a server wasn't opened, unless memory is wanting.
-pub(crate) fn tell_unopened<K: Sink>(alloc: Global, out: &mut K, fault: OpenFault) -> End
+pub(crate) fn tell_unopened<D: Disk, K: Sink>(alloc: Global, out: &mut K, fault: OpenFault) -> End
     requires { IsOfOpening fault }
     ensures tells { Prints (OpenFaultMay fault) (K.seen out.old) (K.seen out.new) result }
     ensures counts { (before now : ℕ) → CountsOpen before now fault → DiskCounts result before now }
 {
     match fault {
-        OpenFault::Keep(fault) => tell_fault(alloc, out, fault),
+        OpenFault::Keep(fault) => Kept::<D>::tell_fault(alloc, out, fault),
         OpenFault::Differs(key) => say_bad_key(alloc, out, name_of(key)),
     }
 }

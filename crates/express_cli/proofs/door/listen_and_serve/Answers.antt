@@ -1,28 +1,16 @@
-use Rattle.std.proofs.Common.{refl, inl, inr, ap, true, false}
-use Rattle.client_run.proofs.PassedLaws.{took_both}
-use Rattle.express_words.specs.Streams.{Took}
+use Rattle.std.proofs.Common.{refl, inl, inr, [], true, false, List, ℕ}
 use Rattle.node_serve.specs.Visits.{standing}
-use Rattle.std.proofs.Common.{◌≡◌, List, ℕ}
-use Rattle.express_cli.specs.Around.{Seen}
-use Rattle.express_cli.specs.Door.{DoorMay, Served, doorway, listening}
-use Rattle.express_cli.specs.Ends.{Prints}
-use Rattle.express_cli.specs.Talking.{IsOut}
+use Rattle.express_cli.specs.Around.{over}
+use Rattle.express_cli.specs.Door.{DoorMay, Served, doorway_of, listening}
 use Rattle.express_cli.specs.declared.ends.End.{End}
 use Rattle.express_cli.specs.declared.ends.End.TheVariants as ends
 use Rattle.express_cli.proofs.CountLaws.{told_counts}
-use Rattle.express_cli.proofs.Writing.{follows, said}
+use Rattle.express_cli.proofs.Writing.{follows, out_behind, said}
 use Rattle.express_cli.proofs.door.listen_and_serve.Goals as goal
-
--- what was told stays out where the sink fails behind it
-out_behind : (May : End → List ℕ → Type 0) (old mid new : Seen) (end : End) (text : List ℕ)
-    → Took old.written mid.written text → Prints May mid new end → end ≡ ends.WriteFault → IsOut text old new
-out_behind May old mid new ends.WriteFault text took h failed =
-    let front = h.1.3 in (front.0, took_both old.written mid.written new.written text front.0 took front.3)
-out_behind May old mid new _ text took h failed = absurd (cc failed)
 
 pub returns-in-Ok-put : goal.returns-in-Ok-put
 returns-in-Ok-put g c =
-    let door = doorway g.N.Counted.seen g.N.Conn.Counted.seen c.args.server.now c.serve_all.new.server c.args.net.now c.serve_all.new.net in
+    let door = doorway_of (over g.N.Counted.seen g.N.Conn.Counted.seen [] c.args.net.now c.serve_all.new.net) c.args.server.now c.serve_all.new.server in
     let All : End → List ℕ → Type 0 = Served g.S.Logged.log g.S.TellsFaults.tells c.args.settings.now (record door { old = standing c.args.server.now (g.N.Counted.seen c.listen.new.self) }) in
     let took = rw c.as_bytes.ensures.value at c.in-Ok-put.ensures.took in
     record {
@@ -44,7 +32,7 @@ returns-in-Err-put g c =
           (
             ends.WriteFault,
             listening,
-            inl (record { at_door = g.N.Counted.seen c.listen.new.self; listens = listens; faults = c.in-Ok.ensures.counts.unfailed; doors = c.in-Ok.ensures.door.kept; served = inr (record { stays = refl; says = (refl, refl) }) }),
+            inl (record { at_door = g.N.Counted.seen c.listen.new.self; listens = listens; faults = c.in-Ok.ensures.counts.unfailed; doors = c.in-Ok.ensures.door.kept; served = inr (refl, (refl, refl)) }),
             rw c.as_bytes.ensures.value at c.in-Err-put.ensures.failed,
           ),
         );
@@ -55,7 +43,7 @@ returns-in-Err-put g c =
 
 pub returns-in-Err : goal.returns-in-Err
 returns-in-Err g c =
-    let door = doorway g.N.Counted.seen g.N.Conn.Counted.seen c.args.server.now c.args.server.now c.args.net.now c.listen.new.self in
+    let door = doorway_of (over g.N.Counted.seen g.N.Conn.Counted.seen [] c.args.net.now c.listen.new.self) c.args.server.now c.args.server.now in
     let call = rw c.as_str.ensures at c.in-Err.ensures.call in
     record {
       ends = record {

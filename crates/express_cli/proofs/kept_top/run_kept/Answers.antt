@@ -37,39 +37,29 @@ more_statuses status h =
 not_ten : (status : ℕ) → Contains (0 ∷ 2 ∷ 3 ∷ 4 ∷ 5 ∷ 6 ∷ 7 ∷ 8 ∷ []) status → status ≡ 10 → ⊥
 not_ten status h is = search rules
 
-pub returns-then-asks_keep-clause-kept : goal.returns-then-asks_keep-clause-kept
-returns-then-asks_keep-clause-kept g c asks =
+pub returns-then-asks_keep : goal.returns-then-asks_keep
+returns-then-asks_keep g c =
     let net : Around = over g.N.Counted.seen g.N.Conn.Counted.seen c.args.seed.now c.args.net.now c.keep-end.new.net in
     let io : Streams = streams g.S.Counted.seen g.K.Counted.seen c.args.input.now c.keep-end.new.input c.args.out.now c.keep-end.new.out in
+    let keeps = c.asks_keep.ensures.0 c.if-asks_keep.true in
     record {
-      ending = c.keep-end.result.0;
-      status_is = c.status_of.ensures;
-      ends = c.keep-end.ensures.ends;
-      input_counts = c.keep-end.ensures.input;
-      output_counts = sink_stays (KeepMay g.D.Disk.disk io net c.args.disk c.keep-end.result.1) io.out io.out_now c.keep-end.result.0 c.keep-end.ensures.ends.comes;
+      ran = λ other. absurd (other keeps);
+      disk_rests = λ other. absurd (other keeps);
+      input_rests = λ other. absurd (other keeps);
+      net_rests = λ other. absurd (other keeps);
+      net_waits = λ other. absurd (other keeps);
+      laws = c.laws.ensures;
+      kept = λ asks. record {
+        ending = c.keep-end.result.0;
+        status_is = c.status_of.ensures;
+        ends = c.keep-end.ensures.ends;
+        input_counts = c.keep-end.ensures.input;
+        output_counts = sink_stays (KeepMay g.D.Disk.disk io net c.args.disk c.keep-end.result.1) io.out io.out_now c.keep-end.result.0 c.keep-end.ensures.ends.comes;
+      };
+      last_take = search rules;
+      disk_fault = λ is. disk_fault c.keep-end.result.0 _ _ (sym c.status_of.ensures ∙ is) c.keep-end.ensures.ends.leaves;
+      statuses = rw c.status_of.ensures (statuses c.keep-end.result.0);
     }
-
-pub returns-then-asks_keep-clause-ran : goal.returns-then-asks_keep-clause-ran
-returns-then-asks_keep-clause-ran g c other = absurd (other (c.asks_keep.ensures.0 c.if-asks_keep.true))
-
-pub returns-then-asks_keep-clause-disk_rests : goal.returns-then-asks_keep-clause-disk_rests
-returns-then-asks_keep-clause-disk_rests g c other = absurd (other (c.asks_keep.ensures.0 c.if-asks_keep.true))
-
-pub returns-then-asks_keep-clause-input_rests : goal.returns-then-asks_keep-clause-input_rests
-returns-then-asks_keep-clause-input_rests g c other = absurd (other (c.asks_keep.ensures.0 c.if-asks_keep.true))
-
-pub returns-then-asks_keep-clause-net_rests : goal.returns-then-asks_keep-clause-net_rests
-returns-then-asks_keep-clause-net_rests g c other = absurd (other (c.asks_keep.ensures.0 c.if-asks_keep.true))
-
-pub returns-then-asks_keep-clause-net_waits : goal.returns-then-asks_keep-clause-net_waits
-returns-then-asks_keep-clause-net_waits g c other = absurd (other (c.asks_keep.ensures.0 c.if-asks_keep.true))
-
-pub returns-then-asks_keep-clause-disk_fault : goal.returns-then-asks_keep-clause-disk_fault
-returns-then-asks_keep-clause-disk_fault g c is =
-    disk_fault c.keep-end.result.0 _ _ (sym c.status_of.ensures ∙ is) c.keep-end.ensures.ends.leaves
-
-pub returns-then-asks_keep-clause-statuses : goal.returns-then-asks_keep-clause-statuses
-returns-then-asks_keep-clause-statuses g c = rw c.status_of.ensures (statuses c.keep-end.result.0)
 
 pub returns-else-asks_keep-clause-kept : goal.returns-else-asks_keep-clause-kept
 returns-else-asks_keep-clause-kept g c asks = absurd (cc (c.asks_keep.ensures.1 asks, c.if-asks_keep.false))

@@ -1,8 +1,7 @@
 use Rattle.std.proofs.Common.{refl, inl, inr}
 use Rattle.express_cli.specs.Ends.{Said, SaidWanting, usage_text}
 use Rattle.express_cli.specs.declared.ends.End.TheVariants.{Usage}
-use Rattle.express_cli.specs.declared.words.Task.TheVariants.{Work, Net, Mill}
-use Rattle.express_cli.proofs.Finishing.{asks_it, milled, quiet, talk_reads, talk_waits, talked, unread, worked}
+use Rattle.express_cli.proofs.Finishing.{milled, quiet, talk_reads, talk_waits, talked, unread, worked}
 use Rattle.express_cli.proofs.top.finish.Goals as goal
 
 pub returns-in-Err-clause-ends : goal.returns-in-Err-clause-ends
@@ -14,45 +13,45 @@ returns-in-Ok-None-clause-ends g c =
 
 pub returns-in-Ok-Some-Mill-clause-ends : goal.returns-in-Ok-Some-Mill-clause-ends
 returns-in-Ok-Some-Mill-clause-ends g c =
-    let asks = asks_it _ _ _ (Mill c.in-Ok-Some-Mill.number) c.in-Ok-Some-Mill.field-0-is c.in-Ok-Some-Mill.field-0-0-is c.in-Ok-Some-Mill.ensures in
+    let asks = rw (c.in-Ok-Some-Mill.field-0-is, c.in-Ok-Some-Mill.field-0-0-is) at c.in-Ok-Some-Mill.ensures in
     milled _ _ _ _ c.in-Ok-Some-Mill.number refl asks refl c.mill.ensures.ends
 
 pub returns-in-Ok-clause-ends : goal.returns-in-Ok-clause-ends
 returns-in-Ok-clause-ends g c =
-    let asks = asks_it _ _ _ (Work c.in-Ok-Some-Work.command) c.in-Ok-Some-Work.field-0-is c.in-Ok-Some-Work.field-0-0-is c.in-Ok-Some-Work.ensures in
+    let asks = rw (c.in-Ok-Some-Work.field-0-is, c.in-Ok-Some-Work.field-0-0-is) at c.in-Ok-Some-Work.ensures in
     worked _ _ _ _ c.in-Ok-Some-Work.command c.as_slice.result.now refl asks (rw (← c.as_slice.ensures.value) at c.in-Ok.ensures.read) (rw c.in-Ok.ensures.rests at c.work.ensures.ends)
 
 pub returns-in-Err-input_of-clause-ends : goal.returns-in-Err-input_of-clause-ends
 returns-in-Err-input_of-clause-ends g c =
-    let asks = asks_it _ _ _ (Work c.in-Ok-Some-Work.command) c.in-Ok-Some-Work.field-0-is c.in-Ok-Some-Work.field-0-0-is c.in-Ok-Some-Work.ensures in
+    let asks = rw (c.in-Ok-Some-Work.field-0-is, c.in-Ok-Some-Work.field-0-0-is) at c.in-Ok-Some-Work.ensures in
     unread _ _ _ _ refl (inl (c.in-Ok-Some-Work.command, asks)) c.in-Err-input_of.ensures.unread
 
 pub returns-in-Ok-input_of-clause-ends : goal.returns-in-Ok-input_of-clause-ends
 returns-in-Ok-input_of-clause-ends g c =
-    let asks = asks_it _ _ _ (Net c.in-Ok-Some-Net.command) c.in-Ok-Some-Net.field-0-is c.in-Ok-Some-Net.field-0-0-is c.in-Ok-Some-Net.ensures in
+    let asks = rw (c.in-Ok-Some-Net.field-0-is, c.in-Ok-Some-Net.field-0-0-is) at c.in-Ok-Some-Net.ensures in
     talked _ _ _ _ c.in-Ok-Some-Net.command c.as_slice-in-Ok-input_of.result.now asks (rw (← c.as_slice-in-Ok-input_of.ensures.value) at c.in-Ok-input_of.ensures.read)
     (rw c.in-Ok-input_of.ensures.rests at c.talk.ensures.ends)
 
 pub returns-in-Err-input_of-2-clause-ends : goal.returns-in-Err-input_of-2-clause-ends
 returns-in-Err-input_of-2-clause-ends g c =
-    let asks = asks_it _ _ _ (Net c.in-Ok-Some-Net.command) c.in-Ok-Some-Net.field-0-is c.in-Ok-Some-Net.field-0-0-is c.in-Ok-Some-Net.ensures in
+    let asks = rw (c.in-Ok-Some-Net.field-0-is, c.in-Ok-Some-Net.field-0-0-is) at c.in-Ok-Some-Net.ensures in
     unread _ _ _ _ refl (inr (c.in-Ok-Some-Net.command, asks)) c.in-Err-input_of-2.ensures.unread
 
 pub returns-in-Ok-clause-input_rests : goal.returns-in-Ok-clause-input_rests
 returns-in-Ok-clause-input_rests g c none =
-    absurd (none (inl (_, asks_it _ _ _ (Work c.in-Ok-Some-Work.command) c.in-Ok-Some-Work.field-0-is c.in-Ok-Some-Work.field-0-0-is c.in-Ok-Some-Work.ensures)))
+    absurd (none (inl (_, rw (c.in-Ok-Some-Work.field-0-is, c.in-Ok-Some-Work.field-0-0-is) at c.in-Ok-Some-Work.ensures)))
 
 pub returns-in-Err-input_of-clause-input_rests : goal.returns-in-Err-input_of-clause-input_rests
 returns-in-Err-input_of-clause-input_rests g c none =
-    absurd (none (inl (_, asks_it _ _ _ (Work c.in-Ok-Some-Work.command) c.in-Ok-Some-Work.field-0-is c.in-Ok-Some-Work.field-0-0-is c.in-Ok-Some-Work.ensures)))
+    absurd (none (inl (_, rw (c.in-Ok-Some-Work.field-0-is, c.in-Ok-Some-Work.field-0-0-is) at c.in-Ok-Some-Work.ensures)))
 
 pub returns-in-Ok-input_of-clause-input_rests : goal.returns-in-Ok-input_of-clause-input_rests
 returns-in-Ok-input_of-clause-input_rests g c none =
-    absurd (none (inr (_, asks_it _ _ _ (Net c.in-Ok-Some-Net.command) c.in-Ok-Some-Net.field-0-is c.in-Ok-Some-Net.field-0-0-is c.in-Ok-Some-Net.ensures)))
+    absurd (none (inr (_, rw (c.in-Ok-Some-Net.field-0-is, c.in-Ok-Some-Net.field-0-0-is) at c.in-Ok-Some-Net.ensures)))
 
 pub returns-in-Err-input_of-2-clause-input_rests : goal.returns-in-Err-input_of-2-clause-input_rests
 returns-in-Err-input_of-2-clause-input_rests g c none =
-    absurd (none (inr (_, asks_it _ _ _ (Net c.in-Ok-Some-Net.command) c.in-Ok-Some-Net.field-0-is c.in-Ok-Some-Net.field-0-0-is c.in-Ok-Some-Net.ensures)))
+    absurd (none (inr (_, rw (c.in-Ok-Some-Net.field-0-is, c.in-Ok-Some-Net.field-0-0-is) at c.in-Ok-Some-Net.ensures)))
 
 pub returns-in-Ok-input_of-clause-last_take : goal.returns-in-Ok-input_of-clause-last_take
 returns-in-Ok-input_of-clause-last_take g c is =

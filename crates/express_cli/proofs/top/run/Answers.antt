@@ -43,11 +43,7 @@ came law words streams net end ends source = record {
   sink_unfailed = λ write. sink_stays (RunMay words streams net) streams.out streams.out_now end ends.talks.comes (λ e. write (ap status_of e));
 }
 
-ran : Reads → (words : List Text) (streams : Streams) (net : Around) (end : End) (status : ℕ)
-    → RunEnds words streams net end → InputCounts end streams → status ≡ status_of end → Ran words streams net status
-ran law words streams net end status ends source is = subst (Ran words streams net) (sym is) (came law words streams net end ends source)
-
 pub returns-clause-ran : goal.returns-clause-ran
 returns-clause-ran g c =
-    ran (record { schedule = c.read_exactly.ensures.only; bad_schedule = c.read_exactly.ensures.only_bad; pairs = c.batch_is_read_exactly.ensures.only; bad_pairs = c.batch_is_read_exactly.ensures.only_bad; game = c.game_is_read_exactly.ensures.only; bad_game = c.game_is_read_exactly.ensures.only_bad })
-    _ _ _ _ _ c.finish.ensures.ends c.finish.ensures.source c.status_of.ensures
+    rw c.status_of.ensures (came (record { schedule = c.read_exactly.ensures.only; bad_schedule = c.read_exactly.ensures.only_bad; pairs = c.batch_is_read_exactly.ensures.only; bad_pairs = c.batch_is_read_exactly.ensures.only_bad; game = c.game_is_read_exactly.ensures.only; bad_game = c.game_is_read_exactly.ensures.only_bad })
+    _ _ _ _ c.finish.ensures.ends c.finish.ensures.source)
