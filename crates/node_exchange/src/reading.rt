@@ -1,7 +1,7 @@
 //! One frame is read from a source.
-ghost use Rattle.std.specs.Prelude.{◌≡◌, ◌≢◌, ◌+◌, ◌<◌, ◌≤◌, length, take, drop, IfOk, OnErr, Err, []};
+ghost use Rattle.std.specs.Prelude.{◌≡◌, ◌≢◌, ◌+◌, ◌<◌, ◌≤◌, length, take, Err};
 ghost use Rattle.std.specs.Int.{w32};
-ghost use Rattle.express_words.specs.Causes.{Rose, HasCause, CountsFault};
+ghost use Rattle.express_words.specs.Causes.{Rose};
 ghost use Rattle.express_words.specs.Streams.{Gave, IsAtEnd};
 ghost use Rattle.frame_rules.specs.Forms.{Gives, number_at};
 ghost use Rattle.frame_rules.specs.Gathering.{missing};
@@ -9,7 +9,7 @@ ghost use Rattle.frame_rules.specs.Reading.{decoded};
 ghost use Rattle.frame_rules.specs.Room.{HasRoom};
 ghost use Rattle.node_exchange.specs.Taking.{EndsBy, IsWanted};
 
-use express_words::outside::{Failed, Source};
+use express_words::outside::Source;
 use frame_rules::FrameFault;
 use wire_frames::decode;
 
@@ -51,28 +51,6 @@ fn missing_from(taken: &[u8]) -> usize
     }
 }
 
-/// Takes at most `want` bytes behind the first `count`.
-fn take_behind<S: Source>(
-    source: &mut S,
-    into: &mut [u8],
-    count: usize,
-    want: usize,
-) -> Result<usize, Failed>
-    requires some { 0 < want }
-    requires room { count + want ≤ length into.old }
-    ensures bound { IfOk result (λ n. n ≤ want) }
-    ensures stays { take count into.new ≡ take count into.old }
-    ensures gave { IfOk result (λ n. Gave (S.seen source.old).content (S.seen source.new).content (take n
-        (drop count into.new))) }
-    ensures end { IfOk result (λ n. n ≡ 0 → IsAtEnd (S.seen source.new).content) }
-    ensures failed { OnErr result (Gave (S.seen source.old).content (S.seen source.new).content []) }
-    ensures writes_nothing { (S.seen source.new).written ≡ (S.seen source.old).written }
-    ensures cause { HasCause (S.seen source.old).faults (S.seen source.new).faults result }
-    ensures counts { CountsFault (S.seen source.old).faults (S.seen source.new).faults result }
-{
-    source.take(&mut into[count..count + want])
-}
-
 /// Takes bytes into the front of `into` until they are a frame or known to be none. Gives how many were taken.
 #[tactic(auto, using(crate::proofs::TakingLaws::one_frame))]
 pub fn read_frame<S: Source>(source: &mut S, into: &mut [u8]) -> (usize, Reading)
@@ -96,7 +74,7 @@ pub fn read_frame<S: Source>(source: &mut S, into: &mut [u8]) -> (usize, Reading
             Err(FrameFault::Short) => missing_from(taken),
             Err(fault) => return (count, Reading::Wrong(fault)),
         };
-        match take_behind(source, into, count, want) {
+        match source.take(&mut into[count..count + want]) {
             Err(_) => return (count, Reading::Failed),
             Ok(0) => return (count, Reading::Ended),
             Ok(more) => count += more,
