@@ -11,7 +11,7 @@ use Rattle.express_cli.proofs.door.serve_all.Goals as goal
 pub tell_fault-requires : goal.tell_fault-requires
 tell_fault-requires g c =
     let refuses = rw c.in-Log.is at c.in-Err.ensures.hosts.ends in
-    record { first = g.met.S.TellsFaults.stops_first _ _ _ refuses.broken.refused c.in-Log.fault c.requires.whole refuses.stops }
+    record { first = g.met.S.TellsFaults.stops_first _ _ _ refuses.broken.short.refused c.in-Log.fault c.requires.whole refuses.stops }
 
 pub returns-in-Ok-clause-tells : goal.returns-in-Ok-clause-tells
 returns-in-Ok-clause-tells g c =
