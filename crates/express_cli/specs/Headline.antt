@@ -26,28 +26,22 @@ WorkedOnAll words streams =
     × ((bytes : List ℕ) × Read streams bytes
     × ((text : List ℕ) × IsOutput command bytes text × Wrote streams text))
 
--- The input wasn't read, and the text of the mill that the words ask for was written.
-abbrev pub Milled : List Text → Streams → Type 0
-Milled words streams = (n : ℕ) × AsksMill words n × IsUnread streams × Wrote streams (mill_text n)
-
 -- The words asked for a command over a net, the input gave all its bytes, and what came of the command at this
 -- end was written.
 abbrev pub Talked : End → List Text → Streams → Around → Type 0
 Talked end words streams net = (text : List ℕ) × MayTalk words streams net end text × Wrote streams text
 
--- what the words ask for was done and written
+-- What the words ask for was done and written; for the text of a mill the input wasn't read.
 abbrev pub Worked : List Text → Streams → Around → Type 0
-Worked words streams net = WorkedOnAll words streams ⊎ (Talked Done words streams net ⊎ Milled words streams)
+Worked words streams net = WorkedOnAll words streams ⊎ (Talked Done words streams net
+    ⊎ ((n : ℕ) × AsksMill words n × IsUnread streams × Wrote streams (mill_text n)))
 
--- The input gave all its bytes, and their first bad line was named.
-abbrev pub NamesLine : List Text → Streams → Type 0
-NamesLine words streams =
-    (command : Command) × Asks words command
-    × ((bytes : List ℕ) × Read streams bytes × ((n : ℕ) × IsBad command n bytes × Wrote streams (bad_line n)))
-
--- so it was, or the first bad key of settings was
+-- The input gave all its bytes, and their first bad line was named, or the first bad key of settings.
 abbrev pub Refused : List Text → Streams → Around → Type 0
-Refused words streams net = NamesLine words streams ⊎ Talked BadKey words streams net
+Refused words streams net =
+    ((command : Command) × Asks words command
+    × ((bytes : List ℕ) × Read streams bytes × ((n : ℕ) × IsBad command n bytes × Wrote streams (bad_line n))))
+    ⊎ Talked BadKey words streams net
 
 -- Memory was wanting before any call on a net, and that alone was told; or of a command over a net, behind
 -- what was told before.

@@ -46,14 +46,11 @@ MayTalk words streams net end text =
     (command : NetCommand) × AsksNet words command
     × ((bytes : List ℕ) × Read streams bytes × TalkMay command bytes net end text)
 
--- The words ask for the mill of a number, the input wasn't read, and this is the mill's text.
-abbrev pub MayMill : List Text → Streams → List ℕ → Type 0
-MayMill words streams text = (n : ℕ) × AsksMill words n × IsUnread streams × (text ≡ mill_text n)
-
--- Work, talk or a mill was done.
+-- Work or talk was done; or the words ask for the mill of a number, the input wasn't read, and this is the
+-- mill's text.
 abbrev pub MayDo : List Text → Streams → Around → List ℕ → Type 0
-MayDo words streams net text =
-    MayWork words streams Done text ⊎ (MayTalk words streams net Done text ⊎ MayMill words streams text)
+MayDo words streams net text = MayWork words streams Done text ⊎ (MayTalk words streams net Done text
+    ⊎ ((n : ℕ) × AsksMill words n × IsUnread streams × (text ≡ mill_text n)))
 
 -- What a run comes to, by its words, and by what its input and its net show before and now.
 abbrev pub RunMay : List Text → Streams → Around → End → List ℕ → Type 0

@@ -8,7 +8,7 @@ use Rattle.express_cli.specs.Talking.{EndsBy, Talks}
 use Rattle.express_cli.specs.declared.ends.End.{End}
 use Rattle.express_cli.proofs.CountLaws.{quiet_counts, text_fault}
 use Rattle.express_cli.proofs.Settling.{lift, settled, still_ends, unsettled}
-use Rattle.express_cli.proofs.keeping.keep.Goals as goal
+use Rattle.express_cli.proofs.kept_top.keep.Goals as goal
 
 -- the input was read, and work on it ended so
 all_read : {D : Type 0} (shows : D → DiskSeen) (disk after : D) (io : Streams) (net : Around) {Leaves : Type 0} (end : End) (bytes : List ℕ) → Read io bytes

@@ -3,7 +3,7 @@ use Rattle.express_cli.specs.Ends.{out_of_memory_text}
 use Rattle.express_cli.specs.declared.ends.End.TheVariants.{OutOfMemory}
 use Rattle.express_cli.specs.declared.words.NetCommand.TheVariants.{Serve}
 use Rattle.express_cli.proofs.Settling.{lift, no_key, said_ends}
-use Rattle.express_cli.proofs.serve.serve.Goals as goal
+use Rattle.express_cli.proofs.talk.serve.Goals as goal
 
 pub listen_and_serve-requires : goal.listen_and_serve-requires
 listen_and_serve-requires g c = record { whole = tt }

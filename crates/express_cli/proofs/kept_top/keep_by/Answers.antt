@@ -8,7 +8,7 @@ use Rattle.express_cli.specs.Keeping.{OpenFaultMay}
 use Rattle.express_cli.specs.declared.ends.End.TheVariants.{OutOfMemory}
 use Rattle.express_cli.proofs.CountLaws.{told_counts}
 use Rattle.express_cli.proofs.Settling.{lift, said_ends, still_ends}
-use Rattle.express_cli.proofs.keeping.keep_by.Goals as goal
+use Rattle.express_cli.proofs.kept_top.keep_by.Goals as goal
 
 -- a server that was opened has a journal that isn't closed
 unclosed : {D : Type 0} (shows : D → DiskSeen) (limit : ℕ) (o : Opening) (disk : D) (k : KeptState D) → IsOpenedOn shows limit o disk k → k.journal.closed ≡ false
