@@ -9,12 +9,12 @@ use Rattle.express_cli.specs.Ends.{status_of, usage_text, read_fault_text, too_l
 use Rattle.express_cli.specs.Around.{Around, IsUnread, ReadSome, Streams, Wrote}
 use Rattle.express_cli.specs.Talking.{WantsFirst}
 use Rattle.express_cli.specs.Runs.{ComesTo, MayDo, MayTalk, RunMay, UnreadMay}
-use Rattle.express_cli.specs.Headline.{Refused, Talked, WantsMemory, Worked}
+use Rattle.express_cli.specs.Runs.{Refused, Talked, WantsMemory, Worked}
 use Rattle.express_cli.specs.declared.ends.End.{End}
 use Rattle.express_cli.specs.declared.ends.End.TheVariants as ends
 use Rattle.express_cli.proofs.ByTask.{Came, came_of, nothing, unread, worked, talked, milled, wanting}
 use Rattle.express_cli.proofs.OneReading.{nothing_of_some}
-use Rattle.express_cli.proofs.Told.{not_more, not_moved}
+use Rattle.express_cli.proofs.ByTask.{not_more, not_moved}
 use Rattle.express_cli.proofs.Writing.{took_as}
 
 pub statuses : (words : List Text) (streams : Streams) (net : Around) (end : End) → ComesTo words streams net end → Contains (0 ∷ 2 ∷ 3 ∷ 4 ∷ 5 ∷ 6 ∷ 7 ∷ 8 ∷ []) (status_of end)

@@ -17,16 +17,16 @@ use Rattle.input_reading.specs.Reading.{most_bytes}
 use Rattle.express_cli.specs.Batches.{SortsOut, IsBatchText, batch_text}
 use Rattle.express_cli.specs.Cloaks.{old_view, new_view, cloak_text, IsCloakText}
 use Rattle.express_cli.specs.Mills.{mill_text}
-use Rattle.express_cli.specs.Work.{IsOutput, IsBad}
+use Rattle.express_cli.specs.Ends.{IsOutput, IsBad}
 use Rattle.express_cli.specs.Ends.{WorkMay, status_of, bad_line, too_long_text}
 use Rattle.express_cli.specs.Around.{Around, IsUnread, Read, Seen, Streams, Wrote}
 use Rattle.express_cli.specs.Runs.{ComesTo, UnreadMay}
-use Rattle.express_cli.specs.Headline.{Well}
+use Rattle.express_cli.specs.Runs.{Well}
 use Rattle.express_cli.specs.declared.words.Command.{Command}
 use Rattle.express_cli.specs.declared.words.Command.TheVariants.{Replay, Batch, Cloak}
 use Rattle.express_cli.specs.declared.ends.End.{End}
 use Rattle.express_cli.specs.declared.ends.End.TheVariants as ends
-use Rattle.express_cli.proofs.Told.{gave_left, gave_within}
+use Rattle.express_cli.proofs.ByTask.{gave_left, gave_within}
 use Rattle.express_cli.proofs.ByTask.{Came, went, nothing, unread, worked, talked, milled, wanting}
 use Rattle.express_cli.proofs.OneReading.{Reads, not_both, not_two, same_line, same_value, same_command, no_mill, no_net, no_net_mill, nothing_of_some, same_mill, some_no_mill}
 use Rattle.express_cli.proofs.Writing.{took_as}

@@ -1,5 +1,4 @@
 pub mod Writing
-pub mod Told
 pub mod OneReading
 pub mod Finishing
 pub mod ByTask

@@ -11,7 +11,7 @@ use Rattle.express_texts.specs.declared.cloak.CloakGame.{CloakGame}
 use Rattle.express_texts.specs.GameLines.{game_of}
 use Rattle.express_texts.specs.GameSpelling.{SpellsGame, IsFirstBadGameLine}
 use Rattle.express_cli.specs.CommandLine.{Asks, AsksMill, AsksNet, AskSome, AskNothing}
-use Rattle.express_cli.specs.Work.{IsOutput, IsBad}
+use Rattle.express_cli.specs.Ends.{IsOutput, IsBad}
 use Rattle.express_cli.specs.declared.words.Command.{Command}
 use Rattle.express_cli.specs.declared.words.Command.TheVariants.{Replay, Batch, Cloak}
 use Rattle.express_cli.specs.declared.words.NetCommand.{NetCommand}

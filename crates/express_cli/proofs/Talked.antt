@@ -8,11 +8,11 @@ use Rattle.express_cli.specs.Ends.{status_of, bad_settings}
 use Rattle.express_cli.specs.Around.{Around, Streams, Wrote}
 use Rattle.express_cli.specs.Talking.{IsBadKey, Spells, TalkMay, kind_of}
 use Rattle.express_cli.specs.Runs.{ComesTo}
-use Rattle.express_cli.specs.Headline.{Told, Well}
+use Rattle.express_cli.specs.Runs.{Told, Well}
 use Rattle.express_cli.specs.declared.words.NetCommand.{NetCommand}
 use Rattle.express_cli.specs.declared.ends.End.{End}
 use Rattle.express_cli.specs.declared.ends.End.TheVariants as ends
-use Rattle.express_cli.proofs.Told.{gave_left}
+use Rattle.express_cli.proofs.ByTask.{gave_left}
 use Rattle.express_cli.proofs.ByTask.{Came, went, nothing, unread, worked, talked, milled, wanting}
 use Rattle.express_cli.proofs.Exact.{not_unread}
 use Rattle.express_cli.proofs.OneReading.{no_net, no_net_mill, not_two, same_fault, same_net, same_value}

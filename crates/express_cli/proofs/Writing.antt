@@ -3,7 +3,7 @@ use Rattle.std.proofs.Common.{◌≡◌, ◌≢◌, ℕ, List, ◌++◌, Option,
 use Rattle.express_words.specs.Causes.{Rose}
 use Rattle.express_words.specs.Streams.{Took, TookPrefix}
 use Rattle.client_run.proofs.PassedLaws.{took_both}
-use Rattle.express_cli.specs.Work.{IsBad}
+use Rattle.express_cli.specs.Ends.{IsBad}
 use Rattle.express_cli.specs.Ends.{Prints, PrintsBy, Said, BadLineMay, WorkMay}
 use Rattle.express_cli.specs.Around.{Seen}
 use Rattle.express_cli.specs.declared.words.Command.{Command}

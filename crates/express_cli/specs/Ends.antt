@@ -6,9 +6,18 @@ use Rattle.express_words.specs.Seen.{Seen}
 use Rattle.express_words.specs.Streams.{Took, TookPrefix}
 use Rattle.express_texts.specs.declared.fault.TextFault.{TextFault}
 use Rattle.express_texts.specs.declared.fault.TextFault.TheVariants as fault
-use Rattle.express_cli.specs.Work.{IsOutput, IsBad}
+use Rattle.schedule_text.specs.Spelling as schedules
+use Rattle.schedule_text.specs.declared.schedule.Schedule.{Schedule}
+use Rattle.replay_world.specs.Played.{output_of}
+use Rattle.express_texts.specs.Batch.{Batch as Pairs}
+use Rattle.express_texts.specs.Spelling as batches
+use Rattle.express_texts.specs.declared.cloak.CloakGame.{CloakGame}
+use Rattle.express_texts.specs.GameSpelling.{SpellsGame, IsFirstBadGameLine}
+use Rattle.express_cli.specs.Batches.{IsBatchText}
+use Rattle.express_cli.specs.Cloaks.{IsCloakText}
 use Rattle.express_cli.specs.Mills.{mill_text}
 use Rattle.express_cli.specs.declared.words.Command.{Command}
+use Rattle.express_cli.specs.declared.words.Command.TheVariants.{Replay, Batch, Cloak}
 use Rattle.express_cli.specs.declared.ends.End.{End}
 use Rattle.express_cli.specs.declared.ends.End.TheVariants.{Done, Usage, BadLine, BadKey, ReadFault}
 use Rattle.express_cli.specs.declared.ends.End.TheVariants.{WriteFault, NetFault, OutOfMemory, TooLong}
@@ -105,6 +114,19 @@ abbrev pub FaultMay : TextFault → End → List ℕ → Type 0
 FaultMay (fault.Wrong n) end text = BadLineMay n end text
 FaultMay (fault.WrongKey key) end text = BadKeyMay key end text
 FaultMay fault.NoMemory end text = SaidWanting end text
+
+-- the command writes this text of these bytes
+abbrev pub IsOutput : Command → List ℕ → List ℕ → Type 0
+IsOutput Replay bytes text =
+    (schedule : Schedule) × schedules.SpellsSchedule schedule bytes × (text ≡ output_of schedule)
+IsOutput Batch bytes text = (pairs : Pairs) × batches.SpellsBatch pairs bytes × IsBatchText pairs text
+IsOutput Cloak bytes text = (game : CloakGame) × SpellsGame game bytes × IsCloakText game text
+
+-- line n of these bytes is the one that the command names as bad
+abbrev pub IsBad : Command → ℕ → List ℕ → Type 0
+IsBad Replay n bytes = schedules.IsFirstBadLine n bytes
+IsBad Batch n bytes = batches.IsFirstBadLine n bytes
+IsBad Cloak n bytes = IsFirstBadGameLine n bytes
 
 -- To work on bytes comes to what the command writes of them, to their first bad line, or to want of memory.
 abbrev pub WorkMay : Command → List ℕ → End → List ℕ → Type 0

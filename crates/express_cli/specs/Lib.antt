@@ -2,13 +2,11 @@ pub mod CommandLine
 pub mod Batches
 pub mod Cloaks
 pub mod Mills
-pub mod Work
 pub mod Ends
 pub mod Around
 pub mod Talking
 pub mod Settings
 pub mod Runs
-pub mod Headline
 pub mod Ran
 pub mod Laws
 pub mod Door

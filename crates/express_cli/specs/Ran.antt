@@ -19,12 +19,12 @@ use Rattle.input_reading.specs.Reading.{most_bytes, GaveMore}
 use Rattle.express_cli.specs.Batches.{SortsOut, batch_text}
 use Rattle.express_cli.specs.Cloaks.{old_view, new_view, cloak_text}
 use Rattle.express_cli.specs.Mills.{mill_text}
-use Rattle.express_cli.specs.Work.{IsBad}
+use Rattle.express_cli.specs.Ends.{IsBad}
 use Rattle.express_cli.specs.Ends.{bad_line, bad_settings, usage_text, read_fault_text, too_long_text}
 use Rattle.express_cli.specs.Around.{Around, IsUnread, ReadSome, Streams, Wrote}
 use Rattle.express_cli.specs.Talking.{Spells, IsBadKey, ServeMay, ClientMay, CarryMay}
 use Rattle.express_cli.specs.Runs.{MayLeave, RunMay, SinkFailed}
-use Rattle.express_cli.specs.Headline.{Refused, Talked, Told, WantsMemory, Well, Worked}
+use Rattle.express_cli.specs.Runs.{Refused, Talked, Told, WantsMemory, Well, Worked}
 use Rattle.express_cli.specs.declared.words.Command.{Command}
 use Rattle.express_cli.specs.declared.words.Command.TheVariants.{Replay, Batch, Cloak}
 use Rattle.express_cli.specs.declared.words.NetCommand.{NetCommand}

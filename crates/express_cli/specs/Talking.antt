@@ -76,19 +76,16 @@ pub record Kind : Type 1 where
 abbrev pub MisspeltMay : {A : Type 0} → Result A (List ℕ) → End → List ℕ → Type 0
 MisspeltMay read end text = ((key : List ℕ) × (read ≡ Err key) × BadKeyMay key end text) ⊎ SaidWanting end text
 
--- the settings that were read are such
-abbrev pub BySettings : {A : Type 0} → Result A (List ℕ) → (A → Type 0) → Type 0
-BySettings {A} read P = (settings : A) × (read ≡ Ok settings) × P settings
-
 -- What may come of these bytes: of the settings that they spell; or nothing was done.
 abbrev pub MayBy : Kind → List ℕ → Around → End → List ℕ → Type 0
 MayBy kind bytes net end text =
-    BySettings (kind.read bytes) (λ settings. kind.May settings net end text)
+    ((settings : kind.Settings) × (kind.read bytes ≡ Ok settings) × kind.May settings net end text)
     ⊎ (kind.Rests net × MisspeltMay (kind.read bytes) end text)
 
 -- what had been done or told by the settings that they spell
 abbrev pub BreaksBy : Kind → List ℕ → Around → (old new : Seen) → Type 0
-BreaksBy kind bytes net old new = BySettings (kind.read bytes) (λ settings. kind.Breaks settings net old new)
+BreaksBy kind bytes net old new =
+    (settings : kind.Settings) × (kind.read bytes ≡ Ok settings) × kind.Breaks settings net old new
 
 -- how work on these bytes ends
 abbrev pub EndsBy : Kind → List ℕ → (Leaves : Type 0) → Around → (old new : Seen) → End → Type 0

@@ -1,6 +1,5 @@
 //! The work of a command over a net.
-ghost use Rattle.std.specs.Prelude.{◌≡◌, ◌≢◌, ◌≤◌, ◌⊎◌, List, ℕ, IfOk};
-ghost use Rattle.node_serve.specs.Opening.{IsOpened};
+ghost use Rattle.std.specs.Prelude.{◌≡◌, ◌≢◌, ◌≤◌, ◌⊎◌, List, ℕ};
 ghost use Rattle.express_cli.specs.Around.{over};
 ghost use Rattle.express_cli.specs.Door.{NeverMay};
 ghost use Rattle.express_cli.specs.Ends.{DiskCounts, Prints};
@@ -11,7 +10,6 @@ use crate::ends::End;
 use crate::texts::{OUT_OF_MEMORY, say, say_fault};
 use crate::words::NetCommand;
 use client_run::{Ran, RunEnd, Untold, run_carry, run_client};
-use express_words::NoMemory;
 use express_words::outside::{Net, Sink};
 use node_serve::{Never, Node, open_node};
 use settings_text::{ServeSettings, read_carry, read_client, read_serve};
@@ -36,18 +34,6 @@ impl TellsFaults for Node {
     ghost stops_first = { λ a b taken refused why whole stops. stops };
 }
 
-// The server of the settings, and what takes its frames.
-fn opened(
-    alloc: Global,
-    settings: &ServeSettings,
-    seed: &[u8; 32],
-) -> Result<(Node, Gather), NoMemory>
-    ensures opened { IfOk result (λ r. IsOpened settings.now seed.now r.0) }
-{
-    let gather = Gather::open(alloc)?;
-    Ok((open_node(alloc, settings, seed)?, gather))
-}
-
 // Is the server of the settings, until it has served as many connections as they say. Tells that it listens, and at
 // the end how many connections had each answer.
 fn serve<K: Sink, N: Net>(
@@ -61,10 +47,11 @@ fn serve<K: Sink, N: Net>(
         (over N.seen N.Conn.seen seed.now net.old net.new) (K.seen out.old) (K.seen out.new) result }
     ensures settings { result ≢ End.BadKey }
 {
-    match opened(alloc, settings, seed) {
-        Ok((mut node, mut gather)) => {
-            listen_and_serve(alloc, settings, &mut node, &mut gather, out, net)
-        }
+    let Ok(mut gather) = Gather::open(alloc) else {
+        return say(out, OUT_OF_MEMORY, End::OutOfMemory);
+    };
+    match open_node(alloc, settings, seed) {
+        Ok(mut node) => listen_and_serve(alloc, settings, &mut node, &mut gather, out, net),
         Err(_) => say(out, OUT_OF_MEMORY, End::OutOfMemory),
     }
 }

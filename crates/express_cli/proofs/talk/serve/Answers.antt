@@ -8,12 +8,15 @@ use Rattle.express_cli.proofs.talk.serve.Goals as goal
 pub listen_and_serve-requires : goal.listen_and_serve-requires
 listen_and_serve-requires g c = record { whole = tt }
 
-pub returns-in-Ok-clause-ends : goal.returns-in-Ok-clause-ends
-returns-in-Ok-clause-ends g c =
-    lift (λ e t may. inl (c.in-Ok.node, c.listen_and_serve.new.server, c.in-Ok.ensures.opened, may)) (λ broke. broke) (λ counts. tt) c.listen_and_serve.ensures.ends
+pub returns-in_default-clause-ends : goal.returns-in_default-clause-ends
+returns-in_default-clause-ends g c = said_ends OutOfMemory out_of_memory_text refl tt (inr (refl, (refl, refl))) c.say.ensures.says
 
-pub returns-in-Ok-clause-settings : goal.returns-in-Ok-clause-settings
-returns-in-Ok-clause-settings g c = no_key Serve c.args.settings.now (returns-in-Ok-clause-ends g c)
+pub returns-in-Ok-open_node-clause-ends : goal.returns-in-Ok-open_node-clause-ends
+returns-in-Ok-open_node-clause-ends g c =
+    lift (λ e t may. inl (c.in-Ok-open_node.node, c.listen_and_serve.new.server, c.in-Ok-open_node.ensures.opened, may)) (λ broke. broke) (λ counts. tt) c.listen_and_serve.ensures.ends
 
-pub returns-in-Err-clause-ends : goal.returns-in-Err-clause-ends
-returns-in-Err-clause-ends g c = said_ends OutOfMemory out_of_memory_text refl tt (inr (refl, (refl, refl))) c.say.ensures.says
+pub returns-in-Ok-open_node-clause-settings : goal.returns-in-Ok-open_node-clause-settings
+returns-in-Ok-open_node-clause-settings g c = no_key Serve c.args.settings.now (returns-in-Ok-open_node-clause-ends g c)
+
+pub returns-clause-ends : goal.returns-clause-ends
+returns-clause-ends g c = said_ends OutOfMemory out_of_memory_text refl tt (inr (refl, (refl, refl))) c.say-in-Err.ensures.says
