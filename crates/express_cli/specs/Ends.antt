@@ -40,22 +40,6 @@ status_of JournalFull = 11
 status_of (JournalDamaged at) = 12
 status_of (JournalForeign number) = 13
 
--- what an end is called, in the words of the printed texts
-abbrev pub end_text : End → List ℕ
-end_text Done = codes "done"
-end_text Usage = codes "bad usage"
-end_text (BadLine n) = codes "bad line " ++ decimal n
-end_text BadKey = codes "bad settings"
-end_text ReadFault = codes "read fault"
-end_text WriteFault = codes "write fault"
-end_text NetFault = codes "net fault"
-end_text OutOfMemory = codes "out of memory"
-end_text TooLong = codes "input too long"
-end_text DiskFault = codes "disk fault"
-end_text JournalFull = codes "journal full"
-end_text (JournalDamaged at) = codes "journal damaged " ++ decimal at
-end_text (JournalForeign number) = codes "journal foreign " ++ decimal number
-
 abbrev pub usage_text : List ℕ
 usage_text = codes "usage: express replay, serve, client, cloak, carry, batch or mill NUMBER\n"
 

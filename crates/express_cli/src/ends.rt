@@ -1,8 +1,6 @@
 //! How a run ends.
-ghost use Rattle.std.specs.Prelude.{◌≡◌, Some};
-ghost use Rattle.express_cli.specs.Ends.{end_text, status_of};
-
-use std::fmt;
+ghost use Rattle.std.specs.Prelude.{◌≡◌};
+ghost use Rattle.express_cli.specs.Ends.{status_of};
 
 /// How a run ends.
 #[derive(Clone, Copy, Debug, PartialEq, Eq)]
@@ -30,28 +28,6 @@ pub enum End {
     JournalDamaged(u64),
     /// The journal's record of this number, counted from 0, isn't one that a server writes.
     JournalForeign(u64),
-}
-
-impl fmt::Display for End {
-    ghost output = { λ end. Some (end_text end) };
-
-    fn fmt<W: fmt::Write>(&self, f: &mut fmt::Formatter<W>) -> fmt::Result {
-        match *self {
-            End::Done => f.write_str("done"),
-            End::Usage => f.write_str("bad usage"),
-            End::BadLine(line) => write!(f, "bad line {line}"),
-            End::BadKey => f.write_str("bad settings"),
-            End::ReadFault => f.write_str("read fault"),
-            End::WriteFault => f.write_str("write fault"),
-            End::NetFault => f.write_str("net fault"),
-            End::OutOfMemory => f.write_str("out of memory"),
-            End::TooLong => f.write_str("input too long"),
-            End::DiskFault => f.write_str("disk fault"),
-            End::JournalFull => f.write_str("journal full"),
-            End::JournalDamaged(at) => write!(f, "journal damaged {at}"),
-            End::JournalForeign(number) => write!(f, "journal foreign {number}"),
-        }
-    }
 }
 
 /// The status that the program ends with.
