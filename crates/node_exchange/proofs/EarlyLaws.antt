@@ -1,10 +1,10 @@
 -- The calls of an exchange end short only where its answer ended early.
-use Rattle.std.proofs.Common.{◌≡◌, ℕ, true, false, List, [], ◌∷◌, ◌++◌, Option, Some, None, Result, Ok, Err, refl, sym, ap, ◌∙◌, subst, append_assoc}
+use Rattle.std.proofs.Common.{◌≡◌, ℕ, Bool, true, false, List, [], ◌∷◌, ◌++◌, Option, Some, None, Result, Ok, Err, sym, ◌∙◌, subst, append_assoc, arith}
 use Rattle.std.proofs.lemmas.List.{same_from_push}
 use Rattle.express_words.specs.Calls.{Call, Dialled, Closed}
 use Rattle.frame_rules.specs.Reading.{decoded}
 use Rattle.frame_rules.specs.declared.fault.FrameFault.TheVariants.{Short}
-use Rattle.node_exchange.specs.Exchanging.{Exchange, IsAnswer, IsExchange, EndsShort, ExchangeOn}
+use Rattle.node_exchange.specs.Exchanging.{Exchange, IsAnswer, IsTalk, IsExchange, EndsShort, ExchangeOn}
 use Rattle.node_exchange.specs.declared.exchanging.Broken.{Broken}
 use Rattle.node_exchange.specs.declared.exchanging.Broken.TheVariants as broken
 
@@ -12,28 +12,24 @@ abbrev IsEarly : Result (List ℕ) Broken → Type 0
 IsEarly r = (n : ℕ) × (r ≡ Err (broken.Early n))
 
 answer_short : (r : Result (List ℕ) Broken) (given : List ℕ) → IsAnswer r given → decoded given ≡ Err Short → IsEarly r
-answer_short (Ok bytes) given (same, (f, e)) short = absurd cc
-answer_short (Err (broken.Early n)) given is short = (n, refl)
-answer_short (Err (broken.Wrong fault)) given (e, n) short = absurd (n cc)
-answer_short (Err (broken.Fault n)) given is short = absurd is
+answer_short r given is short = grind arith
 
-last_is : (old calls before : List Call) (x y : Call) → old ++ (calls ++ x ∷ []) ≡ before ++ y ∷ [] → x ≡ y
-last_is old calls before x y all = (same_from_push (old ++ calls) before x y (append_assoc old calls (x ∷ []) ∙ all)).1
+talked : (whole : Bool) (e : Exchange) (gave took given taken : List ℕ) → IsTalk whole e gave took → Closed gave took whole ≡ Closed given taken true → IsAnswer e.answer given
+talked whole e gave took given taken talk same = grind arith
 
-calls_short : (peer : List ℕ) (e : Exchange) (calls old before : List Call) (given taken : List ℕ) → IsExchange peer e calls
-    → old ++ calls ≡ before ++ Closed given taken true ∷ [] → decoded given ≡ Err Short → IsEarly e.answer
-calls_short peer e (Dialled to true ∷ []) old before given taken is all short = absurd (cc (last_is old [] before _ _ all))
-calls_short peer e (Dialled to false ∷ Closed gave took true ∷ []) old before given taken is all short =
-    let same = last_is old (Dialled to false ∷ []) before (Closed gave took true) (Closed given taken true) all in
-    let bytes : gave ≡ given = cc in
-    answer_short e.answer gave is.1.2 (ap decoded bytes ∙ short)
-calls_short peer e (Dialled to false ∷ Closed gave took false ∷ []) old before given taken is all short = absurd (cc (last_is old (Dialled to false ∷ []) before _ _ all))
-calls_short peer e calls old before given taken is all short = absurd is
+-- where the last call closed a whole connection, its bytes are what came of the exchange
+answered : (peer : List ℕ) (e : Exchange) (calls old before : List Call) (given taken : List ℕ) → IsExchange peer e calls
+    → old ++ calls ≡ before ++ Closed given taken true ∷ [] → IsAnswer e.answer given
+answered peer e (Dialled to true ∷ []) old before given taken is all = absurd (cc (same_from_push old before _ _ all).1)
+answered peer e (Dialled to false ∷ Closed gave took whole ∷ []) old before given taken is all =
+    talked whole e gave took given taken is.1 (same_from_push (old ++ Dialled to false ∷ []) before _ _ (append_assoc old _ (Closed gave took whole ∷ []) ∙ all)).1
+answered peer e calls old before given taken is all = absurd is
 
 pub exchange_short : (peer : List ℕ) (e : Exchange) (a b : Option (List Call)) → ExchangeOn peer e a b → EndsShort b → IsEarly e.answer
 exchange_short peer e a None on ends = absurd ends
 exchange_short peer e None (Some b) on ends = absurd on.1
-exchange_short peer e (Some a) (Some b) on ends = calls_short peer e on.0 a ends.0 ends.1 ends.2 on.2 (sym on.1 ∙ ends.3) ends.4
+exchange_short peer e (Some a) (Some b) on ends =
+    answer_short e.answer ends.1 (answered peer e on.0 a ends.0 ends.1 ends.2 on.2 (sym on.1 ∙ ends.3)) ends.4
 
 -- a frame, or bytes that are none
 abbrev pub IsDecided : Result (List ℕ) Broken → Type 0

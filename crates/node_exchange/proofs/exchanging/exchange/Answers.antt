@@ -1,4 +1,4 @@
-use Rattle.std.proofs.Common.{◌≡◌, ◌≢◌, inl, inr, ℕ, Bool, true, false, eqb, List, [], ◌∷◌, ◌++◌, take, Option, Some, Result, Ok, Err, refl, ap, ◌∙◌, append_assoc, rules, arith}
+use Rattle.std.proofs.Common.{◌≡◌, ◌≢◌, inl, inr, ℕ, Bool, true, false, eqb, List, [], ◌∷◌, take, Option, Result, Ok, Err, refl, ap, ◌∙◌, append_assoc, rules, arith}
 use Rattle.std.proofs.lemmas.Grind.{common_steps}
 use Rattle.std.proofs.lemmas.List.{length-take}
 use Rattle.express_words.specs.Streams.{Stream, Gave, Took, TookPrefix}
@@ -15,12 +15,7 @@ use Rattle.node_exchange.proofs.exchanging.exchange.Goals.{After-close-2}
 close_made : (c : Option (List Call)) (t : Option Stream) (w : Option (List ℕ)) (b : Option (List Call)) (s : Option Stream) (v : Option (List ℕ)) (a : Option (List Call)) (call : Call) (given taken : List ℕ) (count : ℕ) (whole : Bool)
     → Adds a b call → GivesTelling b s v → Gave s t given → Took v w taken → AddsClose b c t w count → eqb count 0 ≡ whole
     → Makes a c (call ∷ Closed given taken whole ∷ [])
-close_made (Some c) (Some t) (Some w) (Some b) (Some s) (Some v) (Some a) call given taken count whole dial tells gave took close is =
-    let given_is : t.given ≡ given = gave.1 ∙ ap (λ (x : List ℕ). x ++ given) tells.0 in
-    let taken_is : w ≡ taken = took ∙ ap (λ (x : List ℕ). x ++ taken) tells.1 in
-    let close_is : Closed t.given w (eqb count 0) ≡ Closed given taken whole = cc in
-    close ∙ ap (λ (x : Call). b ++ x ∷ []) close_is ∙ ap (λ (x : List Call). x ++ Closed given taken whole ∷ []) dial ∙ append_assoc a (call ∷ []) (Closed given taken whole ∷ [])
-close_made c t w b s v a call given taken count whole dial tells gave took close is = search
+close_made c t w b s v a call given taken count whole dial tells gave took close is = grind (arith, append_assoc)
 
 -- all was sent, and the connection was closed behind what it gave
 made : (g : given.Over) (c : After-close-2 g) (answer : Result (List ℕ) Broken) (whole : Bool)
