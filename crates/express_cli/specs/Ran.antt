@@ -1,6 +1,6 @@
 -- What one run promises, by its words, by what its input and sink tell before and after it, by what is around
 -- it, and by its status.
-use Rattle.std.specs.Prelude.{◌≡◌, ◌≢◌, ℕ, ◌+◌, ◌<◌, ◌≤◌, Bool, List, [], ◌∷◌, length, Contains, IfSome}
+use Rattle.std.specs.Prelude.{◌≡◌, ◌≢◌, ◌⊎◌, ℕ, ◌+◌, ◌<◌, ◌≤◌, Bool, List, [], ◌∷◌, length, Contains, IfSome}
 use Rattle.clap.specs.Words.{Text}
 use Rattle.express_words.specs.Causes.{Rose}
 use Rattle.express_words.specs.Streams.{TookPrefix}
@@ -11,20 +11,16 @@ use Rattle.express_texts.specs.Batch.{Batch as Pairs}
 use Rattle.express_texts.specs.Spelling.{SpellsBatch}
 use Rattle.express_texts.specs.declared.cloak.CloakGame.{CloakGame}
 use Rattle.express_texts.specs.GameSpelling.{SpellsGame}
-use Rattle.settings_text.specs.declared.carry.CarrySettings.{CarrySettings}
-use Rattle.settings_text.specs.declared.client.ClientSettings.{ClientSettings}
-use Rattle.settings_text.specs.declared.serve.ServeSettings.{ServeSettings}
 use Rattle.express_cli.specs.CommandLine.{Asks, AsksMill, AsksNet, AskSome, AskNothing}
 use Rattle.input_reading.specs.Reading.{most_bytes, GaveMore}
 use Rattle.express_cli.specs.Batches.{SortsOut, batch_text}
 use Rattle.express_cli.specs.Cloaks.{old_view, new_view, cloak_text}
 use Rattle.express_cli.specs.Mills.{mill_text}
-use Rattle.express_cli.specs.Ends.{IsBad}
-use Rattle.express_cli.specs.Ends.{bad_line, bad_settings, usage_text, read_fault_text, too_long_text}
+use Rattle.express_cli.specs.Ends.{IsBad, bad_line, bad_settings, usage_text, read_fault_text, too_long_text}
 use Rattle.express_cli.specs.Around.{Around, IsUnread, ReadSome, Streams, Wrote}
-use Rattle.express_cli.specs.Talking.{Spells, IsBadKey, ServeMay, ClientMay, CarryMay}
-use Rattle.express_cli.specs.Runs.{MayLeave, RunMay, SinkFailed}
-use Rattle.express_cli.specs.Runs.{Refused, Talked, Told, WantsMemory, Well, Worked}
+use Rattle.express_cli.specs.Talking.{IsBadKey, IsStill}
+use Rattle.express_cli.specs.Runs.{GoesBySettings, MayBreak, MayLeave, RunMay}
+use Rattle.express_cli.specs.Runs.{Refused, Talked, WantsMemory, Well, Worked}
 use Rattle.express_cli.specs.declared.words.Command.{Command}
 use Rattle.express_cli.specs.declared.words.Command.TheVariants.{Replay, Batch, Cloak}
 use Rattle.express_cli.specs.declared.words.NetCommand.{NetCommand}
@@ -63,18 +59,12 @@ pub record Ran (words : List Text) (streams : Streams) (net : Around) (status : 
   -- Likewise a server of the settings listens, and serves as many connections as they say with one core; the
   -- text tells how many had each answer. Status 6 comes where the listen or an accept failed, which ends the
   -- run.
-  pub serve : AsksNet words Serve → Well streams status
-      → IfSome streams.input.content (λ s. (settings : ServeSettings) → Spells Serve settings s.left
-      → length s.left ≤ most_bytes → Told (ServeMay settings net) streams status)
+  pub serve : GoesBySettings Serve words streams net status
   -- Likewise a client of the settings works their requests off, by exchanges with its servers and no other
   -- call; the text tells what became of each. Status 6 comes where an exchange failed, which ends the run.
-  pub client : AsksNet words Client → Well streams status
-      → IfSome streams.input.content (λ s. (settings : ClientSettings) → Spells Client settings s.left
-      → length s.left ≤ most_bytes → Told (ClientMay settings net) streams status)
+  pub client : GoesBySettings Client words streams net status
   -- Likewise a carrier of the settings sends its file, a part to each address, or fetches one from its boxes.
-  pub carry : AsksNet words Carry → Well streams status
-      → IfSome streams.input.content (λ s. (settings : CarrySettings) → Spells Carry settings s.left
-      → length s.left ≤ most_bytes → Told (CarryMay settings net) streams status)
+  pub carry : GoesBySettings Carry words streams net status
   -- Likewise the first key of other settings that is missing or wrong is named.
   pub names_bad_key : (command : NetCommand) → AsksNet words command → Well streams status
       → IfSome streams.input.content (λ s. (key : List ℕ) → IsBadKey command key s.left → length s.left ≤ most_bytes
@@ -94,7 +84,7 @@ pub record Ran (words : List Text) (streams : Streams) (net : Around) (status : 
   -- Of a client's requests, and of the parts that a carrier sends, all were told by then but the last that
   -- came to its end: the line of each is out before the next is asked. A server that had made more calls
   -- than its listen had told that it listens: that is out before a connection is accepted.
-  pub told_in_time : status ≡ 5 → SinkFailed words streams net
+  pub told_in_time : status ≡ 5 → IsStill net ⊎ MayBreak words streams net
   -- An answer that a client or a carrier took for one that ended early had ended: its connection had nothing
   -- left. Of a server's connections `serve` tells what each had left.
   pub early : MayLeave words net

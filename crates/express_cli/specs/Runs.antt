@@ -1,5 +1,5 @@
 -- What a run comes to.
-use Rattle.std.specs.Prelude.{◌≡◌, ◌≢◌, ℕ, ◌+◌, ◌≤◌, ◌⊎◌, List}
+use Rattle.std.specs.Prelude.{◌≡◌, ◌≢◌, ℕ, ◌+◌, ◌≤◌, ◌⊎◌, List, length, IfSome}
 use Rattle.express_words.specs.Causes.{Rose}
 use Rattle.clap.specs.Words.{Text}
 use Rattle.express_cli.specs.CommandLine.{Asks, AsksMill, AsksNet, AskSome, AskNothing}
@@ -8,7 +8,8 @@ use Rattle.express_cli.specs.Mills.{mill_text}
 use Rattle.express_cli.specs.Ends.{IsBad, IsOutput, Prints, WorkMay, bad_line, usage_text, read_fault_text}
 use Rattle.express_cli.specs.Ends.{out_of_memory_text, too_long_text}
 use Rattle.express_cli.specs.Around.{Around, IsUnread, Read, Seen, Streams, Wrote}
-use Rattle.express_cli.specs.Talking.{BreaksBy, IsStill, LeavesNothing, TalkMay, Talks, WantsFirst, kind_of}
+use Rattle.express_cli.specs.Talking.{BreaksBy, IsStill, LeavesNothing, Spells, TalkMay, Talks, WantsFirst}
+use Rattle.express_cli.specs.Talking.{kind_of}
 use Rattle.express_cli.specs.declared.words.Command.{Command}
 use Rattle.express_cli.specs.declared.words.NetCommand.{NetCommand}
 use Rattle.express_cli.specs.declared.ends.End.{End}
@@ -78,10 +79,6 @@ MayBreak words streams net =
     (command : NetCommand) → AsksNet words command
     → (bytes : List ℕ) × Read streams bytes × BreaksBy (kind_of command) bytes net streams.out streams.out_now
 
--- Where the sink failed nothing had been done with the net, or so much was told.
-abbrev pub SinkFailed : List Text → Streams → Around → Type 0
-SinkFailed words streams net = IsStill net ⊎ MayBreak words streams net
-
 -- Of what may come of the run one came and its text was written; or the sink failed after a part of such a
 -- text.
 abbrev pub ComesTo : List Text → Streams → Around → End → Type 0
@@ -135,3 +132,10 @@ WantsMemory words streams net =
 abbrev pub Told : (End → List ℕ → Type 0) → Streams → ℕ → Type 0
 Told May streams status = (text : List ℕ) × Wrote streams text
     × (((status ≡ 0) × May Done text) ⊎ ((status ≡ 6) × May NetFault text))
+
+-- Where this command is asked for, input and sink tell their bytes, neither fails and memory is found, this comes
+-- of the settings that the bytes read spell.
+abbrev pub GoesBySettings : NetCommand → List Text → Streams → Around → ℕ → Type 0
+GoesBySettings command words streams net status = AsksNet words command → Well streams status
+    → IfSome streams.input.content (λ s. (settings : (kind_of command).Settings) → Spells command settings s.left
+    → length s.left ≤ most_bytes → Told ((kind_of command).May settings net) streams status)

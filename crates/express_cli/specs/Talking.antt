@@ -107,16 +107,12 @@ ServeMay settings net end text =
     × DoorMay node_log NeverMay settings (doorway_of net node left) end text)
     ⊎ (IsStill net × SaidWanting end text)
 
--- a sink took these bytes, and maybe more behind them
-abbrev pub IsOut : List ℕ → (old new : Seen) → Type 0
-IsOut text old new = (more : List ℕ) × Took old.written new.written (text ++ more)
-
 -- Where the sink failed a server of these settings had made no call but the listen, or had told before that
 -- it listens.
 abbrev pub ServeBreaks : ServeSettings → Around → (old new : Seen) → Type 0
 ServeBreaks settings net old new =
     ((failed : Bool) × Adds net.before.calls net.now.calls (Listened settings.listen failed))
-    ⊎ IsOut listening old new
+    ⊎ ((more : List ℕ) × Took old.written new.written (listening ++ more))
 
 abbrev pub server : Kind
 server = record {

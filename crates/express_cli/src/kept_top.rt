@@ -22,21 +22,12 @@ use settings_text::{ServeSettings, read_serve};
 use std::alloc::Global;
 use wire_frames::Gather;
 
-fn is_keep(word: &str) -> bool
-    ensures { IsTrue result ↔ (word.now ≡ codes "keep") }
-{
-    match word {
-        "keep" => true,
-        _ => false,
-    }
-}
-
 // Whether the words are the one word `keep`.
 fn asks_keep(words: &Vec<String>) -> bool
     ensures { IsTrue result ↔ AsksKeep (map string_bytes words.now.items) }
 {
     match words.as_slice() {
-        [word] => is_keep(word.as_str()),
+        [word] => word.as_str() == "keep",
         _ => false,
     }
 }
