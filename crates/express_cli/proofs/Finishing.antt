@@ -1,5 +1,5 @@
 -- How a run ends, by what was done for its words.
-use Rattle.std.proofs.Common.{◌≡◌, ℕ, List, Option, Some, ◌⊎◌, inl, inr, refl, subst, ap, ◌∙◌}
+use Rattle.std.proofs.Common.{◌≡◌, ℕ, List, Option, Some, ◌⊎◌, inl, inr, refl, subst, ap, ◌∙◌, arith}
 use Rattle.clap.specs.Words.{Text}
 use Rattle.express_cli.specs.CommandLine.{AskNothing, Asks, AsksMill, AsksNet, AskSome}
 use Rattle.express_cli.specs.Ends.{Prints, WorkMay, MillMay}
@@ -15,8 +15,7 @@ use Rattle.express_cli.proofs.OneReading.{same_net}
 use Rattle.express_cli.proofs.Settling.{IsWorkEnd, lift, still_ends, work_end}
 
 still_leaves : (command : NetCommand) (net : Around) → IsStill net → LeavesNothing command net
-still_leaves Serve net still = tt
-still_leaves _ net still = inl still
+still_leaves command net still = grind arith
 
 -- where nothing was done with the net
 pub quiet : (Then : End → List ℕ → Type 0) (words : List Text) (streams : Streams) (net : Around) (end : End) → IsStill net
@@ -29,10 +28,7 @@ pub worked : (words : List Text) (streams : Streams) (net : Around) (end : End) 
 worked words streams net end command bytes still asks gave h = quiet (WorkMay command bytes) words streams net end still may h
   where
     may : (e : End) (text : List ℕ) → WorkMay command bytes e text → RunMay words streams net e text
-    may ends.Done text m = inl (command, asks, (bytes, gave, m))
-    may (ends.BadLine n) text m = (command, asks, (bytes, gave, m))
-    may ends.OutOfMemory text m = inl (m, still)
-    may _ text m = absurd m
+    may e text m = grind arith
 
 -- the input wasn't read to its end
 pub unread : (words : List Text) (streams : Streams) (net : Around) (end : End) → IsStill net → AskSome words
@@ -40,10 +36,7 @@ pub unread : (words : List Text) (streams : Streams) (net : Around) (end : End) 
 unread words streams net end still asks h = quiet (UnreadMay streams.input streams.input_now) words streams net end still may h
   where
     may : (e : End) (text : List ℕ) → UnreadMay streams.input streams.input_now e text → RunMay words streams net e text
-    may ends.ReadFault text m = (asks, m)
-    may ends.OutOfMemory text m = inl (m, still)
-    may ends.TooLong text m = (asks, m)
-    may _ text m = absurd m
+    may e text m = grind arith
 
 -- the mill that was asked for ran
 pub milled : (words : List Text) (streams : Streams) (net : Around) (end : End) (n : ℕ) → IsStill net → AsksMill words n → IsUnread streams
@@ -51,15 +44,10 @@ pub milled : (words : List Text) (streams : Streams) (net : Around) (end : End) 
 milled words streams net end n still asks same h = quiet (MillMay n) words streams net end still may h
   where
     may : (e : End) (text : List ℕ) → MillMay n e text → RunMay words streams net e text
-    may ends.Done text m = inr (inr (n, asks, same, m))
-    may ends.OutOfMemory text m = inl (m, still)
-    may _ text m = absurd m
+    may e text m = grind arith
 
 talk_end : (command : NetCommand) (bytes : List ℕ) (net : Around) (end : End) (text : List ℕ) → TalkMay command bytes net end text → IsWorkEnd end ⊎ (end ≡ ends.BadKey)
-talk_end command bytes net end text (inl (settings, read, may)) = inl (work_end command settings net end text may)
-talk_end command bytes net end text (inr (rests, inl (key, bad, inl said))) = inr said.0
-talk_end command bytes net end text (inr (rests, inl (key, bad, inr wants))) = inl (rw wants.0 tt)
-talk_end command bytes net end text (inr (rests, inr wants)) = inl (rw wants.0 tt)
+talk_end command bytes net end text may = grind (arith, work_end)
 
 -- the command that was asked for worked over the net, by all that was read
 pub talked : (words : List Text) (streams : Streams) (net : Around) (end : End) (command : NetCommand) (bytes : List ℕ)
@@ -71,19 +59,10 @@ talked words streams net end command bytes asks gave h = record {
 }
   where
     may : (e : End) (text : List ℕ) → TalkMay command bytes net e text → RunMay words streams net e text
-    may ends.Done text m = inr (inl (command, asks, (bytes, gave, m)))
-    may ends.BadKey text m = (command, asks, (bytes, gave, m))
-    may ends.NetFault text m = (command, asks, (bytes, gave, m))
-    may ends.WriteFault text m = (command, asks, (bytes, gave, m))
-    may ends.OutOfMemory text m = inr (command, asks, (bytes, gave, m))
-    may e text m = absurd (elim (talk_end command bytes net e text m) [ inl is ↦ is | inr key ↦ cc ])
+    may e text m = grind (arith, work_end)
 
 late : (end : End) → IsWorkEnd end → WaitsForNet end → ⊥
-late ends.Done work waits = waits
-late ends.NetFault work waits = waits
-late ends.OutOfMemory work waits = waits
-late ends.WriteFault work waits = waits
-late _ work waits = work
+late end work waits = grind arith
 
 -- an end of a command over a net that comes before any call on it is that of a bad key
 pub talk_waits : (command : NetCommand) (bytes : List ℕ) {net : Around} {old new : Seen} {end : End} → TalkEnds command bytes net old new end → WaitsForNet end → end ≡ ends.BadKey

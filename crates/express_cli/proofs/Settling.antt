@@ -1,5 +1,5 @@
 -- How work over a net ends, by how its parts end.
-use Rattle.std.proofs.Common.{◌≡◌, ◌≢◌, ◌⊎◌, inl, inr, ℕ, List, Result, Ok, Err, refl, ap, subst}
+use Rattle.std.proofs.Common.{◌≡◌, ◌≢◌, ◌⊎◌, inl, inr, ℕ, List, Result, Ok, Err, refl, ap, subst, arith}
 use Rattle.express_texts.specs.declared.fault.TextFault.{TextFault}
 use Rattle.express_texts.specs.declared.fault.TextFault.TheVariants as fault
 use Rattle.settings_text.specs.Judging.{Gives}
@@ -56,9 +56,7 @@ settled kind bytes settings read h = lift
     (elim [ inl still ↦ inl still | inr breaks ↦ inr (settings, read, breaks) ]) (λ leaves. leaves) h
 
 misspelt : {A : Type 0} (read : Result A (List ℕ)) (f : TextFault) → Gives (λ (s : A). s) (Err f) read → (end : End) (text : List ℕ) → FaultMay f end text → MisspeltMay read end text
-misspelt read (fault.Wrong n) gives end text may = absurd gives
-misspelt read (fault.WrongKey key) gives end text may = inl (key, gives, may)
-misspelt read fault.NoMemory gives end text may = inr may
+misspelt read f gives end text may = grind arith
 
 -- they weren't
 pub unsettled : (kind : Kind) (bytes : List ℕ) (f : TextFault) {Leaves : Type 0} {net : Around} {old new : Seen} {end : End} → IsStill net → kind.Rests net → Leaves
@@ -80,27 +78,19 @@ IsWorkEnd ends.WriteFault = Unit {0}
 IsWorkEnd other = ⊥
 
 served_end : (result : Result Tally (Halt Never)) (end : End) (text : List ℕ) → ServedSays NeverMay result end text → IsWorkEnd end
-served_end (Ok tally) end text (inl is) = rw is.0 tt
-served_end (Ok tally) end text (inr wants) = rw wants.0 tt
-served_end (Err halt.Door) end text said = rw said.0 tt
-served_end (Err (halt.Log why)) end text never = absurd never
+served_end result end text says = grind arith
 
 listening_end : (settings : ServeSettings) (door : Doorway Node) (end : End) (text : List ℕ) → ListeningMay node_log NeverMay settings door end text → IsWorkEnd end
-listening_end settings door end text (inl (said, served, same)) = served_end (halt_in served.result) end said served.says
-listening_end settings door end text (inr (stays, unheard)) = rw unheard.0 tt
+listening_end settings door end text may = grind (arith, served_end)
 
 run_end : (by : RunEnd) (end : End) → end ≡ end_by by → IsWorkEnd end
-run_end run.Done end is = rw is tt
-run_end run.NetFault end is = rw is tt
+run_end by end is = grind arith
 
 plan_end : (Ended : Plan → EndSaid) (plan : Plan) (net : Around) (end : End) (text : List ℕ) → PlanMay Ended plan net end text → IsWorkEnd end
-plan_end Ended plan net end text (inl ran) = run_end ran.by end ran.says.0
-plan_end Ended plan net end text (inr (told, next, came, wants)) = rw wants.0 tt
+plan_end Ended plan net end text may = grind (arith, run_end)
 
 job_end : (job : CarryJob) (settings : CarrySettings) (net : Around) (end : End) (text : List ℕ) → JobMay job settings net end text → IsWorkEnd end
-job_end (Send id file addresses) settings net end text may = plan_end _ _ net end text may
-job_end Fetch settings net end text (inl (by, runs, fault, is)) = run_end by end is
-job_end Fetch settings net end text (inr wants) = rw wants.0 tt
+job_end job settings net end text may = grind (arith, run_end, plan_end)
 
 pub work_end : (command : NetCommand) (settings : (kind_of command).Settings) (net : Around) (end : End) (text : List ℕ) → (kind_of command).May settings net end text → IsWorkEnd end
 work_end Serve settings net end text (inl (node, left, opened, inl hosted)) = listening_end settings _ end text hosted.served

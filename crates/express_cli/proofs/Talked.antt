@@ -1,5 +1,5 @@
 -- What a command over a net that ran well comes to, where its input tells its bytes.
-use Rattle.std.proofs.Common.{◌≡◌, ◌≢◌, ℕ, ◌≤◌, List, length, Option, Some, None, IfSome, ◌⊎◌, inl, inr, refl, ◌∙◌, ap, subst}
+use Rattle.std.proofs.Common.{◌≡◌, ◌≢◌, ℕ, ◌≤◌, List, length, Option, Some, None, IfSome, ◌⊎◌, inl, inr, refl, ◌∙◌, ap, subst, arith}
 use Rattle.clap.specs.Words.{Text}
 use Rattle.express_words.specs.Streams.{Stream}
 use Rattle.express_cli.specs.CommandLine.{AsksNet}
@@ -44,11 +44,7 @@ abbrev Goes : (End → List ℕ → Type 0) → End → List ℕ → Type 0
 Goes May end text = ((status_of end ≡ 0) × May ends.Done text) ⊎ ((status_of end ≡ 6) × May ends.NetFault text)
 
 goes : (May : End → List ℕ → Type 0) (end : End) (text : List ℕ) → IsWorkEnd end → status_of end ≢ 7 → end ≢ ends.WriteFault → May end text → Goes May end text
-goes May ends.Done text is memory sink may = inl (refl, may)
-goes May ends.NetFault text is memory sink may = inr (refl, may)
-goes May ends.WriteFault text is memory sink may = absurd (sink refl)
-goes May ends.OutOfMemory text is memory sink may = absurd (memory refl)
-goes May _ text is memory sink may = absurd is
+goes May end text is memory sink may = grind arith
 
 goes_by : (command : NetCommand) (settings : (kind_of command).Settings) (bytes : List ℕ) (net : Around) (end : End) (text : List ℕ) → Spells command settings bytes → status_of end ≢ 7
     → end ≢ ends.WriteFault → TalkMay command bytes net end text → Goes ((kind_of command).May settings net) end text
@@ -70,11 +66,7 @@ by_settings command words streams net end (Some s) is comes asks well = λ setti
 
 key_of : (command : NetCommand) (bytes : List ℕ) (net : Around) (end : End) (text key : List ℕ) → IsBadKey command key bytes → status_of end ≢ 7
     → TalkMay command bytes net end text → (status_of end ≡ 3) × (text ≡ bad_settings key)
-key_of command bytes net end text key bad memory (inl (settings, read, may)) = absurd (not_two ((kind_of command).read bytes) settings key read bad)
-key_of command bytes net end text key bad memory (inr (rests, inl (named, first, inl said))) =
-    (ap status_of said.0, said.1 ∙ ap bad_settings (same_fault ((kind_of command).read bytes) named key first bad))
-key_of command bytes net end text key bad memory (inr (rests, inl (named, first, inr wants))) = absurd (memory (ap status_of wants.0))
-key_of command bytes net end text key bad memory (inr (rests, inr wants)) = absurd (memory (ap status_of wants.0))
+key_of command bytes net end text key bad memory may = grind arith
 
 pub names_bad_key : (words : List Text) (streams : Streams) (net : Around) (end : End) (from : Option Stream) → streams.input.content ≡ from → ComesTo words streams net end
     → (command : NetCommand) → AsksNet words command → Well streams (status_of end)

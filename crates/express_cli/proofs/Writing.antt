@@ -1,5 +1,5 @@
 -- What is written at an end, by what may come.
-use Rattle.std.proofs.Common.{◌≡◌, ◌≢◌, ℕ, List, ◌++◌, Option, append_assoc, inl, inr, refl, subst, sym, ap, ◌∙◌}
+use Rattle.std.proofs.Common.{◌≡◌, ◌≢◌, ℕ, List, ◌++◌, Option, append_assoc, inl, inr, refl, subst, sym, ap, ◌∙◌, arith}
 use Rattle.express_words.specs.Causes.{Rose}
 use Rattle.express_words.specs.Streams.{Took, TookPrefix}
 use Rattle.client_run.proofs.PassedLaws.{took_both}
@@ -28,14 +28,12 @@ said May old new before now end result text may h =
 -- the sink failed only where that is told
 pub sink_stays : (May : End → List ℕ → Type 0) (old new : Seen) (end : End)
     → Prints May old new end → end ≢ ends.WriteFault → new.faults ≡ old.faults
-sink_stays May old new ends.WriteFault h other = absurd (other refl)
-sink_stays May old new _ h other = h.3
+sink_stays May old new end h other = grind arith
 
 -- where it didn't fail, a text that may come was written
 pub written : (May : End → List ℕ → Type 0) (old new : Seen) (end : End) → Prints May old new end → ¬ Rose old.faults new.faults
     → (text : List ℕ) × May end text × Took old.written new.written text × (end ≢ ends.WriteFault)
-written May old new ends.WriteFault h sink = absurd (sink h.0)
-written May old new _ h sink = (h.0, h.1, h.2, λ e. cc)
+written May old new end h sink = grind arith
 
 -- where nothing was written before
 pub unmoved : (May : End → List ℕ → Type 0) (old mid new : Seen) (end : End) → mid ≡ old → Prints May mid new end → Prints May old new end
@@ -64,7 +62,4 @@ out_behind May old mid new _ text took h failed = absurd (cc failed)
 
 -- what may be said of the first bad line may come of the work
 pub bad_line_may : (command : Command) (bytes : List ℕ) (n : ℕ) → IsBad command n bytes → (end : End) (text : List ℕ) → BadLineMay n end text → WorkMay command bytes end text
-bad_line_may command bytes n first end text (inl said) =
-    let Of : End → Type 0 = λ e. WorkMay command bytes e text in subst Of (sym said.0) (first, said.1)
-bad_line_may command bytes n first end text (inr wants) =
-    let Of : End → Type 0 = λ e. WorkMay command bytes e text in subst Of (sym wants.0) wants.1
+bad_line_may command bytes n first end text may = grind arith

@@ -1,4 +1,4 @@
-use Rattle.std.proofs.Common.{◌∙◌, sym, ◌≡◌, ℕ, [], ◌∷◌, Contains, lit<, refl, rules}
+use Rattle.std.proofs.Common.{◌∙◌, sym, ◌≡◌, ℕ, [], ◌∷◌, Contains, lit<, refl, rules, arith}
 use Rattle.express_cli.specs.Around.{Around, Streams, over, streams}
 use Rattle.express_cli.specs.Keeping.{KeepMay}
 use Rattle.express_cli.proofs.Writing.{sink_stays}
@@ -25,8 +25,7 @@ statuses (ends.JournalDamaged at) = (10, lit< tt, refl)
 statuses (ends.JournalForeign n) = (11, lit< tt, refl)
 
 disk_fault : (end : End) (before now : ℕ) → status_of end ≡ 10 → DiskCounts end before now → Rose before now
-disk_fault ends.DiskFault before now is counts = counts
-disk_fault _ before now is counts = cc
+disk_fault end before now is counts = grind arith
 
 not_ten : (status : ℕ) → Contains (0 ∷ 2 ∷ 3 ∷ 4 ∷ 5 ∷ 6 ∷ 7 ∷ 8 ∷ []) status → status ≡ 10 → ⊥
 not_ten status h is = search rules
