@@ -1,5 +1,5 @@
 -- What a run that went well comes to, where its input tells its bytes.
-use Rattle.std.proofs.Common.{◌≡◌, ◌≢◌, ℕ, ◌<◌, ◌≤◌, Bool, List, length, Option, Some, None, IfSome, arith, refl, ◌∙◌, ap, subst}
+use Rattle.std.proofs.Common.{◌≡◌, ◌≢◌, ℕ, ◌<◌, ◌≤◌, Bool, List, length, Option, Some, None, IfSome, arith, ◌∙◌, ap, subst}
 use Rattle.clap.specs.Words.{Text}
 use Rattle.express_words.specs.Causes.{Rose}
 use Rattle.express_words.specs.Streams.{Stream}
@@ -26,18 +26,14 @@ use Rattle.express_cli.specs.declared.words.Command.{Command}
 use Rattle.express_cli.specs.declared.words.Command.TheVariants.{Replay, Batch, Cloak}
 use Rattle.express_cli.specs.declared.ends.End.{End}
 use Rattle.express_cli.specs.declared.ends.End.TheVariants as ends
-use Rattle.express_cli.proofs.ByTask.{gave_left, gave_within}
-use Rattle.express_cli.proofs.ByTask.{Came, went, nothing, unread, worked, talked, milled, wanting}
+use Rattle.express_cli.proofs.ByTask.{Came, gave_left, gave_within, went}
 use Rattle.express_cli.proofs.OneReading.{Reads, not_both, not_two, same_line, same_value, same_command, no_mill, no_net, no_net_mill, nothing_of_some, same_mill, some_no_mill}
 use Rattle.express_cli.proofs.Writing.{took_as}
 
 -- an input that didn't fail was too long, where it wasn't read to its end
 pub unread_long : (old new : Seen) (end : End) (text : List ℕ) → ¬ Rose old.faults new.faults → status_of end ≢ 7 → UnreadMay old new end text
     → (status_of end ≡ 8) × UnreadMay old new ends.TooLong text
-unread_long old new ends.ReadFault text source memory may = absurd (source may.0)
-unread_long old new ends.OutOfMemory text source memory may = absurd (memory refl)
-unread_long old new ends.TooLong text source memory may = (refl, may)
-unread_long old new _ text source memory may = absurd may
+unread_long old new end text source memory may = grind arith
 
 pub not_unread : (streams : Streams) (s : Stream) (end : End) (text : List ℕ) → streams.input.content ≡ Some s → Well streams (status_of end) → length s.left ≤ most_bytes
     → UnreadMay streams.input streams.input_now end text → ⊥
@@ -49,15 +45,10 @@ not_unread streams s end text is well short may =
 
 work_of : (words : List Text) (streams : Streams) (net : Around) (end : End) (text : List ℕ) (command : Command) (s : Stream) → Asks words command → Well streams (status_of end)
     → streams.input.content ≡ Some s → length s.left ≤ most_bytes → Came words streams net end text → WorkMay command s.left end text
-work_of words streams net end text command s asks well is short (nothing none same two) = absurd (none.work command asks)
-work_of words streams net end text command s asks well is short (unread some may) = absurd (not_unread streams s end text is well short may)
-work_of words streams net end text command s asks well is short (worked other bytes found gave may) =
-    let Of : Command → Type 0 = λ c. WorkMay c bytes end text in
-    let On : List ℕ → Type 0 = λ b. WorkMay command b end text in
-    subst On (gave_left streams.input.content streams.input_now.content s bytes is gave) (subst Of (same_command words other command found asks) may)
-work_of words streams net end text command s asks well is short (talked other bytes found gave may) = absurd (no_net words command other asks found)
-work_of words streams net end text command s asks well is short (milled n found same done mill) = absurd (no_mill words command n asks found)
-work_of words streams net end text command s asks well is short (wanting seven) = absurd (well.memory seven)
+work_of words streams net end text command s asks well is short came =
+    let all : (bytes : List ℕ) → Read streams bytes → bytes ≡ s.left = λ bytes gave. gave_left streams.input.content streams.input_now.content s bytes is gave in
+    let same : (other : Command) → Asks words other → other ≡ command = λ other found. same_command words other command found asks in
+    grind (arith, not_unread streams s end text is well short, all, same, no_net words command, no_mill words command)
 
 works : (words : List Text) (streams : Streams) (net : Around) (end : End) (command : Command) (s : Stream) → ComesTo words streams net end → Asks words command → Well streams (status_of end)
     → streams.input.content ≡ Some s → length s.left ≤ most_bytes → (text : List ℕ) × WorkMay command s.left end text × Wrote streams text
@@ -67,17 +58,7 @@ works words streams net end command s comes asks well is short =
 
 done_of : (command : Command) (bytes : List ℕ) (end : End) (text : List ℕ) → ((n : ℕ) → IsBad command n bytes → ⊥) → status_of end ≢ 7 → WorkMay command bytes end text
     → (status_of end ≡ 0) × IsOutput command bytes text
-done_of command bytes ends.Done text good memory may = (refl, may)
-done_of command bytes (ends.BadLine n) text good memory may = absurd (good n may.0)
-done_of command bytes ends.OutOfMemory text good memory may = absurd (memory refl)
-done_of command bytes _ text good memory may = absurd may
-
-bad_of : Reads → (command : Command) (bytes : List ℕ) (end : End) (text : List ℕ) (n : ℕ) → IsBad command n bytes → status_of end ≢ 7 → WorkMay command bytes end text
-    → (status_of end ≡ 3) × (text ≡ bad_line n)
-bad_of law command bytes ends.Done text n bad memory may = absurd (not_both law command bytes text n may bad)
-bad_of law command bytes (ends.BadLine m) text n bad memory may = (refl, may.1 ∙ ap bad_line (same_line law command bytes m n may.0 bad))
-bad_of law command bytes ends.OutOfMemory text n bad memory may = absurd (memory refl)
-bad_of law command bytes _ text n bad memory may = absurd may
+done_of command bytes end text good memory may = grind arith
 
 pub headline : Reads → (words : List Text) (streams : Streams) (net : Around) (end : End) (from : Option Stream) → streams.input.content ≡ from → ComesTo words streams net end
     → Asks words Replay → Well streams (status_of end)
@@ -118,26 +99,15 @@ pub names_bad_line : Reads → (words : List Text) (streams : Streams) (net : Ar
 names_bad_line law words streams net end None is comes command asks well = tt
 names_bad_line law words streams net end (Some s) is comes command asks well = λ n bad short.
     let work = works words streams net end command s comes asks well is short in
-    let named = bad_of law command s.left end work.0 n bad well.memory work.1 in
-    (named.0, took_as _ _ _ _ named.1 work.2)
+    grind (arith, not_both law, same_line law, took_as)
 
 -- ---- a mill
-
-mill_of : (words : List Text) (streams : Streams) (net : Around) (end : End) (text : List ℕ) (n : ℕ) → AsksMill words n → status_of end ≢ 7 → Came words streams net end text
-    → (status_of end ≡ 0) × IsUnread streams × (text ≡ mill_text n)
-mill_of words streams net end text n asks memory (nothing none same two) = absurd (none.mill n asks)
-mill_of words streams net end text n asks memory (unread some may) = absurd (some_no_mill words n some asks)
-mill_of words streams net end text n asks memory (worked command bytes found gave may) = absurd (no_mill words command n found asks)
-mill_of words streams net end text n asks memory (talked command bytes found gave may) = absurd (no_net_mill words command n found asks)
-mill_of words streams net end text n asks memory (milled m found same done mill) = (done, same, mill ∙ ap mill_text (same_mill words m n found asks))
-mill_of words streams net end text n asks memory (wanting seven) = absurd (memory seven)
 
 pub mills : (words : List Text) (streams : Streams) (net : Around) (end : End) → ComesTo words streams net end
     → (n : ℕ) → AsksMill words n → ¬ Rose streams.out.faults streams.out_now.faults → status_of end ≢ 7 → (status_of end ≡ 0) × IsUnread streams × Wrote streams (mill_text n)
 mills words streams net end comes n asks sink memory =
     let wrote = went words streams net end comes sink in
-    let ran = mill_of words streams net end wrote.0 n asks memory wrote.1 in
-    (ran.0, ran.1, took_as _ _ _ _ ran.2 wrote.2)
+    grind (arith, some_no_mill words n, no_mill words, no_net_mill words, same_mill words, took_as)
 
 -- ---- an input that is too long
 
@@ -146,20 +116,9 @@ not_long : (streams : Streams) (s : Stream) (bytes : List ℕ) → streams.input
 not_long streams s bytes is long gave =
     omega (arith, ap length (gave_left streams.input.content streams.input_now.content s bytes is gave), gave.short, long)
 
-long_of : (words : List Text) (streams : Streams) (net : Around) (end : End) (text : List ℕ) (s : Stream) → AskSome words → Well streams (status_of end)
-    → streams.input.content ≡ Some s → most_bytes < length s.left → Came words streams net end text → (status_of end ≡ 8) × (text ≡ too_long_text)
-long_of words streams net end text s asks well is long (nothing none same two) = absurd (nothing_of_some words none asks)
-long_of words streams net end text s asks well is long (unread some may) =
-    let told = unread_long streams.input streams.input_now end text well.source well.memory may in (told.0, told.1.1)
-long_of words streams net end text s asks well is long (worked command bytes found gave may) = absurd (not_long streams s bytes is long gave)
-long_of words streams net end text s asks well is long (talked command bytes found gave may) = absurd (not_long streams s bytes is long gave)
-long_of words streams net end text s asks well is long (milled n found same done mill) = absurd (some_no_mill words n asks found)
-long_of words streams net end text s asks well is long (wanting seven) = absurd (well.memory seven)
-
 pub refuses_too_long : (words : List Text) (streams : Streams) (net : Around) (end : End) (from : Option Stream) → streams.input.content ≡ from → ComesTo words streams net end
     → AskSome words → Well streams (status_of end) → IfSome from (λ s. most_bytes < length s.left → (status_of end ≡ 8) × Wrote streams too_long_text)
 refuses_too_long words streams net end None is comes asks well = tt
 refuses_too_long words streams net end (Some s) is comes asks well = λ long.
     let wrote = went words streams net end comes well.sink in
-    let told = long_of words streams net end wrote.0 s asks well is long wrote.1 in
-    (told.0, took_as _ _ _ _ told.1 wrote.2)
+    grind (arith, nothing_of_some, unread_long, not_long, some_no_mill, took_as)

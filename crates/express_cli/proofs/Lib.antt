@@ -8,5 +8,5 @@ pub mod Exact
 pub mod Talked
 pub mod Settling
 pub mod Telling
-pub mod MillText
+pub mod Steps
 pub mod CountLaws

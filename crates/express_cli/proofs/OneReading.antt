@@ -1,5 +1,5 @@
 -- Words ask for at most one thing, and bytes have one value or one first bad line.
-use Rattle.std.proofs.Common.{◌≡◌, ℕ, ◌+◌, List, get_or, Option, Some, None, Result, Ok, Err, inl, inr, arith, refl, sym, ap, ◌∙◌}
+use Rattle.std.proofs.Common.{◌≡◌, ℕ, List, Result, Ok, Err, inl, inr, arith}
 use Rattle.std.proofs.lemmas.Fmt.{decimal_injective}
 use Rattle.clap.specs.Words.{Text}
 use Rattle.schedule_text.specs.Grammar.{schedule_of}
@@ -15,7 +15,6 @@ use Rattle.express_cli.specs.Ends.{IsOutput, IsBad}
 use Rattle.express_cli.specs.declared.words.Command.{Command}
 use Rattle.express_cli.specs.declared.words.Command.TheVariants.{Replay, Batch, Cloak}
 use Rattle.express_cli.specs.declared.words.NetCommand.{NetCommand}
-use Rattle.express_cli.specs.declared.words.NetCommand.TheVariants.{Serve, Client, Carry}
 
 -- What the readers' laws say: what is spelled, or is the first bad line, is what the text is read as.
 pub record Reads : Type 0 where
@@ -48,48 +47,25 @@ same_line law Replay bytes m n one two = same_fault (schedule_of bytes) m n (law
 same_line law Batch bytes m n one two = same_fault (batch_of bytes) m n (law.bad_pairs bytes m one) (law.bad_pairs bytes n two)
 same_line law Cloak bytes m n one two = same_fault (game_of bytes) m n (law.bad_game bytes m one) (law.bad_game bytes n two)
 
--- ---- words
+-- ---- words ask for at most one task
 
--- two letters of a name, by which the names of all tasks differ
-abbrev mark : Option Text → ℕ
-mark None = 0
-mark (Some name) = get_or name 0 0 + get_or name 2 0
-
-marks : (v : Option Text) (x y : Text) → v ≡ Some x → v ≡ Some y → mark (Some x) ≡ mark (Some y)
-marks v x y h k = ap mark (sym h ∙ k)
-
--- words ask for at most one command
 pub same_command : (words : List Text) (command other : Command) → Asks words command → Asks words other → command ≡ other
-same_command words Replay Replay h k = refl
-same_command words Batch Batch h k = refl
-same_command words Cloak Cloak h k = refl
-same_command words _ _ h k = absurd (omega (arith, marks _ _ _ h.named.0 k.named.0))
+same_command words command other h k = grind arith
 
 pub same_net : (words : List Text) (command other : NetCommand) → AsksNet words command → AsksNet words other → command ≡ other
-same_net words Serve Serve h k = refl
-same_net words Client Client h k = refl
-same_net words Carry Carry h k = refl
-same_net words _ _ h k = absurd (omega (arith, marks _ _ _ h.named.0 k.named.0))
+same_net words command other h k = grind arith
 
 pub same_mill : (words : List Text) (m n : ℕ) → AsksMill words m → AsksMill words n → m ≡ n
 same_mill words m n h k = decimal_injective m n (omega arith) (omega arith) cc
 
--- words that ask for work on the input ask for none over a net
 pub no_net : (words : List Text) (command : Command) (net : NetCommand) → Asks words command → AsksNet words net → ⊥
-no_net words Replay Serve h k = omega (arith, marks _ _ _ h.named.0 k.named.0)
-no_net words Batch Serve h k = omega (arith, marks _ _ _ h.named.0 k.named.0)
-no_net words Cloak Serve h k = omega (arith, marks _ _ _ h.named.0 k.named.0)
-no_net words _ _ h k = omega (arith, marks _ _ _ h.named.0 k.named.0)
+no_net words command net h k = grind arith
 
--- and for no mill
 pub no_mill : (words : List Text) (command : Command) (n : ℕ) → Asks words command → AsksMill words n → ⊥
-no_mill words Replay n h k = omega (arith, marks _ _ _ h.named.0 k.named.0)
-no_mill words _ n h k = omega (arith, marks _ _ _ h.named.0 k.named.0)
+no_mill words command n h k = grind arith
 
--- nor do those that ask for work over a net
 pub no_net_mill : (words : List Text) (net : NetCommand) (n : ℕ) → AsksNet words net → AsksMill words n → ⊥
-no_net_mill words Serve n h k = omega (arith, marks _ _ _ h.named.0 k.named.0)
-no_net_mill words _ n h k = omega (arith, marks _ _ _ h.named.0 k.named.0)
+no_net_mill words net n h k = grind arith
 
 pub some_no_mill : (words : List Text) (n : ℕ) → AskSome words → AsksMill words n → ⊥
 some_no_mill words n (inl work) k = no_mill words work.0 n work.1 k

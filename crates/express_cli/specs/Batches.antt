@@ -13,15 +13,12 @@ pub record SortsOut (batch : Batch) (rejected : List Bool) (judged : ℕ) : Type
   pub others : OthersAreGoodOrMissed batch.seed batch.pairs.zero batch.pairs.one rejected 0
   pub few : FewAreJudged batch.pairs.zero batch.pairs.one judged
 
--- the line of pair n, if it is rejected
-unfoldable pub verdict_line : ℕ → Bool → List ℕ
-verdict_line n true = codes "rejected " ++ (decimal n ++ codes "\n")
-verdict_line n false = []
-
--- the lines of the rejected pairs, in order; the first pair is pair n
-unfoldable pub rejected_lines : ℕ → List Bool → List ℕ
+-- a line for each rejected pair, in order; the first pair is pair n
+abbrev pub rejected_lines : ℕ → List Bool → List ℕ
 rejected_lines n [] = []
-rejected_lines n (is_rejected ∷ others) = verdict_line n is_rejected ++ rejected_lines (n + 1) others
+rejected_lines n (true ∷ others) =
+    codes "rejected " ++ (decimal n ++ (codes "\n" ++ rejected_lines (n + 1) others))
+rejected_lines n (false ∷ others) = rejected_lines (n + 1) others
 
 -- the rejected pairs, how many are accepted, and how many ranges were judged
 unfoldable pub batch_text : List Bool → ℕ → List ℕ

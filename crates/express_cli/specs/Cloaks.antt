@@ -1,5 +1,5 @@
 -- The text that a cloak writes: what one server sees of a write, and of another under the moved choice.
-use Rattle.std.specs.Prelude.{◌≡◌, ℕ, List, [], ◌∷◌, ◌++◌, map, take, drop, slice_index, codes, flat_map}
+use Rattle.std.specs.Prelude.{◌≡◌, ℕ, ◌-◌, List, [], ◌∷◌, ◌++◌, map, take, drop, slice_index, codes, flat_map}
 use Rattle.std.specs.List.{range_with_len}
 use Rattle.hex.specs.Hex.{encode_lower}
 use Rattle.express_words.specs.declared.audit.ProofShare.{ProofShare}
@@ -23,9 +23,13 @@ drawn_words seed = map (choice seed 0) (range_with_len 0 16)
 unfoldable pub drawn_pair : List ℕ → ℕ → ℕ × ℕ
 drawn_pair seed i = (number_of (take 16 (draw32 seed i)), number_of (take 16 (drop 16 (draw32 seed i))))
 
+-- the bytes of the draws from one up to another
+unfoldable pub draws : List ℕ → ℕ → ℕ → List ℕ
+draws seed from to = flat_map (draw32 seed) (range_with_len from (to - from))
+
 -- as many bytes of the draws 129, 130 and so on, one after the other; a message has at most 128 draws' bytes
 unfoldable pub drawn_block : List ℕ → ℕ → List ℕ
-drawn_block seed width = take width (flat_map (draw32 seed) (range_with_len 129 128))
+drawn_block seed width = take width (draws seed 129 257)
 
 -- both roots, a pair for each level, the last block, and the fourteen words of the proof
 unfoldable pub drawn_choice : List ℕ → ℕ → PlainChoice
@@ -33,7 +37,7 @@ drawn_choice seed width = record {
   own_root = slice_index (drawn_words seed) 0;
   other_root = slice_index (drawn_words seed) 1;
   other = record { pairs = map (drawn_pair seed) (range_with_len 1 128); block = drawn_block seed width };
-  words = drop 2 (drawn_words seed);
+  words = take 14 (drop 2 (drawn_words seed));
 }
 
 -- ---- the game
@@ -58,11 +62,8 @@ new_view game =
 -- ---- the text
 
 -- each number behind a space
-unfoldable pub spaced_number : ℕ → List ℕ
-spaced_number number = codes " " ++ number_text number
-
 abbrev pub numbers_text : List ℕ → List ℕ
-numbers_text numbers = flat_map spaced_number numbers
+numbers_text numbers = flat_map (λ number. codes " " ++ number_text number) numbers
 
 -- u, v, h from the constant upwards, a, b and c
 abbrev pub numbers_of : ProofShare → List ℕ

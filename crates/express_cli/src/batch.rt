@@ -1,7 +1,7 @@
 //! Judges pairs of closings, and says which are rejected.
 ghost use Rattle.std.specs.Prelude.{◌≡◌, ◌≢◌, ◌≤◌, ◌++◌, length, IfOk, OnOk, string_bytes};
 ghost use Rattle.express_texts.specs.Judging.{batch_in};
-ghost use Rattle.express_cli.specs.Batches.{verdict_line, rejected_lines, batch_text, IsBatchText};
+ghost use Rattle.express_cli.specs.Batches.{rejected_lines, batch_text, IsBatchText};
 ghost use Rattle.express_cli.specs.Ends.{Prints, WorkMay};
 ghost use Rattle.express_cli.specs.declared.words.Command.TheVariants.{Batch};
 
@@ -13,25 +13,14 @@ use express_words::NoMemory;
 use express_words::outside::Sink;
 use std::alloc::{AllocError, Global};
 
-// The line of a pair, empty where the pair isn't rejected.
-#[tactic(auto, unfolding(crate::specs::Batches::verdict_line))]
-fn verdict_line(alloc: Global, pair: usize, is_rejected: bool) -> Result<String, AllocError>
-    ensures { IfOk result (λ text. string_bytes text ≡ verdict_line pair is_rejected) }
-{
-    if is_rejected {
-        format!(in alloc; "rejected {pair}\n")
-    } else {
-        Ok(String::new(alloc))
-    }
-}
-
 // A line for each rejected pair.
 fn add_rejected(alloc: Global, text: &mut String, rejected: &[bool]) -> Result<(), AllocError>
     ensures { OnOk result (string_bytes text.new ≡ string_bytes text.old ++ rejected_lines 0 rejected.now) }
 {
     for (pair, is_rejected) in rejected.iter().enumerate() {
-        let line = verdict_line(alloc, pair, *is_rejected)?;
-        text.push_str(line.as_str())?;
+        if *is_rejected {
+            text.push_str(format!(in alloc; "rejected {pair}\n")?.as_str())?;
+        }
     }
     Ok(())
 }
@@ -64,6 +53,7 @@ fn batch_text(alloc: Global, pairs: &BatchPairs) -> Result<String, NoMemory>
 }
 
 /// Judges the pairs of closings that the text spells.
+#[tactic(auto, using(crate::proofs::Writing::said))]
 pub fn batch<K: Sink>(alloc: Global, text: &[u8], out: &mut K) -> End
     ensures ends { Prints (WorkMay Batch text.now)
         (K.seen out.old) (K.seen out.new) result }

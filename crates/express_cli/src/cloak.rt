@@ -1,7 +1,8 @@
 //! Shows what one server sees of a write, and of another write under the moved choice.
-ghost use Rattle.std.specs.Prelude.{◌≡◌, ◌≢◌, ◌≤◌, ◌++◌, length, IfOk, string_bytes, AllPairs, Contains};
+ghost use Rattle.std.specs.Prelude.{◌≡◌, ◌≢◌, ◌≤◌, length, IfOk, string_bytes, AllPairs, Contains};
 ghost use Rattle.express_words.specs.Limits.{IsWidth};
-ghost use Rattle.express_cli.specs.Cloaks.{old_view, new_view, cloak_text, IsCloakText};
+ghost use Rattle.write_hiding.specs.Choices.{plain_aim};
+ghost use Rattle.express_cli.specs.Cloaks.{aim_in, IsCloakText};
 ghost use Rattle.express_cli.specs.Ends.{Prints, WorkMay};
 ghost use Rattle.express_cli.specs.declared.words.Command.TheVariants.{Cloak};
 
@@ -13,11 +14,10 @@ use express_texts::{AimText, CloakGame, TextFault, read_cloak};
 use express_words::NoMemory;
 use express_words::outside::Sink;
 use std::alloc::Global;
-use write_hiding::{Aim, Game, View, moved, view};
+use write_hiding::{Aim, Game, moved, view};
 
 fn aim_of(aim: &AimText) -> Aim
-    ensures target { result.target ≡ aim.now.address }
-    ensures message { result.message.now ≡ aim.now.message }
+    ensures { plain_aim result ≡ aim_in aim.now }
 {
     Aim {
         target: aim.address,
@@ -25,8 +25,10 @@ fn aim_of(aim: &AimText) -> Aim
     }
 }
 
-// What the viewer sees of the write `from`, and of the write `to` under the moved choice.
-fn views(alloc: Global, game: &CloakGame) -> Result<(View, View), NoMemory>
+// The text of what the viewer sees of the old write, and of the new one under the moved choice; it can't tell
+// them apart.
+#[tactic(auto, unfolding(crate::specs::Cloaks::old_view, crate::specs::Cloaks::new_view, crate::specs::Cloaks::cloak_text))]
+fn cloak_text(alloc: Global, game: &CloakGame) -> Result<String, NoMemory>
     requires viewer { game.now.viewer ≤ 1 }
     requires width { IsWidth game.now.width }
     requires old_message { length game.now.old_aim.message ≡ game.now.width }
@@ -34,10 +36,7 @@ fn views(alloc: Global, game: &CloakGame) -> Result<(View, View), NoMemory>
     requires distinct { AllPairs (λ p q. p ≢ q) game.now.addresses }
     requires old_registered { Contains game.now.addresses game.now.old_aim.address }
     requires new_registered { Contains game.now.addresses game.now.new_aim.address }
-    ensures old { IfOk result (λ seen. seen.0 ≡ old_view game.now) }
-    ensures new { IfOk result (λ seen. seen.1 ≡ new_view game.now) }
-    // The viewer can't tell the writes apart.
-    ensures alike { IfOk result (λ seen. seen.1 ≡ seen.0) }
+    ensures { IfOk result (λ text. IsCloakText game.now (string_bytes text)) }
 {
     let choice = drawn_choice(alloc, game.viewer, &game.seed, game.width)?;
     let from = aim_of(&game.old_aim);
@@ -51,22 +50,6 @@ fn views(alloc: Global, game: &CloakGame) -> Result<(View, View), NoMemory>
     let old = view(alloc, &choice, &from, &rules)?;
     let gone = moved(alloc, &choice, &from, &to, &rules)?;
     let new = view(alloc, &gone, &to, &rules)?;
-    Ok((old, new))
-}
-
-// The text of both views.
-#[tactic(auto, unfolding(crate::specs::Cloaks::cloak_text))]
-fn cloak_text(alloc: Global, game: &CloakGame) -> Result<String, NoMemory>
-    requires viewer { game.now.viewer ≤ 1 }
-    requires width { IsWidth game.now.width }
-    requires old_message { length game.now.old_aim.message ≡ game.now.width }
-    requires new_message { length game.now.new_aim.message ≡ game.now.width }
-    requires distinct { AllPairs (λ p q. p ≢ q) game.now.addresses }
-    requires old_registered { Contains game.now.addresses game.now.old_aim.address }
-    requires new_registered { Contains game.now.addresses game.now.new_aim.address }
-    ensures { IfOk result (λ text. IsCloakText game.now (string_bytes text)) }
-{
-    let (old, new) = views(alloc, game)?;
     let old = view_text(alloc, &old)?;
     let new = view_text(alloc, &new)?;
     let text = format!(in alloc; "{old}{new}end\n")?;
@@ -74,6 +57,7 @@ fn cloak_text(alloc: Global, game: &CloakGame) -> Result<String, NoMemory>
 }
 
 /// Shows both views of the game that the text spells.
+#[tactic(auto, using(crate::proofs::Writing::said))]
 pub fn cloak<K: Sink>(alloc: Global, text: &[u8], out: &mut K) -> End
     ensures ends { Prints (WorkMay Cloak text.now)
         (K.seen out.old) (K.seen out.new) result }

@@ -1,5 +1,5 @@
 //! The choice of a write that is drawn from a seed.
-ghost use Rattle.std.specs.Prelude.{◌≡◌, ◌≤◌, length, map, drop, IfOk};
+ghost use Rattle.std.specs.Prelude.{◌≡◌, ◌≤◌, length, map, IfOk};
 ghost use Rattle.std.specs.List.{range_with_len};
 ghost use Rattle.write_hiding.specs.Choices.{plain_choice};
 ghost use Rattle.express_cli.specs.Cloaks.{drawn_words, drawn_pair, drawn_block, drawn_choice};
@@ -27,6 +27,7 @@ fn drawn_pair(seed: &[u8; 32], index: u64) -> (u128, u128)
 }
 
 // The first bytes of the draws behind those of the levels.
+#[tactic(auto, using(std::proofs::lemmas::Grind::common_steps, crate::proofs::Steps::draws_next, crate::proofs::Steps::draws_none), unfolding(crate::specs::Cloaks::drawn_block))]
 fn drawn_block(alloc: Global, seed: &[u8; 32], width: u32) -> Result<Vec<u8>, NoMemory>
     requires { width ≤ 4096 }
     ensures block { IfOk result (λ block. block.items ≡ drawn_block seed.now width) }
@@ -51,14 +52,6 @@ fn drawn_levels(alloc: Global, seed: &[u8; 32]) -> Result<Vec<(u128, u128)>, NoM
     Ok(pairs)
 }
 
-// The fourteen words behind the roots.
-fn proof_words(drawn: &[u128; 16]) -> [u128; 14]
-    ensures { result ≡ drop 2 drawn.now }
-{
-    let [_, _, u0, u1, v0, v1, h0, h1, h2, h3, h4, a0, a1, b0, b1, c0] = *drawn;
-    [u0, u1, v0, v1, h0, h1, h2, h3, h4, a0, a1, b0, b1, c0]
-}
-
 /// The choice that is drawn from a seed, for messages of a width.
 #[tactic(auto, unfolding(crate::specs::Cloaks::drawn_choice))]
 pub fn drawn_choice(
@@ -76,7 +69,8 @@ pub fn drawn_choice(
     let drawn = drawn_words(seed);
     let levels = drawn_levels(alloc, seed)?;
     let block = drawn_block(alloc, seed, width)?;
-    let words = proof_words(&drawn);
+    let mut words = [0; 14];
+    words.copy_from_slice(&drawn[2..]);
     Ok(IdealChoice {
         viewer,
         own_root: drawn[0],

@@ -12,6 +12,7 @@ use input_reading::{InputFault, read_all};
 use std::alloc::Global;
 
 /// Reads the whole input, of at most 67,108,864 bytes. Where that fails it is told, and how the run ends is given.
+#[tactic(auto, using(crate::proofs::Writing::said))]
 pub fn input_of<S: Source, K: Sink>(
     alloc: Global,
     input: &mut S,

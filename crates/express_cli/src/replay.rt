@@ -1,9 +1,8 @@
 //! Replays a schedule.
-ghost use Rattle.std.specs.Prelude.{◌≡◌, ◌≢◌, ◌≤◌, List, ℕ, IfOk};
+ghost use Rattle.std.specs.Prelude.{◌≡◌, ◌≢◌, ◌≤◌, IfOk};
 ghost use Rattle.schedule_text.specs.Rules.{KeepsRules};
-ghost use Rattle.schedule_text.specs.Spelling.{SpellsSchedule};
-ghost use Rattle.replay_world.specs.Played.{played, IsWhole};
-ghost use Rattle.express_cli.specs.Ends.{Prints, WorkMay};
+ghost use Rattle.replay_world.specs.Played.{output_of, played, IsWhole};
+ghost use Rattle.express_cli.specs.Ends.{Prints, SaidOrWants, WorkMay};
 ghost use Rattle.express_cli.specs.declared.words.Command.TheVariants.{Replay};
 
 use crate::End;
@@ -28,10 +27,11 @@ pub fn world_after(alloc: Global, schedule: &Schedule) -> Result<World, NoMemory
 }
 
 // Writes the text of a world.
+#[tactic(auto, using(crate::proofs::Writing::said))]
 fn put_world<K: Sink>(alloc: Global, world: &World, out: &mut K) -> End
     requires { IsWhole world.now }
-    ensures ends { (text : List ℕ) → SpellsSchedule (played world.now) text
-        → Prints (WorkMay Replay text) (K.seen out.old) (K.seen out.new) result }
+    ensures ends { Prints (SaidOrWants End.Done (output_of (played world.now)))
+        (K.seen out.old) (K.seen out.new) result }
 {
     match world.put(alloc, out) {
         Ok(()) => End::Done,
@@ -40,25 +40,18 @@ fn put_world<K: Sink>(alloc: Global, world: &World, out: &mut K) -> End
     }
 }
 
-// Replays a schedule.
-fn replay_schedule<K: Sink>(alloc: Global, schedule: &Schedule, out: &mut K) -> End
-    requires { KeepsRules schedule.now }
-    ensures ends { (text : List ℕ) → SpellsSchedule schedule.now text
-        → Prints (WorkMay Replay text) (K.seen out.old) (K.seen out.new) result }
-{
-    match world_after(alloc, schedule) {
-        Ok(world) => put_world(alloc, &world, out),
-        Err(_) => say(out, OUT_OF_MEMORY, End::OutOfMemory),
-    }
-}
-
 /// Replays the schedule that the text spells.
+#[tactic(auto, using(crate::proofs::Writing::said))]
 pub fn replay<K: Sink>(alloc: Global, text: &[u8], out: &mut K) -> End
     ensures ends { Prints (WorkMay Replay text.now) (K.seen out.old) (K.seen out.new) result }
 {
-    match read(alloc, text) {
-        Ok(schedule) => replay_schedule(alloc, &schedule, out),
-        Err(ReadFault::BadLine(line)) => say_bad_line(alloc, out, line),
-        Err(ReadFault::NoMemory) => say(out, OUT_OF_MEMORY, End::OutOfMemory),
+    let schedule = match read(alloc, text) {
+        Ok(schedule) => schedule,
+        Err(ReadFault::BadLine(line)) => return say_bad_line(alloc, out, line),
+        Err(ReadFault::NoMemory) => return say(out, OUT_OF_MEMORY, End::OutOfMemory),
+    };
+    match world_after(alloc, &schedule) {
+        Ok(world) => put_world(alloc, &world, out),
+        Err(_) => say(out, OUT_OF_MEMORY, End::OutOfMemory),
     }
 }

@@ -1,11 +1,11 @@
 //! Prints the texts with which a run ends.
-ghost use Rattle.std.specs.Prelude.{◌≡◌, ◌≢◌, ◌≤◌, ◌⊎◌, IfOk, string_bytes};
-ghost use Rattle.express_cli.specs.Ends.{Prints, Said, BadKeyMay, BadLineMay, FaultMay, bad_line, bad_settings};
+ghost use Rattle.std.specs.Prelude.{◌≡◌, ◌≢◌, ◌≤◌, ◌⊎◌};
+ghost use Rattle.express_cli.specs.Ends.{Prints, Said, BadKeyMay, BadLineMay, FaultMay};
 
 use crate::End;
 use express_texts::TextFault;
 use express_words::outside::Sink;
-use std::alloc::{AllocError, Global};
+use std::alloc::Global;
 
 /// What is told of wrong words. Status 2.
 pub const USAGE: &str =
@@ -38,33 +38,23 @@ pub fn say<K: Sink>(out: &mut K, text: &str, end: End) -> End
     }
 }
 
-fn bad_line(alloc: Global, line: u32) -> Result<String, AllocError>
-    ensures { IfOk result (λ text. string_bytes text ≡ bad_line line) }
-{
-    format!(in alloc; "bad line {line}\n")
-}
-
 /// Says that this line is the first bad one, unless memory is wanting.
+#[tactic(auto, using(crate::proofs::Writing::said))]
 pub fn say_bad_line<K: Sink>(alloc: Global, out: &mut K, line: u32) -> End
     ensures says { Prints (BadLineMay line) (K.seen out.old) (K.seen out.new) result }
 {
-    match bad_line(alloc, line) {
+    match format!(in alloc; "bad line {line}\n") {
         Err(_) => say(out, OUT_OF_MEMORY, End::OutOfMemory),
         Ok(text) => say(out, text.as_str(), End::BadLine(line)),
     }
 }
 
-fn bad_settings(alloc: Global, key: &str) -> Result<String, AllocError>
-    ensures { IfOk result (λ text. string_bytes text ≡ bad_settings key.now) }
-{
-    format!(in alloc; "bad settings {key}\n")
-}
-
 /// Says that this key is missing or wrong, unless memory is wanting.
+#[tactic(auto, using(crate::proofs::Writing::said))]
 pub fn say_bad_key<K: Sink>(alloc: Global, out: &mut K, key: &str) -> End
     ensures says { Prints (BadKeyMay key.now) (K.seen out.old) (K.seen out.new) result }
 {
-    match bad_settings(alloc, key) {
+    match format!(in alloc; "bad settings {key}\n") {
         Err(_) => say(out, OUT_OF_MEMORY, End::OutOfMemory),
         Ok(text) => say(out, text.as_str(), End::BadKey),
     }

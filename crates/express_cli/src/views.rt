@@ -1,7 +1,7 @@
 //! The text of a view.
 ghost use Rattle.std.specs.Prelude.{◌≡◌, [], ◌∷◌, IfOk, string_bytes};
 ghost use Rattle.replay_world.specs.Output.{number_text};
-ghost use Rattle.express_cli.specs.Cloaks.{spaced_number, numbers_text, numbers_of, view_text};
+ghost use Rattle.express_cli.specs.Cloaks.{numbers_text, numbers_of, view_text};
 
 use express_words::ProofShare;
 use std::alloc::{AllocError, Global};
@@ -14,23 +14,14 @@ pub fn number_text(alloc: Global, number: u128) -> Result<String, AllocError>
     hex::encode(alloc, number.to_be_bytes().as_slice())
 }
 
-// A number behind a space.
-#[tactic(auto, unfolding(crate::specs::Cloaks::spaced_number))]
-fn spaced_number(alloc: Global, number: u128) -> Result<String, AllocError>
-    ensures { IfOk result (λ text. string_bytes text ≡ spaced_number number) }
-{
-    let digits = number_text(alloc, number)?;
-    format!(in alloc; " {digits}")
-}
-
 // Each number behind a space.
 fn numbers_text(alloc: Global, numbers: &[u128]) -> Result<String, AllocError>
     ensures { IfOk result (λ text. string_bytes text ≡ numbers_text numbers.now) }
 {
     let mut text = String::new(alloc);
     for number in numbers {
-        let piece = spaced_number(alloc, *number)?;
-        text.push_str(piece.as_str())?;
+        let digits = number_text(alloc, *number)?;
+        text.push_str(format!(in alloc; " {digits}")?.as_str())?;
     }
     Ok(text)
 }

@@ -21,28 +21,20 @@ not_none [] k (inl memory) other none = other memory
 not_none [] k (inr among) other none = among
 not_none (x ∷ xs) k has other none = cc
 
-pub returns-in-Ok-clause-taken : goal.returns-in-Ok-clause-taken
-returns-in-Ok-clause-taken c =
-    let whole_is : app_of c.in_ok-command.command ≡ express_app = c.in_ok-command.ensures in
-    let words_are = ap (map string_bytes) c.as_slice.ensures.value in
-    sym (ap₂ fault_of whole_is words_are) ∙ c.in-Ok.ensures.kinds (ap is_simple_and_free whole_is ∙ simple_and_free)
-
-pub returns-in-Ok-clause-command : goal.returns-in-Ok-clause-command
-returns-in-Ok-clause-command c =
+pub returns-in-Ok : goal.returns-in-Ok
+returns-in-Ok c =
     let whole_is : app_of c.in_ok-command.command ≡ express_app = c.in_ok-command.ensures in
     let words_are = ap (map string_bytes) c.as_slice.ensures.value in
     let rows = (c.in-Ok.ensures.matches (ap is_simple whole_is ∙ simple)).0 ∙ ap₂ matches_of whole_is words_are in
-    c.get_str.ensures ∙ first_value-rows (found_of c.in-Ok.matches) (codes "COMMAND") ∙ ap (first_of (codes "COMMAND")) rows
-
-pub returns-in-Ok-clause-number : goal.returns-in-Ok-clause-number
-returns-in-Ok-clause-number c =
-    let whole_is : app_of c.in_ok-command.command ≡ express_app = c.in_ok-command.ensures in
-    let words_are = ap (map string_bytes) c.as_slice.ensures.value in
-    let rows = (c.in-Ok.ensures.matches (ap is_simple whole_is ∙ simple)).0 ∙ ap₂ matches_of whole_is words_are in
-    c.get_str-in-Ok.ensures ∙ first_value-rows (found_of c.in-Ok.matches) (codes "NUMBER") ∙ ap (first_of (codes "NUMBER")) rows
+    record {
+      command = c.get_str.ensures ∙ first_value-rows (found_of c.in-Ok.matches) (codes "COMMAND") ∙ ap (first_of (codes "COMMAND")) rows;
+      number = c.get_str-in-Ok.ensures ∙ first_value-rows (found_of c.in-Ok.matches) (codes "NUMBER") ∙ ap (first_of (codes "NUMBER")) rows;
+      taken = sym (ap₂ fault_of whole_is words_are) ∙ c.in-Ok.ensures.kinds (ap is_simple_and_free whole_is ∙ simple_and_free);
+      refused = tt;
+    }
 
 pub returns-in-Err-clause-refused : goal.returns-in-Err-clause-refused
-returns-in-Err-clause-refused c = λ other none.
+returns-in-Err-clause-refused c other none =
     let whole_is : app_of c.in_ok-command.command ≡ express_app = c.in_ok-command.ensures in
     let words_are = ap (map string_bytes) c.as_slice.ensures.value in
     not_none _ _ (c.in-Err.ensures.kinds (ap is_simple_and_free whole_is ∙ simple_and_free)) other (ap₂ fault_of whole_is words_are ∙ none)
