@@ -1,11 +1,9 @@
 -- Bytes that are taken as they are wanted.
-use Rattle.std.proofs.Common.{◌≡◌, ℕ, ◌+◌, ◌≤◌, List, ◌++◌, length, drop, Option, Result, Ok, Err, ap, ◌∙◌, append_assoc, arith}
+use Rattle.std.proofs.Common.{◌≡◌, ℕ, ◌≤◌, List, ◌++◌, length, drop, Option, Ok, Err, ap, append_assoc, arith}
 use Rattle.std.specs.Int.{w32}
-use Rattle.std.specs.Result.{result_unwrap_or}
 use Rattle.std.proofs.lemmas.Bool.Decides.{nat_tests}
 use Rattle.std.proofs.lemmas.List.{length-append}
 use Rattle.express_words.specs.Streams.{Stream, Gave}
-use Rattle.frame_rules.specs.declared.fault.FrameFault.{FrameFault}
 use Rattle.frame_rules.specs.declared.fault.FrameFault.TheVariants.{Short}
 use Rattle.frame_rules.specs.Bodies.{body_in}
 use Rattle.frame_rules.specs.Frames.{PlainFrame}
@@ -17,7 +15,7 @@ use Rattle.frame_rules.proofs.GatheringLaws.{missing_is, length_missing}
 use Rattle.frame_rules.proofs.GrammarLaws.{decoded_whole}
 use Rattle.frame_rules.proofs.Growing.{Settles, number_grows}
 use Rattle.frame_rules.proofs.Waiting.{decoded_short, header_length, length_limits}
-use Rattle.node_exchange.specs.Taking.{most, IsWanted, IsOneFrame}
+use Rattle.node_exchange.specs.Taking.{IsWanted, IsOneFrame}
 
 -- what a source gave in two takes
 pub gave_more : (a b c : Option Stream) (x y : List ℕ) → Gave a b x → Gave b c y → Gave a c (x ++ y)
@@ -30,10 +28,8 @@ one_frame bytes x e few =
     let h = bind_ok (header_in bytes) _ x e in
     let b = bind_ok (body_in h.0.kind h.0.lane h.0.serial h.0.left (drop 20 bytes)) _ x h.2 in
     let l = header_length bytes h.0 h.1 in
-    let is : 20 + h.0.left ≡ x.1 = ap (λ (y : PlainFrame × ℕ). y.1) (ok_is _ _ b.2) in
-    let enough : most bytes ≡ 4 + l.0 = ap (λ (r : Result ℕ FrameFault). 4 + result_unwrap_or r 0) l.1 in
-    let all : x.1 ≡ length bytes = omega (arith, decoded_whole bytes x.0 x.1 e, few, enough, l.2, length_limits bytes l.0 l.1) in
-    (x.0, e ∙ ap (λ len. Ok (x.0, len)) all)
+    let is = ok_is _ _ b.2 in
+    (x.0, grind (arith, decoded_whole bytes x.0 x.1 e, l, length_limits bytes l.0 l.1))
 
 -- what is wanted may be taken
 pub more_wanted : (bytes more : List ℕ) → decoded bytes ≡ Err Short → length more ≤ missing bytes → IsWanted (bytes ++ more)
