@@ -6,7 +6,7 @@ use crate::node::Served;
 use std::fmt;
 
 /// How many connections had each answer.
-#[derive(Clone, Copy, Debug, PartialEq, Eq)]
+#[derive(Clone, Copy, Debug, Default, PartialEq, Eq)]
 pub struct Tally {
     pub answered: u32,
     pub ended: u32,
@@ -20,13 +20,7 @@ impl Tally {
     pub fn new() -> Self
         ensures { result ≡ tally_of [] }
     {
-        Tally {
-            answered: 0,
-            ended: 0,
-            connection_faults: 0,
-            link_faults: 0,
-            bad_links: 0,
-        }
+        Tally::default()
     }
 
     /// How many connections there were in all.
