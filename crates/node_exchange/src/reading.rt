@@ -1,9 +1,7 @@
 //! One frame is read from a source.
 ghost use Rattle.std.specs.Prelude.{◌≡◌, ◌≢◌, ◌+◌, ◌<◌, ◌≤◌, length, take, Err};
-ghost use Rattle.std.specs.Int.{w32};
 ghost use Rattle.express_words.specs.Causes.{Rose};
 ghost use Rattle.express_words.specs.Streams.{Gave, IsAtEnd};
-ghost use Rattle.frame_rules.specs.Forms.{Gives, number_at};
 ghost use Rattle.frame_rules.specs.Gathering.{missing};
 ghost use Rattle.frame_rules.specs.Reading.{decoded};
 ghost use Rattle.frame_rules.specs.Room.{HasRoom};
@@ -26,29 +24,18 @@ pub enum Reading {
     Failed,
 }
 
-/// The length that the bytes begin with, once it has come.
-#[tactic(auto, unfolding(frame_rules::specs::Forms::number_at))]
-fn length_of(taken: &[u8]) -> Result<u32, FrameFault>
-    ensures { Gives (λ n. n) result (number_at w32 0 taken.now) }
-{
-    if taken.len() < 4 {
-        return Err(FrameFault::Short);
-    }
-    Ok(u32::from_be_bytes([taken[0], taken[1], taken[2], taken[3]]))
-}
-
 /// How many bytes are missing from the length, and then from the frame.
-#[tactic(auto, using(crate::proofs::TakingLaws::missing_laws))]
+#[tactic(auto, unfolding(frame_rules::specs::Forms::number_at), using(crate::proofs::TakingLaws::missing_laws))]
 fn missing_from(taken: &[u8]) -> usize
     requires { decoded taken.now ≡ Err FrameFault.Short }
     ensures exact { result ≡ missing taken.now }
     ensures some { 0 < result }
     ensures room { length taken.now + result ≤ 8213 }
 {
-    match length_of(taken) {
-        Err(_) => 4 - taken.len(),
-        Ok(length) => 4 + length as usize - taken.len(),
+    if taken.len() < 4 {
+        return 4 - taken.len();
     }
+    4 + u32::from_be_bytes([taken[0], taken[1], taken[2], taken[3]]) as usize - taken.len()
 }
 
 /// Takes bytes into the front of `into` until they are a frame or known to be none. Gives how many were taken.
