@@ -24,7 +24,8 @@ pub record Streams : Type 0 where
   pub out : Seen
   pub out_now : Seen
 
-abbrev pub streams : {S K : Type 0} → (S → Seen) → (K → Seen) → (input input_now : S) → (out out_now : K) → Streams
+abbrev pub streams : {S K : Type 0} → (S → Seen) → (K → Seen) → (input input_now : S) → (out out_now : K)
+    → Streams
 streams seen shows input input_now out out_now =
     record { input = seen input; input_now = seen input_now; out = shows out; out_now = shows out_now }
 

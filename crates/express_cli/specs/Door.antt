@@ -39,15 +39,15 @@ Tells F = F → End → List ℕ → Type 0
 abbrev pub NeverMay : Tells Never
 NeverMay why end text = ⊥
 
--- what is said at its end: how many connections had each answer, unless memory is wanting for its line; or why
--- it ended early
+-- what is said at its end: how many connections had each answer, unless memory is wanting for its line; or
+-- why it ended early
 abbrev pub ServedSays : {F : Type 0} → Tells F → Result Tally (Halt F) → End → List ℕ → Type 0
 ServedSays tells (Ok tally) end text = SaidOrWants Done (tally_text tally ++ codes "\n") end text
 ServedSays tells (Err halt.Door) end text = Said NetFault net_fault_text end text
 ServedSays tells (Err (halt.Log fault)) end text = tells fault end text
 
--- All connections of the settings were served; or an accept failed, or the log refused a frame, which ended the
--- run: no answer went out to its connection.
+-- All connections of the settings were served; or an accept failed, or the log refused a frame, which ended
+-- the run: no answer went out to its connection.
 pub record Served {S F : Type 0} (log : Log S F) (tells : Tells F) (settings : ServeSettings)
     (door : Doorway S) (end : End) (text : List ℕ) : Type 0 where
   pub result : Result Tally (Stop F)
@@ -72,7 +72,8 @@ pub record Hosted {S F : Type 0} (log : Log S F) (tells : Tells F) (settings : S
   pub listens : Adds door.old.net.calls at_door.calls (Listened settings.listen false)
   pub faults : at_door.faults ≡ door.old.net.faults
   pub doors : at_door.doors ≡ door.old.net.doors
-  pub served : ListeningMay log tells settings (record door { old = standing door.old.server at_door }) end text
+  pub served : ListeningMay log tells settings (record door { old = standing door.old.server at_door })
+      end text
 
 -- Its listen failed: no other call was made, and nothing was kept.
 pub record ListenFailed {S : Type 0} (settings : ServeSettings) (door : Doorway S) (end : End)

@@ -94,8 +94,8 @@ KeepMay shows streams net disk after end text =
     ((bytes : List ℕ) × Read streams bytes × MayBy (keeper shows disk after) bytes net end text)
     ⊎ (Untouched net disk after × UnreadMay streams.input streams.input_now end text)
 
--- Where the sink failed, the input gave all its bytes and by the settings that they spell it was told that the
--- server listens before a connection was accepted.
+-- Where the sink failed, the input gave all its bytes and by the settings that they spell it was told that
+-- the server listens before a connection was accepted.
 abbrev pub KeepBreaks : Streams → Around → Type 0
 KeepBreaks streams net =
     (bytes : List ℕ) × Read streams bytes × BreaksBy server bytes net streams.out streams.out_now
@@ -111,8 +111,8 @@ KeepEnds shows counted streams net disk after end =
 abbrev pub InputCounts : End → Streams → Type 0
 InputCounts end streams = end ≢ ReadFault → end ≢ WriteFault → streams.input_now.faults ≡ streams.input.faults
 
--- What one run of `keep` promises, by its status. A disk shows what is on it, and its count of faults. No fault
--- is passed over, and a server tells that it listens before it accepts a connection.
+-- What one run of `keep` promises, by its status. A disk shows what is on it, and its count of faults. No
+-- fault is passed over, and a server tells that it listens before it accepts a connection.
 pub record KeepRan {D : Type 0} (shows : D → DiskSeen) (counted : D → Seen) (streams : Streams) (net : Around)
     (disk after : D) (status : ℕ) : Type 0 where
   pub ending : End

@@ -37,13 +37,15 @@ pub record Ran (words : List Text) (streams : Streams) (net : Around) (status : 
   -- Likewise of pairs of closings it is written which a sort of all of them rejects, and how many ranges it
   -- judges.
   pub batch : Asks words Batch → Well streams status
-      → IfSome streams.input.content (λ s. (pairs : Pairs) → SpellsBatch pairs s.left → length s.left ≤ most_bytes
+      → IfSome streams.input.content (λ s. (pairs : Pairs) → SpellsBatch pairs s.left
+      → length s.left ≤ most_bytes
       → (status ≡ 0) × ((rejected : List Bool) × (judged : ℕ) × SortsOut pairs rejected judged
       × Wrote streams (batch_text rejected judged)))
   -- Likewise of a game both views are written, which are equal: the viewer's of the one write, and of the
   -- other under the moved choice.
   pub cloak : Asks words Cloak → Well streams status
-      → IfSome streams.input.content (λ s. (game : CloakGame) → SpellsGame game s.left → length s.left ≤ most_bytes
+      → IfSome streams.input.content (λ s. (game : CloakGame) → SpellsGame game s.left
+      → length s.left ≤ most_bytes
       → (status ≡ 0) × (new_view game ≡ old_view game) × Wrote streams (cloak_text game))
   -- Likewise, whatever the command, the first bad line of another text is named, and an input that is too
   -- long is refused.
@@ -51,7 +53,8 @@ pub record Ran (words : List Text) (streams : Streams) (net : Around) (status : 
       → IfSome streams.input.content (λ s. (n : ℕ) → IsBad command n s.left → length s.left ≤ most_bytes
       → (status ≡ 3) × Wrote streams (bad_line n))
   pub refuses_too_long : AskSome words → Well streams status
-      → IfSome streams.input.content (λ s. most_bytes < length s.left → (status ≡ 8) × Wrote streams too_long_text)
+      → IfSome streams.input.content (λ s. most_bytes < length s.left
+      → (status ≡ 8) × Wrote streams too_long_text)
   -- Where the mill of a number is asked for, the sink doesn't fail and memory is found, the text of its run
   -- is written, whatever the input is, which isn't read.
   pub mill : (n : ℕ) → AsksMill words n → ¬ Rose streams.out.faults streams.out_now.faults → status ≢ 7
@@ -67,8 +70,8 @@ pub record Ran (words : List Text) (streams : Streams) (net : Around) (status : 
   pub carry : GoesBySettings Carry words streams net status
   -- Likewise the first key of other settings that is missing or wrong is named.
   pub names_bad_key : (command : NetCommand) → AsksNet words command → Well streams status
-      → IfSome streams.input.content (λ s. (key : List ℕ) → IsBadKey command key s.left → length s.left ≤ most_bytes
-      → (status ≡ 3) × Wrote streams (bad_settings key))
+      → IfSome streams.input.content (λ s. (key : List ℕ) → IsBadKey command key s.left
+      → length s.left ≤ most_bytes → (status ≡ 3) × Wrote streams (bad_settings key))
   pub statuses : Contains (0 ∷ 2 ∷ 3 ∷ 4 ∷ 5 ∷ 6 ∷ 7 ∷ 8 ∷ []) status
   -- Only the usage text comes of words that ask for nothing, and the input isn't read.
   pub usage : status ≡ 2 → AskNothing words × IsUnread streams × Wrote streams usage_text
@@ -93,7 +96,8 @@ pub record Ran (words : List Text) (streams : Streams) (net : Around) (status : 
   pub out_of_memory : status ≡ 7 → WantsMemory words streams net
   pub too_long : status ≡ 8 → AskSome words × ReadSome streams (λ n. n ≡ most_bytes + 1)
       × Wrote streams too_long_text
-  pub too_long_only : GaveMore streams.input.content streams.input_now.content → Contains (8 ∷ 5 ∷ 7 ∷ []) status
+  pub too_long_only : GaveMore streams.input.content streams.input_now.content
+      → Contains (8 ∷ 5 ∷ 7 ∷ []) status
   -- No fault is passed over: the input's count rises only where the status is 4 or 5, the sink's only where
   -- it is 5.
   pub source_unfailed : status ≢ 4 → status ≢ 5 → streams.input_now.faults ≡ streams.input.faults

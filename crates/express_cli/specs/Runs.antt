@@ -20,7 +20,8 @@ use Rattle.express_cli.specs.declared.ends.End.TheVariants.{WriteFault, NetFault
 -- wanting.
 abbrev pub UnreadMay : (old new : Seen) → End → List ℕ → Type 0
 UnreadMay old new ReadFault text =
-    Rose old.faults new.faults × GaveSome old.content new.content (λ n. n ≤ most_bytes) × (text ≡ read_fault_text)
+    Rose old.faults new.faults × GaveSome old.content new.content (λ n. n ≤ most_bytes)
+    × (text ≡ read_fault_text)
 UnreadMay old new TooLong text =
     GaveSome old.content new.content (λ n. n ≡ most_bytes + 1) × (text ≡ too_long_text)
 UnreadMay old new OutOfMemory text = text ≡ out_of_memory_text
@@ -72,8 +73,8 @@ RunMay words streams net other text = ⊥
 abbrev pub MayLeave : List Text → Around → Type 0
 MayLeave words net = (command : NetCommand) → AsksNet words command → LeavesNothing command net
 
--- By a command over a net that the words ask for so much was told: the input gave all its bytes, and they tell
--- its settings.
+-- By a command over a net that the words ask for so much was told: the input gave all its bytes, and they
+-- tell its settings.
 abbrev pub MayBreak : List Text → Streams → Around → Type 0
 MayBreak words streams net =
     (command : NetCommand) → AsksNet words command
@@ -86,8 +87,8 @@ ComesTo words streams net end = Prints (RunMay words streams net) streams.out st
 
 -- how a run ends, what was told by then, and what it leaves
 pub record RunEnds (words : List Text) (streams : Streams) (net : Around) (end : End) : Type 0 where
-  pub talks : Talks (RunMay words streams net) (MayBreak words streams net) (MayLeave words net) net streams.out
-      streams.out_now end
+  pub talks : Talks (RunMay words streams net) (MayBreak words streams net) (MayLeave words net) net
+      streams.out streams.out_now end
 
 -- ---- where input and sink tell their bytes
 
@@ -104,8 +105,8 @@ WorkedOnAll words streams =
     × ((bytes : List ℕ) × Read streams bytes
     × ((text : List ℕ) × IsOutput command bytes text × Wrote streams text))
 
--- The words asked for a command over a net, the input gave all its bytes, and what came of the command at this
--- end was written.
+-- The words asked for a command over a net, the input gave all its bytes, and what came of the command at
+-- this end was written.
 abbrev pub Talked : End → List Text → Streams → Around → Type 0
 Talked end words streams net = (text : List ℕ) × MayTalk words streams net end text × Wrote streams text
 
@@ -118,7 +119,8 @@ Worked words streams net = WorkedOnAll words streams ⊎ (Talked Done words stre
 abbrev pub Refused : List Text → Streams → Around → Type 0
 Refused words streams net =
     ((command : Command) × Asks words command
-    × ((bytes : List ℕ) × Read streams bytes × ((n : ℕ) × IsBad command n bytes × Wrote streams (bad_line n))))
+    × ((bytes : List ℕ) × Read streams bytes
+    × ((n : ℕ) × IsBad command n bytes × Wrote streams (bad_line n))))
     ⊎ Talked BadKey words streams net
 
 -- Memory was wanting before any call on a net, and that alone was told; or of a command over a net, behind
@@ -133,9 +135,10 @@ abbrev pub Told : (End → List ℕ → Type 0) → Streams → ℕ → Type 0
 Told May streams status = (text : List ℕ) × Wrote streams text
     × (((status ≡ 0) × May Done text) ⊎ ((status ≡ 6) × May NetFault text))
 
--- Where this command is asked for, input and sink tell their bytes, neither fails and memory is found, this comes
--- of the settings that the bytes read spell.
+-- Where this command is asked for, input and sink tell their bytes, neither fails and memory is found, this
+-- comes of the settings that the bytes read spell.
 abbrev pub GoesBySettings : NetCommand → List Text → Streams → Around → ℕ → Type 0
 GoesBySettings command words streams net status = AsksNet words command → Well streams status
-    → IfSome streams.input.content (λ s. (settings : (kind_of command).Settings) → Spells command settings s.left
-    → length s.left ≤ most_bytes → Told ((kind_of command).May settings net) streams status)
+    → IfSome streams.input.content (λ s. (settings : (kind_of command).Settings)
+    → Spells command settings s.left → length s.left ≤ most_bytes
+    → Told ((kind_of command).May settings net) streams status)

@@ -53,8 +53,8 @@ LeftNothing net = IsStill net
 abbrev pub WantsFirst : Around → List ℕ → Type 0
 WantsFirst net text = (text ≡ out_of_memory_text) × IsStill net
 
--- How work ends and what it may come to; where the sink failed, whether nothing was done with the net or so much
--- was told; and what it leaves.
+-- How work ends and what it may come to; where the sink failed, whether nothing was done with the net or so
+-- much was told; and what it leaves.
 pub record Talks (May : End → List ℕ → Type 0) (Breaks Leaves : Type 0) (net : Around) (old new : Seen)
     (end : End) : Type 0 where
   pub comes : Prints May old new end
@@ -74,7 +74,8 @@ pub record Kind : Type 1 where
 
 -- the first bad key of what was read is named, unless memory is wanting
 abbrev pub MisspeltMay : {A : Type 0} → Result A (List ℕ) → End → List ℕ → Type 0
-MisspeltMay read end text = ((key : List ℕ) × (read ≡ Err key) × BadKeyMay key end text) ⊎ SaidWanting end text
+MisspeltMay read end text =
+    ((key : List ℕ) × (read ≡ Err key) × BadKeyMay key end text) ⊎ SaidWanting end text
 
 -- What may come of these bytes: of the settings that they spell; or nothing was done.
 abbrev pub MayBy : Kind → List ℕ → Around → End → List ℕ → Type 0
@@ -93,14 +94,15 @@ EndsBy kind bytes Leaves net old new end =
     Talks (MayBy kind bytes net) (BreaksBy kind bytes net old new) Leaves net old new end
 
 -- how work by these settings ends
-abbrev pub Settled : (kind : Kind) → kind.Settings → (Leaves : Type 0) → Around → (old new : Seen) → End → Type 0
+abbrev pub Settled : (kind : Kind) → kind.Settings → (Leaves : Type 0) → Around → (old new : Seen) → End
+    → Type 0
 Settled kind settings Leaves net old new end =
     Talks (kind.May settings net) (kind.Breaks settings net old new) Leaves net old new end
 
 -- ---- a server
 
--- what may come of a server of these settings: at its door, once it is opened from them and the seed; or memory
--- was wanting before
+-- what may come of a server of these settings: at its door, once it is opened from them and the seed; or
+-- memory was wanting before
 abbrev pub ServeMay : ServeSettings → Around → End → List ℕ → Type 0
 ServeMay settings net end text =
     ((node left : Node) × IsOpened settings net.seed node
@@ -130,7 +132,7 @@ abbrev pub end_by : RunEnd → End
 end_by run.Done = ends.Done
 end_by run.NetFault = ends.NetFault
 
--- what is said of a run: its text; that memory was wanting for the next one; or nothing, since the sink failed
+-- what is said of a run: its text; that memory was wanting for the next; or nothing, since the sink failed
 abbrev pub SaysRun : Result Ran Untold → (old new : Seen) → End → Type 0
 SaysRun (Ok ran) old new end = Prints (Said (end_by ran.end) ran.text) old new end
 SaysRun (Err untold.NoMemory) old new end = Prints SaidWanting old new end
