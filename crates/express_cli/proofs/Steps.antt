@@ -7,8 +7,7 @@ use Rattle.dpf_rules.specs.Expansion.{draw32}
 use Rattle.replay_world.specs.declared.lines.JournalLine.{JournalLine}
 use Rattle.replay_world.specs.Parts.{journal_in, line_in}
 use Rattle.express_cli.specs.Cloaks.{draws}
-use Rattle.express_cli.specs.Work.{IsBad}
-use Rattle.express_cli.specs.Ends.{BadLineMay, PrintsBy, SaidOrWants, WorkMay, out_of_memory_text}
+use Rattle.express_cli.specs.Ends.{BadLineMay, IsBad, PrintsBy, SaidOrWants, WorkMay, out_of_memory_text}
 use Rattle.express_cli.specs.declared.words.Command.{Command}
 use Rattle.express_cli.specs.declared.ends.End.{End}
 use Rattle.express_cli.specs.declared.ends.End.TheVariants.{OutOfMemory}
