@@ -8,16 +8,12 @@ use Rattle.express_cli.specs.CommandLine.{express_app, value_of, Names, NamesMil
 use Rattle.express_cli.specs.declared.words.Command.{Command}
 use Rattle.express_cli.specs.declared.words.NetCommand.{NetCommand}
 
-some_is : (x y : Text) → Some x ≡ Some y → x ≡ y
-some_is x y h = cc
-
 -- what reads digits of at most 5,000 reads no other number
 pub parsed : {E : Type 0} (text : Text) (n : ℕ) (r : Result ℕ E) → ParsesUnsigned 16 10 text r → n ≤ 5000 → text ≡ decimal n → r ≡ Ok n
 parsed text n r parses small same = parse-decimal 16 n text r (omega (arith, small)) (omega (arith, small)) same parses
 
 pub mill_of : (name text : Text) (found : Option ℕ) → name ≡ codes "mill" → IsNumber text found → IsMill (Some name) (Some text) found
-mill_of name text (Some n) is number = (ap Some is, ap Some number.0, number.1)
-mill_of name text None is number = λ n named. number n named.2 (some_is _ _ named.1)
+mill_of name text found is number = grind arith
 
 -- words that clap refuses ask for nothing
 pub refused : (words : List Text) → fault_of express_app words ≢ [] → AskNothing words
@@ -46,19 +42,14 @@ nothing words name number is_name is_number no_work no_net no_mill = record {
   mill = λ n h. no_mill n (is_name ∙ h.named.0, is_number ∙ h.named.1, h.named.2);
 }
 
-same_ok : {E : Type 0} (r : Result ℕ E) (m n : ℕ) → r ≡ Ok m → r ≡ Ok n → m ≡ n
-same_ok r m n h k = cc
-
 -- digits that aren't read are those of no number
 pub unread : {E : Type 0} (text : Text) (n : ℕ) (r : Result ℕ E) (e : E) → ParsesUnsigned 16 10 text r → r ≡ Err e → n ≤ 5000 → text ≡ decimal n → ⊥
 unread text n r e parses fails small same = let read = parsed text n r parses small same in cc
 
 -- nor are those of a number above 5,000 read as another's
 pub too_large : {E : Type 0} (text : Text) (m n : ℕ) (r : Result ℕ E) → ParsesUnsigned 16 10 text r → r ≡ Ok m → 5000 < m → n ≤ 5000 → text ≡ decimal n → ⊥
-too_large text m n r parses is large small same =
-    let number : m ≡ n = same_ok r m n is (parsed text n r parses small same) in omega (arith, large, small, number)
+too_large text m n r parses is large small same = let read = parsed text n r parses small same in grind arith
 
 -- nor other digits of the number that is read
 pub other_digits : {E : Type 0} (text : Text) (m n : ℕ) (r : Result ℕ E) → ParsesUnsigned 16 10 text r → r ≡ Ok m → decimal m ≢ text → n ≤ 5000 → text ≡ decimal n → ⊥
-other_digits text m n r parses is other small same =
-    other (ap decimal (same_ok r m n is (parsed text n r parses small same)) ∙ sym same)
+other_digits text m n r parses is other small same = let read = parsed text n r parses small same in grind arith

@@ -80,9 +80,6 @@ IsWorkEnd other = ⊥
 served_end : (result : Result Tally (Halt Never)) (end : End) (text : List ℕ) → ServedSays NeverMay result end text → IsWorkEnd end
 served_end result end text says = grind arith
 
-listening_end : (settings : ServeSettings) (door : Doorway Node) (end : End) (text : List ℕ) → ListeningMay node_log NeverMay settings door end text → IsWorkEnd end
-listening_end settings door end text may = grind (arith, served_end)
-
 run_end : (by : RunEnd) (end : End) → end ≡ end_by by → IsWorkEnd end
 run_end by end is = grind arith
 
@@ -93,9 +90,7 @@ job_end : (job : CarryJob) (settings : CarrySettings) (net : Around) (end : End)
 job_end job settings net end text may = grind (arith, run_end, plan_end)
 
 pub work_end : (command : NetCommand) (settings : (kind_of command).Settings) (net : Around) (end : End) (text : List ℕ) → (kind_of command).May settings net end text → IsWorkEnd end
-work_end Serve settings net end text (inl (node, left, opened, inl hosted)) = listening_end settings _ end text hosted.served
-work_end Serve settings net end text (inl (node, left, opened, inr failed)) = rw failed.says.0 tt
-work_end Serve settings net end text (inr (still, wants)) = rw wants.0 tt
+work_end Serve settings net end text may = grind (arith, served_end)
 work_end Client settings net end text may = plan_end _ _ net end text may
 work_end Carry settings net end text may = job_end settings.job settings net end text may
 

@@ -48,11 +48,7 @@ goes May end text is memory sink may = grind arith
 
 goes_by : (command : NetCommand) (settings : (kind_of command).Settings) (bytes : List ℕ) (net : Around) (end : End) (text : List ℕ) → Spells command settings bytes → status_of end ≢ 7
     → end ≢ ends.WriteFault → TalkMay command bytes net end text → Goes ((kind_of command).May settings net) end text
-goes_by command settings bytes net end text spells memory sink (inl (found, read, may)) =
-    let same = subst (λ s. (kind_of command).May s net end text) (same_value ((kind_of command).read bytes) found settings read spells) may in
-    goes ((kind_of command).May settings net) end text (work_end command settings net end text same) memory sink same
-goes_by command settings bytes net end text spells memory sink (inr (rests, inl (key, bad, may))) = absurd (not_two ((kind_of command).read bytes) settings key spells bad)
-goes_by command settings bytes net end text spells memory sink (inr (rests, inr wants)) = absurd (memory (ap status_of wants.0))
+goes_by command settings bytes net end text spells memory sink may = grind (arith, goes, work_end)
 
 pub by_settings : (command : NetCommand) (words : List Text) (streams : Streams) (net : Around) (end : End) (from : Option Stream) → streams.input.content ≡ from → ComesTo words streams net end
     → AsksNet words command → Well streams (status_of end)

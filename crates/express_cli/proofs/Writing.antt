@@ -16,8 +16,7 @@ took_as old new text other same took = let P : List ℕ → Type 0 = λ t. Took 
 -- where more may come
 pub more_may : (May Could : End → List ℕ → Type 0) (old new : Option (List ℕ)) (before now : ℕ) (end : End)
     → ((e : End) (text : List ℕ) → May e text → Could e text) → PrintsBy May old new before now end → PrintsBy Could old new before now end
-more_may May Could old new before now ends.WriteFault f h = (h.0, (h.1.0, h.1.1, f _ _ h.1.2, h.1.3))
-more_may May Could old new before now _ f h = (h.0, f _ _ h.1, h.2, h.3)
+more_may May Could old new before now end f h = grind arith
 
 -- where the text that was said is one that may come
 pub said : (May : End → List ℕ → Type 0) (old new : Option (List ℕ)) (before now : ℕ) (end result : End) (text : List ℕ)

@@ -1,4 +1,4 @@
-use Rattle.std.proofs.Common.{refl, inl, inr, ◌≡◌, ◌⊎◌, ℕ, false, sym, ap, subst}
+use Rattle.std.proofs.Common.{refl, inl, inr, ◌≡◌, ◌⊎◌, ℕ, false, sym, ap, subst, arith}
 use Rattle.node_journal.specs.Disk.{DiskSeen}
 use Rattle.node_restart.specs.Kept.{KeptState}
 use Rattle.node_restart.specs.declared.opening.Opening.{Opening}
@@ -12,8 +12,7 @@ use Rattle.express_cli.proofs.kept_top.keep_by.Goals as goal
 
 -- a server that was opened has a journal that isn't closed
 unclosed : {D : Type 0} (shows : D → DiskSeen) (limit : ℕ) (o : Opening) (disk : D) (k : KeptState D) → IsOpenedOn shows limit o disk k → k.journal.closed ≡ false
-unclosed shows limit o disk k (inl created) = rw created.journal refl
-unclosed shows limit o disk k (inr reopened) = reopened.unclosed
+unclosed shows limit o disk k opened = grind arith
 
 pub listen_and_serve-end-requires : goal.listen_and_serve-end-requires
 listen_and_serve-end-requires g c = record { whole = unclosed g.D.Disk.disk _ _ _ _ c.in-Ok-open_kept.ensures.opened }
