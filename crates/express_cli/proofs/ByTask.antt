@@ -1,5 +1,5 @@
 -- What came of a run, by what its words ask for, and what its input gave.
-use Rattle.std.proofs.Common.{◌≡◌, ◌≢◌, ℕ, ◌+◌, ◌≤◌, List, ◌++◌, length, Option, Some, None, arith, inl, inr, refl, sym, ◌∙◌, ap, append-nil, length-append}
+use Rattle.std.proofs.Common.{◌≡◌, ◌≢◌, ℕ, ◌≤◌, List, length, Option, Some, arith, inl, inr, refl, append-nil, length-append}
 use Rattle.clap.specs.Words.{Text}
 use Rattle.express_words.specs.Causes.{Rose}
 use Rattle.express_words.specs.Streams.{Stream, Gave}

@@ -1,13 +1,9 @@
 -- What is said of the disk's count of faults, by how a run ends.
-use Rattle.std.proofs.Common.{◌≡◌, ◌≢◌, ◌⊎◌, inl, inr, ℕ, List, Option, codes, refl, sym, subst, arith}
-use Rattle.express_words.specs.Causes.{Rose}
-use Rattle.node_journal.specs.declared.fault.JournalFault.TheVariants.{Closed, NotEmpty, Disk}
+use Rattle.std.proofs.Common.{◌≡◌, ◌≢◌, ◌⊎◌, ℕ, List, Option, codes, arith}
 use Rattle.node_restart.specs.Faults.{CountsFault}
 use Rattle.node_restart.specs.declared.fault.KeepFault.{KeepFault}
-use Rattle.node_restart.specs.declared.fault.KeepFault.TheVariants.{Journal}
 use Rattle.node_serve.specs.FirstFaults.{IsFirstFault}
 use Rattle.express_texts.specs.declared.fault.TextFault.{TextFault}
-use Rattle.express_texts.specs.declared.fault.TextFault.TheVariants as fault
 use Rattle.express_cli.specs.Ends.{DiskCounts, FaultMay, PrintsBy}
 use Rattle.express_cli.specs.Keeping.{end_by, fault_line}
 use Rattle.express_cli.specs.declared.ends.End.{End}

@@ -1,14 +1,13 @@
 -- How a run ends, by what was done for its words.
-use Rattle.std.proofs.Common.{◌≡◌, ℕ, List, Option, Some, ◌⊎◌, inl, inr, refl, subst, ap, ◌∙◌, arith}
+use Rattle.std.proofs.Common.{◌≡◌, ℕ, List, ◌⊎◌, inl, inr, arith}
 use Rattle.clap.specs.Words.{Text}
-use Rattle.express_cli.specs.CommandLine.{AskNothing, Asks, AsksMill, AsksNet, AskSome}
+use Rattle.express_cli.specs.CommandLine.{Asks, AsksMill, AsksNet, AskSome}
 use Rattle.express_cli.specs.Ends.{Prints, WorkMay, MillMay}
 use Rattle.express_cli.specs.Around.{Around, IsUnread, Read, Seen, Streams}
-use Rattle.express_cli.specs.Talking.{IsStill, LeavesNothing, TalkEnds, TalkMay}
+use Rattle.express_cli.specs.Talking.{IsStill, TalkEnds, TalkMay}
 use Rattle.express_cli.specs.Runs.{RunEnds, RunMay, UnreadMay, WaitsForNet}
 use Rattle.express_cli.specs.declared.words.Command.{Command}
 use Rattle.express_cli.specs.declared.words.NetCommand.{NetCommand}
-use Rattle.express_cli.specs.declared.words.NetCommand.TheVariants.{Serve}
 use Rattle.express_cli.specs.declared.ends.End.{End}
 use Rattle.express_cli.specs.declared.ends.End.TheVariants as ends
 use Rattle.express_cli.proofs.OneReading.{same_net}

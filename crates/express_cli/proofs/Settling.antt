@@ -1,25 +1,17 @@
 -- How work over a net ends, by how its parts end.
-use Rattle.std.proofs.Common.{◌≡◌, ◌≢◌, ◌⊎◌, inl, inr, ℕ, List, Result, Ok, Err, refl, ap, subst, arith}
+use Rattle.std.proofs.Common.{◌≡◌, ◌≢◌, ◌⊎◌, inl, inr, ℕ, List, Result, Ok, Err, refl, ap, arith}
 use Rattle.express_texts.specs.declared.fault.TextFault.{TextFault}
-use Rattle.express_texts.specs.declared.fault.TextFault.TheVariants as fault
 use Rattle.settings_text.specs.Judging.{Gives}
 use Rattle.settings_text.specs.declared.carry.CarryJob.{CarryJob}
-use Rattle.settings_text.specs.declared.carry.CarryJob.TheVariants.{Send, Fetch}
 use Rattle.settings_text.specs.declared.carry.CarrySettings.{CarrySettings}
-use Rattle.settings_text.specs.declared.serve.ServeSettings.{ServeSettings}
 use Rattle.client_run.specs.Runs.{EndSaid, Plan}
 use Rattle.client_run.specs.declared.ran.RunEnd.{RunEnd}
-use Rattle.client_run.specs.declared.ran.RunEnd.TheVariants as run
 use Rattle.node_exchange.specs.Exchanging.{EarlyAtEnd}
-use Rattle.node_serve.specs.Hosting.{halt_in}
-use Rattle.node_serve.specs.NoLog.{node_log}
 use Rattle.node_serve.specs.declared.never.Never.{Never}
-use Rattle.node_serve.specs.declared.node.Node.{Node}
 use Rattle.node_serve.specs.declared.stop.Halt.{Halt}
-use Rattle.node_serve.specs.declared.stop.Halt.TheVariants as halt
 use Rattle.node_serve.specs.declared.tally.Tally.{Tally}
 use Rattle.express_cli.specs.Around.{Around, Seen, over}
-use Rattle.express_cli.specs.Door.{Doorway, ListeningMay, NeverMay, ServedSays}
+use Rattle.express_cli.specs.Door.{NeverMay, ServedSays}
 use Rattle.express_cli.specs.Ends.{FaultMay, Prints, Said}
 use Rattle.express_cli.specs.Talking.{EndsBy, IsStill, JobMay, Kind, LeftNothing, MisspeltMay, PlanMay, Settled, Talks, end_by, kind_of}
 use Rattle.express_cli.specs.declared.words.NetCommand.{NetCommand}

@@ -1,5 +1,5 @@
 -- What a command over a net that ran well comes to, where its input tells its bytes.
-use Rattle.std.proofs.Common.{◌≡◌, ◌≢◌, ℕ, ◌≤◌, List, length, Option, Some, None, IfSome, ◌⊎◌, inl, inr, refl, ◌∙◌, ap, subst, arith}
+use Rattle.std.proofs.Common.{◌≡◌, ◌≢◌, ℕ, ◌≤◌, List, length, Option, Some, None, IfSome, ◌⊎◌, subst, arith}
 use Rattle.clap.specs.Words.{Text}
 use Rattle.express_words.specs.Streams.{Stream}
 use Rattle.express_cli.specs.CommandLine.{AsksNet}
@@ -15,7 +15,7 @@ use Rattle.express_cli.specs.declared.ends.End.TheVariants as ends
 use Rattle.express_cli.proofs.ByTask.{gave_left}
 use Rattle.express_cli.proofs.ByTask.{Came, went, nothing, unread, worked, talked, milled, wanting}
 use Rattle.express_cli.proofs.Exact.{not_unread}
-use Rattle.express_cli.proofs.OneReading.{no_net, no_net_mill, not_two, same_fault, same_net, same_value}
+use Rattle.express_cli.proofs.OneReading.{no_net, no_net_mill, same_net}
 use Rattle.express_cli.proofs.Settling.{IsWorkEnd, work_end}
 use Rattle.express_cli.proofs.Writing.{took_as}
 

@@ -1,8 +1,7 @@
 -- What is told of a run whose lines are put as its requests come to their ends.
-use Rattle.std.proofs.Common.{◌≡◌, ℕ, List, [], ◌++◌, length, Option, Result, Ok, Err, IfOk, append_assoc, inl, inr, refl, sym, ap, ◌∙◌, subst}
+use Rattle.std.proofs.Common.{◌≡◌, ℕ, List, [], ◌++◌, length, Result, Ok, Err, IfOk, append_assoc, inl, inr, refl, sym, ap, ◌∙◌, subst}
 use Rattle.express_words.specs.Streams.{Took, TookPrefix}
 use Rattle.node_client.specs.declared.finished.Finished.{Finished}
-use Rattle.settings_text.specs.declared.client.ClientSettings.{ClientSettings}
 use Rattle.settings_text.specs.declared.carry.CarryJob.{CarryJob}
 use Rattle.settings_text.specs.declared.carry.CarryJob.TheVariants.{Send, Fetch}
 use Rattle.settings_text.specs.declared.carry.CarrySettings.{CarrySettings}
@@ -15,8 +14,8 @@ use Rattle.client_run.specs.Telling.{Moment, TookPart, PutSink, lines_of, moment
 use Rattle.client_run.specs.Texts.{outcome_line}
 use Rattle.client_run.proofs.PassedLaws.{lines_more, part_behind, took_nothing, took_part}
 use Rattle.express_cli.specs.Around.{Around, Seen}
-use Rattle.express_cli.specs.Ends.{Prints, Said, SaidWanting, out_of_memory_text}
-use Rattle.express_cli.specs.Talking.{IsStill, JobBreaks, JobMay, PlanBreaks, PlanMay, SaysRun, Talks, end_by}
+use Rattle.express_cli.specs.Ends.{Prints, Said, out_of_memory_text}
+use Rattle.express_cli.specs.Talking.{JobBreaks, JobMay, PlanBreaks, PlanMay, SaysRun, Talks, end_by}
 use Rattle.express_cli.specs.declared.ends.End.{End}
 use Rattle.express_cli.specs.declared.ends.End.TheVariants as ends
 use Rattle.express_cli.proofs.Writing.{follows}

@@ -1,5 +1,5 @@
 -- What is written at an end, by what may come.
-use Rattle.std.proofs.Common.{◌≡◌, ◌≢◌, ℕ, List, ◌++◌, Option, append_assoc, inl, inr, refl, subst, sym, ap, ◌∙◌, arith}
+use Rattle.std.proofs.Common.{◌≡◌, ◌≢◌, ℕ, List, ◌++◌, Option, append_assoc, subst, sym, ap, ◌∙◌, arith}
 use Rattle.express_words.specs.Causes.{Rose}
 use Rattle.express_words.specs.Streams.{Took, TookPrefix}
 use Rattle.client_run.proofs.PassedLaws.{took_both}

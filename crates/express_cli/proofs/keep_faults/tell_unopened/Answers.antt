@@ -1,4 +1,3 @@
-use Rattle.std.proofs.Common.{List, ℕ, inl, inr}
 use Rattle.node_serve.proofs.FirstFaults.{opening_fault}
 use Rattle.express_cli.specs.Ends.{BadKeyMay}
 use Rattle.express_cli.proofs.CountLaws.{quiet_counts, text_fault}

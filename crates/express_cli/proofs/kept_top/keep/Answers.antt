@@ -1,4 +1,4 @@
-use Rattle.std.proofs.Common.{◌≡◌, refl, inl, inr, ℕ, List}
+use Rattle.std.proofs.Common.{refl, inl, inr, ℕ, List}
 use Rattle.node_journal.specs.Disk.{DiskSeen}
 use Rattle.express_cli.specs.Around.{Around, Read, Streams, over, streams}
 use Rattle.express_cli.specs.Ends.{FaultMay}

@@ -1,4 +1,4 @@
-use Rattle.std.proofs.Common.{refl, inl, inr, ◌≡◌, ◌⊎◌, ℕ, false, sym, ap, subst, arith}
+use Rattle.std.proofs.Common.{refl, inl, inr, ◌≡◌, ℕ, false, arith}
 use Rattle.node_journal.specs.Disk.{DiskSeen}
 use Rattle.node_restart.specs.Kept.{KeptState}
 use Rattle.node_restart.specs.declared.opening.Opening.{Opening}

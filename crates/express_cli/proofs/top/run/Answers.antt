@@ -1,4 +1,4 @@
-use Rattle.std.proofs.Common.{◌≡◌, ℕ, List, refl, ap, sym, subst}
+use Rattle.std.proofs.Common.{List, refl, ap}
 use Rattle.clap.specs.Words.{Text}
 use Rattle.express_cli.specs.Around.{Around, Streams}
 use Rattle.express_cli.specs.Ends.{status_of}
