@@ -13,7 +13,7 @@ use Rattle.node_serve.specs.declared.tally.Tally.{Tally}
 use Rattle.express_cli.specs.Around.{Around, Seen, over}
 use Rattle.express_cli.specs.Door.{NeverMay, ServedSays}
 use Rattle.express_cli.specs.Ends.{FaultMay, Prints, Said}
-use Rattle.express_cli.specs.Talking.{EndsBy, IsStill, JobMay, Kind, LeftNothing, MisspeltMay, PlanMay, Settled, Talks, end_by, kind_of}
+use Rattle.express_cli.specs.Talking.{EndsBy, IsStill, JobMay, Duty, LeftNothing, MisspeltMay, PlanMay, Settled, Talks, end_by, duty_of}
 use Rattle.express_cli.specs.declared.words.NetCommand.{NetCommand}
 use Rattle.express_cli.specs.declared.words.NetCommand.TheVariants.{Serve, Client, Carry}
 use Rattle.express_cli.specs.declared.ends.End.{End}
@@ -41,9 +41,9 @@ pub said_ends : (is : End) (text : List ℕ) {May : End → List ℕ → Type 0}
 said_ends is text still leaves may h = still_ends (Said is text) still leaves (λ e t same. rw (same.0, same.1) may) h
 
 -- the settings were read
-pub settled : (kind : Kind) (bytes : List ℕ) (settings : kind.Settings) {Leaves : Type 0} {net : Around} {old new : Seen} {end : End}
-    → kind.read bytes ≡ Ok settings → Settled kind settings Leaves net old new end → EndsBy kind bytes Leaves net old new end
-settled kind bytes settings read h = lift
+pub settled : (duty : Duty) (bytes : List ℕ) (settings : duty.Settings) {Leaves : Type 0} {net : Around} {old new : Seen} {end : End}
+    → duty.read bytes ≡ Ok settings → Settled duty settings Leaves net old new end → EndsBy duty bytes Leaves net old new end
+settled duty bytes settings read h = lift
     (λ e text may. inl (settings, read, may))
     (elim [ inl still ↦ inl still | inr breaks ↦ inr (settings, read, breaks) ]) (λ leaves. leaves) h
 
@@ -51,9 +51,9 @@ misspelt : {A : Type 0} (read : Result A (List ℕ)) (f : TextFault) → Gives (
 misspelt read f gives end text may = grind arith
 
 -- they weren't
-pub unsettled : (kind : Kind) (bytes : List ℕ) (f : TextFault) {Leaves : Type 0} {net : Around} {old new : Seen} {end : End} → IsStill net → kind.Rests net → Leaves
-    → Gives (λ (s : kind.Settings). s) (Err f) (kind.read bytes) → Prints (FaultMay f) old new end → EndsBy kind bytes Leaves net old new end
-unsettled kind bytes f still rests leaves gives h = still_ends (FaultMay f) still leaves (λ e text may. inr (rests, misspelt (kind.read bytes) f gives e text may)) h
+pub unsettled : (duty : Duty) (bytes : List ℕ) (f : TextFault) {Leaves : Type 0} {net : Around} {old new : Seen} {end : End} → IsStill net → duty.Rests net → Leaves
+    → Gives (λ (s : duty.Settings). s) (Err f) (duty.read bytes) → Prints (FaultMay f) old new end → EndsBy duty bytes Leaves net old new end
+unsettled duty bytes f still rests leaves gives h = still_ends (FaultMay f) still leaves (λ e text may. inr (rests, misspelt (duty.read bytes) f gives e text may)) h
 
 pub left_nothing : {N C : Type 0} (seen : N → Seen) (shows : C → Seen) (seed : List ℕ) (old new : N)
     → (new ≡ old) ⊎ EarlyAtEnd (seen new).calls shows → LeftNothing (over seen shows seed old new)
@@ -81,13 +81,13 @@ plan_end Ended plan net end text may = grind (arith, run_end)
 job_end : (job : CarryJob) (settings : CarrySettings) (net : Around) (end : End) (text : List ℕ) → JobMay job settings net end text → IsWorkEnd end
 job_end job settings net end text may = grind (arith, run_end, plan_end)
 
-pub work_end : (command : NetCommand) (settings : (kind_of command).Settings) (net : Around) (end : End) (text : List ℕ) → (kind_of command).May settings net end text → IsWorkEnd end
+pub work_end : (command : NetCommand) (settings : (duty_of command).Settings) (net : Around) (end : End) (text : List ℕ) → (duty_of command).May settings net end text → IsWorkEnd end
 work_end Serve settings net end text may = grind (arith, served_end)
 work_end Client settings net end text may = plan_end _ _ net end text may
 work_end Carry settings net end text may = job_end settings.job settings net end text may
 
 -- no key is named there
-pub no_key : (command : NetCommand) (settings : (kind_of command).Settings) {Leaves : Type 0} {net : Around} {old new : Seen} {end : End}
-    → Settled (kind_of command) settings Leaves net old new end → end ≢ ends.BadKey
+pub no_key : (command : NetCommand) (settings : (duty_of command).Settings) {Leaves : Type 0} {net : Around} {old new : Seen} {end : End}
+    → Settled (duty_of command) settings Leaves net old new end → end ≢ ends.BadKey
 no_key command settings {net = net} h e =
     let at = rw e at h.comes in work_end command settings net ends.BadKey at.0 at.1

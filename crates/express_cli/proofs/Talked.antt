@@ -6,7 +6,7 @@ use Rattle.express_cli.specs.CommandLine.{AsksNet}
 use Rattle.input_reading.specs.Reading.{most_bytes}
 use Rattle.express_cli.specs.Ends.{status_of, bad_settings}
 use Rattle.express_cli.specs.Around.{Around, Streams, Wrote}
-use Rattle.express_cli.specs.Talking.{IsBadKey, Spells, TalkMay, kind_of}
+use Rattle.express_cli.specs.Talking.{IsBadKey, Spells, TalkMay, duty_of}
 use Rattle.express_cli.specs.Runs.{ComesTo}
 use Rattle.express_cli.specs.Runs.{Told, Well}
 use Rattle.express_cli.specs.declared.words.NetCommand.{NetCommand}
@@ -46,13 +46,13 @@ Goes May end text = ((status_of end ≡ 0) × May ends.Done text) ⊎ ((status_o
 goes : (May : End → List ℕ → Type 0) (end : End) (text : List ℕ) → IsWorkEnd end → status_of end ≢ 7 → end ≢ ends.WriteFault → May end text → Goes May end text
 goes May end text is memory sink may = grind arith
 
-goes_by : (command : NetCommand) (settings : (kind_of command).Settings) (bytes : List ℕ) (net : Around) (end : End) (text : List ℕ) → Spells command settings bytes → status_of end ≢ 7
-    → end ≢ ends.WriteFault → TalkMay command bytes net end text → Goes ((kind_of command).May settings net) end text
+goes_by : (command : NetCommand) (settings : (duty_of command).Settings) (bytes : List ℕ) (net : Around) (end : End) (text : List ℕ) → Spells command settings bytes → status_of end ≢ 7
+    → end ≢ ends.WriteFault → TalkMay command bytes net end text → Goes ((duty_of command).May settings net) end text
 goes_by command settings bytes net end text spells memory sink may = grind (arith, goes, work_end)
 
 pub by_settings : (command : NetCommand) (words : List Text) (streams : Streams) (net : Around) (end : End) (from : Option Stream) → streams.input.content ≡ from → ComesTo words streams net end
     → AsksNet words command → Well streams (status_of end)
-    → IfSome from (λ s. (settings : (kind_of command).Settings) → Spells command settings s.left → length s.left ≤ most_bytes → Told ((kind_of command).May settings net) streams (status_of end))
+    → IfSome from (λ s. (settings : (duty_of command).Settings) → Spells command settings s.left → length s.left ≤ most_bytes → Told ((duty_of command).May settings net) streams (status_of end))
 by_settings command words streams net end None is comes asks well = tt
 by_settings command words streams net end (Some s) is comes asks well = λ settings spells short.
     let talk = talks words streams net end command s comes asks well is short in

@@ -15,7 +15,7 @@ use Rattle.node_serve.specs.declared.open_fault.OpenFault.TheVariants as opening
 use Rattle.node_serve.specs.JournalLog.{journal_log}
 use Rattle.express_cli.specs.Around.{Around, Read, Seen, Streams}
 use Rattle.express_cli.specs.Ends.{BadKeyMay, DiskCounts, SaidOrWants, SaidWanting, status_of}
-use Rattle.express_cli.specs.Talking.{BreaksBy, IsStill, Kind, MayBy, Talks, server}
+use Rattle.express_cli.specs.Talking.{BreaksBy, IsStill, Duty, MayBy, Talks, server}
 use Rattle.express_cli.specs.Ran.{Ran}
 use Rattle.express_cli.specs.Runs.{UnreadMay}
 use Rattle.express_cli.specs.declared.ends.End.{End}
@@ -76,7 +76,7 @@ abbrev pub Untouched : {D : Type 0} → Around → (disk after : D) → Type 0
 Untouched net disk after = (after ≡ disk) × IsStill net
 
 -- a server with a journal: it is opened, or it isn't, or memory is wanting before the disk is asked
-abbrev pub keeper : {D : Type 0} → (D → DiskSeen) → (disk after : D) → Kind
+abbrev pub keeper : {D : Type 0} → (D → DiskSeen) → (disk after : D) → Duty
 keeper shows disk after = record server {
   May = λ settings net end text.
       Opened shows settings net disk after end text

@@ -9,7 +9,7 @@ use Rattle.express_cli.specs.Ends.{IsBad, IsOutput, Prints, WorkMay, bad_line, u
 use Rattle.express_cli.specs.Ends.{out_of_memory_text, too_long_text}
 use Rattle.express_cli.specs.Around.{Around, IsUnread, Read, Seen, Streams, Wrote}
 use Rattle.express_cli.specs.Talking.{BreaksBy, IsStill, LeavesNothing, Spells, TalkMay, Talks, WantsFirst}
-use Rattle.express_cli.specs.Talking.{kind_of}
+use Rattle.express_cli.specs.Talking.{duty_of}
 use Rattle.express_cli.specs.declared.words.Command.{Command}
 use Rattle.express_cli.specs.declared.words.NetCommand.{NetCommand}
 use Rattle.express_cli.specs.declared.ends.End.{End}
@@ -78,7 +78,7 @@ MayLeave words net = (command : NetCommand) → AsksNet words command → Leaves
 abbrev pub MayBreak : List Text → Streams → Around → Type 0
 MayBreak words streams net =
     (command : NetCommand) → AsksNet words command
-    → (bytes : List ℕ) × Read streams bytes × BreaksBy (kind_of command) bytes net streams.out streams.out_now
+    → (bytes : List ℕ) × Read streams bytes × BreaksBy (duty_of command) bytes net streams.out streams.out_now
 
 -- Of what may come of the run one came and its text was written; or the sink failed after a part of such a
 -- text.
@@ -139,6 +139,6 @@ Told May streams status = (text : List ℕ) × Wrote streams text
 -- comes of the settings that the bytes read spell.
 abbrev pub GoesBySettings : NetCommand → List Text → Streams → Around → ℕ → Type 0
 GoesBySettings command words streams net status = AsksNet words command → Well streams status
-    → IfSome streams.input.content (λ s. (settings : (kind_of command).Settings)
+    → IfSome streams.input.content (λ s. (settings : (duty_of command).Settings)
     → Spells command settings s.left → length s.left ≤ most_bytes
-    → Told ((kind_of command).May settings net) streams status)
+    → Told ((duty_of command).May settings net) streams status)

@@ -63,9 +63,9 @@ pub record Talks (May : End → List ℕ → Type 0) (Breaks Leaves : Type 0) (n
 
 -- ---- work by settings
 
--- A kind of work over a net: how its settings are read; what may come of it by them; where the sink failed,
--- what had been done or told by then; and where nothing was done.
-pub record Kind : Type 1 where
+-- A duty is work over a net by settings: how these are read; what may come of it by them; where the sink
+-- failed, what had been done or told by then; and where nothing was done.
+pub record Duty : Type 1 where
   pub Settings : Type 0
   pub read : List ℕ → Result Settings (List ℕ)
   pub May : Settings → Around → End → List ℕ → Type 0
@@ -78,26 +78,26 @@ MisspeltMay read end text =
     ((key : List ℕ) × (read ≡ Err key) × BadKeyMay key end text) ⊎ SaidWanting end text
 
 -- What may come of these bytes: of the settings that they spell; or nothing was done.
-abbrev pub MayBy : Kind → List ℕ → Around → End → List ℕ → Type 0
-MayBy kind bytes net end text =
-    ((settings : kind.Settings) × (kind.read bytes ≡ Ok settings) × kind.May settings net end text)
-    ⊎ (kind.Rests net × MisspeltMay (kind.read bytes) end text)
+abbrev pub MayBy : Duty → List ℕ → Around → End → List ℕ → Type 0
+MayBy duty bytes net end text =
+    ((settings : duty.Settings) × (duty.read bytes ≡ Ok settings) × duty.May settings net end text)
+    ⊎ (duty.Rests net × MisspeltMay (duty.read bytes) end text)
 
 -- what had been done or told by the settings that they spell
-abbrev pub BreaksBy : Kind → List ℕ → Around → (old new : Seen) → Type 0
-BreaksBy kind bytes net old new =
-    (settings : kind.Settings) × (kind.read bytes ≡ Ok settings) × kind.Breaks settings net old new
+abbrev pub BreaksBy : Duty → List ℕ → Around → (old new : Seen) → Type 0
+BreaksBy duty bytes net old new =
+    (settings : duty.Settings) × (duty.read bytes ≡ Ok settings) × duty.Breaks settings net old new
 
 -- how work on these bytes ends
-abbrev pub EndsBy : Kind → List ℕ → (Leaves : Type 0) → Around → (old new : Seen) → End → Type 0
-EndsBy kind bytes Leaves net old new end =
-    Talks (MayBy kind bytes net) (BreaksBy kind bytes net old new) Leaves net old new end
+abbrev pub EndsBy : Duty → List ℕ → (Leaves : Type 0) → Around → (old new : Seen) → End → Type 0
+EndsBy duty bytes Leaves net old new end =
+    Talks (MayBy duty bytes net) (BreaksBy duty bytes net old new) Leaves net old new end
 
 -- how work by these settings ends
-abbrev pub Settled : (kind : Kind) → kind.Settings → (Leaves : Type 0) → Around → (old new : Seen) → End
+abbrev pub Settled : (duty : Duty) → duty.Settings → (Leaves : Type 0) → Around → (old new : Seen) → End
     → Type 0
-Settled kind settings Leaves net old new end =
-    Talks (kind.May settings net) (kind.Breaks settings net old new) Leaves net old new end
+Settled duty settings Leaves net old new end =
+    Talks (duty.May settings net) (duty.Breaks settings net old new) Leaves net old new end
 
 -- ---- a server
 
@@ -116,7 +116,7 @@ ServeBreaks settings net old new =
     ((failed : Bool) × Adds net.before.calls net.now.calls (Listened settings.listen failed))
     ⊎ ((more : List ℕ) × Took old.written new.written (listening ++ more))
 
-abbrev pub server : Kind
+abbrev pub server : Duty
 server = record {
   Settings = ServeSettings;
   read = judged serve_of;
@@ -176,7 +176,7 @@ PlanBreaks Ended plan net old new =
 abbrev pub ClientMay : ClientSettings → Around → End → List ℕ → Type 0
 ClientMay settings net end text = PlanMay ClientEnded (client_plan settings net.seed) net end text
 
-abbrev pub client : Kind
+abbrev pub client : Duty
 client = record {
   Settings = ClientSettings;
   read = judged client_of;
@@ -205,7 +205,7 @@ JobBreaks Fetch settings net old new = Unit {0}
 abbrev pub CarryMay : CarrySettings → Around → End → List ℕ → Type 0
 CarryMay settings net end text = JobMay settings.job settings net end text
 
-abbrev pub carrier : Kind
+abbrev pub carrier : Duty
 carrier = record {
   Settings = CarrySettings;
   read = judged carry_of;
@@ -216,22 +216,22 @@ carrier = record {
 
 -- ---- a command
 
-abbrev pub kind_of : NetCommand → Kind
-kind_of Serve = server
-kind_of Client = client
-kind_of Carry = carrier
+abbrev pub duty_of : NetCommand → Duty
+duty_of Serve = server
+duty_of Client = client
+duty_of Carry = carrier
 
 -- these bytes spell these settings of the command
-abbrev pub Spells : (command : NetCommand) → (kind_of command).Settings → List ℕ → Type 0
-Spells command settings bytes = (kind_of command).read bytes ≡ Ok settings
+abbrev pub Spells : (command : NetCommand) → (duty_of command).Settings → List ℕ → Type 0
+Spells command settings bytes = (duty_of command).read bytes ≡ Ok settings
 
 -- this is the first key of the command's settings that is missing or wrong
 abbrev pub IsBadKey : NetCommand → List ℕ → List ℕ → Type 0
-IsBadKey command key bytes = (kind_of command).read bytes ≡ Err key
+IsBadKey command key bytes = (duty_of command).read bytes ≡ Err key
 
 -- what the command's work on these bytes may come to
 abbrev pub TalkMay : NetCommand → List ℕ → Around → End → List ℕ → Type 0
-TalkMay command bytes net end text = MayBy (kind_of command) bytes net end text
+TalkMay command bytes net end text = MayBy (duty_of command) bytes net end text
 
 -- a client and a carrier leave nothing; of a server it is said connection by connection, in each visit
 abbrev pub LeavesNothing : NetCommand → Around → Type 0
@@ -241,4 +241,4 @@ LeavesNothing other net = LeftNothing net
 -- how the command's work on these bytes ends
 abbrev pub TalkEnds : NetCommand → List ℕ → Around → (old new : Seen) → End → Type 0
 TalkEnds command bytes net old new end =
-    EndsBy (kind_of command) bytes (LeavesNothing command net) net old new end
+    EndsBy (duty_of command) bytes (LeavesNothing command net) net old new end
