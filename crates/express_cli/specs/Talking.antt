@@ -13,6 +13,8 @@ use Rattle.settings_text.specs.declared.carry.CarryJob.{CarryJob}
 use Rattle.settings_text.specs.declared.carry.CarryJob.TheVariants.{Send, Fetch}
 use Rattle.settings_text.specs.declared.carry.CarrySettings.{CarrySettings}
 use Rattle.node_serve.specs.declared.node.Node.{Node}
+use Rattle.node_serve.specs.Logs.{Log}
+use Rattle.node_serve.specs.Moved.{Moved}
 use Rattle.node_serve.specs.Opening.{IsOpened}
 use Rattle.node_exchange.specs.Exchanging.{ClosedAtEnd, EndsShort}
 use Rattle.node_serve.specs.NoLog.{node_log}
@@ -30,7 +32,7 @@ use Rattle.client_run.specs.declared.ran.Ran.{Ran}
 use Rattle.client_run.specs.declared.ran.RunEnd.{RunEnd}
 use Rattle.client_run.specs.declared.ran.RunEnd.TheVariants as run
 use Rattle.express_cli.specs.Around.{Around, Seen}
-use Rattle.express_cli.specs.Door.{DoorMay, NeverMay, doorway_of, listening}
+use Rattle.express_cli.specs.Door.{DoorMay, NeverMay, Tells, doorway_of, listening}
 use Rattle.express_cli.specs.Ends.{BadKeyMay, Prints, Said, SaidWanting, out_of_memory_text}
 use Rattle.express_cli.specs.declared.words.NetCommand.{NetCommand}
 use Rattle.express_cli.specs.declared.words.NetCommand.TheVariants.{Serve, Client, Carry}
@@ -115,6 +117,13 @@ abbrev pub ServeBreaks : ServeSettings → Around → (old new : Seen) → Type 
 ServeBreaks settings net old new =
     ((failed : Bool) × Adds net.before.calls net.now.calls (Listened settings.listen failed))
     ⊎ ((more : List ℕ) × Took old.written new.written (listening ++ more))
+
+-- how a server of these settings ends at its door, with what is counted of its log
+abbrev pub DoorEnds : {S F : Type 0} → Log S F → Tells F → ServeSettings → Around → Moved S → (Counts : Type 0)
+    → (out : Moved Seen) → End → Type 0
+DoorEnds log tells settings net server Counts out end =
+    Talks (DoorMay log tells settings (doorway_of net server.old server.new))
+    (ServeBreaks settings net out.old out.new) Counts net out.old out.new end
 
 abbrev pub server : Duty
 server = record {

@@ -1,11 +1,12 @@
 //! A server at its door: it listens, tells so, serves, and tells what came of it.
 ghost use Rattle.std.specs.Prelude.{◌≡◌, ◌≢◌, ◌⊎◌, ◌≤◌, ◌++◌, ℕ, List, [], IfOk, codes, string_bytes};
 ghost use Rattle.node_restart.specs.Frames.{Handed};
+ghost use Rattle.node_serve.specs.Moved.{moved, shown};
 ghost use Rattle.node_serve.specs.Tallies.{tally_text};
 ghost use Rattle.express_cli.specs.Around.{over};
-ghost use Rattle.express_cli.specs.Door.{DoorMay, Served, doorway_of};
+ghost use Rattle.express_cli.specs.Door.{Served, doorway_of};
 ghost use Rattle.express_cli.specs.Ends.{DiskCounts, Prints, SaidOrWants};
-ghost use Rattle.express_cli.specs.Talking.{ServeBreaks, Talks};
+ghost use Rattle.express_cli.specs.Talking.{DoorEnds};
 ghost use Rattle.express_cli.specs.declared.ends.End.{End as Ends};
 
 use crate::ends::End;
@@ -93,11 +94,9 @@ pub(crate) fn listen_and_serve<S: TellsFaults, K: Sink, N: Net>(
     net: &mut N,
 ) -> End
     requires whole { S.whole server.old }
-    ensures ends { Talks (DoorMay S.log S.tells settings.now
-        (doorway_of (over N.seen N.Conn.seen [] net.old net.new) server.old server.new))
-        (ServeBreaks settings.now (over N.seen N.Conn.seen [] net.old net.new) (K.seen out.old) (K.seen out.new))
-        (DiskCounts result (S.failures server.old) (S.failures server.new))
-        (over N.seen N.Conn.seen [] net.old net.new) (K.seen out.old) (K.seen out.new) result }
+    ensures ends { DoorEnds S.log S.tells settings.now (over N.seen N.Conn.seen [] net.old net.new)
+        (moved server.old server.new) (DiskCounts result (S.failures server.old) (S.failures server.new))
+        (shown K.seen out.old out.new) result }
 {
     match net.listen(settings.listen.as_str()) {
         Ok(()) => match out.put(LISTENING.as_bytes()) {
