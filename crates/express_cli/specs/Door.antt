@@ -7,7 +7,7 @@ use Rattle.settings_text.specs.declared.serve.ServeSettings.{ServeSettings}
 use Rattle.node_serve.specs.Hosting.{Hosts, halt_in}
 use Rattle.node_serve.specs.Logs.{Log}
 use Rattle.node_serve.specs.Tallies.{tally_text}
-use Rattle.node_serve.specs.Visits.{DoorBy, Standing, standing}
+use Rattle.node_serve.specs.Visits.{DoorBy, LogBy, Standing, standing}
 use Rattle.node_serve.specs.declared.never.Never.{Never}
 use Rattle.node_serve.specs.declared.stop.Halt.{Halt}
 use Rattle.node_serve.specs.declared.stop.Halt.TheVariants as halt
@@ -45,6 +45,15 @@ abbrev pub ServedSays : {F : Type 0} → Tells F → Result Tally (Halt F) → E
 ServedSays tells (Ok tally) end text = SaidOrWants Done (tally_text tally ++ codes "\n") end text
 ServedSays tells (Err halt.Door) end text = Said NetFault net_fault_text end text
 ServedSays tells (Err (halt.Log fault)) end text = tells fault end text
+
+-- it ended at the door, or at one of these faults of the log
+abbrev pub EndsAtFirst : {F : Type 0} → (F → Type 0) → Halt F → Type 0
+EndsAtFirst first halt.Door = Unit {0}
+EndsAtFirst first (halt.Log fault) = first fault
+
+-- what is said then of the log's count of failures
+abbrev pub HaltCounts : {F : Type 0} → (F → ℕ → ℕ → Type 0) → Halt F → (before now : ℕ) → Type 0
+HaltCounts rises h before now = LogBy {T = Tally} rises (Err h) before now
 
 -- All connections of the settings were served; or an accept failed, or the log refused a frame, which ended
 -- the run: no answer went out to its connection.

@@ -119,8 +119,8 @@ ServeBreaks settings net old new =
     ⊎ ((more : List ℕ) × Took old.written new.written (listening ++ more))
 
 -- how a server of these settings ends at its door, with what is counted of its log
-abbrev pub DoorEnds : {S F : Type 0} → Log S F → Tells F → ServeSettings → Around → Moved S → (Counts : Type 0)
-    → (out : Moved Seen) → End → Type 0
+abbrev pub DoorEnds : {S F : Type 0} → Log S F → Tells F → ServeSettings → Around → Moved S
+    → (Counts : Type 0) → (out : Moved Seen) → End → Type 0
 DoorEnds log tells settings net server Counts out end =
     Talks (DoorMay log tells settings (doorway_of net server.old server.new))
     (ServeBreaks settings net out.old out.new) Counts net out.old out.new end

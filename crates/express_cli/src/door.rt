@@ -1,10 +1,10 @@
 //! A server at its door: it listens, tells so, serves, and tells what came of it.
-ghost use Rattle.std.specs.Prelude.{◌≡◌, ◌≢◌, ◌⊎◌, ◌≤◌, ◌++◌, ℕ, List, [], IfOk, codes, string_bytes};
+ghost use Rattle.std.specs.Prelude.{◌≡◌, ◌≢◌, ◌⊎◌, ◌≤◌, ◌++◌, ℕ, List, [], Err, IfOk, codes, string_bytes};
 ghost use Rattle.node_restart.specs.Frames.{Handed};
 ghost use Rattle.node_serve.specs.Moved.{moved, shown};
 ghost use Rattle.node_serve.specs.Tallies.{tally_text};
 ghost use Rattle.express_cli.specs.Around.{over};
-ghost use Rattle.express_cli.specs.Door.{Served, doorway_of};
+ghost use Rattle.express_cli.specs.Door.{EndsAtFirst, HaltCounts, Served, ServedSays, doorway_of};
 ghost use Rattle.express_cli.specs.Ends.{DiskCounts, Prints, SaidOrWants};
 ghost use Rattle.express_cli.specs.Talking.{DoorEnds};
 ghost use Rattle.express_cli.specs.declared.ends.End.{End as Ends};
@@ -28,11 +28,12 @@ pub(crate) trait TellsFaults: Logged {
     /// What is told of a fault, and the end of the run by it.
     ghost tells: { Self.Fault → Ends → List ℕ → Type 0 };
 
-    /// Tells for which fault the log refused a frame, before it had served all its connections.
-    fn tell_fault<K: Sink>(alloc: Global, out: &mut K, fault: Self::Fault) -> End
-        requires first { first fault }
-        ensures tells { Prints (tells fault) (K.seen out.old) (K.seen out.new) result }
-        ensures counts { (before now : ℕ) → Self.rises fault before now → DiskCounts result before now };
+    /// Tells why it ended before it had served all its connections. A log may refuse nothing, so its fault isn't told
+    /// by a call of its own.
+    fn tell_halt<K: Sink>(alloc: Global, out: &mut K, halt: Halt<Self::Fault>) -> End
+        requires first { EndsAtFirst first halt }
+        ensures tells { Prints (ServedSays tells (Err halt)) (K.seen out.old) (K.seen out.new) result }
+        ensures counts { (before now : ℕ) → HaltCounts Self.rises halt before now → DiskCounts result before now };
 
     /// Where a log hadn't failed, its first fault is one of those.
     ghost stops_first: { (a b : Self) (taken : List Handed) (refused : Handed) (why : Self.Fault) → whole a
@@ -77,10 +78,7 @@ fn serve_all<S: TellsFaults, K: Sink, N: Net>(
     let peer = settings.peer.as_str();
     match host(server, peer, gather, settings.connections, net) {
         Ok(tally) => say_line(out, tally_line(alloc, tally), End::Done),
-        Err(stop) => match stop.halt {
-            Halt::Door => say(out, NET_FAULT, End::NetFault),
-            Halt::Log(fault) => S::tell_fault(alloc, out, fault),
-        },
+        Err(stop) => S::tell_halt(alloc, out, stop.halt),
     }
 }
 

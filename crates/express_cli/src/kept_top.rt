@@ -53,7 +53,7 @@ fn keep_by<K: Sink, N: Net, D: Disk>(
             let end = listen_and_serve(alloc, settings, &mut kept, &mut gather, out, net);
             (end, kept.into_disk())
         }
-        Err((fault, disk)) => (tell_unopened::<D, K>(alloc, out, fault), disk),
+        Err((fault, disk)) => (tell_unopened(alloc, out, fault), disk),
     }
 }
 

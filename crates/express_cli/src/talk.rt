@@ -1,17 +1,17 @@
 //! The work of a command over a net.
-ghost use Rattle.std.specs.Prelude.{◌≡◌, ◌≢◌, ◌≤◌, ◌⊎◌, List, ℕ};
+ghost use Rattle.std.specs.Prelude.{◌≡◌, ◌≢◌, ◌≤◌, ◌⊎◌, Err, List, ℕ};
 ghost use Rattle.express_cli.specs.Around.{over};
-ghost use Rattle.express_cli.specs.Door.{NeverMay};
+ghost use Rattle.express_cli.specs.Door.{HaltCounts, NeverMay, ServedSays};
 ghost use Rattle.express_cli.specs.Ends.{DiskCounts, Prints};
 ghost use Rattle.express_cli.specs.Talking.{SaysRun, Settled, TalkEnds, end_by, server};
 
 use crate::door::{TellsFaults, listen_and_serve};
 use crate::ends::End;
-use crate::texts::{OUT_OF_MEMORY, say, say_fault};
+use crate::texts::{NET_FAULT, OUT_OF_MEMORY, say, say_fault};
 use crate::words::NetCommand;
 use client_run::{Ran, RunEnd, Untold, run_carry, run_client};
 use express_words::outside::{Net, Sink};
-use node_serve::{Never, Node, open_node};
+use node_serve::{Halt, Never, Node, open_node};
 use settings_text::{ServeSettings, read_carry, read_client, read_serve};
 use std::alloc::Global;
 use wire_frames::Gather;
@@ -24,11 +24,14 @@ impl TellsFaults for Node {
 
     ghost tells = { NeverMay };
 
-    fn tell_fault<K: Sink>(_alloc: Global, _out: &mut K, fault: Never) -> End
-        ensures tells { Prints (NeverMay fault) (K.seen _out.old) (K.seen _out.new) result }
-        ensures counts { (before now : ℕ) → ⊥ → DiskCounts result before now }
+    fn tell_halt<K: Sink>(_alloc: Global, out: &mut K, halt: Halt<Never>) -> End
+        ensures tells { Prints (ServedSays NeverMay (Err halt)) (K.seen out.old) (K.seen out.new) result }
+        ensures counts { (before now : ℕ) → HaltCounts (λ why a b. ⊥) halt before now → DiskCounts result before now }
     {
-        match fault {}
+        match halt {
+            Halt::Door => say(out, NET_FAULT, End::NetFault),
+            Halt::Log(fault) => match fault {},
+        }
     }
 
     ghost stops_first = { λ a b taken refused why whole stops. stops };

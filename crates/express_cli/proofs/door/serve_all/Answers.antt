@@ -1,17 +1,26 @@
-use Rattle.std.proofs.Common.{[], List, ℕ, Ok, Err, ◌++◌, codes}
+use Rattle.std.proofs.Common.{◌≡◌, [], List, ℕ, Ok, Err, ◌++◌, codes, refl}
 use Rattle.node_serve.specs.Tallies.{tally_text}
+use Rattle.node_serve.specs.declared.stop.Halt.{Halt}
+use Rattle.node_serve.specs.declared.stop.Halt.TheVariants as halt
 use Rattle.express_cli.specs.Around.{over}
-use Rattle.express_cli.specs.Door.{Served, doorway_of}
+use Rattle.express_cli.specs.Door.{EndsAtFirst, Served, ServedSays, doorway_of}
 use Rattle.express_cli.specs.Ends.{SaidOrWants}
-use Rattle.express_cli.specs.declared.ends.End.TheVariants.{Done, NetFault}
-use Rattle.express_cli.proofs.CountLaws.{line_counts, told_counts}
+use Rattle.express_cli.specs.declared.ends.End.TheVariants.{Done}
+use Rattle.express_cli.proofs.CountLaws.{line_counts}
 use Rattle.express_cli.proofs.Writing.{more_may}
 use Rattle.express_cli.proofs.door.serve_all.Goals as goal
 
-pub tell_fault-requires : goal.tell_fault-requires
-tell_fault-requires g c =
-    let refuses = rw c.in-Log.is at c.in-Err.ensures.hosts.ends in
-    record { first = g.met.S.TellsFaults.stops_first _ _ _ refuses.broken.short.refused c.in-Log.fault c.requires.whole refuses.stops }
+-- it ended at the door, or the log refused a frame for one of its first faults
+at_first : {F : Type 0} (first : F → Type 0) (h : Halt F) → ((fault : F) → h ≡ halt.Log fault → first fault) → EndsAtFirst first h
+at_first first halt.Door law = tt
+at_first first (halt.Log fault) law = law fault refl
+
+pub tell_halt-requires : goal.tell_halt-requires
+tell_halt-requires g c = record {
+  first = at_first g.S.TellsFaults.first c.in-Err.stop.halt (λ fault is.
+      let refuses = rw is at c.in-Err.ensures.hosts.ends in
+      g.met.S.TellsFaults.stops_first _ _ _ refuses.broken.short.refused fault c.requires.whole refuses.stops);
+}
 
 pub returns-in-Ok-clause-tells : goal.returns-in-Ok-clause-tells
 returns-in-Ok-clause-tells g c =
@@ -23,20 +32,11 @@ returns-in-Ok-clause-tells g c =
 pub returns-in-Ok-clause-counts : goal.returns-in-Ok-clause-counts
 returns-in-Ok-clause-counts g c = line_counts Done c.say_line.result _ _ c.say_line.ensures.only c.in-Ok.ensures.counts c.in-Ok.ensures.counts
 
-pub returns-in-Door-clause-tells : goal.returns-in-Door-clause-tells
-returns-in-Door-clause-tells g c =
+pub returns-in-Err-clause-tells : goal.returns-in-Err-clause-tells
+returns-in-Err-clause-tells g c =
     let door = doorway_of (over g.N.Counted.seen g.N.Conn.Counted.seen [] c.args.net.now c.host.new.net) c.args.server.now c.host.new.server in
-    more_may _ (Served g.S.Logged.log g.S.TellsFaults.tells c.args.settings.now door) _ _ _ _ _
-    (λ e t says. record { result = Err c.in-Err.stop; hosts = rw c.as_str-peer.ensures at c.in-Err.ensures.hosts; doors = c.in-Err.ensures.door; says = rw c.in-Door.is says }) c.say.ensures.says
+    more_may (ServedSays g.S.TellsFaults.tells (Err c.in-Err.stop.halt)) (Served g.S.Logged.log g.S.TellsFaults.tells c.args.settings.now door) _ _ _ _ _
+    (λ e t says. record { result = Err c.in-Err.stop; hosts = rw c.as_str-peer.ensures at c.in-Err.ensures.hosts; doors = c.in-Err.ensures.door; says = says }) c.tell_halt.ensures.tells
 
-pub returns-in-Door-clause-counts : goal.returns-in-Door-clause-counts
-returns-in-Door-clause-counts g c = told_counts NetFault c.say.result _ _ c.say.ensures.only (rw c.in-Door.is at c.in-Err.ensures.counts)
-
-pub returns-in-Log-clause-tells : goal.returns-in-Log-clause-tells
-returns-in-Log-clause-tells g c =
-    let door = doorway_of (over g.N.Counted.seen g.N.Conn.Counted.seen [] c.args.net.now c.host.new.net) c.args.server.now c.host.new.server in
-    more_may (g.S.TellsFaults.tells c.in-Log.fault) (Served g.S.Logged.log g.S.TellsFaults.tells c.args.settings.now door) _ _ _ _ _
-    (λ e t says. record { result = Err c.in-Err.stop; hosts = rw c.as_str-peer.ensures at c.in-Err.ensures.hosts; doors = c.in-Err.ensures.door; says = rw c.in-Log.is says }) c.tell_fault.ensures.tells
-
-pub returns-in-Log-clause-counts : goal.returns-in-Log-clause-counts
-returns-in-Log-clause-counts g c = c.tell_fault.ensures.counts _ _ (rw c.in-Log.is at c.in-Err.ensures.counts)
+pub returns-in-Err-clause-counts : goal.returns-in-Err-clause-counts
+returns-in-Err-clause-counts g c = c.tell_halt.ensures.counts _ _ c.in-Err.ensures.counts

@@ -2,7 +2,7 @@ use Rattle.std.proofs.Common.{sym, inl, ◌∙◌}
 use Rattle.express_cli.specs.Keeping.{KeepFaultMay, fault_line}
 use Rattle.express_cli.proofs.CountLaws.{disk_line, fault_counts, line_counts, told_counts, unfailed}
 use Rattle.express_cli.proofs.Writing.{said}
-use Rattle.express_cli.proofs.keep_faults.KeptTellsFaults.tell_fault.Goals as goal
+use Rattle.express_cli.proofs.keep_faults.tell_fault.Goals as goal
 
 pub returns-in-DiskFault-clause-tells : goal.returns-in-DiskFault-clause-tells
 returns-in-DiskFault-clause-tells g c =
