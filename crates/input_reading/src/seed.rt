@@ -51,6 +51,7 @@ fn take_behind<S: Source>(
 }
 
 /// The next 32 bytes of the source, of which no more are taken. It stops at the first fault and at the end.
+#[tactic(auto, using(crate::proofs::Seeding::gave_more, crate::proofs::Seeding::gave_no_more, crate::proofs::Seeding::not_early))]
 pub fn seed_of<S: Source>(random: &mut S) -> Result<[u8; 32], SeedFault>
     ensures seed { IfOk result (Gave (S.seen random.old).content (S.seen random.new).content) }
     ensures refused { IfErr result (GaveNoSeed (S.seen random.old).content (S.seen random.new).content

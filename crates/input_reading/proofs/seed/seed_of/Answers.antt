@@ -1,9 +1,9 @@
 use Rattle.std.proofs.Common.{◌≡◌, ℕ, ◌+◌, ◌≤◌, ◌++◌, List, [], length, take, drop, sym, ap, ◌∙◌, subst, arith}
 use Rattle.std.proofs.Math.Seq.{take-add}
-use Rattle.std.proofs.lemmas.List.{length-take, take_all}
+use Rattle.std.proofs.lemmas.List.{length-take}
 use Rattle.express_words.specs.Causes.{next}
 use Rattle.express_words.specs.Streams.{Gave}
-use Rattle.input_reading.proofs.Seeding.{gave_more, gave_no_more, not_early}
+use Rattle.input_reading.proofs.Seeding.{gave_more, gave_no_more}
 use Rattle.input_reading.proofs.seed.seed_of.Goals as goal
 
 pub taking-preserved : goal.taking-preserved
@@ -45,13 +45,3 @@ returns-in-Ok-eq0-clause-refused g c =
         omega (arith, length-take c.taking.length c.taking.seed, c.taking.invariant.long, c.taking-test.true),
       ),
     )
-
-pub returns-clause-seed : goal.returns-clause-seed
-returns-clause-seed g c =
-    let all : take c.taking.length c.taking.seed ≡ c.taking.seed
-    = take_all c.taking.length c.taking.seed (omega (arith, c.taking.invariant.long, c.taking-test.false)) in
-    subst (Gave (g.S.Counted.seen c.args.random.now).content (g.S.Counted.seen c.taking.random).content) all c.taking.invariant.gave
-
-pub returns-clause-early : goal.returns-clause-early
-returns-clause-early g c =
-    not_early _ _ _ _ c.taking.seed (returns-clause-seed g c) c.taking.invariant.long
