@@ -4,10 +4,10 @@ use Rattle.frame_rules.specs.Whole.{whole}
 use Rattle.node_journal.specs.Disk.{DiskSeen, Within, LeavesOnly}
 use Rattle.node_journal.specs.Records.{content, IsUndamaged}
 use Rattle.node_journal.specs.Journal.{JournalState, HasSpace, LacksSpace, longer, broken}
-use Rattle.node_journal.specs.declared.fault.JournalFault.TheVariants.{Closed, NotEmpty, Full, Disk, Damaged}
+use Rattle.node_journal.specs.declared.fault.JournalFault.TheVariants.{Closed, Full, Disk}
 use Rattle.node_restart.specs.declared.opening.Opening.{Opening}
 use Rattle.node_restart.specs.declared.fault.KeepFault.{KeepFault}
-use Rattle.node_restart.specs.declared.fault.KeepFault.TheVariants.{Journal, NoMemory, Foreign}
+use Rattle.node_restart.specs.declared.fault.KeepFault.TheVariants.{Journal}
 use Rattle.node_restart.specs.Frames.{Handed, IsOneFrame, records_of}
 use Rattle.node_restart.specs.Steps.{fold_from}
 use Rattle.node_restart.specs.Kept.{KeptState, HoldsFrames, LeavesAround}
@@ -30,23 +30,33 @@ pub record LeavesFirst (limit : ℕ) (o : Opening) (before frames : List Handed)
   pub content : content c ≡ records_of o (before ++ first)
   pub undamaged : IsUndamaged limit 0 c
 
--- From old to new a server was handed these frames, in this order. It took the step of each, and those that
--- are frames stand on its disk behind those from before. A crash at any moment on the way leaves the first
--- of them.
-pub record Keeps {D : Type 0} (shows : D → DiskSeen) (old new : KeptState D) (frames : List Handed)
+-- From old to new a crash at any moment leaves the first of these frames behind those from before; if there
+-- are none, nothing changed.
+pub record MayLeaveFirst {D : Type 0} (shows : D → DiskSeen) (old new : KeptState D) (frames : List Handed)
+    : Type 0 where
+  pub quiet : frames ≡ [] → new ≡ old
+  pub any_moment : frames ≢ [] → (before : List Handed)
+      → HoldsFrames old.opening before (shows old.disk).reads → LeavesOnly (shows old.disk) (shows new.disk)
+      (LeavesFirst old.journal.limit old.opening before frames)
+
+-- From old to new these frames went to the disk, in this order, behind those from before.
+pub record AddsFrames {D : Type 0} (shows : D → DiskSeen) (old new : KeptState D) (frames : List Handed)
     : Type 0 where
   pub opening : new.opening ≡ old.opening
-  pub steps : new.core ≡ fold_from old.core frames
-  pub journal : new.journal ≡ journal_after old.journal (kept_of frames)
-  pub quiet : kept_of frames ≡ [] → new ≡ old
-  pub unclosed : kept_of frames ≢ [] → old.journal.closed ≡ false
+  pub journal : new.journal ≡ journal_after old.journal frames
+  pub unclosed : frames ≢ [] → old.journal.closed ≡ false
   pub held : (before : List Handed) → HoldsFrames old.opening before (shows old.disk).reads
-      → HoldsFrames old.opening (before ++ kept_of frames) (shows new.disk).reads
+      → HoldsFrames old.opening (before ++ frames) (shows new.disk).reads
   pub durable : Within (shows old.disk).may_leave (shows old.disk).reads
       → Within (shows new.disk).may_leave (shows new.disk).reads
-  pub any_moment : kept_of frames ≢ [] → (before : List Handed)
-      → HoldsFrames old.opening before (shows old.disk).reads → LeavesOnly (shows old.disk) (shows new.disk)
-      (LeavesFirst old.journal.limit old.opening before (kept_of frames))
+  pub leaves : MayLeaveFirst shows old new frames
+
+-- From old to new a server was handed these frames, in this order. It took the step of each, and those that
+-- are frames stand on its disk.
+pub record Keeps {D : Type 0} (shows : D → DiskSeen) (old new : KeptState D) (frames : List Handed)
+    : Type 0 where
+  pub steps : new.core ≡ fold_from old.core frames
+  pub adds : AddsFrames shows old new (kept_of frames)
 
 -- What a fault says of the journal before a record of so many bytes, and what it leaves: Closed and Full
 -- leave all, and Disk leaves a closed journal.
@@ -56,10 +66,7 @@ IsCause (Journal (Full end)) bytes old new =
     (old.journal.closed ≡ false) × LacksSpace old.journal bytes × (end ≡ old.journal.end) × (new ≡ old)
 IsCause (Journal (Disk faults)) bytes old new =
     (old.journal.closed ≡ false) × HasSpace old.journal bytes × (new.journal ≡ broken old.journal)
-IsCause (Journal NotEmpty) bytes old new = ⊥
-IsCause (Journal (Damaged at)) bytes old new = ⊥
-IsCause NoMemory bytes old new = ⊥
-IsCause (Foreign n) bytes old new = ⊥
+IsCause other bytes old new = ⊥
 
 -- From old to new a server was handed this frame, which wasn't kept for this fault, and took no step. A
 -- crash at any moment on the way leaves the frames from before, with it or without.
@@ -74,12 +81,7 @@ pub record Refuses {D : Type 0} (shows : D → DiskSeen) (old new : KeptState D)
 -- what a crash may leave of a frame that wasn't kept: the frame itself, where a call on the disk failed
 abbrev pub begun : KeepFault → Handed → List Handed
 begun (Journal (Disk faults)) h = h ∷ []
-begun (Journal Closed) h = []
-begun (Journal NotEmpty) h = []
-begun (Journal (Full end)) h = []
-begun (Journal (Damaged at)) h = []
-begun NoMemory h = []
-begun (Foreign n) h = []
+begun other h = []
 
 -- From old to new a server was handed these frames and took their steps, and then this one, which wasn't
 -- kept. A crash at any moment on the way leaves the first of all these, the last among them where a call on
@@ -89,7 +91,4 @@ pub record KeepsUpTo {D : Type 0} (shows : D → DiskSeen) (old new : KeptState 
   pub between : KeptState D
   pub keeps : Keeps shows old between frames
   pub refuses : Refuses shows between new refused fault
-  pub quiet : kept_of frames ++ begun fault refused ≡ [] → new ≡ old
-  pub any_moment : kept_of frames ++ begun fault refused ≢ [] → (before : List Handed)
-      → HoldsFrames old.opening before (shows old.disk).reads → LeavesOnly (shows old.disk) (shows new.disk)
-      (LeavesFirst old.journal.limit old.opening before (kept_of frames ++ begun fault refused))
+  pub leaves : MayLeaveFirst shows old new (kept_of frames ++ begun fault refused)

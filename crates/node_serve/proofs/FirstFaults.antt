@@ -28,7 +28,7 @@ pub first_fault : {D : Type 0} (shows : D → DiskSeen) (old new : KeptState D) 
     (fault : KeepFault) → old.journal.closed ≡ false
     → KeepsUpTo shows old new frames refused fault → IsFirstFault fault
 first_fault shows old new frames refused fault unclosed upto =
-    grind (arith, upto.refuses.cause, upto.keeps.journal, after_closed old.journal (kept_of frames))
+    grind (arith, upto.refuses.cause, upto.keeps.adds.journal, after_closed old.journal (kept_of frames))
 
 pub opening_fault : (fault : KeepFault) → IsOfOpening (opening.Keep fault) → IsFirstFault fault
 opening_fault fault kind = grind arith
