@@ -2,7 +2,7 @@
 use Rattle.std.proofs.Common.{◌≡◌, ◌≢◌, ◌⊎◌, ℕ, List, Option, codes, arith}
 use Rattle.node_restart.specs.Faults.{CountsFault}
 use Rattle.node_restart.specs.declared.fault.KeepFault.{KeepFault}
-use Rattle.node_serve.specs.FirstFaults.{IsFirstFault}
+use Rattle.node_serve.specs.KeptOpening.{IsFirstFault}
 use Rattle.express_texts.specs.declared.fault.TextFault.{TextFault}
 use Rattle.express_cli.specs.Ends.{DiskCounts, FaultMay, PrintsBy}
 use Rattle.express_cli.specs.Keeping.{end_by, fault_line}

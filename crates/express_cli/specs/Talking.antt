@@ -15,7 +15,7 @@ use Rattle.settings_text.specs.declared.carry.CarrySettings.{CarrySettings}
 use Rattle.node_serve.specs.declared.node.Node.{Node}
 use Rattle.node_serve.specs.Logs.{Log}
 use Rattle.node_serve.specs.Moved.{Moved}
-use Rattle.node_serve.specs.Opening.{IsOpened}
+use Rattle.node_serve.specs.KeptOpening.{IsOpened}
 use Rattle.node_exchange.specs.Exchanging.{ClosedAtEnd, EndsShort}
 use Rattle.node_serve.specs.NoLog.{node_log}
 use Rattle.node_client.specs.declared.finished.Finished.{Finished}

@@ -1,7 +1,6 @@
 //! Tells why a server with a journal ended, or wasn't opened.
 ghost use Rattle.std.specs.Prelude.{◌≡◌, ◌≢◌, ◌⊎◌, ◌≤◌, ℕ, false, Err, IfOk, string_bytes};
-ghost use Rattle.node_serve.specs.FirstFaults.{IsFirstFault};
-ghost use Rattle.node_serve.specs.KeptOpening.{CountsOpen, IsOfOpening, key_text};
+ghost use Rattle.node_serve.specs.KeptOpening.{CountsOpen, IsFirstFault, IsOfOpening};
 ghost use Rattle.node_serve.specs.JournalLog.{rises};
 ghost use Rattle.express_cli.specs.Door.{EndsAtFirst, HaltCounts, ServedSays};
 ghost use Rattle.express_cli.specs.Ends.{DiskCounts, Prints};
@@ -13,7 +12,7 @@ use crate::texts::{NET_FAULT, say, say_bad_key};
 use express_words::outside::Sink;
 use node_journal::{Disk, JournalFault};
 use node_restart::{KeepFault, Kept};
-use node_serve::{Halt, OpenFault, SettingsKey};
+use node_serve::{Halt, OpenFault};
 use std::alloc::{AllocError, Global};
 
 const DISK_FAULT: &str = "disk fault\n";
@@ -76,18 +75,6 @@ fn tell_fault<K: Sink>(alloc: Global, out: &mut K, fault: KeepFault) -> End
     }
 }
 
-fn name_of(key: SettingsKey) -> &'static str
-    ensures { result.now ≡ key_text key }
-{
-    match key {
-        SettingsKey::Role => "role",
-        SettingsKey::Width => "width",
-        SettingsKey::Boxes => "boxes",
-        SettingsKey::Lanes => "lanes",
-        SettingsKey::Window => "window",
-    }
-}
-
 /// Says why a server wasn't opened, unless memory is wanting.
 pub(crate) fn tell_unopened<K: Sink>(alloc: Global, out: &mut K, fault: OpenFault) -> End
     requires { IsOfOpening fault }
@@ -96,6 +83,6 @@ pub(crate) fn tell_unopened<K: Sink>(alloc: Global, out: &mut K, fault: OpenFaul
 {
     match fault {
         OpenFault::Keep(fault) => tell_fault(alloc, out, fault),
-        OpenFault::Differs(key) => say_bad_key(alloc, out, name_of(key)),
+        OpenFault::Differs(key) => say_bad_key(alloc, out, key.name()),
     }
 }

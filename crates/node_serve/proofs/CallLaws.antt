@@ -1,25 +1,21 @@
 -- The calls of a visit.
-use Rattle.std.proofs.Common.{◌≡◌, ◌≢◌, ℕ, ◌==◌, false, List, [], ◌∷◌, ◌++◌, Option, Some, None, refl, sym, ap, ◌∙◌, subst, append_assoc}
+use Rattle.std.proofs.Common.{◌≡◌, ◌≢◌, ℕ, false, List, [], ◌∷◌, ◌++◌, Option, Some, None, refl, ap, subst, append_assoc, arith}
 use Rattle.std.proofs.lemmas.List.{append-nil}
 use Rattle.express_words.specs.Seen.{Seen}
 use Rattle.express_words.specs.Streams.{Stream, Gave}
-use Rattle.express_words.specs.Calls.{Call, Accepted, Closed, Adds, AddsClose, GivesTelling}
+use Rattle.express_words.specs.Calls.{Call, Accepted, Adds, AddsClose, GivesTelling}
 use Rattle.node_exchange.specs.Exchanging.{Makes, Exchange, EarlyAtEnd, ExchangesOn}
 use Rattle.node_serve.specs.Moved.{Calls}
 use Rattle.node_serve.specs.Visits.{Contact, contact_calls, Shown, ClosedAs, LinkAtEnd, up_to_close}
 
 pub makes_none : (a : Option (List Call)) → Makes a a []
-makes_none None = tt
-makes_none (Some a) = sym (append-nil a)
+makes_none a = grind (arith, append-nil)
 
 pub makes_same : (a b : Option (List Call)) → b ≡ a → Makes a b []
-makes_same a b same = subst (λ (x : Option (List Call)). Makes a x []) (sym same) (makes_none a)
+makes_same a b same = grind (arith, append-nil)
 
 pub makes_both : (a b c : Option (List Call)) (x y : List Call) → Makes a b x → Makes b c y → Makes a c (x ++ y)
-makes_both a b None x y g h = tt
-makes_both a None (Some c) x y g h = absurd h
-makes_both None (Some b) (Some c) x y g h = absurd g
-makes_both (Some a) (Some b) (Some c) x y g h = h ∙ ap (λ (t : List Call). t ++ y) g ∙ append_assoc a x y
+makes_both a b c x y g h = grind (arith, append_assoc)
 
 -- ---- a server's own calls
 
@@ -60,26 +56,10 @@ stream given left = record { given = given; left = left }
 pub contact_made : (d : Option (List Call)) (t : Option Stream) (x : Option (List ℕ)) (c b : Option (List Call)) (s : Option Stream) (w : Option (List ℕ)) (a : Option (List Call)) (k : Contact)
     → Adds a b (Accepted false) → GivesTelling b s w → Gave s t k.content.given → k.content.left ≡ left_in t → (w ≢ None → x ≡ Some k.taken)
     → Makes b c k.calls → AddsClose c d t x k.faults → Makes a d (contact_calls k) × ClosedAs d k.content k.taken k.faults t x k.faults
-contact_made None t x c b s w a k accept tells gave left took makes close = (tt, tt)
-contact_made (Some d) (Some t) (Some x) (Some c) (Some b) (Some s) (Some w) (Some a) k accept tells gave left took makes close =
-    let given_is : t.given ≡ k.content.given = gave.1 ∙ ap (λ (y : List ℕ). y ++ k.content.given) tells.0 in
-    let taken_is : Some x ≡ Some k.taken = took (λ (e : Some w ≡ None). absurd (cc e)) in
-    let same : x ≡ k.taken = cc in
-    let last : Call = Closed k.content.given k.taken (k.faults == 0) in
-    let close_is : Closed t.given x (k.faults == 0) ≡ last = cc in
-    let content_is : stream t.given t.left ≡ stream k.content.given k.content.left = cc in (
-      close ∙ ap (λ (y : Call). c ++ y ∷ []) close_is ∙ ap (λ (y : List Call). y ++ last ∷ []) (makes ∙ ap (λ (y : List Call). y ++ k.calls) accept)
-          ∙ append_assoc (a ++ Accepted false ∷ []) k.calls (last ∷ []) ∙ append_assoc a (Accepted false ∷ []) (k.calls ++ last ∷ []),
-      (ap Some content_is, taken_is, refl),
-    )
-contact_made d t x c b s w a k accept tells gave left took makes close = search
+contact_made d t x c b s w a k accept tells gave left took makes close = grind (arith, append_assoc)
 
 -- ---- the connection to the helper
 
 pub link_at_end : {C : Type 0} (shows : C → Seen) (d : Option (List Call)) (t : Option Stream) (x : Option (List ℕ)) (c b a : Option (List Call)) (n : ℕ) (k : Contact)
     → Adds a b (Accepted false) → Makes b c k.calls → AddsClose c d t x n → EarlyAtEnd c shows → LinkAtEnd (Shown shows) (up_to_close a d k)
-link_at_end shows None t x c b a n k accept makes close early = λ short. absurd short
-link_at_end shows (Some d) (Some t) (Some x) (Some c) (Some b) (Some a) n k accept makes close early =
-    let all : c ≡ a ++ Accepted false ∷ k.calls = makes ∙ ap (λ (y : List Call). y ++ k.calls) accept ∙ append_assoc a (Accepted false ∷ []) k.calls in
-    subst (LinkAtEnd (Shown shows)) (ap Some all) (λ short. let found = early short in (shows found.0, (found.0, refl), found.1))
-link_at_end shows d t x c b a n k accept makes close early = search
+link_at_end shows d t x c b a n k accept makes close early = grind (arith, append_assoc)

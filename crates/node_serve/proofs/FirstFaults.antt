@@ -9,9 +9,8 @@ use Rattle.node_restart.specs.Kept.{KeptState, IsDamagedAt}
 use Rattle.node_restart.specs.declared.fault.KeepFault.{KeepFault}
 use Rattle.node_restart.specs.declared.opening.Opening.{Opening}
 use Rattle.node_restart.specs.Keeping.{KeepsUpTo, journal_after, kept_of}
-use Rattle.node_serve.specs.KeptOpening.{IsOfOpening, IsCauseOf}
+use Rattle.node_serve.specs.KeptOpening.{IsFirstFault, IsOfOpening, IsCauseOf}
 use Rattle.node_serve.specs.declared.open_fault.OpenFault.TheVariants as opening
-use Rattle.node_serve.specs.FirstFaults.{IsFirstFault}
 
 -- what a fault says of a disk it says of that disk before, where a read gives the same
 pub cause_before : (fault : KeepFault) (limit : ℕ) (o : Opening) (first reads : List ℕ → Type 0) → Within first reads → ((c : List ℕ) → first c → c ≢ [])

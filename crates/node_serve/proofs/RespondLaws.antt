@@ -1,11 +1,9 @@
 -- What a server did with these bytes, by the client's frame that it drains its link for.
-use Rattle.std.proofs.Common.{◌≡◌, ◌⊎◌, ℕ, List, [], Option, None, Result, Ok, Err, refl, sym, ap, ◌∙◌, subst, inl, inr}
-use Rattle.express_words.specs.declared.role.Role.{Role}
+use Rattle.std.proofs.Common.{◌≡◌, ◌⊎◌, ℕ, List, [], Option, Result, sym, ◌∙◌, subst, arith}
 use Rattle.express_words.specs.Seen.{Seen}
 use Rattle.frame_rules.specs.Frames.{PlainFrame}
 use Rattle.node_exchange.specs.Exchanging.{ExchangesOn}
 use Rattle.node_exchange.specs.declared.exchanging.Broken.{Broken}
-use Rattle.node_exchange.specs.declared.exchanging.Broken.TheVariants as broken
 use Rattle.node_restart.specs.declared.server.Core.{Core}
 use Rattle.node_restart.specs.Frames.{Handed}
 use Rattle.node_restart.specs.Steps.{role_of}
@@ -18,7 +16,6 @@ use Rattle.node_serve.specs.Responding.{Fails, Goes, IsSent, Responds, Stops, St
 use Rattle.node_serve.specs.Serving.{AnswersOn, IsPut, WritesTold}
 use Rattle.node_serve.specs.declared.node.Node.{Node}
 use Rattle.node_serve.specs.declared.node.Served.{Served}
-use Rattle.node_serve.specs.declared.node.Served.TheVariants as served
 
 -- a server responded, by the frame that it drains for
 abbrev RespondsTo : Option PlainFrame → Core → List ℕ → Course → ℕ → Served → List ℕ → Type 0
@@ -33,38 +30,23 @@ stops_to core bytes found end refused is stops = subst (λ (f : Option PlainFram
 
 -- ---- a helper makes no exchange
 
-alone : (core : Core) (bytes : List ℕ) (end : Course) (count : ℕ) (why : Served) (reply : List ℕ) → RespondsTo None core bytes end count why reply → end.made ≡ []
-alone core bytes end count why reply (inl (sent, is, same)) = ap (λ (p : Course). p.made) is
-alone core bytes end count why reply (inr fails) = absurd fails
-
 pub helper_alone : (core : Core) (bytes : List ℕ) (end : Course) (count : ℕ) (why : Served) (reply : List ℕ) → IsHelp core → Responds core bytes end count why reply → end.made ≡ []
-helper_alone core bytes end count why reply help responds =
-    alone core bytes end count why reply (subst (λ (r : Role). RespondsTo (drained_for r bytes) core bytes end count why reply) help responds)
+helper_alone core bytes end count why reply help responds = grind arith
 
 pub helper_stops : (core : Core) (bytes : List ℕ) (end : Course) (refused : Handed) → IsHelp core → Stops core bytes end refused → end.made ≡ []
-helper_stops core bytes end refused help stops =
-    let at = subst (λ (r : Role). StopsAt (drained_for r bytes) core bytes end refused) help stops in ap (λ (p : Course). p.made) at.0
+helper_stops core bytes end refused help stops = grind arith
 
 -- ---- what is written where an exchange broke
 
 put_is : (sent : Served) (old new : Option (List ℕ)) (before now : ℕ) (reply : List ℕ) → IsSent sent → WritesTold sent old new before now reply → IsPut old new before now reply
-put_is served.Answered old new before now reply is w = inl w
-put_is (served.ConnFault count) old new before now reply is w = inr (w.0, w.1)
-put_is sent old new before now reply is w = absurd is
+put_is sent old new before now reply is w = grind arith
 
 pub writes_down : (core : Core) (answer : Result (List ℕ) Broken) (why sent : Served) (old new : Option (List ℕ)) (before now : ℕ) (reply : List ℕ)
     → Breaks core answer why → IsSent sent → WritesTold sent old new before now reply → WritesTold why old new before now reply
-writes_down core (Ok bytes) why sent old new before now reply (ignored, e) is w =
-    subst (λ (x : Served). WritesTold x old new before now reply) (sym e) (put_is sent old new before now reply is w)
-writes_down core (Err (broken.Fault count)) why sent old new before now reply e is w =
-    subst (λ (x : Served). WritesTold x old new before now reply) (sym e) (put_is sent old new before now reply is w)
-writes_down core (Err other) why sent old new before now reply e is w =
-    subst (λ (x : Served). WritesTold x old new before now reply) (sym e) (put_is sent old new before now reply is w)
+writes_down core answer why sent old new before now reply broken is w = grind (arith, put_is)
 
 pub sent_fault : (why : Served) (n : ℕ) → IsSent why → FaultIn why n n
-sent_fault served.Answered n sent = refl
-sent_fault (served.ConnFault count) n sent = refl
-sent_fault why n sent = absurd sent
+sent_fault why n sent = grind arith
 
 -- ---- the same answers, said of another connection and of a node
 

@@ -1,11 +1,9 @@
 -- What one step tells, and where it stands.
-use Rattle.std.proofs.Common.{◌≡◌, ◌≢◌, ℕ, ◌<◌, ◌≤◌, true, false, List, length, take, refl, sym, ap, ◌∙◌, subst, arith}
+use Rattle.std.proofs.Common.{◌≡◌, ◌≢◌, ℕ, ◌<◌, ◌≤◌, true, false, List, length, take, sym, ap, ◌∙◌, subst, arith}
 use Rattle.std.proofs.lemmas.List.{length-take, take-take}
-use Rattle.leader_core.specs.Told.{turned, acked, acked_bytes}
-use Rattle.helper_core.specs.State as helper_state
+use Rattle.leader_core.specs.Told.{acked}
 use Rattle.step_rules.specs.Leader as leader
 use Rattle.step_rules.specs.LeaderReplies.{on_reply_bytes}
-use Rattle.step_rules.specs.Helper as helper
 use Rattle.step_rules.specs.Refusals.{AckLeaves}
 use Rattle.step_rules.proofs.LeaderRefusals.{requests}
 use Rattle.node_restart.specs.declared.server.Core.{Core}
@@ -13,31 +11,16 @@ use Rattle.node_restart.specs.declared.server.Core.TheVariants.{Lead, Help}
 use Rattle.node_restart.specs.declared.did.Did.{Did}
 use Rattle.node_restart.specs.declared.did.Did.TheVariants as did
 use Rattle.node_restart.specs.declared.frames.Sender.{Sender}
-use Rattle.node_restart.specs.declared.frames.Sender.TheVariants.{Client, Peer}
+use Rattle.node_restart.specs.declared.frames.Sender.TheVariants.{Peer}
 use Rattle.node_restart.specs.Steps.{step_of, lead_client, lead_peer, help_client, help_peer, Takes}
 use Rattle.node_serve.specs.Draining.{IsOldest, IsHeeded, rounds_of}
 use Rattle.node_serve.specs.Handing.{told, is_ignored, Tells}
 use Rattle.node_serve.specs.declared.handing.Stepped.{Stepped}
 use Rattle.node_serve.proofs.DrainLaws.{nearer}
 
-lead_room : (answer : leader.Answer) → told (did.Lead (turned answer)) ≤ length (leader.written answer)
-lead_room (leader.Reply reply) = omega arith
-lead_room answer = omega arith
-
-ack_room : (ack : leader.Ack) → told (did.Acked (acked ack)) ≤ length (acked_bytes ack)
-ack_room (leader.ToLane lane reply) = omega arith
-ack_room ack = omega arith
-
-link_room : (answer : helper.Answer) → told (did.Linked (helper_state.turned answer)) ≤ length (helper.written answer)
-link_room helper.Ignored = omega arith
-link_room answer = omega arith
-
 step_room : (core : Core) (sender : Sender) (bytes : List ℕ) → told (step_of core sender bytes).did ≤ length (step_of core sender bytes).written
 unfolding lead_client lead_peer help_client help_peer
-step_room (Lead a) Client bytes = lead_room _
-step_room (Lead a) Peer bytes = ack_room _
-step_room (Help h) Client bytes = omega arith
-step_room (Help h) Peer bytes = link_room _
+step_room core sender bytes = grind arith
 
 pub tells : (core : Core) (sender : Sender) (bytes : List ℕ) (new : Core) (d : Did) (t : Stepped) (old out : List ℕ) → t.told ≡ told d → t.ignored ≡ is_ignored d
     → Takes (step_of core sender bytes) new d old out → Tells (step_of core sender bytes) new t out
@@ -54,11 +37,10 @@ tells core sender bytes new d t old out count ignored s =
 -- ---- a leader at bytes of its helper
 
 ignored_ack : (ack : leader.Ack) → is_ignored (did.Acked (acked ack)) ≡ true → ack ≡ leader.Ignored
-ignored_ack leader.Ignored e = refl
-ignored_ack ack e = absurd (cc e)
+ignored_ack ack e = grind arith
 
 fitting_ack : (ack : leader.Ack) → is_ignored (did.Acked (acked ack)) ≡ false → ack ≢ leader.Ignored
-fitting_ack ack e is = absurd (cc (sym e ∙ ap (λ (x : leader.Ack). is_ignored (did.Acked (acked x))) is))
+fitting_ack ack e is = grind arith
 
 -- where it ignores them it stays
 pub ignored_stays : (core : Core) (sent bytes : List ℕ) → IsOldest core sent → is_ignored (step_of core Peer bytes).did ≡ true → (step_of core Peer bytes).core ≡ core

@@ -1,5 +1,5 @@
 -- A connection that was accepted, served and closed is a visit.
-use Rattle.std.proofs.Common.{◌≡◌, ◌≢◌, ◌⊎◌, inl, inr, ℕ, false, List, [], ◌++◌, Option, Some, None, Result, Ok, Err, refl, sym, ap, ◌∙◌, subst}
+use Rattle.std.proofs.Common.{◌≡◌, ◌≢◌, ◌⊎◌, inl, inr, ℕ, false, List, [], Option, Some, None, Result, Ok, Err, refl, sym, ap, ◌∙◌, subst, arith}
 use Rattle.express_words.specs.Seen.{Seen}
 use Rattle.express_words.specs.Streams.{Stream, Gave, IsBlank, Took}
 use Rattle.express_words.specs.Calls.{Call, Accepted, Adds, AddsClose, GivesTelling}
@@ -28,15 +28,12 @@ is_short_or_not r = inr (λ e. cc)
 
 pub cut_told : (answer : Served) (given : List ℕ) (t : Option Stream) (before now : ℕ) → IsCut answer t before now
     → IsCut answer (Some (stream given (left_in t))) before now
-cut_told served.Ended given None before now h = (refl, h.1)
-cut_told why given t before now h = h
+cut_told why given t before now h = grind arith
 
 -- ---- what was written to a connection that had taken nothing yet
 
 took_all : (w x : Option (List ℕ)) (bytes : List ℕ) → IsBlank w → Took w x bytes → w ≢ None → x ≡ Some bytes
-took_all None x bytes blank took some = absurd (some refl)
-took_all (Some w) None bytes blank took some = absurd took
-took_all (Some w) (Some x) bytes blank took some = ap Some (took ∙ ap (λ (y : List ℕ). y ++ bytes) blank)
+took_all w x bytes blank took some = grind arith
 
 -- these bytes were taken
 abbrev pub Wrote : Served → (w x : Option (List ℕ)) → ℕ → List ℕ → Type 0
@@ -76,8 +73,7 @@ abbrev pub VisitOf : {S F C : Type 0} → Log S F → List ℕ → (C → Seen) 
 VisitOf log peer shows answer old new = (v : Visit) × (v.answer ≡ answer) × IsVisit log peer (Shown shows) v old new
 
 pub untouched : (w x : Option (List ℕ)) → IsBlank w → x ≡ w → w ≢ None → x ≡ Some []
-untouched None x blank is some = absurd (some refl)
-untouched (Some w) x blank is some = is ∙ ap Some blank
+untouched w x blank is some = grind arith
 
 contact_is : {C : Type 0} (shows : C → Seen) (a b c d s : Seen) (conn : C) (k : Contact) → Gave s.content (shows conn).content k.content.given → IsWanted k.content.given → k.content.left ≡ left_in (shows conn).content
     → (shows conn).faults ≡ k.faults → c.doors ≡ b.doors → Accepts a b s → Closes c d (shows conn)

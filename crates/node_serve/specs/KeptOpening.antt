@@ -1,10 +1,14 @@
 -- How a server is opened, from its settings or from its journal.
 use Rattle.std.specs.Prelude.{◌≡◌, ◌≢◌, ◌⊎◌, ℕ, true, false, List, [], ◌++◌, codes}
+use Rattle.express_words.specs.declared.role.Role.TheVariants.{Leader, Helper}
+use Rattle.step_rules.specs.Helper.{opened_helper}
+use Rattle.step_rules.specs.Leader.{opened_leader}
 use Rattle.node_journal.specs.Disk.{DiskSeen, Within, IsUntouched}
 use Rattle.node_journal.specs.Records.{content, IsUndamaged}
-use Rattle.node_journal.specs.declared.fault.JournalFault.TheVariants.{Disk, Damaged}
+use Rattle.node_journal.specs.declared.fault.JournalFault.TheVariants.{Closed, NotEmpty, Disk, Damaged}
 use Rattle.node_restart.specs.declared.opening.Opening.{Opening}
 use Rattle.node_restart.specs.declared.server.Core.{Core}
+use Rattle.node_restart.specs.declared.fault.KeepFault.{KeepFault}
 use Rattle.node_restart.specs.declared.fault.KeepFault.TheVariants.{Journal, Foreign}
 use Rattle.node_restart.specs.Faults.{CountsFault, IsOfReopen}
 use Rattle.node_restart.specs.Frames.{IsForeign}
@@ -13,6 +17,8 @@ use Rattle.node_restart.specs.Openings.{IsOpening}
 use Rattle.node_restart.specs.Steps.{fold}
 use Rattle.node_restart.specs.Texts as restart
 use Rattle.settings_text.specs.declared.serve.ServeSettings.{ServeSettings}
+use Rattle.node_serve.specs.declared.node.Node.{Node}
+use Rattle.node_serve.specs.declared.node.Node.TheVariants as node
 use Rattle.node_serve.specs.declared.open_fault.SettingsKey.{SettingsKey}
 use Rattle.node_serve.specs.declared.open_fault.SettingsKey.TheVariants as key
 use Rattle.node_serve.specs.declared.open_fault.OpenFault.{OpenFault}
@@ -44,6 +50,13 @@ DiffersAt key.Window a b =
 
 -- ---- a server that was opened
 
+-- without a journal: the server of the settings' role, with their limits and this seed; a leader with their
+-- peer
+abbrev pub IsOpened : ServeSettings → List ℕ → Node → Type 0
+IsOpened s seed (node.Lead a peer) =
+    (s.role ≡ Leader) × (a ≡ opened_leader s.settings seed) × (peer ≡ s.peer)
+IsOpened s seed (node.Help h) = (s.role ≡ Helper) × (h ≡ opened_helper s.settings seed)
+
 -- on a disk with no byte: a server before its first frame
 pub record IsCreated {D : Type 0} (shows : D → DiskSeen) (limit : ℕ) (o : Opening)
     (disk : D) (k : KeptState D) : Type 0 where
@@ -71,6 +84,13 @@ pub record IsReopened {D : Type 0} (shows : D → DiskSeen) (limit : ℕ) (o : O
 
 abbrev pub IsOpenedOn : {D : Type 0} → (D → DiskSeen) → (limit : ℕ) → Opening → D → KeptState D → Type 0
 IsOpenedOn shows limit o disk k = IsCreated shows limit o disk k ⊎ IsReopened shows limit o disk k
+
+-- A server that was opened on a disk, and then stops at its first fault, has these: its journal isn't closed,
+-- and what stands on the disk was opened again.
+abbrev pub IsFirstFault : KeepFault → Type 0
+IsFirstFault (Journal Closed) = ⊥
+IsFirstFault (Journal NotEmpty) = ⊥
+IsFirstFault other = Unit {0}
 
 -- ---- a server that wasn't
 

@@ -7,9 +7,7 @@ pub mod JournalLog
 pub mod Handing
 pub mod Responding
 pub mod Outcomes
-pub mod Opening
 pub mod KeptOpening
 pub mod Visits
 pub mod Tallies
 pub mod Hosting
-pub mod FirstFaults

@@ -1,7 +1,6 @@
 //! A server is opened, from its settings or from its journal.
 ghost use Rattle.std.specs.Prelude.{◌≡◌, IfOk, IfErr};
-ghost use Rattle.node_serve.specs.Opening.{IsOpened};
-ghost use Rattle.node_serve.specs.KeptOpening.{opening_of, IsOpenedOn, IsOfOpening, IsCauseOf, LeavesDisk, CountsOpen};
+ghost use Rattle.node_serve.specs.KeptOpening.{opening_of, IsOpened, IsOpenedOn, IsOfOpening, IsCauseOf, LeavesDisk, CountsOpen};
 
 use crate::node::Node;
 use crate::open_fault::{OpenFault, first_difference};

@@ -1,5 +1,5 @@
 //! Why a server isn't opened.
-ghost use Rattle.std.specs.Prelude.{Some, IsNone, IfSome};
+ghost use Rattle.std.specs.Prelude.{◌≡◌, Some, IsNone, IfSome};
 ghost use Rattle.node_serve.specs.KeptOpening.{fault_text, key_text, IsSame, DiffersAt};
 
 use node_restart::{KeepFault, Opening};
@@ -15,17 +15,26 @@ pub enum SettingsKey {
     Window,
 }
 
+impl SettingsKey {
+    /// Its name in the text of settings.
+    pub fn name(self) -> &'static str
+        ensures { result.now ≡ key_text self }
+    {
+        match self {
+            SettingsKey::Role => "role",
+            SettingsKey::Width => "width",
+            SettingsKey::Boxes => "boxes",
+            SettingsKey::Lanes => "lanes",
+            SettingsKey::Window => "window",
+        }
+    }
+}
+
 impl fmt::Display for SettingsKey {
     ghost output = { λ key. Some (key_text key) };
 
     fn fmt<W: fmt::Write>(&self, f: &mut fmt::Formatter<W>) -> fmt::Result {
-        match self {
-            SettingsKey::Role => f.write_str("role"),
-            SettingsKey::Width => f.write_str("width"),
-            SettingsKey::Boxes => f.write_str("boxes"),
-            SettingsKey::Lanes => f.write_str("lanes"),
-            SettingsKey::Window => f.write_str("window"),
-        }
+        f.write_str(self.name())
     }
 }
 

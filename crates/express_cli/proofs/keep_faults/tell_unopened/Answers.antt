@@ -14,8 +14,8 @@ pub returns-in-Keep-clause-counts : goal.returns-in-Keep-clause-counts
 returns-in-Keep-clause-counts g c before now h = c.tell_fault.ensures.counts before now (rw c.in-Keep.is at h)
 
 pub returns-in-Differs-clause-tells : goal.returns-in-Differs-clause-tells
-returns-in-Differs-clause-tells g c = rw c.in-Differs.is (rw c.name_of.ensures at c.say_bad_key.ensures.says)
+returns-in-Differs-clause-tells g c = rw c.in-Differs.is (rw c.name.ensures at c.say_bad_key.ensures.says)
 
 pub returns-in-Differs-clause-counts : goal.returns-in-Differs-clause-counts
 returns-in-Differs-clause-counts g c before now h =
-    quiet_counts (BadKeyMay c.name_of.result.now) _ _ _ _ c.say_bad_key.result before now (text_fault (WrongKey c.name_of.result.now)) c.say_bad_key.ensures.says (rw c.in-Differs.is at h)
+    quiet_counts (BadKeyMay c.name.result.now) _ _ _ _ c.say_bad_key.result before now (text_fault (WrongKey c.name.result.now)) c.say_bad_key.ensures.says (rw c.in-Differs.is at h)
