@@ -1,16 +1,16 @@
 //! A server at its door: it listens, tells so, serves, and tells what came of it.
-ghost use Rattle.std.specs.Prelude.{◌≡◌, ◌≢◌, ◌⊎◌, ◌≤◌, ◌++◌, ℕ, List, [], Err, IfOk, codes, string_bytes};
+ghost use Rattle.std.specs.Prelude.{◌≡◌, ◌≢◌, ◌≤◌, ◌++◌, ℕ, List, [], Err, IfOk, codes, string_bytes};
 ghost use Rattle.node_restart.specs.Frames.{Handed};
 ghost use Rattle.node_serve.specs.Moved.{moved, shown};
 ghost use Rattle.node_serve.specs.Tallies.{tally_text};
 ghost use Rattle.express_cli.specs.Around.{over};
 ghost use Rattle.express_cli.specs.Door.{EndsAtFirst, HaltCounts, Served, ServedSays, doorway_of};
-ghost use Rattle.express_cli.specs.Ends.{DiskCounts, Prints, SaidOrWants};
+ghost use Rattle.express_cli.specs.Ends.{DiskCounts, Prints};
 ghost use Rattle.express_cli.specs.Talking.{DoorEnds};
 ghost use Rattle.express_cli.specs.declared.ends.End.{End as Ends};
 
 use crate::ends::End;
-use crate::texts::{LISTENING, NET_FAULT, OUT_OF_MEMORY, say};
+use crate::texts::{LISTENING, NET_FAULT, say, say_line};
 use express_words::outside::{Net, Sink};
 use node_serve::{Halt, Logged, Tally, host};
 use settings_text::ServeSettings;
@@ -38,19 +38,6 @@ pub(crate) trait TellsFaults: Logged {
     /// Where a log hadn't failed, its first fault is one of those.
     ghost stops_first: { (a b : Self) (taken : List Handed) (refused : Handed) (why : Self.Fault) → whole a
         → Self.log.stops a b taken refused why → first why };
-}
-
-/// Says a line and comes to this end, unless memory was wanting for it.
-pub(crate) fn say_line<K: Sink>(out: &mut K, line: Result<String, AllocError>, end: End) -> End
-    requires { end ≢ End.WriteFault }
-    ensures says { (text : List ℕ) → IfOk line (λ l. string_bytes l ≡ text)
-        → Prints (SaidOrWants end text) (K.seen out.old) (K.seen out.new) result }
-    ensures only { (result ≡ end) ⊎ ((result ≡ End.OutOfMemory) ⊎ (result ≡ End.WriteFault)) }
-{
-    match line {
-        Ok(line) => say(out, line.as_str(), end),
-        Err(_) => say(out, OUT_OF_MEMORY, End::OutOfMemory),
-    }
 }
 
 // The line that tells how many connections had each answer.

@@ -6,9 +6,9 @@ ghost use Rattle.express_cli.specs.Door.{EndsAtFirst, HaltCounts, ServedSays};
 ghost use Rattle.express_cli.specs.Ends.{DiskCounts, Prints};
 ghost use Rattle.express_cli.specs.Keeping.{KeepFaultMay, OpenFaultMay, end_by, fault_line};
 
-use crate::door::{TellsFaults, say_line};
+use crate::door::TellsFaults;
 use crate::ends::End;
-use crate::texts::{NET_FAULT, say, say_bad_key};
+use crate::texts::{NET_FAULT, say, say_bad_key, say_line};
 use express_words::outside::Sink;
 use node_journal::{Disk, JournalFault};
 use node_restart::{KeepFault, Kept};

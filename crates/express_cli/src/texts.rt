@@ -1,11 +1,11 @@
 //! Prints the texts with which a run ends.
-ghost use Rattle.std.specs.Prelude.{◌≡◌, ◌≢◌, ◌≤◌, ◌⊎◌};
-ghost use Rattle.express_cli.specs.Ends.{Prints, Said, BadKeyMay, BadLineMay, FaultMay};
+ghost use Rattle.std.specs.Prelude.{◌≡◌, ◌≢◌, ◌≤◌, ◌⊎◌, ℕ, List, IfOk, string_bytes};
+ghost use Rattle.express_cli.specs.Ends.{Prints, Said, SaidOrWants, BadKeyMay, BadLineMay, FaultMay};
 
 use crate::End;
 use express_texts::TextFault;
 use express_words::outside::Sink;
-use std::alloc::Global;
+use std::alloc::{AllocError, Global};
 
 /// What is told of wrong words. Status 2.
 pub const USAGE: &str =
@@ -38,26 +38,35 @@ pub fn say<K: Sink>(out: &mut K, text: &str, end: End) -> End
     }
 }
 
-/// Says that this line is the first bad one, unless memory is wanting.
-#[tactic(auto, using(crate::proofs::Writing::said))]
-pub fn say_bad_line<K: Sink>(alloc: Global, out: &mut K, line: u32) -> End
-    ensures says { Prints (BadLineMay line) (K.seen out.old) (K.seen out.new) result }
+/// Says a line and comes to this end, unless memory was wanting for it.
+pub fn say_line<K: Sink>(out: &mut K, line: Result<String, AllocError>, end: End) -> End
+    requires { end ≢ End.WriteFault }
+    ensures says { (text : List ℕ) → IfOk line (λ l. string_bytes l ≡ text)
+        → Prints (SaidOrWants end text) (K.seen out.old) (K.seen out.new) result }
+    ensures only { (result ≡ end) ⊎ ((result ≡ End.OutOfMemory) ⊎ (result ≡ End.WriteFault)) }
 {
-    match format!(in alloc; "bad line {line}\n") {
+    match line {
+        Ok(line) => say(out, line.as_str(), end),
         Err(_) => say(out, OUT_OF_MEMORY, End::OutOfMemory),
-        Ok(text) => say(out, text.as_str(), End::BadLine(line)),
     }
 }
 
+/// Says that this line is the first bad one, unless memory is wanting.
+pub fn say_bad_line<K: Sink>(alloc: Global, out: &mut K, line: u32) -> End
+    ensures says { Prints (BadLineMay line) (K.seen out.old) (K.seen out.new) result }
+{
+    say_line(
+        out,
+        format!(in alloc; "bad line {line}\n"),
+        End::BadLine(line),
+    )
+}
+
 /// Says that this key is missing or wrong, unless memory is wanting.
-#[tactic(auto, using(crate::proofs::Writing::said))]
 pub fn say_bad_key<K: Sink>(alloc: Global, out: &mut K, key: &str) -> End
     ensures says { Prints (BadKeyMay key.now) (K.seen out.old) (K.seen out.new) result }
 {
-    match format!(in alloc; "bad settings {key}\n") {
-        Err(_) => say(out, OUT_OF_MEMORY, End::OutOfMemory),
-        Ok(text) => say(out, text.as_str(), End::BadKey),
-    }
+    say_line(out, format!(in alloc; "bad settings {key}\n"), End::BadKey)
 }
 
 /// Says what is wrong with a text, unless memory is wanting.
