@@ -1,55 +1,30 @@
 -- What words ask for, by the values of COMMAND and NUMBER.
-use Rattle.std.proofs.Common.{◌≡◌, ◌≢◌, ◌≤◌, ◌<◌, ◌∙◌, ℕ, List, [], codes, Option, Some, Ok, Err, Result, arith, sym, subst}
+use Rattle.std.proofs.Common.{◌≡◌, ℕ, ◌≤◌, List, codes, Option, Some, None, Ok, Result, arith}
 use Rattle.std.specs.Fmt.{decimal}
 use Rattle.std.specs.Str.Parse.{ParsesUnsigned}
 use Rattle.std.proofs.lemmas.Fmt.{parse-decimal}
-use Rattle.clap.specs.Words.{Text, fault_of}
-use Rattle.express_cli.specs.CommandLine.{express_app, value_of, Names, NamesMill, NamesNet, IsNumber, IsMill, Asks, AsksMill, AsksNet, AskNothing}
-use Rattle.express_cli.specs.declared.words.Command.{Command}
-use Rattle.express_cli.specs.declared.words.NetCommand.{NetCommand}
+use Rattle.std.proofs.lemmas.Slice.Eq.{bytes_eq-Decides}
+use Rattle.clap.specs.Words.{Text}
+use Rattle.express_cli.specs.CommandLine.{value_of, AreRead, Names, IsNamed, IsAsked}
+use Rattle.express_cli.specs.declared.words.Task.{Task}
 
--- what reads digits of at most 5,000 reads no other number
-pub parsed : {E : Type 0} (text : Text) (n : ℕ) (r : Result ℕ E) → ParsesUnsigned 16 10 text r → n ≤ 5000 → text ≡ decimal n → r ≡ Ok n
-parsed text n r parses small same = parse-decimal 16 n text r (omega (arith, small)) (omega (arith, small)) same parses
+named_mill : (text : Text) (task : Task) → Names (Some (codes "mill")) (Some text) task → (n : ℕ) × (n ≤ 5000) × (text ≡ decimal n)
+named_mill text task named = grind arith
 
-pub mill_of : (name text : Text) (found : Option ℕ) → name ≡ codes "mill" → IsNumber text found → IsMill (Some name) (Some text) found
-mill_of name text found is number = grind arith
+-- digits that aren't those of a number up to 5,000 that they are read as name no mill
+pub no_mill : {E : Type 0} (text : Text) (task : Task) (r : Result ℕ E) → ParsesUnsigned 16 10 text r
+    → ((n : ℕ) → n ≤ 5000 → r ≡ Ok n → text ≡ decimal n → ⊥) → Names (Some (codes "mill")) (Some text) task → ⊥
+no_mill text task r parses other named =
+    let mill = named_mill text task named in
+    other mill.0 mill.1 (parse-decimal 16 mill.0 text r (omega (arith, mill.1)) (omega (arith, mill.1)) mill.2 parses) mill.2
+
+-- and what tells digits apart
+pub ruleset other_digits = (no_mill, bytes_eq-Decides)
 
 -- words that clap refuses ask for nothing
-pub refused : (words : List Text) → fault_of express_app words ≢ [] → AskNothing words
-refused words bad = record { work = λ command h. bad h.read; net = λ command h. bad h.read; mill = λ n h. bad h.read }
+pub refused : (words : List Text) → (AreRead words → ⊥) → IsAsked words None
+refused words bad = grind arith
 
-pub works : (words : List Text) (name number : Option Text) (command : Command) → name ≡ value_of (codes "COMMAND") words → number ≡ value_of (codes "NUMBER") words
-    → fault_of express_app words ≡ [] → Names name number command → Asks words command
-works words name number command is_name is_number read named =
-    record { read = read; named = subst (λ v. Names (value_of (codes "COMMAND") words) v command) is_number (subst (λ v. Names v number command) is_name named) }
-
-pub talks : (words : List Text) (name number : Option Text) (command : NetCommand) → name ≡ value_of (codes "COMMAND") words → number ≡ value_of (codes "NUMBER") words
-    → fault_of express_app words ≡ [] → NamesNet name number command → AsksNet words command
-talks words name number command is_name is_number read named =
-    record { read = read; named = subst (λ v. NamesNet (value_of (codes "COMMAND") words) v command) is_number (subst (λ v. NamesNet v number command) is_name named) }
-
-pub mills : (words : List Text) (name number : Option Text) (n : ℕ) → name ≡ value_of (codes "COMMAND") words → number ≡ value_of (codes "NUMBER") words
-    → fault_of express_app words ≡ [] → NamesMill name number n → AsksMill words n
-mills words name number n is_name is_number read named =
-    record { read = read; named = (sym is_name ∙ named.0, sym is_number ∙ named.1, named.2) }
-
-pub nothing : (words : List Text) (name number : Option Text) → name ≡ value_of (codes "COMMAND") words → number ≡ value_of (codes "NUMBER") words
-    → ((command : Command) → Names name number command → ⊥) → ((command : NetCommand) → NamesNet name number command → ⊥) → ((n : ℕ) → NamesMill name number n → ⊥) → AskNothing words
-nothing words name number is_name is_number no_work no_net no_mill = record {
-  work = λ command h. no_work command (subst (λ v. Names name v command) (sym is_number) (subst (λ v. Names v (value_of (codes "NUMBER") words) command) (sym is_name) h.named));
-  net = λ command h. no_net command (subst (λ v. NamesNet name v command) (sym is_number) (subst (λ v. NamesNet v (value_of (codes "NUMBER") words) command) (sym is_name) h.named));
-  mill = λ n h. no_mill n (is_name ∙ h.named.0, is_number ∙ h.named.1, h.named.2);
-}
-
--- digits that aren't read are those of no number
-pub unread : {E : Type 0} (text : Text) (n : ℕ) (r : Result ℕ E) (e : E) → ParsesUnsigned 16 10 text r → r ≡ Err e → n ≤ 5000 → text ≡ decimal n → ⊥
-unread text n r e parses fails small same = let read = parsed text n r parses small same in cc
-
--- nor are those of a number above 5,000 read as another's
-pub too_large : {E : Type 0} (text : Text) (m n : ℕ) (r : Result ℕ E) → ParsesUnsigned 16 10 text r → r ≡ Ok m → 5000 < m → n ≤ 5000 → text ≡ decimal n → ⊥
-too_large text m n r parses is large small same = let read = parsed text n r parses small same in grind arith
-
--- nor other digits of the number that is read
-pub other_digits : {E : Type 0} (text : Text) (m n : ℕ) (r : Result ℕ E) → ParsesUnsigned 16 10 text r → r ≡ Ok m → decimal m ≢ text → n ≤ 5000 → text ≡ decimal n → ⊥
-other_digits text m n r parses is other small same = let read = parsed text n r parses small same in grind arith
+pub asked : (words : List Text) (name number : Option Text) (task : Option Task) → name ≡ value_of (codes "COMMAND") words → number ≡ value_of (codes "NUMBER") words
+    → AreRead words → IsNamed name number task → IsAsked words task
+asked words name number task is_name is_number read named = grind arith

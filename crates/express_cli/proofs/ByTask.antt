@@ -1,68 +1,116 @@
 -- What came of a run, by what its words ask for, and what its input gave.
-use Rattle.std.proofs.Common.{◌≡◌, ◌≢◌, ℕ, ◌≤◌, List, length, Option, Some, arith, inl, inr, refl, append-nil, length-append}
+use Rattle.std.proofs.Common.{◌≡◌, ◌≢◌, ◌⊎◌, ℕ, ◌≤◌, List, length, Option, Some, None, IfSome, inl, inr, refl, arith, append-nil, length-append}
 use Rattle.clap.specs.Words.{Text}
 use Rattle.express_words.specs.Causes.{Rose}
-use Rattle.express_words.specs.Streams.{Stream, Gave}
-use Rattle.input_reading.specs.Reading.{GaveAll, GaveMore, most_bytes}
-use Rattle.express_cli.specs.CommandLine.{Asks, AsksMill, AsksNet, AskSome, AskNothing}
-use Rattle.express_cli.specs.Mills.{mill_text}
-use Rattle.express_cli.specs.Ends.{WorkMay, status_of}
+use Rattle.express_words.specs.Streams.{Stream}
+use Rattle.input_reading.specs.Reading.{GaveAll, most_bytes}
+use Rattle.express_cli.specs.CommandLine.{AskFor, AskSome, Asks}
+use Rattle.express_cli.specs.Ends.{IsBad, IsOutput, MillMay, WorkMay, bad_settings, status_of}
 use Rattle.express_cli.specs.Around.{Around, IsUnread, Read, Streams, Wrote}
-use Rattle.express_cli.specs.Talking.{TalkMay}
-use Rattle.express_cli.specs.Runs.{ComesTo, RunMay, UnreadMay}
+use Rattle.express_cli.specs.Talking.{IsBadKey, TalkMay}
+use Rattle.express_cli.specs.Runs.{ComesTo, GoesBySettings, RunMay, UnreadMay, Well}
 use Rattle.express_cli.specs.declared.words.Command.{Command}
+use Rattle.express_cli.specs.declared.words.Job.{Job}
+use Rattle.express_cli.specs.declared.words.Job.TheVariants.{Work, Net}
 use Rattle.express_cli.specs.declared.words.NetCommand.{NetCommand}
+use Rattle.express_cli.specs.declared.words.Task.{Task}
+use Rattle.express_cli.specs.declared.words.Task.TheVariants.{On, Mill}
 use Rattle.express_cli.specs.declared.ends.End.{End}
 use Rattle.express_cli.specs.declared.ends.End.TheVariants as ends
+use Rattle.express_cli.proofs.OneReading.{same_task}
+use Rattle.express_cli.proofs.Settling.{work_end}
 use Rattle.express_cli.proofs.Writing.{written}
 
--- The words ask for nothing; or the input wasn't read to its end; or what they ask for was worked on; or memory
--- was wanting.
-pub data Came (words : List Text) (streams : Streams) (net : Around) (end : End) (text : List ℕ) : Type 0 where
-  nothing : AskNothing words → IsUnread streams → status_of end ≡ 2 → Came words streams net end text
-  unread : AskSome words → UnreadMay streams.input streams.input_now end text → Came words streams net end text
-  worked : (command : Command) (bytes : List ℕ) → Asks words command → Read streams bytes →
-      WorkMay command bytes end text → Came words streams net end text
-  talked : (command : NetCommand) (bytes : List ℕ) → AsksNet words command → Read streams bytes →
-      TalkMay command bytes net end text → Came words streams net end text
-  milled : (n : ℕ) → AsksMill words n → IsUnread streams → status_of end ≡ 0 → text ≡ mill_text n →
-      Came words streams net end text
-  wanting : status_of end ≡ 7 → Came words streams net end text
+-- ---- what was asked for
 
-pub came_of : (words : List Text) (streams : Streams) (net : Around) (end : End) (text : List ℕ) → RunMay words streams net end text → Came words streams net end text
-came_of words streams net ends.Usage text (none, same, is) = nothing none same refl
-came_of words streams net ends.ReadFault text (some, may) = unread some may
-came_of words streams net ends.TooLong text (some, may) = unread some may
-came_of words streams net (ends.BadLine n) text (command, asks, (bytes, gave, may)) = worked command bytes asks gave may
-came_of words streams net ends.BadKey text (command, asks, (bytes, gave, may)) = talked command bytes asks gave may
-came_of words streams net ends.NetFault text (command, asks, (bytes, gave, may)) = talked command bytes asks gave may
-came_of words streams net ends.WriteFault text (command, asks, (bytes, gave, may)) = talked command bytes asks gave may
-came_of words streams net ends.OutOfMemory text may = wanting refl
-came_of words streams net ends.Done text (inl (command, asks, (bytes, gave, may))) = worked command bytes asks gave may
-came_of words streams net ends.Done text (inr (inl (command, asks, (bytes, gave, may)))) = talked command bytes asks gave may
-came_of words streams net ends.Done text (inr (inr (n, asks, same, is))) = milled n asks same refl is
-came_of words streams net _ text may = absurd may
+-- what may come of a job on these bytes
+abbrev pub OfJob : Job → List ℕ → Around → End → List ℕ → Type 0
+OfJob (Work command) bytes net end text = WorkMay command bytes end text
+OfJob (Net command) bytes net end text = TalkMay command bytes net end text
 
--- where the sink didn't fail, what came was written
-pub went : (words : List Text) (streams : Streams) (net : Around) (end : End) → ComesTo words streams net end → ¬ Rose streams.out.faults streams.out_now.faults
-    → (text : List ℕ) × Came words streams net end text × Wrote streams text × (end ≢ ends.WriteFault)
-went words streams net end comes sink =
+-- what may come of a task: of all bytes of the input, but a mill reads none
+abbrev pub OfTask : Task → Streams → Around → End → List ℕ → Type 0
+OfTask (On job) streams net end text = (bytes : List ℕ) × Read streams bytes × OfJob job bytes net end text
+OfTask (Mill n) streams net end text = IsUnread streams × MillMay n end text
+
+-- the input wasn't read to its end, or the task was done
+abbrev pub MetBy : Task → List Text → Streams → Around → End → List ℕ → Type 0
+MetBy task words streams net end text =
+    (AskSome words × UnreadMay streams.input streams.input_now end text) ⊎ OfTask task streams net end text
+
+-- so it came of the one that is asked for, unless memory was wanting
+of_task : (words : List Text) (streams : Streams) (net : Around) (end : End) (text : List ℕ) (task : Task)
+    → AskFor words task → status_of end ≢ 7 → RunMay words streams net end text → MetBy task words streams net end text
+of_task words streams net ends.Usage text task asks memory (none, same, is) = absurd (none task asks)
+of_task words streams net ends.ReadFault text task asks memory may = inl may
+of_task words streams net ends.TooLong text task asks memory may = inl may
+of_task words streams net ends.OutOfMemory text task asks memory may = absurd (memory refl)
+of_task words streams net ends.Done text task asks memory (inr (inr (n, found, same, is))) = inr (rw (same_task words task (Mill n) asks found) (same, is))
+of_task words streams net ends.Done text task asks memory (inr (inl (command, found, did))) = inr (rw (same_task words task (On (Net command)) asks found) did)
+of_task words streams net ends.Done text task asks memory (inl (command, found, did)) = inr (rw (same_task words task (On (Work command)) asks found) did)
+of_task words streams net (ends.BadLine n) text task asks memory (command, found, did) = inr (rw (same_task words task (On (Work command)) asks found) did)
+of_task words streams net ends.BadKey text task asks memory (command, found, did) = inr (rw (same_task words task (On (Net command)) asks found) did)
+of_task words streams net ends.NetFault text task asks memory (command, found, did) = inr (rw (same_task words task (On (Net command)) asks found) did)
+of_task words streams net ends.WriteFault text task asks memory (command, found, did) = inr (rw (same_task words task (On (Net command)) asks found) did)
+of_task words streams net _ text task asks memory may = absurd may
+
+-- and its text was written, where the sink didn't fail
+pub met : (words : List Text) (streams : Streams) (net : Around) (end : End) (task : Task) → ComesTo words streams net end → AskFor words task
+    → ¬ Rose streams.out.faults streams.out_now.faults → status_of end ≢ 7 → (text : List ℕ) × MetBy task words streams net end text × Wrote streams text × (end ≢ ends.WriteFault)
+met words streams net end task comes asks sink memory =
     let wrote = written (RunMay words streams net) streams.out streams.out_now end comes sink in
-    (wrote.0, came_of words streams net end wrote.0 wrote.1, wrote.2, wrote.3)
+    (wrote.0, of_task words streams net end wrote.0 task asks memory wrote.1, wrote.2, wrote.3)
 
 -- ---- what an input that tells its bytes gave
+
+pub if_some : {A : Type 0} {P : A → Type 0} (from : Option A) → ((value : A) → from ≡ Some value → P value) → IfSome from P
+if_some None h = tt
+if_some (Some value) h = h value refl
 
 -- where it gave all its bytes, they are those that it had left
 pub gave_left : (from to : Option Stream) (s : Stream) (bytes : List ℕ) → from ≡ Some s → GaveAll from to bytes → bytes ≡ s.left
 gave_left from to s bytes is all = grind (arith, append-nil)
 
--- it had left at least what it then gives
-pub gave_within : (from to : Option Stream) (s : Stream) (bytes : List ℕ) → from ≡ Some s → Gave from to bytes → length bytes ≤ length s.left
-gave_within from to s bytes is gave = grind (arith, length-append)
+-- an input that wasn't read to its end was too long, unless it failed
+pub not_unread : (streams : Streams) (s : Stream) (end : End) (text : List ℕ) → streams.input.content ≡ Some s → Well streams (status_of end) → length s.left ≤ most_bytes
+    → UnreadMay streams.input streams.input_now end text → ⊥
+not_unread streams s end text is well short may = grind (arith, length-append)
 
--- bytes that aren't too many aren't more than are read
-pub not_more : (from to : Option Stream) (bytes : List ℕ) → Gave from to bytes → length bytes ≤ most_bytes → GaveMore from to → ⊥
-not_more from to bytes gave short more = grind (arith, length-append)
+-- ---- a job on such an input
 
-pub not_moved : (from to : Option Stream) → to ≡ from → GaveMore from to → ⊥
-not_moved from to same more = grind arith
+-- so what came of a job that is asked for was written
+pub job_done : (words : List Text) (streams : Streams) (net : Around) (end : End) (job : Job) (s : Stream) → ComesTo words streams net end → AskFor words (On job) → Well streams (status_of end)
+    → streams.input.content ≡ Some s → length s.left ≤ most_bytes → (text : List ℕ) × OfJob job s.left net end text × Wrote streams text × (end ≢ ends.WriteFault)
+job_done words streams net end job s comes asks well is short =
+    let did = met words streams net end (On job) comes asks well.sink well.memory in (
+      did.0,
+      (elim did.1 [
+        | inl unread ↦ absurd (not_unread streams s end did.0 is well short unread.1)
+        | inr read ↦ rw (gave_left streams.input.content streams.input_now.content s read.0 is read.1) at read.2
+      ]),
+      did.2,
+      did.3,
+    )
+
+done_of : (command : Command) (bytes : List ℕ) (end : End) (text : List ℕ) → ((n : ℕ) → IsBad command n bytes → ⊥) → status_of end ≢ 7 → WorkMay command bytes end text
+    → (status_of end ≡ 0) × IsOutput command bytes text
+done_of command bytes end text good memory may = grind arith
+
+-- where no line is bad, work on it is done
+pub work_done : (words : List Text) (streams : Streams) (net : Around) (end : End) (command : Command) (s : Stream) → ComesTo words streams net end → Asks words command → Well streams (status_of end)
+    → streams.input.content ≡ Some s → length s.left ≤ most_bytes → ((n : ℕ) → IsBad command n s.left → ⊥) → (text : List ℕ) × (status_of end ≡ 0) × IsOutput command s.left text × Wrote streams text
+work_done words streams net end command s comes asks well is short good =
+    let did = job_done words streams net end (Work command) s comes asks well is short in
+    let done = done_of command s.left end did.0 good well.memory did.1 in
+    (did.0, done.0, done.1, did.2)
+
+-- by good settings it is done, or a fault of the net broke it off
+pub by_settings : (command : NetCommand) (words : List Text) (streams : Streams) (net : Around) (end : End) → ComesTo words streams net end → GoesBySettings command words streams net (status_of end)
+by_settings command words streams net end comes asks well = if_some streams.input.content (λ s is settings spells short.
+    let did = job_done words streams net end (Net command) s comes asks well is short in
+    (did.0, did.2, grind (arith, work_end)))
+
+-- or the first bad key is named
+pub key_of : (command : NetCommand) (bytes : List ℕ) (net : Around) (end : End) (text key : List ℕ) → IsBadKey command key bytes → status_of end ≢ 7
+    → TalkMay command bytes net end text → (status_of end ≡ 3) × (text ≡ bad_settings key)
+key_of command bytes net end text key bad memory may = grind arith

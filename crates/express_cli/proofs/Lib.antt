@@ -2,10 +2,7 @@ pub mod Writing
 pub mod OneReading
 pub mod Finishing
 pub mod ByTask
-pub mod Causes
 pub mod Asked
-pub mod Exact
-pub mod Talked
 pub mod Settling
 pub mod Telling
 pub mod Steps

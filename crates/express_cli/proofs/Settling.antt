@@ -1,19 +1,12 @@
 -- How work over a net ends, by how its parts end.
-use Rattle.std.proofs.Common.{◌≡◌, ◌≢◌, ◌⊎◌, inl, inr, ℕ, List, Result, Ok, Err, refl, ap, arith}
+use Rattle.std.proofs.Common.{◌≡◌, ◌⊎◌, inl, inr, ℕ, List, Result, Ok, Err, refl, ap, arith}
 use Rattle.express_texts.specs.declared.fault.TextFault.{TextFault}
 use Rattle.settings_text.specs.Judging.{Gives}
-use Rattle.settings_text.specs.declared.carry.CarryJob.{CarryJob}
-use Rattle.settings_text.specs.declared.carry.CarrySettings.{CarrySettings}
-use Rattle.client_run.specs.Runs.{EndSaid, Plan}
-use Rattle.client_run.specs.declared.ran.RunEnd.{RunEnd}
 use Rattle.node_exchange.specs.Exchanging.{EarlyAtEnd}
-use Rattle.node_serve.specs.declared.never.Never.{Never}
-use Rattle.node_serve.specs.declared.stop.Halt.{Halt}
-use Rattle.node_serve.specs.declared.tally.Tally.{Tally}
 use Rattle.express_cli.specs.Around.{Around, Seen, over}
-use Rattle.express_cli.specs.Door.{NeverMay, ServedSays}
 use Rattle.express_cli.specs.Ends.{FaultMay, Prints, Said}
-use Rattle.express_cli.specs.Talking.{EndsBy, IsStill, JobMay, Duty, LeftNothing, MisspeltMay, PlanMay, Settled, Talks, end_by, duty_of}
+use Rattle.express_cli.specs.Runs.{WaitsForNet}
+use Rattle.express_cli.specs.Talking.{EndsBy, IsStill, Duty, LeftNothing, MisspeltMay, Settled, Talks, duty_of}
 use Rattle.express_cli.specs.declared.words.NetCommand.{NetCommand}
 use Rattle.express_cli.specs.declared.words.NetCommand.TheVariants.{Serve, Client, Carry}
 use Rattle.express_cli.specs.declared.ends.End.{End}
@@ -69,25 +62,16 @@ IsWorkEnd ends.OutOfMemory = Unit {0}
 IsWorkEnd ends.WriteFault = Unit {0}
 IsWorkEnd other = ⊥
 
-served_end : (result : Result Tally (Halt Never)) (end : End) (text : List ℕ) → ServedSays NeverMay result end text → IsWorkEnd end
-served_end result end text says = grind arith
-
-run_end : (by : RunEnd) (end : End) → end ≡ end_by by → IsWorkEnd end
-run_end by end is = grind arith
-
-plan_end : (Ended : Plan → EndSaid) (plan : Plan) (net : Around) (end : End) (text : List ℕ) → PlanMay Ended plan net end text → IsWorkEnd end
-plan_end Ended plan net end text may = grind (arith, run_end)
-
-job_end : (job : CarryJob) (settings : CarrySettings) (net : Around) (end : End) (text : List ℕ) → JobMay job settings net end text → IsWorkEnd end
-job_end job settings net end text may = grind (arith, run_end, plan_end)
-
 pub work_end : (command : NetCommand) (settings : (duty_of command).Settings) (net : Around) (end : End) (text : List ℕ) → (duty_of command).May settings net end text → IsWorkEnd end
-work_end Serve settings net end text may = grind (arith, served_end)
-work_end Client settings net end text may = plan_end _ _ net end text may
-work_end Carry settings net end text may = job_end settings.job settings net end text may
+work_end Serve settings net end text may = grind arith
+work_end Client settings net end text may = grind arith
+work_end Carry settings net end text may = grind arith
 
--- no key is named there
-pub no_key : (command : NetCommand) (settings : (duty_of command).Settings) {Leaves : Type 0} {net : Around} {old new : Seen} {end : End}
-    → Settled (duty_of command) settings Leaves net old new end → end ≢ ends.BadKey
-no_key command settings {net = net} h e =
-    let at = rw e at h.comes in work_end command settings net ends.BadKey at.0 at.1
+-- none comes before any call on the net
+never_waits : (May : End → List ℕ → Type 0) (old new : Seen) (end : End) → ((text : List ℕ) → May end text → IsWorkEnd end) → Prints May old new end → WaitsForNet end → ⊥
+never_waits May old new end works h waits = grind arith
+
+pub no_wait : (command : NetCommand) (settings : (duty_of command).Settings) {Leaves : Type 0} {net : Around} {old new : Seen} {end : End}
+    → Settled (duty_of command) settings Leaves net old new end → WaitsForNet end → ⊥
+no_wait command settings {net = net} {old} {new} {end} h waits =
+    never_waits ((duty_of command).May settings net) old new end (λ text may. work_end command settings net end text may) h.comes waits

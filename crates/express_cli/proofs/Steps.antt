@@ -1,5 +1,5 @@
 -- What the proofs of the commands that work on the input, and of the mill, share.
-use Rattle.std.proofs.Common.{◌≡◌, ℕ, ◌+◌, ◌-◌, ◌<◌, ◌≤◌, List, [], ◌++◌, Option, length, suc, inl, inr, arith, ap}
+use Rattle.std.proofs.Common.{◌≡◌, ℕ, ◌+◌, ◌-◌, ◌<◌, ◌≤◌, List, [], ◌++◌, Option, length, suc, arith, ap}
 use Rattle.std.specs.Prelude.{flat_map}
 use Rattle.std.specs.List.{range_with_len}
 use Rattle.std.proofs.lemmas.List.{length-map}
@@ -11,7 +11,7 @@ use Rattle.express_cli.specs.Ends.{BadLineMay, IsBad, PrintsBy, SaidOrWants, Wor
 use Rattle.express_cli.specs.declared.words.Command.{Command}
 use Rattle.express_cli.specs.declared.ends.End.{End}
 use Rattle.express_cli.specs.declared.ends.End.TheVariants.{OutOfMemory}
-use Rattle.express_cli.proofs.Writing.{bad_line_may, more_may}
+use Rattle.express_cli.proofs.Writing.{more_may}
 
 pub journal_length : (lines : List JournalLine) → length (journal_in lines) ≡ length lines
 journal_length lines = length-map lines line_in
@@ -29,14 +29,11 @@ draws_none seed a b within =
 -- where this end with this text may come, and want of memory
 pub said_or_wants : (May : End → List ℕ → Type 0) (old new : Option (List ℕ)) (before now : ℕ) (end result : End) (text : List ℕ)
     → May end text → May OutOfMemory out_of_memory_text → PrintsBy (SaidOrWants end text) old new before now result → PrintsBy May old new before now result
-said_or_wants May old new before now end result text may wants h = more_may (SaidOrWants end text) May old new before now result each h
-  where
-    each : (e : End) (t : List ℕ) → SaidOrWants end text e t → May e t
-    each e t (inl said) = rw (said.0, said.1) may
-    each e t (inr none) = rw (none.0, none.1) wants
+said_or_wants May old new before now end result text may wants h =
+    more_may (SaidOrWants end text) May old new before now result (λ e t says. grind arith) h
 
 -- where the first bad line is said, or want of memory
 pub bad_line_said : (command : Command) (bytes : List ℕ) (old new : Option (List ℕ)) (before now n : ℕ) (result : End)
     → IsBad command n bytes → PrintsBy (BadLineMay n) old new before now result → PrintsBy (WorkMay command bytes) old new before now result
 bad_line_said command bytes old new before now n result bad h =
-    more_may (BadLineMay n) (WorkMay command bytes) old new before now result (bad_line_may command bytes n bad) h
+    more_may (BadLineMay n) (WorkMay command bytes) old new before now result (λ e t says. grind arith) h

@@ -3,10 +3,9 @@ use Rattle.std.proofs.Common.{◌≡◌, ◌≢◌, ℕ, List, ◌++◌, Option,
 use Rattle.express_words.specs.Causes.{Rose}
 use Rattle.express_words.specs.Streams.{Took, TookPrefix}
 use Rattle.client_run.proofs.PassedLaws.{took_both}
-use Rattle.express_cli.specs.Ends.{IsBad}
-use Rattle.express_cli.specs.Ends.{Prints, PrintsBy, Said, BadLineMay, WorkMay}
+use Rattle.express_texts.specs.declared.fault.TextFault.{TextFault}
+use Rattle.express_cli.specs.Ends.{FaultMay, Prints, PrintsBy, Said}
 use Rattle.express_cli.specs.Around.{Seen}
-use Rattle.express_cli.specs.declared.words.Command.{Command}
 use Rattle.express_cli.specs.declared.ends.End.{End}
 use Rattle.express_cli.specs.declared.ends.End.TheVariants as ends
 
@@ -59,6 +58,6 @@ out_behind May old mid new ends.WriteFault text took h failed =
     let front = h.1.3 in (front.0, took_both old.written mid.written new.written text front.0 took front.3)
 out_behind May old mid new _ text took h failed = absurd (cc failed)
 
--- what may be said of the first bad line may come of the work
-pub bad_line_may : (command : Command) (bytes : List ℕ) (n : ℕ) → IsBad command n bytes → (end : End) (text : List ℕ) → BadLineMay n end text → WorkMay command bytes end text
-bad_line_may command bytes n first end text may = grind arith
+-- what is said of a fault of a text is none of the input's
+pub fault_reads : (f : TextFault) (old new : Seen) (end : End) → Prints (FaultMay f) old new end → end ≢ ends.ReadFault
+fault_reads f old new end h = grind arith

@@ -1,13 +1,15 @@
 -- The command line: a required COMMAND and an optional NUMBER, with no flags, as clap reads it.
-use Rattle.std.specs.Prelude.{◌≡◌, ◌≤◌, ◌⊎◌, ℕ, List, [], codes, Option, Some, None, true}
+use Rattle.std.specs.Prelude.{◌≡◌, ◌≤◌, ℕ, List, [], codes, Option, Some, None, true}
 use Rattle.std.specs.Fmt.{decimal}
 use Rattle.clap.specs.Words.{App, Rule, Text, new_app, new_rule, with_rule, matches_of, first_of, fault_of}
 use Rattle.express_cli.specs.declared.words.Command.{Command}
 use Rattle.express_cli.specs.declared.words.Command.TheVariants.{Replay, Batch, Cloak}
+use Rattle.express_cli.specs.declared.words.Job.{Job}
+use Rattle.express_cli.specs.declared.words.Job.TheVariants.{Work, Net}
 use Rattle.express_cli.specs.declared.words.NetCommand.{NetCommand}
 use Rattle.express_cli.specs.declared.words.NetCommand.TheVariants.{Serve, Client, Carry}
 use Rattle.express_cli.specs.declared.words.Task.{Task}
-use Rattle.express_cli.specs.declared.words.Task.TheVariants.{Work, Net, Mill}
+use Rattle.express_cli.specs.declared.words.Task.TheVariants.{On, Mill}
 
 abbrev pub command_rule : Rule
 command_rule = record (new_rule (codes "COMMAND")) { required = true }
@@ -28,59 +30,45 @@ plain_app = record {
 abbrev pub express_app : App
 express_app = with_rule (with_rule plain_app command_rule) number_rule
 
-abbrev pub value_of : Text → List Text → Option Text
+-- clap reads the words
+unfoldable pub AreRead : List Text → Type 0
+AreRead words = fault_of express_app words ≡ []
+
+-- the first value of COMMAND or NUMBER in them
+unfoldable pub value_of : Text → List Text → Option Text
 value_of id words = first_of id (matches_of express_app words)
 
--- these values of COMMAND and NUMBER name a command
-abbrev pub Names : Option Text → Option Text → Command → Type 0
-Names name number Replay = (name ≡ Some (codes "replay")) × (number ≡ None)
-Names name number Batch = (name ≡ Some (codes "batch")) × (number ≡ None)
-Names name number Cloak = (name ≡ Some (codes "cloak")) × (number ≡ None)
+-- these values of COMMAND and NUMBER name a task
+abbrev pub Names : Option Text → Option Text → Task → Type 0
+Names name number (On (Work Replay)) = (name ≡ Some (codes "replay")) × (number ≡ None)
+Names name number (On (Work Batch)) = (name ≡ Some (codes "batch")) × (number ≡ None)
+Names name number (On (Work Cloak)) = (name ≡ Some (codes "cloak")) × (number ≡ None)
+Names name number (On (Net Serve)) = (name ≡ Some (codes "serve")) × (number ≡ None)
+Names name number (On (Net Client)) = (name ≡ Some (codes "client")) × (number ≡ None)
+Names name number (On (Net Carry)) = (name ≡ Some (codes "carry")) × (number ≡ None)
+Names name number (Mill n) = (name ≡ Some (codes "mill")) × (number ≡ Some (decimal n)) × (n ≤ 5000)
 
--- the command that they name, if any
-abbrev pub IsNamed : Option Text → Option Text → Option Command → Type 0
-IsNamed name number (Some command) = Names name number command
-IsNamed name number None = (command : Command) → Names name number command → ⊥
+-- the task that they name, if any
+abbrev pub IsNamed : Option Text → Option Text → Option Task → Type 0
+IsNamed name number (Some task) = Names name number task
+IsNamed name number None = (task : Task) → Names name number task → ⊥
 
--- these values of COMMAND and NUMBER name a command over a net
-abbrev pub NamesNet : Option Text → Option Text → NetCommand → Type 0
-NamesNet name number Serve = (name ≡ Some (codes "serve")) × (number ≡ None)
-NamesNet name number Client = (name ≡ Some (codes "client")) × (number ≡ None)
-NamesNet name number Carry = (name ≡ Some (codes "carry")) × (number ≡ None)
+-- Clap reads the words, and they name this task.
+pub record AskFor (words : List Text) (task : Task) : Type 0 where
+  pub read : AreRead words
+  pub named : Names (value_of (codes "COMMAND") words) (value_of (codes "NUMBER") words) task
 
--- the command over a net that they name, if any
-abbrev pub IsNetNamed : Option Text → Option Text → Option NetCommand → Type 0
-IsNetNamed name number (Some command) = NamesNet name number command
-IsNetNamed name number None = (command : NetCommand) → NamesNet name number command → ⊥
+-- the words ask for this command
+abbrev pub Asks : List Text → Command → Type 0
+Asks words command = AskFor words (On (Work command))
 
--- the number up to 5,000 whose decimal digits these are, if any
-abbrev pub IsNumber : Text → Option ℕ → Type 0
-IsNumber text (Some n) = (text ≡ decimal n) × (n ≤ 5000)
-IsNumber text None = (n : ℕ) → n ≤ 5000 → text ≡ decimal n → ⊥
+-- the words ask for this command over a net
+abbrev pub AsksNet : List Text → NetCommand → Type 0
+AsksNet words command = AskFor words (On (Net command))
 
--- these values of COMMAND and NUMBER name the mill of a number
-abbrev pub NamesMill : Option Text → Option Text → ℕ → Type 0
-NamesMill name number n = (name ≡ Some (codes "mill")) × (number ≡ Some (decimal n)) × (n ≤ 5000)
-
--- the number of the mill that they name, if any
-abbrev pub IsMill : Option Text → Option Text → Option ℕ → Type 0
-IsMill name number (Some n) = NamesMill name number n
-IsMill name number None = (n : ℕ) → NamesMill name number n → ⊥
-
--- Clap reads the words, and they name this command.
-pub record Asks (words : List Text) (command : Command) : Type 0 where
-  pub read : fault_of express_app words ≡ []
-  pub named : Names (value_of (codes "COMMAND") words) (value_of (codes "NUMBER") words) command
-
--- Clap reads the words, and they name this command over a net.
-pub record AsksNet (words : List Text) (command : NetCommand) : Type 0 where
-  pub read : fault_of express_app words ≡ []
-  pub named : NamesNet (value_of (codes "COMMAND") words) (value_of (codes "NUMBER") words) command
-
--- Clap reads the words, and they name the mill of this number.
-pub record AsksMill (words : List Text) (n : ℕ) : Type 0 where
-  pub read : fault_of express_app words ≡ []
-  pub named : NamesMill (value_of (codes "COMMAND") words) (value_of (codes "NUMBER") words) n
+-- the words ask for the mill of this number
+abbrev pub AsksMill : List Text → ℕ → Type 0
+AsksMill words n = AskFor words (Mill n)
 
 -- the words ask for work over a net
 abbrev pub AskTalk : List Text → Type 0
@@ -88,17 +76,13 @@ AskTalk words = (command : NetCommand) × AsksNet words command
 
 -- the words ask for work on the input, or over a net by the settings that are the input
 abbrev pub AskSome : List Text → Type 0
-AskSome words = ((command : Command) × Asks words command) ⊎ AskTalk words
+AskSome words = (job : Job) × AskFor words (On job)
 
--- the words ask neither for work nor for a mill
-pub record AskNothing (words : List Text) : Type 0 where
-  pub work : (command : Command) → Asks words command → ⊥
-  pub net : (command : NetCommand) → AsksNet words command → ⊥
-  pub mill : (n : ℕ) → AsksMill words n → ⊥
+-- the words ask for no task
+abbrev pub AskNothing : List Text → Type 0
+AskNothing words = (task : Task) → AskFor words task → ⊥
 
 -- the task that they ask for, if any
 abbrev pub IsAsked : List Text → Option Task → Type 0
-IsAsked words (Some (Work command)) = Asks words command
-IsAsked words (Some (Net command)) = AsksNet words command
-IsAsked words (Some (Mill n)) = AsksMill words n
+IsAsked words (Some task) = AskFor words task
 IsAsked words None = AskNothing words

@@ -3,6 +3,7 @@ ghost use Rattle.std.specs.Prelude.{◌≡◌, ◌≢◌, ◌≤◌, ◌⊎◌, 
 ghost use Rattle.express_cli.specs.Around.{over};
 ghost use Rattle.express_cli.specs.Door.{HaltCounts, NeverMay, ServedSays};
 ghost use Rattle.express_cli.specs.Ends.{DiskCounts, Prints};
+ghost use Rattle.express_cli.specs.Runs.{WaitsForNet};
 ghost use Rattle.express_cli.specs.Talking.{SaysRun, Settled, TalkEnds, end_by, server};
 
 use crate::door::{TellsFaults, listen_and_serve};
@@ -48,7 +49,7 @@ fn serve<K: Sink, N: Net>(
 ) -> End
     ensures ends { Settled server settings.now (Unit {0})
         (over N.seen N.Conn.seen seed.now net.old net.new) (K.seen out.old) (K.seen out.new) result }
-    ensures settings { result ≢ End.BadKey }
+    ensures waits { WaitsForNet result → ⊥ }
 {
     let Ok(mut gather) = Gather::open(alloc) else {
         return say(out, OUT_OF_MEMORY, End::OutOfMemory);
@@ -62,7 +63,7 @@ fn serve<K: Sink, N: Net>(
 fn end_by(end: RunEnd) -> End
     ensures by { result ≡ end_by end }
     ensures written { result ≢ End.WriteFault }
-    ensures settings { result ≢ End.BadKey }
+    ensures waits { WaitsForNet result → ⊥ }
 {
     match end {
         RunEnd::Done => End::Done,
@@ -74,7 +75,7 @@ fn end_by(end: RunEnd) -> End
 // the sink failed before. A fault of the sink ends it too.
 fn say_run<K: Sink>(out: &mut K, run: Result<Ran, Untold>) -> End
     ensures says { SaysRun run (K.seen out.old) (K.seen out.new) result }
-    ensures settings { result ≢ End.BadKey }
+    ensures waits { WaitsForNet result → ⊥ }
 {
     match run {
         Ok(ran) => say(out, ran.text.as_str(), end_by(ran.end)),
@@ -85,6 +86,7 @@ fn say_run<K: Sink>(out: &mut K, run: Result<Ran, Untold>) -> End
 
 /// Does a command's work over the net, by the settings that the text spells: is a server, works a client's requests
 /// off, or sends a file to its boxes or fetches one from them; and tells what came of it.
+#[tactic(auto, using(crate::proofs::Writing::fault_reads))]
 pub fn talk<K: Sink, N: Net>(
     alloc: Global,
     command: NetCommand,
@@ -95,7 +97,8 @@ pub fn talk<K: Sink, N: Net>(
 ) -> End
     ensures ends { TalkEnds command text.now
         (over N.seen N.Conn.seen seed.now net.old net.new) (K.seen out.old) (K.seen out.new) result }
-    ensures waits { result ≡ End.BadKey → net.new ≡ net.old }
+    ensures waits { WaitsForNet result → net.new ≡ net.old }
+    ensures reads { result ≢ End.ReadFault }
 {
     match command {
         NetCommand::Serve => match read_serve(alloc, text) {

@@ -17,7 +17,7 @@ use crate::promises::laws;
 use crate::replay::replay;
 use crate::talk::talk;
 use crate::texts::{OUT_OF_MEMORY, USAGE, say};
-use crate::words::{Command, Task, task_of};
+use crate::words::{Command, Job, Task, task_of};
 use express_texts::{batch_is_read_exactly, game_is_read_exactly};
 use express_words::outside::{Net, Sink, Source};
 use schedule_text::read_exactly;
@@ -61,12 +61,11 @@ fn finish<S: Source, K: Sink, N: Net>(
         Err(_) => say(out, OUT_OF_MEMORY, End::OutOfMemory),
         Ok(None) => say(out, USAGE, End::Usage),
         Ok(Some(Task::Mill(number))) => mill(alloc, number, out),
-        Ok(Some(Task::Work(command))) => match input_of(alloc, input, out) {
-            Ok(text) => work(alloc, command, text.as_slice(), out),
-            Err(end) => end,
-        },
-        Ok(Some(Task::Net(command))) => match input_of(alloc, input, out) {
-            Ok(text) => talk(alloc, command, text.as_slice(), seed, out, net),
+        Ok(Some(Task::On(job))) => match input_of(alloc, input, out) {
+            Ok(text) => match job {
+                Job::Work(command) => work(alloc, command, text.as_slice(), out),
+                Job::Net(command) => talk(alloc, command, text.as_slice(), seed, out, net),
+            },
             Err(end) => end,
         },
     }

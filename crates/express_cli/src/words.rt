@@ -1,7 +1,7 @@
 //! The words of the command line.
-ghost use Rattle.std.specs.Prelude.{◌≡◌, ◌≢◌, [], IfOk, IfErr, Some, option_map, map, string_bytes, codes};
-ghost use Rattle.clap.specs.Words.{app_of, fault_of, kind_of};
-ghost use Rattle.express_cli.specs.CommandLine.{express_app, value_of, IsNamed, IsNetNamed, IsNumber, IsMill, IsAsked};
+ghost use Rattle.std.specs.Prelude.{◌≡◌, ◌≢◌, IfOk, IfErr, Some, option_map, map, string_bytes, codes};
+ghost use Rattle.clap.specs.Words.{app_of, kind_of};
+ghost use Rattle.express_cli.specs.CommandLine.{express_app, value_of, AreRead, IsNamed, IsAsked};
 
 use clap::error::ErrorKind;
 use clap::{Arg, Error};
@@ -30,13 +30,18 @@ pub enum NetCommand {
     Carry,
 }
 
+/// What is done with the input.
+#[derive(Clone, Copy, Debug, PartialEq, Eq)]
+pub enum Job {
+    Work(Command),
+    Net(NetCommand),
+}
+
 /// What the words ask for.
 #[derive(Clone, Copy, Debug, PartialEq, Eq)]
 pub enum Task {
-    /// Work on the input.
-    Work(Command),
-    /// Work over a net, by the settings that are the input.
-    Net(NetCommand),
+    /// A job on the input.
+    On(Job),
     /// The mill of a number up to 5,000, which reads no input.
     Mill(u16),
 }
@@ -63,8 +68,8 @@ fn values_of<'a>(
 ) -> Result<(Option<&'a str>, Option<&'a str>), Error>
     ensures command { IfOk result (λ r. option_map (λ s. s.now) r.0 ≡ value_of (codes "COMMAND") (map string_bytes words.entry.now.items)) }
     ensures number { IfOk result (λ r. option_map (λ s. s.now) r.1 ≡ value_of (codes "NUMBER") (map string_bytes words.entry.now.items)) }
-    ensures taken { IfOk result (λ r. fault_of express_app (map string_bytes words.entry.now.items) ≡ []) }
-    ensures refused { IfErr result (λ e. kind_of e ≢ ErrorKind.OutOfMemory → fault_of express_app (map string_bytes words.entry.now.items) ≢ []) }
+    ensures taken { IfOk result (λ r. AreRead (map string_bytes words.entry.now.items)) }
+    ensures refused { IfErr result (λ e. kind_of e ≢ ErrorKind.OutOfMemory → AreRead (map string_bytes words.entry.now.items) → ⊥) }
 {
     let command = parser(alloc)?;
     match command.try_get_matches_from(words.as_slice()) {
@@ -73,86 +78,51 @@ fn values_of<'a>(
     }
 }
 
-// The command that these values name.
-fn named(command: Option<&str>, number: Option<&str>) -> Option<Command>
-    ensures { IsNamed (option_map (λ s. s.now) command.entry) (option_map (λ s. s.now) number.entry) result }
-{
-    match (command, number) {
-        (Some("replay"), None) => Some(Command::Replay),
-        (Some("batch"), None) => Some(Command::Batch),
-        (Some("cloak"), None) => Some(Command::Cloak),
-        _ => None,
-    }
-}
-
-// The command over a net that these values name.
-fn net_named(command: Option<&str>, number: Option<&str>) -> Option<NetCommand>
-    ensures { IsNetNamed (option_map (λ s. s.now) command.entry) (option_map (λ s. s.now) number.entry) result }
-{
-    match (command, number) {
-        (Some("serve"), None) => Some(NetCommand::Serve),
-        (Some("client"), None) => Some(NetCommand::Client),
-        (Some("carry"), None) => Some(NetCommand::Carry),
-        _ => None,
-    }
-}
-
-// The number up to 5,000 whose decimal digits these are.
-fn number_in(alloc: Global, text: &str) -> Result<Option<u16>, AllocError>
-    ensures { IfOk result (IsNumber text.now) }
+// The mill of the number up to 5,000 whose decimal digits these are.
+#[tactic(auto, using(crate::proofs::Asked::other_digits))]
+fn mill_of(alloc: Global, text: &str) -> Result<Option<Task>, AllocError>
+    ensures { IfOk result (IsNamed (Some (codes "mill")) (Some text.now)) }
 {
     let number = match text.parse::<u16>() {
-        Ok(number) => number,
-        Err(_) => return Ok(None),
+        Ok(number) if number <= 5000 => number,
+        _ => return Ok(None),
     };
-    if number > 5000 {
-        return Ok(None);
-    }
     let digits = format!(in alloc; "{number}")?;
     if digits.as_str() == text {
-        Ok(Some(number))
+        Ok(Some(Task::Mill(number)))
     } else {
         Ok(None)
     }
 }
 
-// The number of the mill that these values name.
-#[tactic(auto, using(crate::proofs::Asked::mill_of))]
-fn mill_named(
+// The task that these values name.
+fn named(
     alloc: Global,
     command: Option<&str>,
     number: Option<&str>,
-) -> Result<Option<u16>, AllocError>
-    ensures { IfOk result (IsMill (option_map (λ s. s.now) command.entry) (option_map (λ s. s.now) number.entry)) }
+) -> Result<Option<Task>, AllocError>
+    ensures { IfOk result (IsNamed (option_map (λ s. s.now) command.entry) (option_map (λ s. s.now) number.entry)) }
 {
     match (command, number) {
-        (Some("mill"), Some(text)) => number_in(alloc, text),
+        (Some("replay"), None) => Ok(Some(Task::On(Job::Work(Command::Replay)))),
+        (Some("batch"), None) => Ok(Some(Task::On(Job::Work(Command::Batch)))),
+        (Some("cloak"), None) => Ok(Some(Task::On(Job::Work(Command::Cloak)))),
+        (Some("serve"), None) => Ok(Some(Task::On(Job::Net(NetCommand::Serve)))),
+        (Some("client"), None) => Ok(Some(Task::On(Job::Net(NetCommand::Client)))),
+        (Some("carry"), None) => Ok(Some(Task::On(Job::Net(NetCommand::Carry)))),
+        (Some("mill"), Some(text)) => mill_of(alloc, text),
         _ => Ok(None),
     }
 }
 
 /// The task that the words ask for.
-#[tactic(auto, using(crate::proofs::Asked::refused, crate::proofs::Asked::works, crate::proofs::Asked::talks, crate::proofs::Asked::mills, crate::proofs::Asked::nothing))]
+#[tactic(auto, using(crate::proofs::Asked::refused, crate::proofs::Asked::asked))]
 pub fn task_of(alloc: Global, words: &Vec<String>) -> Result<Option<Task>, NoMemory>
     ensures { IfOk result (IsAsked (map string_bytes words.now.items)) }
 {
-    let (command, number) = match values_of(alloc, words) {
-        Ok(values) => values,
-        Err(fault) => {
-            if fault.kind() == ErrorKind::OutOfMemory {
-                return Err(NoMemory);
-            }
-            return Ok(None);
-        }
-    };
-    if let Some(command) = named(command, number) {
-        return Ok(Some(Task::Work(command)));
-    }
-    if let Some(command) = net_named(command, number) {
-        return Ok(Some(Task::Net(command)));
-    }
-    match mill_named(alloc, command, number)? {
-        Some(number) => Ok(Some(Task::Mill(number))),
-        None => Ok(None),
+    match values_of(alloc, words) {
+        Ok((command, number)) => Ok(named(alloc, command, number)?),
+        Err(fault) if fault.kind() == ErrorKind::OutOfMemory => Err(NoMemory),
+        Err(_) => Ok(None),
     }
 }

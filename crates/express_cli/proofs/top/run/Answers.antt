@@ -1,49 +1,82 @@
-use Rattle.std.proofs.Common.{List, refl, ap}
+use Rattle.std.proofs.Common.{◌∙◌, ℕ, List, arith, append-nil, length-append, ap}
 use Rattle.clap.specs.Words.{Text}
+use Rattle.schedule_text.specs.Grammar.{schedule_of}
+use Rattle.replay_world.specs.Played.{output_of}
+use Rattle.express_texts.specs.Batch.{batch_of}
+use Rattle.express_texts.specs.GameLines.{game_of}
 use Rattle.express_cli.specs.Around.{Around, Streams}
 use Rattle.express_cli.specs.Ends.{status_of}
 use Rattle.express_cli.specs.Keeping.{InputCounts}
 use Rattle.express_cli.specs.Ran.{Ran}
 use Rattle.express_cli.specs.Runs.{RunEnds, RunMay}
 use Rattle.express_cli.specs.declared.ends.End.{End}
+use Rattle.express_cli.specs.CommandLine.{AskFor}
+use Rattle.express_cli.specs.declared.words.Command.{Command}
+use Rattle.express_cli.specs.declared.words.Command.TheVariants.{Replay, Batch, Cloak}
+use Rattle.express_cli.specs.declared.words.NetCommand.{NetCommand}
 use Rattle.express_cli.specs.declared.words.NetCommand.TheVariants.{Serve, Client, Carry}
-use Rattle.express_cli.proofs.OneReading.{Reads}
-use Rattle.express_cli.proofs.Causes as causes
-use Rattle.express_cli.proofs.Exact as exact
-use Rattle.express_cli.proofs.Talked as talked
-use Rattle.express_cli.proofs.Writing.{sink_stays}
+use Rattle.express_cli.specs.declared.words.Job.{Job}
+use Rattle.express_cli.specs.declared.words.Job.TheVariants.{Work, Net}
+use Rattle.express_cli.specs.declared.words.Task.TheVariants.{On, Mill}
+use Rattle.express_cli.proofs.OneReading.{Reads, not_both, one_reading, same_line, same_task}
+use Rattle.express_cli.proofs.ByTask.{by_settings, if_some, job_done, key_of, met, work_done}
+use Rattle.express_cli.proofs.Writing.{sink_stays, took_as}
 use Rattle.express_cli.proofs.top.run.Goals as goal
 
 came : Reads → (words : List Text) (streams : Streams) (net : Around) (end : End) → RunEnds words streams net end → InputCounts end streams → Ran words streams net (status_of end)
-came law words streams net end ends source = record {
-  headline = exact.headline law words streams net end _ refl ends.talks.comes;
-  batch = exact.batch law words streams net end _ refl ends.talks.comes;
-  cloak = exact.cloak law words streams net end _ refl ends.talks.comes;
-  names_bad_line = exact.names_bad_line law words streams net end _ refl ends.talks.comes;
-  refuses_too_long = exact.refuses_too_long words streams net end _ refl ends.talks.comes;
-  mill = exact.mills words streams net end ends.talks.comes;
-  serve = talked.by_settings Serve words streams net end _ refl ends.talks.comes;
-  client = talked.by_settings Client words streams net end _ refl ends.talks.comes;
-  carry = talked.by_settings Carry words streams net end _ refl ends.talks.comes;
-  names_bad_key = talked.names_bad_key words streams net end _ refl ends.talks.comes;
-  statuses = causes.statuses words streams net end ends.talks.comes;
-  usage = causes.usage words streams net end ends.talks.comes;
-  usage_only = causes.usage_only words streams net end ends.talks.comes;
-  worked = causes.worked_off words streams net end ends.talks.comes;
-  refused = causes.refused words streams net end ends.talks.comes;
-  read_fault = causes.read_fault words streams net end ends.talks.comes;
-  write_fault = causes.write_fault words streams net end ends.talks.comes;
-  told_in_time = λ e. ends.talks.in_time (causes.failed end e);
-  early = ends.talks.leaves;
-  net_fault = causes.net_fault words streams net end ends.talks.comes;
-  out_of_memory = causes.out_of_memory words streams net end ends.talks.comes;
-  too_long = causes.too_long words streams net end ends.talks.comes;
-  too_long_only = causes.too_long_only words streams net end ends.talks.comes;
-  source_unfailed = λ read write. source (λ e. read (ap status_of e)) (λ e. write (ap status_of e));
-  sink_unfailed = λ write. sink_stays (RunMay words streams net) streams.out streams.out_now end ends.talks.comes (λ e. write (ap status_of e));
-}
+came law words streams net end ends source =
+    let comes = ends.talks.comes in
+    record {
+      headline = λ asks well. if_some streams.input.content (λ s is schedule spells short.
+          let did = work_done words streams net end Replay s comes asks well is short (λ n. law.schedules.not_both s.left schedule n spells) in
+          (did.1, took_as _ _ _ _ (did.2.2 ∙ ap output_of (law.schedules.same_value s.left did.2.0 schedule did.2.1 spells)) did.3));
+      batch = λ asks well. if_some streams.input.content (λ s is pairs spells short.
+          let did = work_done words streams net end Batch s comes asks well is short (λ n. law.pairs.not_both s.left pairs n spells) in
+          let sort = rw (law.pairs.same_value s.left did.2.0 pairs did.2.1 spells) at did.2.2 in
+          (did.1, (sort.0, sort.1, sort.2, took_as _ _ _ _ sort.3 did.3)));
+      cloak = λ asks well. if_some streams.input.content (λ s is game spells short.
+          let did = work_done words streams net end Cloak s comes asks well is short (λ n. law.games.not_both s.left game n spells) in
+          let shown = rw (law.games.same_value s.left did.2.0 game did.2.1 spells) at did.2.2 in
+          (did.1, shown.0, took_as _ _ _ _ shown.1 did.3));
+      names_bad_line = λ command asks well. if_some streams.input.content (λ s is n bad short.
+          let did = job_done words streams net end (Work command) s comes asks well is short in
+          grind (arith, not_both law, same_line law, took_as));
+      refuses_too_long = λ some well. if_some streams.input.content (λ s is long.
+          let did = met words streams net end (On some.0) comes some.1 well.sink well.memory in
+          grind (arith, append-nil, took_as));
+      mill = λ n asks sink memory.
+          let did = met words streams net end (Mill n) comes asks sink memory in
+          let other : (job : Job) → AskFor words (On job) → ⊥ = λ job found. cc (same_task words (On job) (Mill n) found asks) in
+          grind (arith, other, took_as);
+      serve = by_settings Serve words streams net end comes;
+      client = by_settings Client words streams net end comes;
+      carry = by_settings Carry words streams net end comes;
+      names_bad_key = λ command asks well. if_some streams.input.content (λ s is key bad short.
+          let did = job_done words streams net end (Net command) s comes asks well is short in
+          let named = key_of command s.left net end did.0 key bad well.memory did.1 in
+          (named.0, took_as _ _ did.0 _ named.1 did.2));
+      statuses = grind arith;
+      usage = λ e. grind (arith, took_as);
+      usage_only = λ none. grind (arith, λ (c : Command). none (On (Work c)), λ (c : NetCommand). none (On (Net c)), λ (job : Job). none (On job), λ (n : ℕ). none (Mill n));
+      worked = λ e. grind (arith, took_as);
+      refused = λ e. grind (arith, took_as);
+      read_fault = λ e. grind (arith, took_as);
+      write_fault = λ e. grind arith;
+      told_in_time = λ e. ends.talks.in_time (grind arith);
+      early = ends.talks.leaves;
+      net_fault = λ e. grind arith;
+      out_of_memory = λ e. grind (arith, took_as);
+      too_long = λ e. grind (arith, took_as);
+      too_long_only = λ long. grind (arith, length-append);
+      source_unfailed = λ read write. source (λ e. read (ap status_of e)) (λ e. write (ap status_of e));
+      sink_unfailed = λ write. sink_stays (RunMay words streams net) streams.out streams.out_now end comes (λ e. write (ap status_of e));
+    }
 
 pub returns-clause-ran : goal.returns-clause-ran
 returns-clause-ran g c =
-    rw c.status_of.ensures (came (record { schedule = c.read_exactly.ensures.only; bad_schedule = c.read_exactly.ensures.only_bad; pairs = c.batch_is_read_exactly.ensures.only; bad_pairs = c.batch_is_read_exactly.ensures.only_bad; game = c.game_is_read_exactly.ensures.only; bad_game = c.game_is_read_exactly.ensures.only_bad })
-    _ _ _ _ c.finish.ensures.ends c.finish.ensures.source)
+    let law : Reads = record {
+      schedules = one_reading schedule_of c.read_exactly.ensures.only c.read_exactly.ensures.only_bad;
+      pairs = one_reading batch_of c.batch_is_read_exactly.ensures.only c.batch_is_read_exactly.ensures.only_bad;
+      games = one_reading game_of c.game_is_read_exactly.ensures.only c.game_is_read_exactly.ensures.only_bad;
+    } in
+    rw c.status_of.ensures (came law _ _ _ _ c.finish.ensures.ends c.finish.ensures.source)

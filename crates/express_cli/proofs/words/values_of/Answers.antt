@@ -4,7 +4,7 @@ use Rattle.clap.specs.declared.error.kind.ErrorKind.{ErrorKind}
 use Rattle.clap.specs.declared.error.kind.ErrorKind.TheVariants as kind
 use Rattle.clap.proofs.OnLiterals.{clap_on_literals}
 use Rattle.clap.proofs.WalkLemmas.{first_value-rows}
-use Rattle.express_cli.specs.CommandLine.{express_app}
+use Rattle.express_cli.specs.CommandLine.{express_app, AreRead, value_of}
 use Rattle.express_cli.proofs.words.values_of.Goals as goal
 
 simple : is_simple express_app ≡ true
@@ -22,6 +22,7 @@ not_none [] k (inr among) other none = among
 not_none (x ∷ xs) k has other none = cc
 
 pub returns-in-Ok : goal.returns-in-Ok
+unfolding AreRead value_of
 returns-in-Ok c =
     let whole_is : app_of c.in_ok-command.command ≡ express_app = c.in_ok-command.ensures in
     let words_are = ap (map string_bytes) c.as_slice.ensures.value in
@@ -34,6 +35,7 @@ returns-in-Ok c =
     }
 
 pub returns-in-Err-clause-refused : goal.returns-in-Err-clause-refused
+unfolding AreRead
 returns-in-Err-clause-refused c other none =
     let whole_is : app_of c.in_ok-command.command ≡ express_app = c.in_ok-command.ensures in
     let words_are = ap (map string_bytes) c.as_slice.ensures.value in
