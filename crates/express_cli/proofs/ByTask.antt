@@ -5,9 +5,9 @@ use Rattle.express_words.specs.Causes.{Rose}
 use Rattle.express_words.specs.Streams.{Stream}
 use Rattle.input_reading.specs.Reading.{GaveAll, most_bytes}
 use Rattle.express_cli.specs.CommandLine.{AskFor, AskSome, Asks}
-use Rattle.express_cli.specs.Ends.{IsBad, IsOutput, MillMay, WorkMay, bad_settings, status_of}
+use Rattle.express_cli.specs.Ends.{IsBad, IsOutput, MillMay, WorkMay, status_of}
 use Rattle.express_cli.specs.Around.{Around, IsUnread, Read, Streams, Wrote}
-use Rattle.express_cli.specs.Talking.{IsBadKey, TalkMay}
+use Rattle.express_cli.specs.Talking.{TalkMay}
 use Rattle.express_cli.specs.Runs.{ComesTo, GoesBySettings, RunMay, UnreadMay, Well}
 use Rattle.express_cli.specs.declared.words.Command.{Command}
 use Rattle.express_cli.specs.declared.words.Job.{Job}
@@ -92,16 +92,12 @@ job_done words streams net end job s comes asks well is short =
       did.3,
     )
 
-done_of : (command : Command) (bytes : List ℕ) (end : End) (text : List ℕ) → ((n : ℕ) → IsBad command n bytes → ⊥) → status_of end ≢ 7 → WorkMay command bytes end text
-    → (status_of end ≡ 0) × IsOutput command bytes text
-done_of command bytes end text good memory may = grind arith
-
 -- where no line is bad, work on it is done
 pub work_done : (words : List Text) (streams : Streams) (net : Around) (end : End) (command : Command) (s : Stream) → ComesTo words streams net end → Asks words command → Well streams (status_of end)
     → streams.input.content ≡ Some s → length s.left ≤ most_bytes → ((n : ℕ) → IsBad command n s.left → ⊥) → (text : List ℕ) × (status_of end ≡ 0) × IsOutput command s.left text × Wrote streams text
 work_done words streams net end command s comes asks well is short good =
     let did = job_done words streams net end (Work command) s comes asks well is short in
-    let done = done_of command s.left end did.0 good well.memory did.1 in
+    let done : (status_of end ≡ 0) × IsOutput command s.left did.0 = grind arith in
     (did.0, done.0, done.1, did.2)
 
 -- by good settings it is done, or a fault of the net broke it off
@@ -109,8 +105,3 @@ pub by_settings : (command : NetCommand) (words : List Text) (streams : Streams)
 by_settings command words streams net end comes asks well = if_some streams.input.content (λ s is settings spells short.
     let did = job_done words streams net end (Net command) s comes asks well is short in
     (did.0, did.2, grind (arith, work_end)))
-
--- or the first bad key is named
-pub key_of : (command : NetCommand) (bytes : List ℕ) (net : Around) (end : End) (text key : List ℕ) → IsBadKey command key bytes → status_of end ≢ 7
-    → TalkMay command bytes net end text → (status_of end ≡ 3) × (text ≡ bad_settings key)
-key_of command bytes net end text key bad memory may = grind arith

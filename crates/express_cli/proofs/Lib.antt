@@ -1,6 +1,5 @@
 pub mod Writing
 pub mod OneReading
-pub mod Finishing
 pub mod ByTask
 pub mod Asked
 pub mod Settling

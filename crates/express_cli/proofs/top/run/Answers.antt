@@ -1,11 +1,11 @@
-use Rattle.std.proofs.Common.{◌∙◌, ℕ, List, arith, append-nil, length-append, ap}
+use Rattle.std.proofs.Common.{◌≡◌, ◌∙◌, ℕ, List, arith, append-nil, length-append, ap}
 use Rattle.clap.specs.Words.{Text}
 use Rattle.schedule_text.specs.Grammar.{schedule_of}
 use Rattle.replay_world.specs.Played.{output_of}
 use Rattle.express_texts.specs.Batch.{batch_of}
 use Rattle.express_texts.specs.GameLines.{game_of}
 use Rattle.express_cli.specs.Around.{Around, Streams}
-use Rattle.express_cli.specs.Ends.{status_of}
+use Rattle.express_cli.specs.Ends.{bad_settings, status_of}
 use Rattle.express_cli.specs.Keeping.{InputCounts}
 use Rattle.express_cli.specs.Ran.{Ran}
 use Rattle.express_cli.specs.Runs.{RunEnds, RunMay}
@@ -19,7 +19,7 @@ use Rattle.express_cli.specs.declared.words.Job.{Job}
 use Rattle.express_cli.specs.declared.words.Job.TheVariants.{Work, Net}
 use Rattle.express_cli.specs.declared.words.Task.TheVariants.{On, Mill}
 use Rattle.express_cli.proofs.OneReading.{Reads, not_both, one_reading, same_line, same_task}
-use Rattle.express_cli.proofs.ByTask.{by_settings, if_some, job_done, key_of, met, work_done}
+use Rattle.express_cli.proofs.ByTask.{by_settings, if_some, job_done, met, work_done}
 use Rattle.express_cli.proofs.Writing.{sink_stays, took_as}
 use Rattle.express_cli.proofs.top.run.Goals as goal
 
@@ -53,7 +53,7 @@ came law words streams net end ends source =
       carry = by_settings Carry words streams net end comes;
       names_bad_key = λ command asks well. if_some streams.input.content (λ s is key bad short.
           let did = job_done words streams net end (Net command) s comes asks well is short in
-          let named = key_of command s.left net end did.0 key bad well.memory did.1 in
+          let named : (status_of end ≡ 3) × (did.0 ≡ bad_settings key) = grind arith in
           (named.0, took_as _ _ did.0 _ named.1 did.2));
       statuses = grind arith;
       usage = λ e. grind (arith, took_as);

@@ -1,4 +1,4 @@
-use Rattle.std.proofs.Common.{ap, ap₂, refl, sym, codes, true, map, [], ◌∷◌, ◌≡◌, ◌∙◌, ◌≢◌, ◌⊎◌, string_bytes, inl, inr}
+use Rattle.std.proofs.Common.{ap, ap₂, refl, sym, codes, true, map, [], ◌≡◌, ◌∙◌, ◌≢◌, ◌⊎◌, string_bytes, arith}
 use Rattle.clap.specs.Words.{first_of, is_simple, is_simple_and_free, matches_of, found_of, app_of, fault_of, IsAmong, Kinds}
 use Rattle.clap.specs.declared.error.kind.ErrorKind.{ErrorKind}
 use Rattle.clap.specs.declared.error.kind.ErrorKind.TheVariants as kind
@@ -17,9 +17,7 @@ simple_and_free = refl
 
 -- an error that is not want of memory has a kind among those of the words
 not_none : (kinds : Kinds) (k : ErrorKind) → (k ≡ kind.OutOfMemory) ⊎ IsAmong k kinds → k ≢ kind.OutOfMemory → kinds ≡ [] → ⊥
-not_none [] k (inl memory) other none = other memory
-not_none [] k (inr among) other none = among
-not_none (x ∷ xs) k has other none = cc
+not_none kinds k has other none = grind arith
 
 pub returns-in-Ok : goal.returns-in-Ok
 unfolding AreRead value_of
