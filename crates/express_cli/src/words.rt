@@ -66,10 +66,13 @@ fn values_of<'a>(
     alloc: Global,
     words: &'a Vec<String>,
 ) -> Result<(Option<&'a str>, Option<&'a str>), Error>
-    ensures command { IfOk result (λ r. option_map (λ s. s.now) r.0 ≡ value_of (codes "COMMAND") (map string_bytes words.entry.now.items)) }
-    ensures number { IfOk result (λ r. option_map (λ s. s.now) r.1 ≡ value_of (codes "NUMBER") (map string_bytes words.entry.now.items)) }
+    ensures command { IfOk result (λ r. option_map (λ s. s.now) r.0
+        ≡ value_of (codes "COMMAND") (map string_bytes words.entry.now.items)) }
+    ensures number { IfOk result (λ r. option_map (λ s. s.now) r.1
+        ≡ value_of (codes "NUMBER") (map string_bytes words.entry.now.items)) }
     ensures taken { IfOk result (λ r. AreRead (map string_bytes words.entry.now.items)) }
-    ensures refused { IfErr result (λ e. kind_of e ≢ ErrorKind.OutOfMemory → AreRead (map string_bytes words.entry.now.items) → ⊥) }
+    ensures refused { IfErr result (λ e. kind_of e ≢ ErrorKind.OutOfMemory
+        → AreRead (map string_bytes words.entry.now.items) → ⊥) }
 {
     let command = parser(alloc)?;
     match command.try_get_matches_from(words.as_slice()) {
@@ -101,7 +104,8 @@ fn named(
     command: Option<&str>,
     number: Option<&str>,
 ) -> Result<Option<Task>, AllocError>
-    ensures { IfOk result (IsNamed (option_map (λ s. s.now) command.entry) (option_map (λ s. s.now) number.entry)) }
+    ensures { IfOk result (IsNamed (option_map (λ s. s.now) command.entry)
+        (option_map (λ s. s.now) number.entry)) }
 {
     match (command, number) {
         (Some("replay"), None) => Ok(Some(Task::On(Job::Work(Command::Replay)))),
