@@ -10,11 +10,11 @@ use Rattle.express_cli.specs.Around.{Around, IsUnread, Read, Streams, Wrote}
 use Rattle.express_cli.specs.Talking.{TalkMay}
 use Rattle.express_cli.specs.Runs.{ComesTo, GoesBySettings, RunMay, UnreadMay, Well}
 use Rattle.express_cli.specs.declared.words.Command.{Command}
-use Rattle.express_cli.specs.declared.words.Job.{Job}
-use Rattle.express_cli.specs.declared.words.Job.TheVariants.{Work, Net}
+use Rattle.express_cli.specs.declared.words.InputTask.{InputTask}
+use Rattle.express_cli.specs.declared.words.InputTask.TheVariants.{Work, Net}
 use Rattle.express_cli.specs.declared.words.NetCommand.{NetCommand}
 use Rattle.express_cli.specs.declared.words.Task.{Task}
-use Rattle.express_cli.specs.declared.words.Task.TheVariants.{On, Mill}
+use Rattle.express_cli.specs.declared.words.Task.TheVariants.{OnInput, Mill}
 use Rattle.express_cli.specs.declared.ends.End.{End}
 use Rattle.express_cli.specs.declared.ends.End.TheVariants as ends
 use Rattle.express_cli.proofs.OneReading.{same_task}
@@ -23,14 +23,14 @@ use Rattle.express_cli.proofs.Writing.{written}
 
 -- ---- what was asked for
 
--- what may come of a job on these bytes
-abbrev pub OfJob : Job → List ℕ → Around → End → List ℕ → Type 0
-OfJob (Work command) bytes net end text = WorkMay command bytes end text
-OfJob (Net command) bytes net end text = TalkMay command bytes net end text
+-- what may come of a task on these bytes
+abbrev pub OfInput : InputTask → List ℕ → Around → End → List ℕ → Type 0
+OfInput (Work command) bytes net end text = WorkMay command bytes end text
+OfInput (Net command) bytes net end text = TalkMay command bytes net end text
 
 -- what may come of a task: of all bytes of the input, but a mill reads none
 abbrev pub OfTask : Task → Streams → Around → End → List ℕ → Type 0
-OfTask (On job) streams net end text = (bytes : List ℕ) × Read streams bytes × OfJob job bytes net end text
+OfTask (OnInput task) streams net end text = (bytes : List ℕ) × Read streams bytes × OfInput task bytes net end text
 OfTask (Mill n) streams net end text = IsUnread streams × MillMay n end text
 
 -- the input wasn't read to its end, or the task was done
@@ -46,12 +46,12 @@ of_task words streams net ends.ReadFault text task asks memory may = inl may
 of_task words streams net ends.TooLong text task asks memory may = inl may
 of_task words streams net ends.OutOfMemory text task asks memory may = absurd (memory refl)
 of_task words streams net ends.Done text task asks memory (inr (inr (n, found, same, is))) = inr (rw (same_task words task (Mill n) asks found) (same, is))
-of_task words streams net ends.Done text task asks memory (inr (inl (command, found, did))) = inr (rw (same_task words task (On (Net command)) asks found) did)
-of_task words streams net ends.Done text task asks memory (inl (command, found, did)) = inr (rw (same_task words task (On (Work command)) asks found) did)
-of_task words streams net (ends.BadLine n) text task asks memory (command, found, did) = inr (rw (same_task words task (On (Work command)) asks found) did)
-of_task words streams net ends.BadKey text task asks memory (command, found, did) = inr (rw (same_task words task (On (Net command)) asks found) did)
-of_task words streams net ends.NetFault text task asks memory (command, found, did) = inr (rw (same_task words task (On (Net command)) asks found) did)
-of_task words streams net ends.WriteFault text task asks memory (command, found, did) = inr (rw (same_task words task (On (Net command)) asks found) did)
+of_task words streams net ends.Done text task asks memory (inr (inl (command, found, did))) = inr (rw (same_task words task (OnInput (Net command)) asks found) did)
+of_task words streams net ends.Done text task asks memory (inl (command, found, did)) = inr (rw (same_task words task (OnInput (Work command)) asks found) did)
+of_task words streams net (ends.BadLine n) text task asks memory (command, found, did) = inr (rw (same_task words task (OnInput (Work command)) asks found) did)
+of_task words streams net ends.BadKey text task asks memory (command, found, did) = inr (rw (same_task words task (OnInput (Net command)) asks found) did)
+of_task words streams net ends.NetFault text task asks memory (command, found, did) = inr (rw (same_task words task (OnInput (Net command)) asks found) did)
+of_task words streams net ends.WriteFault text task asks memory (command, found, did) = inr (rw (same_task words task (OnInput (Net command)) asks found) did)
 of_task words streams net _ text task asks memory may = absurd may
 
 -- and its text was written, where the sink didn't fail
@@ -76,13 +76,13 @@ pub not_unread : (streams : Streams) (s : Stream) (end : End) (text : List ℕ) 
     → UnreadMay streams.input streams.input_now end text → ⊥
 not_unread streams s end text is well short may = grind (arith, length-append)
 
--- ---- a job on such an input
+-- ---- a task that reads it
 
--- so what came of a job that is asked for was written
-pub job_done : (words : List Text) (streams : Streams) (net : Around) (end : End) (job : Job) (s : Stream) → ComesTo words streams net end → AskFor words (On job) → Well streams (status_of end)
-    → streams.input.content ≡ Some s → length s.left ≤ most_bytes → (text : List ℕ) × OfJob job s.left net end text × Wrote streams text × (end ≢ ends.WriteFault)
-job_done words streams net end job s comes asks well is short =
-    let did = met words streams net end (On job) comes asks well.sink well.memory in (
+-- what came of one that is asked for was written
+pub input_done : (words : List Text) (streams : Streams) (net : Around) (end : End) (task : InputTask) (s : Stream) → ComesTo words streams net end → AskFor words (OnInput task) → Well streams (status_of end)
+    → streams.input.content ≡ Some s → length s.left ≤ most_bytes → (text : List ℕ) × OfInput task s.left net end text × Wrote streams text × (end ≢ ends.WriteFault)
+input_done words streams net end task s comes asks well is short =
+    let did = met words streams net end (OnInput task) comes asks well.sink well.memory in (
       did.0,
       (elim did.1 [
         | inl unread ↦ absurd (not_unread streams s end did.0 is well short unread.1)
@@ -96,12 +96,12 @@ job_done words streams net end job s comes asks well is short =
 pub work_done : (words : List Text) (streams : Streams) (net : Around) (end : End) (command : Command) (s : Stream) → ComesTo words streams net end → Asks words command → Well streams (status_of end)
     → streams.input.content ≡ Some s → length s.left ≤ most_bytes → ((n : ℕ) → IsBad command n s.left → ⊥) → (text : List ℕ) × (status_of end ≡ 0) × IsOutput command s.left text × Wrote streams text
 work_done words streams net end command s comes asks well is short good =
-    let did = job_done words streams net end (Work command) s comes asks well is short in
+    let did = input_done words streams net end (Work command) s comes asks well is short in
     let done : (status_of end ≡ 0) × IsOutput command s.left did.0 = grind arith in
     (did.0, done.0, done.1, did.2)
 
 -- by good settings it is done, or a fault of the net broke it off
 pub by_settings : (command : NetCommand) (words : List Text) (streams : Streams) (net : Around) (end : End) → ComesTo words streams net end → GoesBySettings command words streams net (status_of end)
 by_settings command words streams net end comes asks well = if_some streams.input.content (λ s is settings spells short.
-    let did = job_done words streams net end (Net command) s comes asks well is short in
+    let did = input_done words streams net end (Net command) s comes asks well is short in
     (did.0, did.2, grind (arith, work_end)))

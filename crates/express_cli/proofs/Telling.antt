@@ -1,5 +1,5 @@
 -- What is told of a run whose lines are put as its requests come to their ends.
-use Rattle.std.proofs.Common.{◌≡◌, ℕ, List, [], ◌++◌, length, Result, Ok, Err, IfOk, append_assoc, inl, inr, refl, sym, ap, ◌∙◌, subst}
+use Rattle.std.proofs.Common.{◌≡◌, ℕ, List, [], ◌++◌, length, Result, Ok, Err, IfOk, append_assoc, inl, inr, refl, sym, ap, ◌∙◌, subst, arith}
 use Rattle.express_words.specs.Streams.{Took, TookPrefix}
 use Rattle.node_client.specs.declared.finished.Finished.{Finished}
 use Rattle.settings_text.specs.declared.carry.CarryJob.{CarryJob}
@@ -40,10 +40,7 @@ cut_prefix plan a b e more =
 -- of a text that was said, a front went out where the sink failed
 said_part : (said : End) (text sure : List ℕ) (old mid new : Seen) (end : End)
     → Took old.written mid.written sure → Prints (Said said text) mid new end → end ≡ ends.WriteFault → TookPart sure text old.written new.written
-said_part said text sure old mid new ends.WriteFault took (rose, (e, t, (is, same), prefix)) failed =
-    part_behind old.written mid.written new.written sure text took
-    (subst (λ (x : List ℕ). TookPart [] x mid.written new.written) same (took_part mid.written new.written t prefix))
-said_part said text sure old mid new _ took h failed = absurd (cc failed)
+said_part said text sure old mid new end took h failed = grind (arith, part_behind, took_part)
 
 -- what is said of the end, behind what was told
 says : (May : End → List ℕ → Type 0) (end_is : End) (text told : List ℕ) (old mid new : Seen) (end : End)

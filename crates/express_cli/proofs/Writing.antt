@@ -54,9 +54,7 @@ follows Then May old mid new _ front took same f h =
 -- what was taken stays out where the sink fails behind it
 pub out_behind : (May : End → List ℕ → Type 0) (old mid new : Seen) (end : End) (text : List ℕ) → Took old.written mid.written text
     → Prints May mid new end → end ≡ ends.WriteFault → (more : List ℕ) × Took old.written new.written (text ++ more)
-out_behind May old mid new ends.WriteFault text took h failed =
-    let front = h.1.3 in (front.0, took_both old.written mid.written new.written text front.0 took front.3)
-out_behind May old mid new _ text took h failed = absurd (cc failed)
+out_behind May old mid new end text took h failed = grind (arith, took_both)
 
 -- what is said of a fault of a text is none of the input's
 pub fault_reads : (f : TextFault) (old new : Seen) (end : End) → Prints (FaultMay f) old new end → end ≢ ends.ReadFault

@@ -4,12 +4,12 @@ use Rattle.std.specs.Fmt.{decimal}
 use Rattle.clap.specs.Words.{App, Rule, Text, new_app, new_rule, with_rule, matches_of, first_of, fault_of}
 use Rattle.express_cli.specs.declared.words.Command.{Command}
 use Rattle.express_cli.specs.declared.words.Command.TheVariants.{Replay, Batch, Cloak}
-use Rattle.express_cli.specs.declared.words.Job.{Job}
-use Rattle.express_cli.specs.declared.words.Job.TheVariants.{Work, Net}
+use Rattle.express_cli.specs.declared.words.InputTask.{InputTask}
+use Rattle.express_cli.specs.declared.words.InputTask.TheVariants.{Work, Net}
 use Rattle.express_cli.specs.declared.words.NetCommand.{NetCommand}
 use Rattle.express_cli.specs.declared.words.NetCommand.TheVariants.{Serve, Client, Carry}
 use Rattle.express_cli.specs.declared.words.Task.{Task}
-use Rattle.express_cli.specs.declared.words.Task.TheVariants.{On, Mill}
+use Rattle.express_cli.specs.declared.words.Task.TheVariants.{OnInput, Mill}
 
 abbrev pub command_rule : Rule
 command_rule = record (new_rule (codes "COMMAND")) { required = true }
@@ -40,12 +40,12 @@ value_of id words = first_of id (matches_of express_app words)
 
 -- these values of COMMAND and NUMBER name a task
 abbrev pub Names : Option Text → Option Text → Task → Type 0
-Names name number (On (Work Replay)) = (name ≡ Some (codes "replay")) × (number ≡ None)
-Names name number (On (Work Batch)) = (name ≡ Some (codes "batch")) × (number ≡ None)
-Names name number (On (Work Cloak)) = (name ≡ Some (codes "cloak")) × (number ≡ None)
-Names name number (On (Net Serve)) = (name ≡ Some (codes "serve")) × (number ≡ None)
-Names name number (On (Net Client)) = (name ≡ Some (codes "client")) × (number ≡ None)
-Names name number (On (Net Carry)) = (name ≡ Some (codes "carry")) × (number ≡ None)
+Names name number (OnInput (Work Replay)) = (name ≡ Some (codes "replay")) × (number ≡ None)
+Names name number (OnInput (Work Batch)) = (name ≡ Some (codes "batch")) × (number ≡ None)
+Names name number (OnInput (Work Cloak)) = (name ≡ Some (codes "cloak")) × (number ≡ None)
+Names name number (OnInput (Net Serve)) = (name ≡ Some (codes "serve")) × (number ≡ None)
+Names name number (OnInput (Net Client)) = (name ≡ Some (codes "client")) × (number ≡ None)
+Names name number (OnInput (Net Carry)) = (name ≡ Some (codes "carry")) × (number ≡ None)
 Names name number (Mill n) = (name ≡ Some (codes "mill")) × (number ≡ Some (decimal n)) × (n ≤ 5000)
 
 -- the task that they name, if any
@@ -60,11 +60,11 @@ pub record AskFor (words : List Text) (task : Task) : Type 0 where
 
 -- the words ask for this command
 abbrev pub Asks : List Text → Command → Type 0
-Asks words command = AskFor words (On (Work command))
+Asks words command = AskFor words (OnInput (Work command))
 
 -- the words ask for this command over a net
 abbrev pub AsksNet : List Text → NetCommand → Type 0
-AsksNet words command = AskFor words (On (Net command))
+AsksNet words command = AskFor words (OnInput (Net command))
 
 -- the words ask for the mill of this number
 abbrev pub AsksMill : List Text → ℕ → Type 0
@@ -76,7 +76,7 @@ AskTalk words = (command : NetCommand) × AsksNet words command
 
 -- the words ask for work on the input, or over a net by the settings that are the input
 abbrev pub AskSome : List Text → Type 0
-AskSome words = (job : Job) × AskFor words (On job)
+AskSome words = (task : InputTask) × AskFor words (OnInput task)
 
 -- the words ask for no task
 abbrev pub AskNothing : List Text → Type 0

@@ -27,6 +27,7 @@ impl<D: Disk> TellsFaults for Kept<D> {
 
     ghost tells = { KeepFaultMay };
 
+    #[tactic(auto, using(crate::proofs::CountLaws::told_counts))]
     fn tell_halt<K: Sink>(alloc: Global, out: &mut K, halt: Halt<KeepFault>) -> End
         requires first { EndsAtFirst IsFirstFault halt }
         ensures tells { Prints (ServedSays KeepFaultMay (Err halt)) (K.seen out.old) (K.seen out.new) result }

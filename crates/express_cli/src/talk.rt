@@ -25,6 +25,7 @@ impl TellsFaults for Node {
 
     ghost tells = { NeverMay };
 
+    #[tactic(auto, using(crate::proofs::CountLaws::told_counts))]
     fn tell_halt<K: Sink>(_alloc: Global, out: &mut K, halt: Halt<Never>) -> End
         ensures tells { Prints (ServedSays NeverMay (Err halt)) (K.seen out.old) (K.seen out.new) result }
         ensures counts { (before now : ℕ) → HaltCounts (λ why a b. ⊥) halt before now → DiskCounts result before now }

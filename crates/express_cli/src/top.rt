@@ -17,7 +17,7 @@ use crate::promises::laws;
 use crate::replay::replay;
 use crate::talk::talk;
 use crate::texts::{OUT_OF_MEMORY, USAGE, say};
-use crate::words::{Command, Job, Task, task_of};
+use crate::words::{Command, InputTask, Task, task_of};
 use express_texts::{batch_is_read_exactly, game_is_read_exactly};
 use express_words::outside::{Net, Sink, Source};
 use schedule_text::read_exactly;
@@ -61,10 +61,10 @@ fn finish<S: Source, K: Sink, N: Net>(
         Err(_) => say(out, OUT_OF_MEMORY, End::OutOfMemory),
         Ok(None) => say(out, USAGE, End::Usage),
         Ok(Some(Task::Mill(number))) => mill(alloc, number, out),
-        Ok(Some(Task::On(job))) => match input_of(alloc, input, out) {
-            Ok(text) => match job {
-                Job::Work(command) => work(alloc, command, text.as_slice(), out),
-                Job::Net(command) => talk(alloc, command, text.as_slice(), seed, out, net),
+        Ok(Some(Task::OnInput(task))) => match input_of(alloc, input, out) {
+            Ok(text) => match task {
+                InputTask::Work(command) => work(alloc, command, text.as_slice(), out),
+                InputTask::Net(command) => talk(alloc, command, text.as_slice(), seed, out, net),
             },
             Err(end) => end,
         },

@@ -30,9 +30,9 @@ pub enum NetCommand {
     Carry,
 }
 
-/// What is done with the input.
+/// A task that reads the input to its end.
 #[derive(Clone, Copy, Debug, PartialEq, Eq)]
-pub enum Job {
+pub enum InputTask {
     Work(Command),
     Net(NetCommand),
 }
@@ -40,8 +40,8 @@ pub enum Job {
 /// What the words ask for.
 #[derive(Clone, Copy, Debug, PartialEq, Eq)]
 pub enum Task {
-    /// A job on the input.
-    On(Job),
+    /// A task on the input.
+    OnInput(InputTask),
     /// The mill of a number up to 5,000, which reads no input.
     Mill(u16),
 }
@@ -108,12 +108,12 @@ fn named(
         (option_map (λ s. s.now) number.entry)) }
 {
     match (command, number) {
-        (Some("replay"), None) => Ok(Some(Task::On(Job::Work(Command::Replay)))),
-        (Some("batch"), None) => Ok(Some(Task::On(Job::Work(Command::Batch)))),
-        (Some("cloak"), None) => Ok(Some(Task::On(Job::Work(Command::Cloak)))),
-        (Some("serve"), None) => Ok(Some(Task::On(Job::Net(NetCommand::Serve)))),
-        (Some("client"), None) => Ok(Some(Task::On(Job::Net(NetCommand::Client)))),
-        (Some("carry"), None) => Ok(Some(Task::On(Job::Net(NetCommand::Carry)))),
+        (Some("replay"), None) => Ok(Some(Task::OnInput(InputTask::Work(Command::Replay)))),
+        (Some("batch"), None) => Ok(Some(Task::OnInput(InputTask::Work(Command::Batch)))),
+        (Some("cloak"), None) => Ok(Some(Task::OnInput(InputTask::Work(Command::Cloak)))),
+        (Some("serve"), None) => Ok(Some(Task::OnInput(InputTask::Net(NetCommand::Serve)))),
+        (Some("client"), None) => Ok(Some(Task::OnInput(InputTask::Net(NetCommand::Client)))),
+        (Some("carry"), None) => Ok(Some(Task::OnInput(InputTask::Net(NetCommand::Carry)))),
         (Some("mill"), Some(text)) => mill_of(alloc, text),
         _ => Ok(None),
     }

@@ -15,11 +15,11 @@ use Rattle.express_cli.specs.declared.words.Command.{Command}
 use Rattle.express_cli.specs.declared.words.Command.TheVariants.{Replay, Batch, Cloak}
 use Rattle.express_cli.specs.declared.words.NetCommand.{NetCommand}
 use Rattle.express_cli.specs.declared.words.NetCommand.TheVariants.{Serve, Client, Carry}
-use Rattle.express_cli.specs.declared.words.Job.{Job}
-use Rattle.express_cli.specs.declared.words.Job.TheVariants.{Work, Net}
-use Rattle.express_cli.specs.declared.words.Task.TheVariants.{On, Mill}
+use Rattle.express_cli.specs.declared.words.InputTask.{InputTask}
+use Rattle.express_cli.specs.declared.words.InputTask.TheVariants.{Work, Net}
+use Rattle.express_cli.specs.declared.words.Task.TheVariants.{OnInput, Mill}
 use Rattle.express_cli.proofs.OneReading.{Reads, not_both, one_reading, same_line, same_task}
-use Rattle.express_cli.proofs.ByTask.{by_settings, if_some, job_done, met, work_done}
+use Rattle.express_cli.proofs.ByTask.{by_settings, if_some, input_done, met, work_done}
 use Rattle.express_cli.proofs.Writing.{sink_stays, took_as}
 use Rattle.express_cli.proofs.top.run.Goals as goal
 
@@ -39,25 +39,25 @@ came law words streams net end ends source =
           let shown = rw (law.games.same_value s.left did.2.0 game did.2.1 spells) at did.2.2 in
           (did.1, shown.0, took_as _ _ _ _ shown.1 did.3));
       names_bad_line = λ command asks well. if_some streams.input.content (λ s is n bad short.
-          let did = job_done words streams net end (Work command) s comes asks well is short in
+          let did = input_done words streams net end (Work command) s comes asks well is short in
           grind (arith, not_both law, same_line law, took_as));
       refuses_too_long = λ some well. if_some streams.input.content (λ s is long.
-          let did = met words streams net end (On some.0) comes some.1 well.sink well.memory in
+          let did = met words streams net end (OnInput some.0) comes some.1 well.sink well.memory in
           grind (arith, append-nil, took_as));
       mill = λ n asks sink memory.
           let did = met words streams net end (Mill n) comes asks sink memory in
-          let other : (job : Job) → AskFor words (On job) → ⊥ = λ job found. cc (same_task words (On job) (Mill n) found asks) in
+          let other : (task : InputTask) → AskFor words (OnInput task) → ⊥ = λ task found. cc (same_task words (OnInput task) (Mill n) found asks) in
           grind (arith, other, took_as);
       serve = by_settings Serve words streams net end comes;
       client = by_settings Client words streams net end comes;
       carry = by_settings Carry words streams net end comes;
       names_bad_key = λ command asks well. if_some streams.input.content (λ s is key bad short.
-          let did = job_done words streams net end (Net command) s comes asks well is short in
+          let did = input_done words streams net end (Net command) s comes asks well is short in
           let named : (status_of end ≡ 3) × (did.0 ≡ bad_settings key) = grind arith in
           (named.0, took_as _ _ did.0 _ named.1 did.2));
       statuses = grind arith;
       usage = λ e. grind (arith, took_as);
-      usage_only = λ none. grind (arith, λ (c : Command). none (On (Work c)), λ (c : NetCommand). none (On (Net c)), λ (job : Job). none (On job), λ (n : ℕ). none (Mill n));
+      usage_only = λ none. grind (arith, λ (c : Command). none (OnInput (Work c)), λ (c : NetCommand). none (OnInput (Net c)), λ (task : InputTask). none (OnInput task), λ (n : ℕ). none (Mill n));
       worked = λ e. grind (arith, took_as);
       refused = λ e. grind (arith, took_as);
       read_fault = λ e. grind (arith, took_as);
