@@ -1,11 +1,10 @@
 -- Why a name isn't taken.
-use Rattle.std.proofs.Common.{◌≡◌, ◌==◌, ◌||◌, nat_le, not, if◌then◌else◌, ℕ, Bool, true, false, List, Option, Some, None, refl, length}
+use Rattle.std.proofs.Common.{◌≡◌, ◌==◌, ◌||◌, nat_le, not, if◌then◌else◌, ℕ, Bool, true, false, List, Some, None, refl, length}
 use Rattle.std.specs.Prelude.{is_some}
 use Rattle.client_restart.specs.declared.owned_box.OwnedBox.{OwnedBox}
 use Rattle.desk_entries.specs.declared.entry.Entry.{Entry}
 use Rattle.desk_entries.specs.Desks.{are_new, named}
 use Rattle.desk_entries.specs.Names.{is_name}
-use Rattle.desk_ledger.specs.declared.fault.NameFault.{NameFault}
 use Rattle.desk_ledger.specs.declared.fault.NameFault.TheVariants as fault
 use Rattle.desk_ledger.specs.Tasks.{name_fault, room}
 

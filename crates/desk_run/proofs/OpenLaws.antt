@@ -1,6 +1,5 @@
 -- A ledger that is opened.
-use Rattle.std.proofs.Common.{◌≡◌, ℕ, List, Option, Some, None, true, map}
-use Rattle.express_words.specs.Calls.{Call}
+use Rattle.std.proofs.Common.{◌≡◌, List, Option, Some, true, map}
 use Rattle.node_journal.specs.Disk.{DiskSeen}
 use Rattle.client_restart.specs.Kept.{StandsByNotes}
 use Rattle.desk_entries.specs.Records.{entry_record}

@@ -1,5 +1,5 @@
 -- A ledger in the place of another.
-use Rattle.std.proofs.Common.{◌≡◌, List, [], Option, None, Result, Ok, Err, Bool, false}
+use Rattle.std.proofs.Common.{◌≡◌, List, [], Option, None, Result, Ok, Err, false}
 use Rattle.std.specs.Prelude.{OnOk, is_err}
 use Rattle.std.specs.List.{filter}
 use Rattle.desk_entries.specs.Forgetting.{kept}

@@ -14,7 +14,7 @@ use Rattle.desk_entries.specs.Letters.{letters_of, shown_of}
 use Rattle.desk_ledger.specs.Ledgers.{EntriesOnly, LedgerState}
 use Rattle.desk_run.specs.Changes.{NotesShown}
 use Rattle.desk_run.specs.Printing.{Prints, TellsMet, met_line}
-use Rattle.desk_run.specs.Shown.{Each, Shows, ShowsEach, ShowsReading, none, then, holds_met, is_met, new_letters}
+use Rattle.desk_run.specs.Shown.{Each, Shows, ShowsReading, none, then, holds_met, is_met, new_letters}
 use Rattle.desk_run.specs.Told.{TellsFile, TellsReading}
 use Rattle.desk_run.proofs.PrintLaws.{took_nothing, took_both, tells_before, tells_behind, tells_line}
 

@@ -1,5 +1,5 @@
 -- The ledger in a desk's folder.
-use Rattle.std.specs.Prelude.{◌≡◌, ℕ, Bool, true, false, List, Option, Some, None, map}
+use Rattle.std.specs.Prelude.{◌≡◌, true, false, List, Option, Some, None, map}
 use Rattle.node_journal.specs.Disk.{DiskSeen}
 use Rattle.client_restart.specs.Kept.{StandsByNotes}
 use Rattle.desk_entries.specs.Records.{entry_record}

@@ -1,5 +1,6 @@
 //! The word `box`.
 ghost use Rattle.std.specs.Prelude.{◌≡◌, ◌≢◌, IfErr, IfOk, OnOk, length, Ok};
+ghost use Rattle.desk_run.specs.Carried.{OnceResumed};
 ghost use Rattle.desk_run.specs.Changes.{TellsCard, WantsBoxes};
 ghost use Rattle.desk_run.specs.Ends.{IsOfName, IsUndone, Unfailed};
 ghost use Rattle.desk_run.specs.Printing.{Prints};
@@ -82,6 +83,31 @@ fn tell_card<'a, D: Disk, K: Sink>(
     )
 }
 
+// Registers boxes at a desk that was resumed, and prints their card.
+fn register<'a, S: Source, K: Sink, N: Net, F: Folder, P: Papers, C: Clock>(
+    alloc: Global,
+    name: &'a str,
+    count: u32,
+    draws: &mut Draws,
+    ledger: &mut Ledger<F::File>,
+    around: &mut Around<S, K, N, F, P, C>,
+) -> Result<(), Trouble<'a>>
+    ensures done { OnOk result (OnceResumed F.File.disk ledger.old (scene K.seen N.seen F.calls around.old)
+        (λ old. OpensBoxes F.File.disk name.entry.now count old (scene K.seen N.seen F.calls around.new))) }
+    ensures trouble { IfErr result IsOfName }
+    ensures sink { Unfailed (K.seen around.old.out).faults (K.seen around.new.out).faults result }
+    ensures net { Unfailed (N.seen around.old.net).faults (N.seen around.new.net).faults result }
+    ensures sends { SendsOn F.File.disk F.File.Counted.seen
+        (N.seen around.old.net).calls (N.seen around.new.net).calls }
+{
+    let used = want(alloc, ledger, name, count, draws)?;
+    carry_on(ledger, &mut around.net, &mut around.clock)?;
+    if ledger.card(name)?.is_none() {
+        return Err(no_card(used));
+    }
+    tell_card(alloc, ledger, name, &mut around.out)
+}
+
 /// The word `box`: registers boxes under a name, so many as are wanted, and prints their card. Boxes of that name that
 /// are there stay.
 pub(crate) fn open_boxes<'a, S: Source, K: Sink, N: Net, F: Folder, P: Papers, C: Clock>(
@@ -101,11 +127,6 @@ pub(crate) fn open_boxes<'a, S: Source, K: Sink, N: Net, F: Folder, P: Papers, C
         (N.seen around.old.net).calls (N.seen around.new.net).calls }
 {
     let mut ledger = desk_resumed(alloc, around)?;
-    let used = want(alloc, &mut ledger, name, count, draws)?;
-    carry_on(&mut ledger, &mut around.net, &mut around.clock)?;
-    if ledger.card(name)?.is_none() {
-        return Err(no_card(used));
-    }
-    tell_card(alloc, &ledger, name, &mut around.out)?;
+    register(alloc, name, count, draws, &mut ledger, around)?;
     Ok(WordEnd::Done)
 }

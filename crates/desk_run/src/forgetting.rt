@@ -1,9 +1,10 @@
 //! The word `forget`.
 ghost use Rattle.std.specs.Prelude.{◌≡◌, IfErr, IfOk, Ok, OnOk, is_err};
 ghost use Rattle.desk_outside.specs.Calls.{Adds, Placed};
+ghost use Rattle.desk_run.specs.Carried.{OnceResumed};
 ghost use Rattle.desk_run.specs.Changes.{FollowsLedger, Renews};
 ghost use Rattle.desk_run.specs.Ends.{IsUndone, Unfailed};
-ghost use Rattle.desk_run.specs.Scenes.{Between};
+ghost use Rattle.desk_run.specs.Scenes.{Between, scene};
 ghost use Rattle.desk_run.specs.Words.{ForgetsLetters};
 ghost use Rattle.desk_run.specs.Sends.{SendsOn};
 ghost use Rattle.desk_run.specs.Printing.{Prints, TellsMet};
@@ -61,6 +62,30 @@ fn renew<'a, F: Folder>(ledger: &Ledger<F::File>, folder: &mut F) -> Result<(), 
     }
 }
 
+// Shows what is new at a desk that was resumed, and forgets its letters.
+fn show_and_renew<'a, S: Source, K: Sink, N: Net, F: Folder, P: Papers, C: Clock>(
+    alloc: Global,
+    ledger: &mut Ledger<F::File>,
+    around: &mut Around<S, K, N, F, P, C>,
+) -> Result<WordEnd, Trouble<'a>>
+    ensures done { IfOk result (λ end. OnceResumed F.File.disk ledger.old
+        (scene K.seen N.seen F.calls around.old) (λ old. ForgetsLetters F.File.disk end old
+        (scene K.seen N.seen F.calls around.new))) }
+    ensures undone { IfErr result IsUndone }
+    ensures met { result ≡ Ok WordEnd.Met
+        → Prints TellsMet (K.seen around.old.out).written (K.seen around.new.out).written }
+    ensures sink { Unfailed (K.seen around.old.out).faults (K.seen around.new.out).faults result }
+    ensures net { around.new.net ≡ around.old.net }
+{
+    let shown = show_new(alloc, ledger, &mut around.out)?;
+    renew(ledger, &mut around.folder)?;
+    say(
+        &mut around.out,
+        "the letters are forgotten; boxes and cards stay as they are\n",
+    )?;
+    Ok(end_by(shown.met))
+}
+
 /// The word `forget`: forgets letters and old requests, once each letter was shown.
 pub(crate) fn forget<'a, S: Source, K: Sink, N: Net, F: Folder, P: Papers, C: Clock>(
     alloc: Global,
@@ -77,11 +102,5 @@ pub(crate) fn forget<'a, S: Source, K: Sink, N: Net, F: Folder, P: Papers, C: Cl
         (N.seen around.old.net).calls (N.seen around.new.net).calls }
 {
     let mut ledger = desk_resumed(alloc, around)?;
-    let shown = show_new(alloc, &mut ledger, &mut around.out)?;
-    renew(&ledger, &mut around.folder)?;
-    say(
-        &mut around.out,
-        "the letters are forgotten; boxes and cards stay as they are\n",
-    )?;
-    Ok(end_by(shown.met))
+    show_and_renew(alloc, &mut ledger, around)
 }

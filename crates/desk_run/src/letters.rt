@@ -1,10 +1,11 @@
 //! The word `letters`.
 ghost use Rattle.std.specs.Prelude.{◌≡◌, ◌≢◌, [], IfErr, IfOk, Ok, OnOk, false, true};
 ghost use Rattle.std.specs.List.{list_any};
+ghost use Rattle.desk_run.specs.Carried.{OnceResumed};
 ghost use Rattle.desk_run.specs.Ends.{IsUndone, Unfailed};
 ghost use Rattle.desk_run.specs.Sends.{SendsOn};
 ghost use Rattle.desk_run.specs.Printing.{Prints, TellsMet};
-ghost use Rattle.desk_run.specs.Scenes.{Between};
+ghost use Rattle.desk_run.specs.Scenes.{Between, scene};
 ghost use Rattle.desk_run.specs.Shown.{is_met};
 ghost use Rattle.desk_run.specs.Told.{TellsEach, told_of};
 ghost use Rattle.desk_run.specs.Words.{FetchesLetters};
@@ -95,6 +96,34 @@ fn show<'a, S: Source, K: Sink, N: Net, F: Folder, P: Papers, C: Clock>(
     }
 }
 
+// Reads each box of a desk that was resumed, and shows the letters that came.
+fn fetch_and_show<'a, S: Source, K: Sink, N: Net, F: Folder, P: Papers, C: Clock>(
+    alloc: Global,
+    folder: Option<&'a str>,
+    ledger: &mut Ledger<F::File>,
+    around: &mut Around<S, K, N, F, P, C>,
+) -> Result<WordEnd, Trouble<'a>>
+    ensures done { IfOk result (λ end. OnceResumed F.File.disk ledger.old
+        (scene K.seen N.seen F.calls around.old) (λ old. FetchesLetters F.File.disk folder.entry end old
+        (scene K.seen N.seen F.calls around.new))) }
+    ensures undone { IfErr result IsUndone }
+    ensures met { result ≡ Ok WordEnd.Met
+        → Prints TellsMet (K.seen around.old.out).written (K.seen around.new.out).written }
+    ensures sink { Unfailed (K.seen around.old.out).faults (K.seen around.new.out).faults result }
+    ensures net { Unfailed (N.seen around.old.net).faults (N.seen around.new.net).faults result }
+    ensures sends { SendsOn F.File.disk F.File.Counted.seen
+        (N.seen around.old.net).calls (N.seen around.new.net).calls }
+{
+    let fetched = fetch(ledger, &mut around.net, &mut around.clock);
+    let shown = show(alloc, folder, ledger, around)?;
+    fetched?;
+    if !shown.any {
+        say(&mut around.out, "no new letters\n")?;
+        return Ok(WordEnd::Done);
+    }
+    Ok(end_by(shown.met))
+}
+
 /// The word `letters`: reads each box, and shows the letters that came, also where not every box could be read.
 pub(crate) fn letters<'a, S: Source, K: Sink, N: Net, F: Folder, P: Papers, C: Clock>(
     alloc: Global,
@@ -112,12 +141,5 @@ pub(crate) fn letters<'a, S: Source, K: Sink, N: Net, F: Folder, P: Papers, C: C
         (N.seen around.old.net).calls (N.seen around.new.net).calls }
 {
     let mut ledger = desk_resumed(alloc, around)?;
-    let fetched = fetch(&mut ledger, &mut around.net, &mut around.clock);
-    let shown = show(alloc, folder, &mut ledger, around)?;
-    fetched?;
-    if !shown.any {
-        say(&mut around.out, "no new letters\n")?;
-        return Ok(WordEnd::Done);
-    }
-    Ok(end_by(shown.met))
+    fetch_and_show(alloc, folder, &mut ledger, around)
 }

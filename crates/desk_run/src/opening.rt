@@ -79,6 +79,24 @@ fn make<'a, F: Folder>(
     }
 }
 
+// Makes a ledger for the pair of a pair file where there is none. One that is there is for that pair.
+fn make_or_keep<'a, F: Folder>(
+    alloc: Global,
+    path: &'a str,
+    text: &[u8],
+    sheet: &Sheet,
+    draws: &mut Draws,
+    folder: &mut F,
+) -> Result<(), Trouble<'a>>
+    ensures { IfErr result IsOfPaper }
+{
+    match ledger_in(alloc, folder)? {
+        Some(ledger) if is_of(&ledger, sheet) => Ok(()),
+        Some(_) => Err(Trouble::OtherDesk),
+        None => make(alloc, path, text, draws, folder),
+    }
+}
+
 /// The word `open`: makes a desk for the pair of servers of a pair file, where there is none. One for the same pair that is there stays.
 pub(crate) fn open<'a, S: Source, K: Sink, N: Net, F: Folder, P: Papers, C: Clock>(
     alloc: Global,
@@ -97,11 +115,7 @@ pub(crate) fn open<'a, S: Source, K: Sink, N: Net, F: Folder, P: Papers, C: Cloc
         Head::Pair(_) => {}
         Head::Card(_) => return Err(Trouble::NoPairFile(path)),
     }
-    match ledger_in(alloc, &mut around.folder)? {
-        Some(ledger) if is_of(&ledger, &sheet) => {}
-        Some(_) => return Err(Trouble::OtherDesk),
-        None => make(alloc, path, &text, draws, &mut around.folder)?,
-    }
+    make_or_keep(alloc, path, &text, &sheet, draws, &mut around.folder)?;
     say(
         &mut around.out,
         "the desk is open; make boxes and a card with box NAME\n",

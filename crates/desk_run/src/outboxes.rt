@@ -141,6 +141,32 @@ fn worked<'a, D: Disk, N: Net>(outbox: &mut Outbox<D>, net: &mut N) -> Result<Ne
     }
 }
 
+// Works one try of a letter off after another, until one is the last.
+fn try_on<'a, F: Folder, N: Net>(
+    alloc: Global,
+    outbox: &mut Outbox<F::File>,
+    draws: &mut Draws,
+    folder: &mut F,
+    net: &mut N,
+) -> Result<LetterEnd, Trouble<'a>>
+    ensures comes { IfOk result (λ end. ComesToEnd F.File.disk F.File.Counted.seen outbox.old end
+        (N.seen net.old).calls (N.seen net.new).calls) }
+    ensures undone { IfErr result IsUndone }
+    ensures net { Unfailed (N.seen net.old).faults (N.seen net.new).faults result }
+    ensures sends { SendsOn F.File.disk F.File.Counted.seen (N.seen net.old).calls (N.seen net.new).calls }
+{
+    'tries: for _ in 0..=MOST_FURTHER {
+        match worked(outbox, net)? {
+            Next::Stop(end) => return Ok(end),
+            Next::GoOn | Next::SameAgain => return Err(Trouble::Later),
+            Next::NewTry | Next::NextAddress => {
+                *outbox = next_try(alloc, outbox, draws, folder)?;
+            }
+        }
+    }
+    Err(Trouble::Later)
+}
+
 /// What becomes of a letter, try by try.
 pub(crate) fn work_off<'a, F: Folder, N: Net>(
     alloc: Global,
@@ -156,16 +182,7 @@ pub(crate) fn work_off<'a, F: Folder, N: Net>(
     ensures sends { SendsOn F.File.disk F.File.Counted.seen (N.seen net.old).calls (N.seen net.new).calls }
 {
     let mut outbox = outbox;
-    'tries: for _ in 0..=MOST_FURTHER {
-        match worked(&mut outbox, net)? {
-            Next::Stop(end) => return Ok(end),
-            Next::GoOn | Next::SameAgain => return Err(Trouble::Later),
-            Next::NewTry | Next::NextAddress => {
-                outbox = next_try(alloc, &outbox, draws, folder)?;
-            }
-        }
-    }
-    Err(Trouble::Later)
+    try_on(alloc, &mut outbox, draws, folder, net)
 }
 
 // What is told of a letter's end.

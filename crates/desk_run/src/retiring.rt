@@ -1,7 +1,8 @@
 //! The word `retire`.
 ghost use Rattle.std.specs.Prelude.{◌≡◌, IfErr, IfOk, Ok, string_bytes};
+ghost use Rattle.desk_run.specs.Carried.{OnceResumed};
 ghost use Rattle.desk_run.specs.Changes.{retired_line};
-ghost use Rattle.desk_run.specs.Scenes.{Between};
+ghost use Rattle.desk_run.specs.Scenes.{Between, scene};
 ghost use Rattle.desk_run.specs.Words.{RetiresBoxes};
 ghost use Rattle.desk_run.specs.Ends.{IsUndone, Unfailed};
 ghost use Rattle.desk_run.specs.Sends.{SendsOn};
@@ -14,6 +15,7 @@ use crate::resuming::desk_resumed;
 use crate::saying::say;
 use crate::showing::show_new;
 use crate::trouble::Trouble;
+use desk_ledger::Ledger;
 use desk_outside::{Clock, Folder, Papers};
 use express_words::NoMemory;
 use express_words::outside::{Net, Sink, Source};
@@ -27,6 +29,35 @@ fn retired_text(alloc: Global, name: &str) -> Result<String, NoMemory>
         "the boxes of {name} are retired: its cards are of no use any more\n"
     )?;
     Ok(text)
+}
+
+// Reads the boxes of a name at a desk that was resumed, retires them, and shows the letters that came.
+fn retire_and_show<'a, S: Source, K: Sink, N: Net, F: Folder, P: Papers, C: Clock>(
+    alloc: Global,
+    name: &'a str,
+    ledger: &mut Ledger<F::File>,
+    around: &mut Around<S, K, N, F, P, C>,
+) -> Result<WordEnd, Trouble<'a>>
+    ensures done { IfOk result (λ end. OnceResumed F.File.disk ledger.old
+        (scene K.seen N.seen F.calls around.old) (λ old. RetiresBoxes F.File.disk name.entry.now end old
+        (scene K.seen N.seen F.calls around.new))) }
+    ensures undone { IfErr result IsUndone }
+    ensures met { result ≡ Ok WordEnd.Met
+        → Prints TellsMet (K.seen around.old.out).written (K.seen around.new.out).written }
+    ensures sink { Unfailed (K.seen around.old.out).faults (K.seen around.new.out).faults result }
+    ensures net { Unfailed (N.seen around.old.net).faults (N.seen around.new.net).faults result }
+    ensures sends { SendsOn F.File.disk F.File.Counted.seen
+        (N.seen around.old.net).calls (N.seen around.new.net).calls }
+{
+    if !ledger.retire_name(name)? {
+        return Err(Trouble::NoName(name));
+    }
+    let done = carry_on(ledger, &mut around.net, &mut around.clock);
+    let shown = show_new(alloc, ledger, &mut around.out)?;
+    done?;
+    let text = retired_text(alloc, name)?;
+    say(&mut around.out, text.as_str())?;
+    Ok(end_by(shown.met))
 }
 
 /// The word `retire`: reads the boxes of a name for the last time, retires them, and shows the letters that came.
@@ -46,13 +77,5 @@ pub(crate) fn retire<'a, S: Source, K: Sink, N: Net, F: Folder, P: Papers, C: Cl
         (N.seen around.old.net).calls (N.seen around.new.net).calls }
 {
     let mut ledger = desk_resumed(alloc, around)?;
-    if !ledger.retire_name(name)? {
-        return Err(Trouble::NoName(name));
-    }
-    let done = carry_on(&mut ledger, &mut around.net, &mut around.clock);
-    let shown = show_new(alloc, &mut ledger, &mut around.out)?;
-    done?;
-    let text = retired_text(alloc, name)?;
-    say(&mut around.out, text.as_str())?;
-    Ok(end_by(shown.met))
+    retire_and_show(alloc, name, &mut ledger, around)
 }

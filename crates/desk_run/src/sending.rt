@@ -165,8 +165,32 @@ fn end_of(end: LetterEnd) -> WordEnd
     }
 }
 
-/// The word `send`: leaves a letter, and tells what became of it.
+// Leaves a letter of this text with a card, and tells what became of it.
 #[tactic(auto, using(crate::proofs::StatusLaws::word_not_met))]
+fn leave<'a, S: Source, K: Sink, N: Net, F: Folder, P: Papers, C: Clock>(
+    alloc: Global,
+    card: &Sheet,
+    text: &[u8],
+    draws: &mut Draws,
+    around: &mut Around<S, K, N, F, P, C>,
+) -> Result<WordEnd, Trouble<'a>>
+    requires card { IsCardSheet card.now }
+    ensures done { IfOk result (Between K.seen N.seen F.calls around.old around.new
+        (LeavesLetter F.File.disk F.File.Counted.seen)) }
+    ensures trouble { IfErr result IsOfPaper }
+    ensures not_met { result ≢ Ok WordEnd.Met }
+    ensures sink { Unfailed (K.seen around.old.out).faults (K.seen around.new.out).faults result }
+    ensures net { Unfailed (N.seen around.old.net).faults (N.seen around.new.net).faults result }
+    ensures sends { SendsOn F.File.disk F.File.Counted.seen
+        (N.seen around.old.net).calls (N.seen around.new.net).calls }
+{
+    let outbox = begin(alloc, card, text, draws, around)?;
+    let end = work_off(alloc, outbox, draws, &mut around.folder, &mut around.net)?;
+    tell_end("", end, &mut around.folder, &mut around.out)?;
+    Ok(end_of(end))
+}
+
+/// The word `send`: leaves a letter, and tells what became of it.
 pub(crate) fn send<'a, S: Source, K: Sink, N: Net, F: Folder, P: Papers, C: Clock>(
     alloc: Global,
     path: &'a str,
@@ -186,8 +210,5 @@ pub(crate) fn send<'a, S: Source, K: Sink, N: Net, F: Folder, P: Papers, C: Cloc
     let card = card_at(alloc, &mut around.papers, path)?;
     let text = text_of(alloc, file, &mut around.input, &mut around.papers)?;
     check_text(&card, &text)?;
-    let outbox = begin(alloc, &card, &text, draws, around)?;
-    let end = work_off(alloc, outbox, draws, &mut around.folder, &mut around.net)?;
-    tell_end("", end, &mut around.folder, &mut around.out)?;
-    Ok(end_of(end))
+    leave(alloc, &card, &text, draws, around)
 }

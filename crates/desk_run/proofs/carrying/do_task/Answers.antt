@@ -1,4 +1,3 @@
-use Rattle.std.proofs.Common.{◌∙◌, ap, Ok}
 use Rattle.desk_run.proofs.WorkLaws.{does_asked, settled_map}
 use Rattle.desk_run.proofs.carrying.do_task.Goals as goal
 

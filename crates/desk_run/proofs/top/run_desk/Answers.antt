@@ -1,4 +1,3 @@
-use Rattle.std.proofs.Common.{◌≡◌}
 use Rattle.desk_run.proofs.Asked.{asked_none, asked_some, done, done_undone, ends, ends_undone, not_refused, quiet, refused_one}
 use Rattle.desk_run.specs.Sends.{nothing}
 use Rattle.desk_run.proofs.SendLaws.{sends_all}

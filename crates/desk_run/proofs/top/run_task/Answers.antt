@@ -1,4 +1,4 @@
-use Rattle.std.proofs.Common.{◌≡◌, ◌∙◌, List, Option, ℕ, Result, subst, sym}
+use Rattle.std.proofs.Common.{◌≡◌, ◌∙◌, Result, subst, sym}
 use Rattle.std.specs.Prelude.{IfOk}
 use Rattle.desk_run.specs.declared.ending.WordEnd.{WordEnd}
 use Rattle.desk_run.specs.declared.trouble.Trouble.{Trouble}

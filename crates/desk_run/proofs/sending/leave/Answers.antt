@@ -1,10 +1,10 @@
-use Rattle.desk_run.proofs.sending.send.Goals as goal
+use Rattle.desk_run.proofs.sending.leave.Goals as goal
 
 pub returns-clause-done : goal.returns-clause-done
 returns-clause-done g c = record {
-  card = c.in_ok-card.card;
-  is_card = c.in_ok-card.ensures.card;
-  text = _;
+  card = c.args.card.now;
+  is_card = c.requires.card;
+  text = c.args.text.now;
   outbox = c.in_ok-outbox.outbox;
   letter = c.in_ok-outbox.ensures.letter;
   before = _;

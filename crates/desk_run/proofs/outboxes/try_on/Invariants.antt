@@ -1,7 +1,7 @@
 use Rattle.std.proofs.Common.{◌≡◌}
 use Rattle.desk_run.specs.Sends.{SendsOn}
 use Rattle.desk_run.specs.Tries.{Tries}
-use Rattle.desk_run.proofs.outboxes.work_off.Given as goal
+use Rattle.desk_run.proofs.outboxes.try_on.Given as goal
 
 abbrev pub invariant-tries : goal.invariant-tries
 invariant-tries g l = record {

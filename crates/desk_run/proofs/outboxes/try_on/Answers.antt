@@ -1,6 +1,6 @@
 use Rattle.std.proofs.Common.{◌∙◌, refl}
 use Rattle.desk_run.specs.Tries.{first, next}
-use Rattle.desk_run.proofs.outboxes.work_off.Goals as goal
+use Rattle.desk_run.proofs.outboxes.try_on.Goals as goal
 
 pub tries-init : goal.tries-init
 tries-init g c = record { faults = refl; sends = λ start on. on; tries = first }
