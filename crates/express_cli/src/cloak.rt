@@ -2,7 +2,8 @@
 ghost use Rattle.std.specs.Prelude.{◌≡◌, ◌≢◌, ◌≤◌, length, IfOk, string_bytes, AllPairs, Contains};
 ghost use Rattle.express_words.specs.Limits.{IsWidth};
 ghost use Rattle.write_hiding.specs.Choices.{plain_aim};
-ghost use Rattle.express_cli.specs.Cloaks.{aim_in, IsCloakText};
+ghost use Rattle.write_hiding.specs.Views.{view_of};
+ghost use Rattle.express_cli.specs.Cloaks.{aim_in, view_text, IsCloakText};
 ghost use Rattle.express_cli.specs.Ends.{Prints, WorkMay};
 ghost use Rattle.express_cli.specs.declared.words.Command.TheVariants.{Cloak};
 
@@ -14,7 +15,7 @@ use express_texts::{AimText, CloakGame, TextFault, read_cloak};
 use express_words::NoMemory;
 use express_words::outside::Sink;
 use std::alloc::Global;
-use write_hiding::{Aim, Game, moved, view};
+use write_hiding::{Aim, Game, IdealChoice, moved, view};
 
 fn aim_of(aim: &AimText) -> Aim
     ensures { plain_aim result ≡ aim_in aim.now }
@@ -23,6 +24,24 @@ fn aim_of(aim: &AimText) -> Aim
         target: aim.address,
         message: aim.message.as_slice(),
     }
+}
+
+// The text of what the viewer sees of a write to an aim under a choice.
+fn seen_text(
+    alloc: Global,
+    choice: &IdealChoice,
+    aim: &Aim,
+    rules: &Game,
+) -> Result<String, NoMemory>
+    requires viewer { choice.now.viewer ≤ 1 }
+    requires levels { length choice.now.levels ≡ 128 }
+    requires block { length choice.now.last_block ≡ length aim.now.message.now }
+    requires width { IsWidth (length aim.now.message.now) }
+    ensures { let c = choice.now in
+        IfOk result (λ text. string_bytes text ≡ view_text (view_of c.viewer c aim.now rules.now)) }
+{
+    let seen = view(alloc, choice, aim, rules)?;
+    Ok(view_text(alloc, &seen)?)
 }
 
 // The text of what the viewer sees of the old write, and of the new one under the moved choice; it can't tell
@@ -47,13 +66,12 @@ fn cloak_text(alloc: Global, game: &CloakGame) -> Result<String, NoMemory>
         ckey,
         sigma: game.sigma,
     };
-    let old = view(alloc, &choice, &from, &rules)?;
+    let old = seen_text(alloc, &choice, &from, &rules)?;
     let gone = moved(alloc, &choice, &from, &to, &rules)?;
-    let new = view(alloc, &gone, &to, &rules)?;
-    let old = view_text(alloc, &old)?;
-    let new = view_text(alloc, &new)?;
-    let text = format!(in alloc; "{old}{new}end\n")?;
-    Ok(text)
+    drop(choice);
+    let new = seen_text(alloc, &gone, &to, &rules)?;
+    drop(gone);
+    Ok(format!(in alloc; "{old}{new}end\n")?)
 }
 
 /// Shows both views of the game that the text spells.

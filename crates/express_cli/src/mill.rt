@@ -104,8 +104,10 @@ fn mill_text(alloc: Global, number: u16) -> Result<String, NoMemory>
 {
     let schedule = schedule_text::mill(alloc, number)?;
     let world = world_after(alloc, &schedule)?;
-    let text = mill_lines(alloc, number, world.outcomes(), world.journal())?;
-    Ok(text)
+    drop(schedule);
+    let text = mill_lines(alloc, number, world.outcomes(), world.journal());
+    drop(world);
+    Ok(text?)
 }
 
 /// Runs the mill's schedule of a number, and says what came of it.

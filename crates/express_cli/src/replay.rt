@@ -1,5 +1,5 @@
 //! Replays a schedule.
-ghost use Rattle.std.specs.Prelude.{◌≡◌, ◌≢◌, ◌≤◌, IfOk};
+ghost use Rattle.std.specs.Prelude.{◌≡◌, ◌≢◌, ◌≤◌, [], IfOk, OnOk};
 ghost use Rattle.schedule_text.specs.Rules.{KeepsRules};
 ghost use Rattle.replay_world.specs.Played.{output_of, played, IsWhole};
 ghost use Rattle.express_cli.specs.Ends.{Prints, SaidOrWants, WorkMay};
@@ -13,6 +13,20 @@ use replay_world::{PutFault, World};
 use schedule_text::{ReadFault, Schedule, read};
 use std::alloc::Global;
 
+// Lets all events of a schedule happen in a world that was just opened.
+fn play(alloc: Global, schedule: &Schedule, world: &mut World) -> Result<(), NoMemory>
+    requires rules { KeepsRules schedule.now }
+    requires opened { IsWhole world.old }
+    requires fresh { played world.old ≡ record { header = schedule.now.header; events = [] } }
+    ensures whole { OnOk result (IsWhole world.new) }
+    ensures played { OnOk result (played world.new ≡ schedule.now) }
+{
+    for event in schedule.events.as_slice() {
+        world.event(alloc, event)?;
+    }
+    Ok(())
+}
+
 /// The world after all events of a schedule.
 pub fn world_after(alloc: Global, schedule: &Schedule) -> Result<World, NoMemory>
     requires { KeepsRules schedule.now }
@@ -20,10 +34,13 @@ pub fn world_after(alloc: Global, schedule: &Schedule) -> Result<World, NoMemory
     ensures played { IfOk result (λ world. played world ≡ schedule.now) }
 {
     let mut world = World::open(alloc, &schedule.header)?;
-    for event in schedule.events.as_slice() {
-        world.event(alloc, event)?;
+    match play(alloc, schedule, &mut world) {
+        Ok(()) => Ok(world),
+        Err(fault) => {
+            drop(world);
+            Err(fault)
+        }
     }
-    Ok(world)
 }
 
 // Writes the text of a world.
@@ -51,7 +68,11 @@ pub fn replay<K: Sink>(alloc: Global, text: &[u8], out: &mut K) -> End
         Err(ReadFault::NoMemory) => return say(out, OUT_OF_MEMORY, End::OutOfMemory),
     };
     match world_after(alloc, &schedule) {
-        Ok(world) => put_world(alloc, &world, out),
+        Ok(world) => {
+            let end = put_world(alloc, &world, out);
+            drop(world);
+            end
+        }
         Err(_) => say(out, OUT_OF_MEMORY, End::OutOfMemory),
     }
 }

@@ -56,7 +56,11 @@ fn serve<K: Sink, N: Net>(
         return say(out, OUT_OF_MEMORY, End::OutOfMemory);
     };
     match open_node(alloc, settings, seed) {
-        Ok(mut node) => listen_and_serve(alloc, settings, &mut node, &mut gather, out, net),
+        Ok(mut node) => {
+            let end = listen_and_serve(alloc, settings, &mut node, &mut gather, out, net);
+            drop(node);
+            end
+        }
         Err(_) => say(out, OUT_OF_MEMORY, End::OutOfMemory),
     }
 }

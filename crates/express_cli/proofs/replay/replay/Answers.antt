@@ -14,5 +14,5 @@ returns-in-Err-BadLine g c =
 pub returns-in-Ok-world_after : goal.returns-in-Ok-world_after
 returns-in-Ok-world_after g c = record {
   ends = said_or_wants (WorkMay Replay c.args.text.now) _ _ _ _ Done _ _ (c.in-Ok.schedule, c.in-Ok.ensures.judges, ap output_of c.in-Ok-world_after.ensures.played)
-      refl c.put_world.ensures.ends;
+      refl c.put_world-end.ensures.ends;
 }

@@ -1,6 +1,6 @@
 use Rattle.std.proofs.Common.{◌≡◌, take}
 use Rattle.replay_world.specs.Played.{played, IsWhole}
-use Rattle.express_cli.proofs.replay.world_after.Given as goal
+use Rattle.express_cli.proofs.replay.play.Given as goal
 
 abbrev pub invariant-loop-event : goal.invariant-loop-event
 invariant-loop-event l = record {
