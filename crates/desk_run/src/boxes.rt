@@ -127,6 +127,8 @@ pub(crate) fn open_boxes<'a, S: Source, K: Sink, N: Net, F: Folder, P: Papers, C
         (N.seen around.old.net).calls (N.seen around.new.net).calls }
 {
     let mut ledger = desk_resumed(alloc, around)?;
-    register(alloc, name, count, draws, &mut ledger, around)?;
+    let registered = register(alloc, name, count, draws, &mut ledger, around);
+    drop(ledger);
+    registered?;
     Ok(WordEnd::Done)
 }

@@ -67,6 +67,8 @@ pub(crate) fn card<'a, F: Folder, K: Sink>(
     ensures sink { Unfailed (K.seen out.old).faults (K.seen out.new).faults result }
 {
     let ledger = desk_in(alloc, folder)?;
-    show_card(alloc, &ledger, name, out)?;
+    let shown = show_card(alloc, &ledger, name, out);
+    drop(ledger);
+    shown?;
     Ok(WordEnd::Done)
 }

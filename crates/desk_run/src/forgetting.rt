@@ -57,7 +57,11 @@ fn renew<'a, F: Folder>(ledger: &Ledger<F::File>, folder: &mut F) -> Result<(), 
 {
     let disk = empty_file(folder, DeskFile::NextLedger)?;
     match ledger.forget(disk, LIMIT) {
-        Ok(next) => replace(ledger, &next, folder),
+        Ok(next) => {
+            let replaced = replace(ledger, &next, folder);
+            drop(next);
+            replaced
+        }
         Err((fault, _)) => Err(trouble_of(fault)),
     }
 }
@@ -102,5 +106,7 @@ pub(crate) fn forget<'a, S: Source, K: Sink, N: Net, F: Folder, P: Papers, C: Cl
         (N.seen around.old.net).calls (N.seen around.new.net).calls }
 {
     let mut ledger = desk_resumed(alloc, around)?;
-    show_and_renew(alloc, &mut ledger, around)
+    let end = show_and_renew(alloc, &mut ledger, around);
+    drop(ledger);
+    end
 }

@@ -141,5 +141,7 @@ pub(crate) fn letters<'a, S: Source, K: Sink, N: Net, F: Folder, P: Papers, C: C
         (N.seen around.old.net).calls (N.seen around.new.net).calls }
 {
     let mut ledger = desk_resumed(alloc, around)?;
-    fetch_and_show(alloc, folder, &mut ledger, around)
+    let end = fetch_and_show(alloc, folder, &mut ledger, around);
+    drop(ledger);
+    end
 }

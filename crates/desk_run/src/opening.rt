@@ -69,7 +69,7 @@ fn make<'a, F: Folder>(
 {
     let disk = empty_file(folder, DeskFile::NextLedger)?;
     match Ledger::open(alloc, text, draws.seed(), disk, LIMIT) {
-        Ok(_) => {}
+        Ok(ledger) => drop(ledger),
         Err((OpenFault::NoPairFile, _)) => return Err(Trouble::NoPairFile(path)),
         Err((fault, _)) => return Err(trouble_of(fault)),
     }
@@ -90,10 +90,15 @@ fn make_or_keep<'a, F: Folder>(
 ) -> Result<(), Trouble<'a>>
     ensures { IfErr result IsOfPaper }
 {
-    match ledger_in(alloc, folder)? {
-        Some(ledger) if is_of(&ledger, sheet) => Ok(()),
-        Some(_) => Err(Trouble::OtherDesk),
-        None => make(alloc, path, text, draws, folder),
+    let Some(ledger) = ledger_in(alloc, folder)? else {
+        return make(alloc, path, text, draws, folder);
+    };
+    let is_same = is_of(&ledger, sheet);
+    drop(ledger);
+    if is_same {
+        Ok(())
+    } else {
+        Err(Trouble::OtherDesk)
     }
 }
 

@@ -118,10 +118,13 @@ fn next_try<'a, F: Folder>(
     }
     let disk = empty_file(folder, DeskFile::NextOutbox)?;
     match outbox.next_try(alloc, draws, disk) {
-        Ok(outbox) => {
-            place(folder)?;
-            Ok(outbox)
-        }
+        Ok(outbox) => match place(folder) {
+            Ok(()) => Ok(outbox),
+            Err(trouble) => {
+                drop(outbox);
+                Err(trouble)
+            }
+        },
         Err((fault, _)) => Err(next_trouble(fault)),
     }
 }
@@ -182,7 +185,9 @@ pub(crate) fn work_off<'a, F: Folder, N: Net>(
     ensures sends { SendsOn F.File.disk F.File.Counted.seen (N.seen net.old).calls (N.seen net.new).calls }
 {
     let mut outbox = outbox;
-    try_on(alloc, &mut outbox, draws, folder, net)
+    let end = try_on(alloc, &mut outbox, draws, folder, net);
+    drop(outbox);
+    end
 }
 
 // What is told of a letter's end.

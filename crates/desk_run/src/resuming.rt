@@ -61,8 +61,13 @@ fn resume_desk<'a, S: Source, K: Sink, N: Net, F: Folder, P: Papers, C: Clock>(
     let Some(mut ledger) = ledger_in(alloc, &mut around.folder)? else {
         return Ok(None);
     };
-    carry_on(&mut ledger, &mut around.net, &mut around.clock)?;
-    Ok(Some(ledger))
+    match carry_on(&mut ledger, &mut around.net, &mut around.clock) {
+        Ok(()) => Ok(Some(ledger)),
+        Err(trouble) => {
+            drop(ledger);
+            Err(trouble)
+        }
+    }
 }
 
 /// The desk, once what was left to be done at it is carried on.
@@ -109,7 +114,7 @@ pub(crate) fn resume<'a, S: Source, K: Sink, N: Net, F: Folder, P: Papers, C: Cl
         (N.seen around.old.net).calls (N.seen around.new.net).calls }
 {
     let end = resume_letter(alloc, draws, around)?;
-    let _ = resume_desk(alloc, around)?;
+    drop(resume_desk(alloc, around)?);
     say(&mut around.out, "nothing is under way any more\n")?;
     Ok(end_of(end))
 }

@@ -77,5 +77,7 @@ pub(crate) fn retire<'a, S: Source, K: Sink, N: Net, F: Folder, P: Papers, C: Cl
         (N.seen around.old.net).calls (N.seen around.new.net).calls }
 {
     let mut ledger = desk_resumed(alloc, around)?;
-    retire_and_show(alloc, name, &mut ledger, around)
+    let end = retire_and_show(alloc, name, &mut ledger, around);
+    drop(ledger);
+    end
 }

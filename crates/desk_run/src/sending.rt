@@ -94,10 +94,13 @@ fn start<'a, F: Folder>(
 {
     let disk = empty_file(folder, DeskFile::NextOutbox)?;
     match Outbox::start(alloc, card, text, draws, disk) {
-        Ok(outbox) => {
-            place(folder)?;
-            Ok(outbox)
-        }
+        Ok(outbox) => match place(folder) {
+            Ok(()) => Ok(outbox),
+            Err(trouble) => {
+                drop(outbox);
+                Err(trouble)
+            }
+        },
         Err((fault, _)) => Err(trouble_of(fault)),
     }
 }
@@ -210,5 +213,7 @@ pub(crate) fn send<'a, S: Source, K: Sink, N: Net, F: Folder, P: Papers, C: Cloc
     let card = card_at(alloc, &mut around.papers, path)?;
     let text = text_of(alloc, file, &mut around.input, &mut around.papers)?;
     check_text(&card, &text)?;
-    leave(alloc, &card, &text, draws, around)
+    let end = leave(alloc, &card, &text, draws, around);
+    drop(card);
+    end
 }

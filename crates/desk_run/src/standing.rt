@@ -259,7 +259,9 @@ pub(crate) fn status<'a, F: Folder, K: Sink>(
     ensures sink { Unfailed (K.seen out.old).faults (K.seen out.new).faults result }
 {
     let ledger = ledger_in(alloc, folder)?;
-    say_desk(alloc, &ledger, out)?;
+    let said = say_desk(alloc, &ledger, out);
+    drop(ledger);
+    said?;
     say_outbox(folder, out)?;
     Ok(WordEnd::Done)
 }

@@ -4,7 +4,7 @@ use Rattle.desk_run.proofs.forgetting.renew.Goals as goal
 
 pub returns-in-Ok-clause-renews : goal.returns-in-Ok-clause-renews
 returns-in-Ok-clause-renews g c =
-    on_ok_weaker c.replace.result
+    on_ok_weaker c.replace-replaced.result
     (λ placed. record {
       disk = c.in_ok-disk.disk;
       mid = _;
@@ -15,4 +15,4 @@ returns-in-Ok-clause-renews g c =
           c.in-Ok.ensures.pair c.in-Ok.ensures.idle;
       placed = placed;
     })
-    (placed_ok c.replace.result _ _ _ _ c.replace.ensures.placed)
+    (placed_ok c.replace-replaced.result _ _ _ _ c.replace-replaced.ensures.placed)

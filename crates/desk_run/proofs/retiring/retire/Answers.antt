@@ -4,10 +4,10 @@ use Rattle.desk_run.specs.Printing.{Prints, TellsMet}
 use Rattle.desk_run.proofs.retiring.retire.Goals as goal
 
 pub returns-clause-done : goal.returns-clause-done
-returns-clause-done g c = IfOk-weaker c.retire_and_show.result _ _ (λ end does. does _ c.in_ok-ledger.ensures.resumed) c.retire_and_show.ensures.done
+returns-clause-done g c = IfOk-weaker c.retire_and_show-end.result _ _ (λ end does. does _ c.in_ok-ledger.ensures.resumed) c.retire_and_show-end.ensures.done
 
 pub returns-clause-met : goal.returns-clause-met
 returns-clause-met g c is =
     let out_is = ap (λ out. (g.K.Counted.seen out).written) c.in_ok-ledger.ensures.out in
-    subst (λ (w : Option (List ℕ)). Prints TellsMet w (g.K.Counted.seen c.retire_and_show.new.around.out).written) out_is
-    (c.retire_and_show.ensures.met is)
+    subst (λ (w : Option (List ℕ)). Prints TellsMet w (g.K.Counted.seen c.retire_and_show-end.new.around.out).written) out_is
+    (c.retire_and_show-end.ensures.met is)

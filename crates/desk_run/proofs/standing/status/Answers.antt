@@ -6,6 +6,6 @@ returns-clause-done g c = record {
   files = _;
   finds = c.in_ok-ledger.ensures.told;
   mid = _;
-  tells = c.in_ok-say_desk.ensures.told;
+  tells = c.in_ok-said.ensures.told;
   outbox = c.in_ok-say_outbox.ensures.said;
 }
