@@ -1,12 +1,11 @@
 -- What a change of one slot does to the blocks of a shelf.
-use Rattle.std.proofs.Common.{◌*◌, replicate, ◌≡◌, ℕ, ◌+◌, ◌<◌, ◌≤◌, Bool, true, false, not, cond, List, [], ◌∷◌, ◌++◌, length, map, take, drop, get_or, Some, None, IsNone, IsSome, is_none, position, count_by, ltb, suc, zero, refl, sym, ap, ◌∙◌, arith}
+use Rattle.std.proofs.Common.{replicate, ◌≡◌, ℕ, ◌+◌, ◌<◌, ◌≤◌, Bool, true, false, not, cond, List, [], ◌∷◌, ◌++◌, length, map, take, drop, get_or, Some, None, IsNone, IsSome, is_none, position, count_by, ltb, suc, zero, refl, sym, ap, ◌∙◌, arith}
 use Rattle.std.specs.List.{prefix_len}
-use Rattle.std.proofs.lemmas.List.{length-drop, length-map, map-append, get_or-map, get_or_default}
+use Rattle.std.proofs.lemmas.List.{length-map, map-append, get_or-map, get_or_default}
 use Rattle.std.proofs.lemmas.List.Elements.{All-append}
 use Rattle.std.proofs.lemmas.List.Sums.{sum_by-cons, prefix_len-le-length}
 use Rattle.std.proofs.lemmas.Bool.Decides.{nat_tests}
-use Rattle.std.proofs.Math.Nat.{mul-le-mul_left}
-use Rattle.bytes.specs.Filled.{with_items}
+use Rattle.std.specs.Vec.{with_items}
 use Rattle.block_region.specs.Region.{Shelf, Shelves, block_of, class_of, no_shelf}
 use Rattle.block_region.specs.Lending.{rewritten}
 use Rattle.block_region.specs.Slots.{content, content_if, HaveSize}
@@ -30,15 +29,15 @@ size-of size slots i slot sized lt e = ap (λ s. length s.bytes.items) e ∙ siz
 pub block-content : (slots : List Slot) (i : ℕ) (slot : Slot) → i < length slots → slot ≡ get_or slots i slot → block_of (map content slots) i ≡ content slot
 block-content slots i slot lt e = get_or-map content slots i slot None lt ∙ sym (ap content e)
 
-rewritten-if : (out : Bool) (items bytes : List ℕ) → IsSome (content_if out items) →
-    content_if out (take (length items) (bytes ++ drop (length bytes) items)) ≡ rewritten (content_if out items) bytes
-rewritten-if true items bytes h = refl
-rewritten-if false items bytes h = absurd (cc h)
+rewritten-if : (out : Bool) (len : ℕ) (items bytes : List ℕ) → len ≡ length items → IsSome (content_if out items) →
+    content_if out (take len (bytes ++ drop (length bytes) items)) ≡ rewritten (content_if out items) bytes
+rewritten-if true len items bytes e h = ap (λ n. Some (take n (bytes ++ drop (length bytes) items))) e
+rewritten-if false len items bytes e h = absurd (cc h)
 
 -- bytes written over a block that is out
 pub content-rewritten : (slot : Slot) (bytes : List ℕ) → IsSome (content slot) →
     content (record { bytes = with_items slot.bytes bytes; out = slot.out }) ≡ rewritten (content slot) bytes
-content-rewritten slot bytes h = rewritten-if slot.out slot.bytes.items bytes h
+content-rewritten slot bytes h = rewritten-if slot.out slot.bytes.len slot.bytes.items bytes slot.bytes.ok.0 h
 
 content-if-some : (out : Bool) (items : List ℕ) → IsSome (content_if out items) → content_if out items ≡ Some items
 content-if-some true items h = refl
@@ -106,11 +105,3 @@ sized-one size slot here (suc k) d h = absurd (omega arith)
 
 pub sized-push : (size : ℕ) (slots : List Slot) (slot : Slot) → HaveSize size slots → length slot.bytes.items ≡ size → HaveSize size (slots ++ slot ∷ [])
 sized-push size slots slot all here = All-append (λ s. length s.bytes.items ≡ size) slots (slot ∷ []) all (sized-one size slot here)
-
--- what is left of a class's bytes after one more block
-pub left-over : (size taken count : ℕ) (rest : List ℕ) (total : ℕ) → size * taken + length rest ≡ total → taken < count → size * count ≤ total →
-    (size ≤ length rest) × (size * (taken + 1) + length (drop size rest) ≡ total)
-left-over size taken count rest total is lt fits =
-    let within : size * (taken + 1) ≤ size * count = mul-le-mul_left size (omega arith) in
-    let room : size ≤ length rest = omega arith in
-    (room, omega (arith, length-drop size rest))

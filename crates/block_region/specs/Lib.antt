@@ -1,6 +1,5 @@
 pub mod ArrayLending
 pub mod Calls
-pub mod Classes
 pub mod Codes
 pub mod Lending
 pub mod Region

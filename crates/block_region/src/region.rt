@@ -1,14 +1,12 @@
 //! Classes of blocks.
 ghost use Rattle.std.specs.Prelude.{◌≡◌, ◌<◌, ◌↔◌, IfOk, IfSome, IfNone, IsNone, Some, None, length, map};
 ghost use Rattle.std.specs.Borrow.{sem};
-ghost use Rattle.block_region.specs.Classes.{size_of};
 ghost use Rattle.block_region.specs.Region.{unused, bytes_at, size_of_class, with_content, free_blocks, FreesOne, IsOut, TakesBlock};
 
 use crate::Block;
 use crate::shelf::BlockShelf;
-use bytes::BytesMut;
 use express_words::NoMemory;
-use std::alloc::{AllocError, Global};
+use std::alloc::Global;
 use std::marker::Model;
 
 /// Blocks of `size` bytes each, and how many of them there are.
@@ -44,13 +42,9 @@ impl Region {
     pub fn open(alloc: Global, classes: &[Class]) -> Result<Region, NoMemory>
         ensures { IfOk result (λ r. r.classes ≡ map (λ c. unused c.size c.count) classes.now) }
     {
-        let total = total_size(classes).ok_or(NoMemory)?;
-        let Ok(mut rest) = BytesMut::zeroed(alloc, total) else {
-            return Err(NoMemory);
-        };
         let mut shelves = Vec::new(alloc);
         for class in classes {
-            let shelf = BlockShelf::open(alloc, &mut rest, class.size, class.count)?;
+            let shelf = BlockShelf::open(alloc, class.size, class.count)?;
             if shelves.push(shelf).is_err() {
                 return Err(NoMemory);
             }
@@ -111,16 +105,4 @@ impl Region {
             None => 0,
         }
     }
-}
-
-/// How many bytes the blocks of all classes have, or None where that is no `usize`.
-fn total_size(classes: &[Class]) -> Option<usize>
-    ensures { IfSome result (λ total. total ≡ size_of classes.now) }
-{
-    let mut total: usize = 0;
-    for class in classes {
-        let size = (class.size as usize).checked_mul(class.count as usize)?;
-        total = total.checked_add(size)?;
-    }
-    Some(total)
 }

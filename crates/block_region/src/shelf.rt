@@ -3,15 +3,14 @@ ghost use Rattle.std.specs.Prelude.{◌≡◌, ◌<◌, ◌≤◌, ◌+◌, ◌*
 ghost use Rattle.std.specs.Borrow.{sem};
 ghost use Rattle.block_region.specs.Region.{Shelf, shelf_of, unused, block_of};
 
-use bytes::BytesMut;
 use express_words::NoMemory;
 use std::alloc::Global;
 use std::marker::Model;
 
-/// The range of a block in the region's bytes, and whether the block is out.
+/// The bytes of a block, and whether the block is out.
 #[derive(Drop)]
 pub(crate) struct Slot {
-    bytes: BytesMut,
+    bytes: Vec<u8>,
     out: bool,
 }
 
@@ -36,20 +35,13 @@ impl Model for BlockShelf {
 impl BlockShelf {
     ghost use Rattle.block_region.specs.Lending.{LendsOnShelf};
 
-    /// A class whose blocks lie at the front of `rest`, which keeps what lies behind them.
-    pub(crate) fn open(
-        alloc: Global,
-        rest: &mut BytesMut,
-        size: u32,
-        count: u32,
-    ) -> Result<BlockShelf, NoMemory>
-        requires { size * count ≤ length rest.old.items }
-        ensures unused { IfOk result (λ s. s ≡ unused size count) }
-        ensures rest { OnOk result (size * count + length rest.new.items ≡ length rest.old.items) }
+    /// A class of so many blocks of this size, all free.
+    pub(crate) fn open(alloc: Global, size: u32, count: u32) -> Result<BlockShelf, NoMemory>
+        ensures { IfOk result (λ s. s ≡ unused size count) }
     {
         Ok(BlockShelf {
             size: size as usize,
-            slots: free_slots(alloc, rest, size as usize, count)?,
+            slots: free_slots(alloc, size as usize, count)?,
         })
     }
 
@@ -107,31 +99,31 @@ fn first_free(slots: &[Slot]) -> Option<usize>
     slots.iter().position(|slot| !slot.out)
 }
 
-fn clear(bytes: &mut BytesMut)
+fn clear(bytes: &mut Vec<u8>)
     ensures { bytes.new.items ≡ replicate (length bytes.old.items) 0 }
 {
     bytes.as_mut_slice().fill(0);
 }
 
-fn free_slots(
-    alloc: Global,
-    rest: &mut BytesMut,
-    size: usize,
-    count: u32,
-) -> Result<Vec<Slot>, NoMemory>
-    requires { size * count ≤ length rest.old.items }
+fn zeros(alloc: Global, size: usize) -> Result<Vec<u8>, NoMemory>
+    ensures { IfOk result (λ bytes. length bytes.items ≡ size) }
+{
+    match vec![in alloc; 0u8; size] {
+        Ok(bytes) => Ok(bytes),
+        Err(_) => Err(NoMemory),
+    }
+}
+
+fn free_slots(alloc: Global, size: usize, count: u32) -> Result<Vec<Slot>, NoMemory>
     ensures free { IfOk result (λ slots. map content slots.items ≡ replicate count None) }
     ensures sized { IfOk result (λ slots. HaveSize size slots.items) }
     ensures count { IfOk result (λ slots. length slots.items ≡ count) }
-    ensures rest { OnOk result (size * count + length rest.new.items ≡ length rest.old.items) }
 {
     let Ok(mut slots) = Vec::with_capacity(alloc, count as usize) else {
         return Err(NoMemory);
     };
     for _ in 0..count {
-        let Ok(bytes) = rest.split_to(size) else {
-            return Err(NoMemory);
-        };
+        let bytes = zeros(alloc, size)?;
         if slots.push(Slot { bytes, out: false }).is_err() {
             return Err(NoMemory);
         }

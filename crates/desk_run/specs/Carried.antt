@@ -27,6 +27,7 @@ ResumesIf shows old new None = Adds old.files new.files (Looked Ledger (Some fal
     × (new.written ≡ old.written)
 ResumesIf shows old new (Some l) = Resumes shows old new l
 
--- R, of what was seen before the desk was resumed to this ledger
-abbrev pub OnceResumed : {D : Type 0} → (D → DiskSeen) → LedgerState D → Scene D → (Scene D → Type 0) → Type 0
+-- R, of each scene from which the desk was resumed to this ledger and to mid
+abbrev pub OnceResumed : {D : Type 0} → (D → DiskSeen) → LedgerState D → (mid : Scene D)
+    → (Scene D → Type 0) → Type 0
 OnceResumed shows l mid R = (old : Scene _) → Resumes shows old mid l → R old

@@ -1,4 +1,4 @@
-use Rattle.std.proofs.Common.{◌≡◌, ◌+◌, ◌*◌, length, map, replicate, None}
+use Rattle.std.proofs.Common.{◌≡◌, length, map, replicate, None}
 use Rattle.block_region.specs.Slots.{content, HaveSize}
 use Rattle.block_region.proofs.shelf.free_slots.Given as goal
 
@@ -7,5 +7,4 @@ invariant-loop l = record {
   free : map content l.slots.items ≡ replicate l.counter None;
   sized : HaveSize l.size l.slots.items;
   count : length l.slots.items ≡ l.counter;
-  rest : l.size * l.counter + length l.rest.items ≡ length l.initial.rest.items;
 }
