@@ -9,10 +9,11 @@ use Rattle.audit_rules.specs.Audit.{product, value, through_three, zero_share, o
 use Rattle.tower_laws.specs.Polynomials.{plus_of, times_of}
 use Rattle.write_hiding.specs.Choices.{PlainChoice, PlainAim, PlainGame, IsChoice, IsAim, IsGame}
 use Rattle.write_hiding.specs.Views.{public_part, other_sums, drawn, difference_of, share_of, other_opening}
-use Rattle.write_hiding.specs.Moved.{moved_list, walked, moved_a, moved_b, moved_h, moved_words, moved}
+use Rattle.write_hiding.specs.Moved.{moved_list, walked, moved_mask, moved_sums, moved_u, moved_v, moved_a, moved_b, with_one, made_c, zero_words, moved_words, moved}
 use Rattle.write_hiding.proofs.PartLemmas.{public_part_stays}
 use Rattle.write_hiding.proofs.ReturnLemmas.{map_is, returns}
 use Rattle.write_hiding.proofs.AuditLemmas.{number_forth, plus_forth}
+use Rattle.write_hiding.proofs.MaskLemmas.{mask_back}
 use Rattle.write_hiding.proofs.ViewLemmas.{zero_opened, one_opened, one_proof}
 
 same_choice : (c d : PlainChoice) → c.own_root ≡ d.own_root → c.other_root ≡ d.other_root → c.other ≡ d.other → c.words ≡ d.words → c ≡ d
@@ -75,47 +76,102 @@ module _ (width : ℕ) (choice : PlainChoice) (from to : PlainAim) (game : Plain
   abbrev gone0 : PlainChoice
   gone0 = moved 0 choice from to game
 
+  abbrev back0 : Sums
+  back0 = moved_sums 0 gone0 to from game
+
+  zero_sums : back0 ≡ other_sums 0 choice from game
+  zero_sums = sums_back width 0 choice from to game good aimed aimed'
+
+  abbrev mask0 : ℕ → ℕ → ℕ → ℕ → ℕ → ℕ
+  mask0 mask at1 at2 to1 to2 = moved_mask game.sigma mask at1 at2 to1 to2
+
+  abbrev there0 : Sums
+  there0 = other_sums 0 gone0 to game
+
+  zero_u : moved_u 0 gone0 to from game ≡ word 1
+  unfolding moved moved_words
+  zero_u =
+      let there = there0 in
+      ap (λ (k : Sums). mask0 (moved_u 0 choice from to game) there.x there.m k.x k.m) zero_sums
+      ∙ mask_back game.sigma (word 1) (other_sums 0 choice from game).x (other_sums 0 choice from game).m there.x there.m
+
+  zero_v : moved_v 0 gone0 to from game ≡ word 3
+  unfolding moved moved_words
+  zero_v =
+      let there = there0 in
+      ap (λ (k : Sums). mask0 (moved_v 0 choice from to game) there.y there.z k.y k.z) zero_sums
+      ∙ mask_back game.sigma (word 3) (other_sums 0 choice from game).y (other_sums 0 choice from game).z there.y there.z
+
   zero_a : moved_a 0 gone0 to from game ≡ word 10
-  unfolding moved moved_words one_share
+  unfolding one_share
   zero_a =
-      a_again (other_sums 0 choice from game) (other_sums 0 (walked 0 gone0 to from) from game) (share_of 1 0 choice from game) game.sigma (other_opening 0 gone0 to game)
-      (zero_opened width choice from to game good aimed aimed' fair) (sums_back width 0 choice from to game good aimed aimed')
+      ap (λ u. bit_xor (other_opening 0 gone0 to game).d (value (through_three u back0.x back0.m) game.sigma)) zero_u
+      ∙ a_again (other_sums 0 choice from game) back0 (share_of 1 0 choice from game) game.sigma (other_opening 0 gone0 to game)
+      (zero_opened width choice from to game good aimed aimed' fair) zero_sums
 
   zero_b : moved_b 0 gone0 to from game ≡ word 12
-  unfolding moved moved_words one_share
+  unfolding one_share
   zero_b =
-      b_again (other_sums 0 choice from game) (other_sums 0 (walked 0 gone0 to from) from game) (share_of 1 0 choice from game) game.sigma (other_opening 0 gone0 to game)
-      (zero_opened width choice from to game good aimed aimed' fair) (sums_back width 0 choice from to game good aimed aimed')
+      ap (λ v. bit_xor (other_opening 0 gone0 to game).e (product game.sigma (value (through_three v back0.y back0.z) game.sigma))) zero_v
+      ∙ b_again (other_sums 0 choice from game) back0 (share_of 1 0 choice from game) game.sigma (other_opening 0 gone0 to game)
+      (zero_opened width choice from to game good aimed aimed' fair) zero_sums
 
-  abbrev zero_list : ℕ → ℕ → List ℕ
-  zero_list a b = word 0 ∷ (word 1 ∷ (word 2 ∷ (word 3 ∷ (word 4 ∷ (word 5 ∷ (word 6 ∷ (word 7 ∷ (word 8 ∷ (word 9 ∷ (a ∷ (word 11 ∷ (b ∷ (word 13 ∷ [])))))))))))))
-
-  zero_made : moved_words 0 gone0 to from game ≡ zero_list (moved_a 0 gone0 to from game) (moved_b 0 gone0 to from game)
+  zero_made : moved_words 0 gone0 to from game
+      ≡ with_one choice.words (moved_u 0 gone0 to from game) (moved_v 0 gone0 to from game) (moved_a 0 gone0 to from game) (moved_b 0 gone0 to from game)
   unfolding moved moved_words
   zero_made = refl
 
-  zero_words : moved_words 0 gone0 to from game ≡ choice.words
-  zero_words =
-      zero_made ∙ ap (λ a. zero_list a (moved_b 0 gone0 to from game)) zero_a ∙ ap (zero_list (word 10)) zero_b ∙ fourteen choice.words good.size
+  zero_words_back : moved_words 0 gone0 to from game ≡ choice.words
+  zero_words_back =
+      zero_made
+      ∙ ap (λ u. with_one choice.words u (moved_v 0 gone0 to from game) (moved_a 0 gone0 to from game) (moved_b 0 gone0 to from game)) zero_u
+      ∙ ap (λ v. with_one choice.words (word 1) v (moved_a 0 gone0 to from game) (moved_b 0 gone0 to from game)) zero_v
+      ∙ ap (λ a. with_one choice.words (word 1) (word 3) a (moved_b 0 gone0 to from game)) zero_a
+      ∙ ap (with_one choice.words (word 1) (word 3) (word 10)) zero_b ∙ fourteen choice.words good.size
 
   pub zero_back : moved 0 gone0 to from game ≡ choice
-  zero_back = choice_back width 0 choice from to game good aimed aimed' zero_words
+  zero_back = choice_back width 0 choice from to game good aimed aimed' zero_words_back
 
   -- ---- the viewer is server 1
   abbrev gone1 : PlainChoice
   gone1 = moved 1 choice from to game
 
+  abbrev back1 : Sums
+  back1 = moved_sums 1 gone1 to from game
+
+  one_sums : back1 ≡ other_sums 1 choice from game
+  one_sums = sums_back width 1 choice from to game good aimed aimed'
+
+  abbrev there1 : Sums
+  there1 = other_sums 1 gone1 to game
+
+  one_u : moved_u 1 gone1 to from game ≡ word 0
+  unfolding moved moved_words
+  one_u =
+      let there = there1 in
+      ap (λ (k : Sums). mask0 (moved_u 1 choice from to game) there.x there.m k.x k.m) one_sums
+      ∙ mask_back game.sigma (word 0) (other_sums 1 choice from game).x (other_sums 1 choice from game).m there.x there.m
+
+  one_v : moved_v 1 gone1 to from game ≡ word 2
+  unfolding moved moved_words
+  one_v =
+      let there = there1 in
+      ap (λ (k : Sums). mask0 (moved_v 1 choice from to game) there.y there.z k.y k.z) one_sums
+      ∙ mask_back game.sigma (word 2) (other_sums 1 choice from game).y (other_sums 1 choice from game).z there.y there.z
+
   one_a : moved_a 1 gone1 to from game ≡ word 9
-  unfolding moved moved_words zero_share
+  unfolding zero_share
   one_a =
-      a_again (other_sums 1 choice from game) (other_sums 1 (walked 1 gone1 to from) from game) (share_of 0 1 choice from game) game.sigma (other_opening 1 gone1 to game)
-      (one_opened width choice from to game good aimed aimed' fair) (sums_back width 1 choice from to game good aimed aimed')
+      ap (λ u. bit_xor (other_opening 1 gone1 to game).d (value (through_three u back1.x back1.m) game.sigma)) one_u
+      ∙ a_again (other_sums 1 choice from game) back1 (share_of 0 1 choice from game) game.sigma (other_opening 1 gone1 to game)
+      (one_opened width choice from to game good aimed aimed' fair) one_sums
 
   one_b : moved_b 1 gone1 to from game ≡ word 11
-  unfolding moved moved_words zero_share
+  unfolding zero_share
   one_b =
-      b_again (other_sums 1 choice from game) (other_sums 1 (walked 1 gone1 to from) from game) (share_of 0 1 choice from game) game.sigma (other_opening 1 gone1 to game)
-      (one_opened width choice from to game good aimed aimed' fair) (sums_back width 1 choice from to game good aimed aimed')
+      ap (λ v. bit_xor (other_opening 1 gone1 to game).e (product game.sigma (value (through_three v back1.y back1.z) game.sigma))) one_v
+      ∙ b_again (other_sums 1 choice from game) back1 (share_of 0 1 choice from game) game.sigma (other_opening 1 gone1 to game)
+      (one_opened width choice from to game good aimed aimed' fair) one_sums
 
   abbrev r : ℕ
   r = challenge_r game.ckey from.target
@@ -123,15 +179,25 @@ module _ (width : ℕ) (choice : PlainChoice) (from to : PlainAim) (game : Plain
   abbrev s : ℕ
   s = challenge_s game.ckey from.target
 
+  -- f·g, where server 0 has this u and v and both leaves differ by m
   abbrev by : ℕ → List ℕ
   by m = times_of 0 bit_xor product (honest_f m r (drawn choice)) (honest_g m r s (drawn choice))
 
   abbrev own : ProofShare
   own = share_of 1 1 choice from game
 
-  one_h_made : moved_h gone1 to from game ≡ plus_of bit_xor (share_of 1 1 gone1 to game).h (by (difference_of 1 (walked 1 gone1 to from) from))
-  unfolding moved moved_words
-  one_h_made = refl
+  -- server 0's share by this one of the viewer, and by server 0's u, v, a and b
+  abbrev with_own : ProofShare → ℕ → ℕ → ℕ → ℕ → ProofShare
+  with_own share u v a b = record share { u = u; v = v; a = a; b = b }
+
+  -- the words of the choice with server 0's share replaced by this one
+  abbrev made : ProofShare → ℕ → ℕ → ℕ → ℕ → ℕ → List ℕ
+  made share m u v a b = zero_words choice (with_own share u v a b) m r s
+
+  one_made : moved_words 1 gone1 to from game
+      ≡ made (share_of 1 1 gone1 to game) (difference_of 1 (walked 1 gone1 to from) from) (moved_u 1 gone1 to from game) (moved_v 1 gone1 to from game) (moved_a 1 gone1 to from game) (moved_b 1 gone1 to from game)
+  unfolding moved moved_words zero_share one_share
+  one_made = refl
 
   own_h : own.h ≡ plus_of bit_xor (by (difference_of 1 choice from)) (zero_share (drawn choice)).h
   unfolding one_share
@@ -141,41 +207,38 @@ module _ (width : ℕ) (choice : PlainChoice) (from to : PlainAim) (game : Plain
   unfolding zero_share
   forth_h = plus_forth (by (difference_of 1 choice from)) (zero_share (drawn choice)).h refl
 
-  one_h : moved_h gone1 to from game ≡ (zero_share (drawn choice)).h
-  one_h =
-      one_h_made
-      ∙ ap (λ p. plus_of bit_xor p.h (by (difference_of 1 (walked 1 gone1 to from) from))) (one_proof width choice from to game good aimed aimed' fair)
-      ∙ ap (λ m. plus_of bit_xor own.h (by m)) (difference_back width 1 choice from to game good aimed aimed')
-      ∙ ap (λ h. plus_of bit_xor h (by (difference_of 1 choice from))) own_h ∙ forth_h
+  one_h : plus_of bit_xor own.h (by (difference_of 1 choice from)) ≡ (zero_share (drawn choice)).h
+  one_h = ap (λ h. plus_of bit_xor h (by (difference_of 1 choice from))) own_h ∙ forth_h
 
-  abbrev one_list : List ℕ → ℕ → ℕ → ℕ → List ℕ
-  one_list h a b c = word 0 ∷ (word 1 ∷ (word 2 ∷ (word 3 ∷ (h ++ (a ∷ (word 10 ∷ (b ∷ (word 12 ∷ (c ∷ [])))))))))
-
-  abbrev c_of : ProofShare → ℕ → ℕ → ℕ
-  c_of share a b = bit_xor share.c (product (bit_xor a (word 10)) (bit_xor b (word 12)))
-
-  one_made : moved_words 1 gone1 to from game ≡ one_list (moved_h gone1 to from game) (moved_a 1 gone1 to from game) (moved_b 1 gone1 to from game)
-      (c_of (share_of 1 1 gone1 to game) (moved_a 1 gone1 to from game) (moved_b 1 gone1 to from game))
-  unfolding moved moved_words zero_share one_share
-  one_made = refl
-
-  own_c : c_of own (word 9) (word 11) ≡ word 13
+  pub one_c : made_c choice.words (word 9) (word 11) own.c ≡ word 13
   unfolding one_share
-  own_c = number_forth (product (bit_xor (word 9) (word 10)) (bit_xor (word 11) (word 12))) (word 13)
+  one_c = number_forth (product (bit_xor (word 9) (word 10)) (bit_xor (word 11) (word 12))) (word 13)
 
-  list_made : one_list (zero_share (drawn choice)).h (word 9) (word 11) (word 13) ≡ choice.words
+  abbrev one_list : List ℕ → ℕ → List ℕ
+  one_list h c = word 0 ∷ (word 1 ∷ (word 2 ∷ (word 3 ∷ (h ++ (word 9 ∷ (word 10 ∷ (word 11 ∷ (word 12 ∷ (c ∷ [])))))))))
+
+  own_made : made own (difference_of 1 choice from) (word 0) (word 2) (word 9) (word 11)
+      ≡ one_list (plus_of bit_xor own.h (by (difference_of 1 choice from))) (made_c choice.words (word 9) (word 11) own.c)
+  own_made = refl
+
+  list_made : one_list (zero_share (drawn choice)).h (word 13) ≡ choice.words
   unfolding zero_share
   list_made = fourteen choice.words good.size
 
-  one_words : moved_words 1 gone1 to from game ≡ choice.words
-  one_words =
+  one_words_back : moved_words 1 gone1 to from game ≡ choice.words
+  one_words_back =
       one_made
-      ∙ ap (λ p. one_list (moved_h gone1 to from game) (moved_a 1 gone1 to from game) (moved_b 1 gone1 to from game) (c_of p (moved_a 1 gone1 to from game) (moved_b 1 gone1 to from game)))
+      ∙ ap (λ p. made p (difference_of 1 (walked 1 gone1 to from) from) (moved_u 1 gone1 to from game) (moved_v 1 gone1 to from game) (moved_a 1 gone1 to from game) (moved_b 1 gone1 to from game))
       (one_proof width choice from to game good aimed aimed' fair)
-      ∙ ap (λ a. one_list (moved_h gone1 to from game) a (moved_b 1 gone1 to from game) (c_of own a (moved_b 1 gone1 to from game))) one_a
-      ∙ ap (λ b. one_list (moved_h gone1 to from game) (word 9) b (c_of own (word 9) b)) one_b
-      ∙ ap (λ c. one_list (moved_h gone1 to from game) (word 9) (word 11) c) own_c
-      ∙ ap (λ h. one_list h (word 9) (word 11) (word 13)) one_h ∙ list_made
+      ∙ ap (λ m. made own m (moved_u 1 gone1 to from game) (moved_v 1 gone1 to from game) (moved_a 1 gone1 to from game) (moved_b 1 gone1 to from game))
+      (difference_back width 1 choice from to game good aimed aimed')
+      ∙ ap (λ u. made own (difference_of 1 choice from) u (moved_v 1 gone1 to from game) (moved_a 1 gone1 to from game) (moved_b 1 gone1 to from game)) one_u
+      ∙ ap (λ v. made own (difference_of 1 choice from) (word 0) v (moved_a 1 gone1 to from game) (moved_b 1 gone1 to from game)) one_v
+      ∙ ap (λ a. made own (difference_of 1 choice from) (word 0) (word 2) a (moved_b 1 gone1 to from game)) one_a
+      ∙ ap (made own (difference_of 1 choice from) (word 0) (word 2) (word 9)) one_b
+      ∙ own_made
+      ∙ ap (λ h. one_list h (made_c choice.words (word 9) (word 11) own.c)) one_h
+      ∙ ap (one_list (zero_share (drawn choice)).h) one_c ∙ list_made
 
   pub one_back : moved 1 gone1 to from game ≡ choice
-  one_back = choice_back width 1 choice from to game good aimed aimed' one_words
+  one_back = choice_back width 1 choice from to game good aimed aimed' one_words_back

@@ -1,5 +1,5 @@
 -- What the code of a move computes is the move.
-use Rattle.std.proofs.Common.{◌≡◌, ℕ, ◌+◌, List, [], ◌∷◌, ◌++◌, map, length, refl, ap, ◌∙◌, add-one, bit_xor}
+use Rattle.std.proofs.Common.{◌≡◌, ℕ, ◌+◌, List, map, length, refl, ap, ◌∙◌, add-one, bit_xor}
 use Rattle.std.specs.Prelude.{slice_index}
 use Rattle.std.specs.List.{range_with_len}
 use Rattle.express_words.specs.Bytes.{xor_bytes}
@@ -7,13 +7,12 @@ use Rattle.express_words.proofs.Bytes.{xor_bytes_comm}
 use Rattle.dpf_rules.specs.Expansion.{block, challenge_r, challenge_s}
 use Rattle.dpf_rules.specs.Walk.{word_of, right_of, last_of, side_at, step, state_at}
 use Rattle.dpf_rules.specs.Keys.{Expansions, pair_at, raw_pair}
-use Rattle.tower_laws.specs.Polynomials.{plus_of, times_of}
 use Rattle.audit_rules.specs.declared.sums.Sums.{Sums}
-use Rattle.audit_rules.specs.Audit.{product, value, through_three, honest_f, honest_g}
+use Rattle.audit_rules.specs.Audit.{product, value, through_three}
 use Rattle.write_hiding.specs.declared.choice.View.{View}
 use Rattle.write_hiding.specs.Choices.{PlainChoice, PlainAim, PlainGame}
-use Rattle.write_hiding.specs.Views.{public_part, difference_of, other_sums, drawn, view}
-use Rattle.write_hiding.specs.Moved.{moved_pair, moved_at, moved_list, walked, moved_words, moved}
+use Rattle.write_hiding.specs.Views.{public_part, difference_of, other_sums, view}
+use Rattle.write_hiding.specs.Moved.{moved_pair, moved_at, moved_list, walked, moved_mask, moved_sums, with_one, zero_words, moved_words, moved}
 
 -- one level
 module _ (part : List ℕ) (viewer root : ℕ) (other : Expansions) (from to i state word right f t : ℕ) (raw pair : ℕ × ℕ)
@@ -39,31 +38,29 @@ module _ (viewer : ℕ) (choice : PlainChoice) (from to : PlainAim) (part bytes 
 
 -- ---- the words
 
-module _ (choice : PlainChoice) (from to : PlainAim) (game : PlainGame) (seen : View) (sums : Sums) (m a b : ℕ) where
+module _ (choice : PlainChoice) (from to : PlainAim) (game : PlainGame) (seen : View) (sums gone : Sums) (m u v a b : ℕ) where
   abbrev word : ℕ → ℕ
   word = slice_index choice.words
 
-  abbrev masks : List ℕ
-  masks = word 0 ∷ (word 1 ∷ (word 2 ∷ (word 3 ∷ [])))
-
-  pub words_of_zero : seen ≡ view 0 choice from game → sums ≡ other_sums 0 (walked 0 choice from to) to game →
-      a ≡ bit_xor seen.opened.d (value (through_three (word 1) sums.x sums.m) game.sigma) →
-      b ≡ bit_xor seen.opened.e (product game.sigma (value (through_three (word 3) sums.y sums.z) game.sigma)) →
-      masks ++ ((word 4 ∷ (word 5 ∷ (word 6 ∷ (word 7 ∷ (word 8 ∷ []))))) ++ (word 9 ∷ (a ∷ (word 11 ∷ (b ∷ (word 13 ∷ []))))))
-      ≡ moved_words 0 choice from to game
+  pub words_of_zero : seen ≡ view 0 choice from game → sums ≡ other_sums 0 choice from game → gone ≡ moved_sums 0 choice from to game →
+      u ≡ moved_mask game.sigma (word 1) sums.x sums.m gone.x gone.m →
+      v ≡ moved_mask game.sigma (word 3) sums.y sums.z gone.y gone.z →
+      a ≡ bit_xor seen.opened.d (value (through_three u gone.x gone.m) game.sigma) →
+      b ≡ bit_xor seen.opened.e (product game.sigma (value (through_three v gone.y gone.z) game.sigma)) →
+      with_one choice.words u v a b ≡ moved_words 0 choice from to game
   unfolding view moved_words
-  words_of_zero seen_is sums_are a_is b_is = rw (a_is, b_is, seen_is, sums_are) refl
+  words_of_zero seen_is sums_are gone_are u_is v_is a_is b_is = rw (a_is, b_is, u_is, v_is, seen_is, sums_are, gone_are) refl
 
-  pub words_of_one : seen ≡ view 1 choice from game → sums ≡ other_sums 1 (walked 1 choice from to) to game → m ≡ difference_of 1 (walked 1 choice from to) to →
-      a ≡ bit_xor seen.opened.d (value (through_three (word 0) sums.x sums.m) game.sigma) →
-      b ≡ bit_xor seen.opened.e (product game.sigma (value (through_three (word 2) sums.y sums.z) game.sigma)) →
-      let r = challenge_r game.ckey to.target in
-      let s = challenge_s game.ckey to.target in
-      let fg = times_of 0 bit_xor product (honest_f m r (drawn choice)) (honest_g m r s (drawn choice)) in
-      masks ++ (plus_of bit_xor seen.proof.h fg ++ (a ∷ (word 10 ∷ (b ∷ (word 12 ∷ (bit_xor seen.proof.c (product (bit_xor a (word 10)) (bit_xor b (word 12))) ∷ []))))))
+  pub words_of_one : seen ≡ view 1 choice from game → sums ≡ other_sums 1 choice from game → gone ≡ moved_sums 1 choice from to game →
+      m ≡ difference_of 1 (walked 1 choice from to) to →
+      u ≡ moved_mask game.sigma (word 0) sums.x sums.m gone.x gone.m →
+      v ≡ moved_mask game.sigma (word 2) sums.y sums.z gone.y gone.z →
+      a ≡ bit_xor seen.opened.d (value (through_three u gone.x gone.m) game.sigma) →
+      b ≡ bit_xor seen.opened.e (product game.sigma (value (through_three v gone.y gone.z) game.sigma)) →
+      zero_words choice (record seen.proof { u = u; v = v; a = a; b = b }) m (challenge_r game.ckey to.target) (challenge_s game.ckey to.target)
       ≡ moved_words 1 choice from to game
   unfolding view moved_words
-  words_of_one seen_is sums_are m_is a_is b_is = rw (a_is, b_is, seen_is, sums_are, m_is) refl
+  words_of_one seen_is sums_are gone_are m_is u_is v_is a_is b_is = rw (a_is, b_is, u_is, v_is, seen_is, sums_are, gone_are, m_is) refl
 
 -- ---- the whole choice
 

@@ -11,7 +11,7 @@ use Rattle.audit_rules.specs.Challenges.{sums_under}
 use Rattle.write_hiding.specs.declared.choice.View.{View}
 use Rattle.write_hiding.specs.Choices.{PlainChoice, PlainAim, PlainGame, IsChoice, IsAim, IsGame}
 use Rattle.write_hiding.specs.Views.{public_part, own_sums, other_sums, drawn, difference_of, share_of, other_opening, other_closing, view}
-use Rattle.write_hiding.specs.Moved.{walked, moved_words, moved}
+use Rattle.write_hiding.specs.Moved.{walked, moved_u, moved_v, moved_a, moved_b, with_zero, moved_words, moved}
 use Rattle.write_hiding.proofs.PartLemmas.{public_part_stays}
 use Rattle.audit_rules.proofs.AloneLaws.{plus_back, number_back}
 use Rattle.write_hiding.proofs.AuditLemmas.{one_closes, zero_closes}
@@ -23,7 +23,7 @@ same_view v w r p k o c =
     ∙ ap (λ k. record v { own_root = w.own_root; public = w.public; proof = k }) k
     ∙ ap (λ o. record w { opened = o; closed = v.closed }) o ∙ ap (λ c. record w { closed = c }) c
 
-same_opening : (o p : Openings) → o.d ≡ p.d → o.e ≡ p.e → o ≡ p
+pub same_opening : (o p : Openings) → o.d ≡ p.d → o.e ≡ p.e → o ≡ p
 same_opening o p h k = ap (λ d. record o { d = d }) h ∙ ap (λ e. record p { e = e }) k
 
 -- a share with the a and b by which it opens this
@@ -45,7 +45,7 @@ module _ (width : ℕ) (choice : PlainChoice) (from to : PlainAim) (game : Plain
   unfolding moved
   zero_part = public_part_stays width 0 choice from to game good aimed.size aimed'.size
 
-  zero_sums : own_sums 0 gone0 to game ≡ own_sums 0 choice from game
+  pub zero_sums : own_sums 0 gone0 to game ≡ own_sums 0 choice from game
   unfolding moved
   zero_sums = ap (λ part. sums_under game.ckey game.addresses (map (leaf_of part 0 choice.own_root) game.addresses)) zero_part
 
@@ -57,7 +57,7 @@ module _ (width : ℕ) (choice : PlainChoice) (from to : PlainAim) (game : Plain
   unfolding moved moved_words one_share
   zero_opened = opens (other_sums 0 gone0 to game) (share_of 1 0 gone0 to game) game.sigma (other_opening 0 choice from game) refl refl
 
-  zero_closed : other_closing 0 gone0 to game ≡ other_closing 0 choice from game
+  pub zero_closed : other_closing 0 gone0 to game ≡ other_closing 0 choice from game
   zero_closed =
       one_closes (own_sums 0 choice from game) (own_sums 0 gone0 to game) (other_sums 0 choice from game) (other_sums 0 gone0 to game)
       (share_of 0 0 choice from game) (share_of 0 0 gone0 to game) (share_of 1 0 choice from game) (share_of 1 0 gone0 to game) game.sigma
@@ -65,7 +65,7 @@ module _ (width : ℕ) (choice : PlainChoice) (from to : PlainAim) (game : Plain
       (accept_own width 0 (lit< tt) choice from game good aimed fair)
       (accept_own width 0 (lit< tt) gone0 to game (zero_good width choice from to game good aimed aimed' fair) aimed' fair)
 
-  zero_root : gone0.own_root ≡ choice.own_root
+  pub zero_root : gone0.own_root ≡ choice.own_root
   unfolding moved
   zero_root = refl
 
@@ -81,18 +81,29 @@ module _ (width : ℕ) (choice : PlainChoice) (from to : PlainAim) (game : Plain
   unfolding moved
   one_part = public_part_stays width 1 choice from to game good aimed.size aimed'.size
 
-  one_sums : own_sums 1 gone1 to game ≡ own_sums 1 choice from game
+  pub one_sums : own_sums 1 gone1 to game ≡ own_sums 1 choice from game
   unfolding moved
   one_sums = ap (λ part. sums_under game.ckey game.addresses (map (leaf_of part 1 choice.own_root) game.addresses)) one_part
 
   abbrev m : ℕ
   m = difference_of 1 (walked 1 choice from to) to
 
-  abbrev t : List ℕ
-  t = times_of 0 bit_xor product (honest_f m (challenge_r game.ckey to.target) (drawn choice)) (honest_g m (challenge_r game.ckey to.target) (challenge_s game.ckey to.target) (drawn choice))
-
   abbrev share : ProofShare
   share = share_of 1 1 choice from game
+
+  -- server 0's words where it has the viewer's h and c
+  abbrev masked : PlainChoice
+  masked = record choice {
+    words = with_zero choice.words (record share {
+      u = moved_u 1 choice from to game;
+      v = moved_v 1 choice from to game;
+      a = moved_a 1 choice from to game;
+      b = moved_b 1 choice from to game;
+    });
+  }
+
+  abbrev t : List ℕ
+  t = times_of 0 bit_xor product (honest_f m (challenge_r game.ckey to.target) (drawn masked)) (honest_g m (challenge_r game.ckey to.target) (challenge_s game.ckey to.target) (drawn masked))
 
   abbrev share' : ProofShare
   share' = share_of 1 1 gone1 to game
@@ -113,7 +124,7 @@ module _ (width : ℕ) (choice : PlainChoice) (from to : PlainAim) (game : Plain
   unfolding moved moved_words zero_share one_share
   one_opened = opens (other_sums 1 gone1 to game) (share_of 0 1 gone1 to game) game.sigma (other_opening 1 choice from game) refl refl
 
-  one_closed : other_closing 1 gone1 to game ≡ other_closing 1 choice from game
+  pub one_closed : other_closing 1 gone1 to game ≡ other_closing 1 choice from game
   one_closed =
       zero_closes (own_sums 1 choice from game) (own_sums 1 gone1 to game) (other_sums 1 choice from game) (other_sums 1 gone1 to game)
       share share' (share_of 0 1 choice from game) (share_of 0 1 gone1 to game) game.sigma
@@ -121,7 +132,7 @@ module _ (width : ℕ) (choice : PlainChoice) (from to : PlainAim) (game : Plain
       (accept_other width 1 (lit< tt) choice from game good aimed fair)
       (accept_other width 1 (lit< tt) gone1 to game (one_good width choice from to game good aimed aimed' fair) aimed' fair)
 
-  one_root : gone1.own_root ≡ choice.own_root
+  pub one_root : gone1.own_root ≡ choice.own_root
   unfolding moved
   one_root = refl
 

@@ -4,3 +4,6 @@ pub mod Views
 pub mod Moved
 pub mod Writes
 pub mod Laws
+pub mod Malicious
+pub mod Adversaries
+pub mod MaliciousLaws

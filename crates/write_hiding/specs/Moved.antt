@@ -1,9 +1,13 @@
--- The choice by which another write gives the viewer the same view.
+-- The choice by which another write gives the viewer the same view. The other server's u and v take up the
+-- change of its sums, so that f and g have the values at the point that they had. Then its a, b and c stay:
+-- of these a viewer that opens what it likes learns a sum of products. At 1 and 2, where u and v don't count,
+-- a and b take up the change, for a viewer that opens as its program does.
 use Rattle.std.specs.Prelude.{◌≡◌, ℕ, ◌+◌, ◌-◌, ◌%◌, ◌==◌, List, [], ◌∷◌, ◌++◌, map, length}
 use Rattle.std.specs.Prelude.{slice_index, bit_xor}
 use Rattle.std.specs.Prelude.{if◌then◌else◌}
 use Rattle.std.specs.List.{range_with_len}
 use Rattle.express_words.specs.Bytes.{xor_bytes}
+use Rattle.tower_numbers.specs.Levels.{inverse_at}
 use Rattle.dpf_rules.specs.Expansion.{with_bit, block, challenge_r, challenge_s}
 use Rattle.dpf_rules.specs.Walk.{word_of, right_of, last_of, side_at, state_at}
 use Rattle.dpf_rules.specs.Keys.{Expansions, pair_at, on_side, raw_pair}
@@ -18,7 +22,7 @@ use Rattle.write_hiding.specs.declared.choice.Game.{Game}
 use Rattle.write_hiding.specs.declared.audit.Audited.{Audited}
 use Rattle.write_hiding.specs.Choices.{PlainChoice, PlainAim, PlainGame, plain_choice, plain_aim, plain_game}
 use Rattle.write_hiding.specs.Views.{public_part, difference_of, other_sums}
-use Rattle.write_hiding.specs.Views.{drawn, share_of, other_opening, view}
+use Rattle.write_hiding.specs.Views.{drawn, own_share, other_opening, view}
 
 -- ---- the expansions
 
@@ -53,6 +57,21 @@ moved_list part viewer root other from to message =
       block = xor_bytes (xor_bytes (last_of part) (block (length message) end)) message;
     }
 
+-- ---- a mask of f or g
+
+-- what a polynomial's value at 0 counts in its value at a point, where those at 1 and 2 are given: the value
+-- at the point of the polynomial that is 1 at 0, and 0 at 1 and 2
+abbrev pub weight : ℕ → ℕ
+weight sigma = value (through_three 1 0 0) sigma
+
+-- the mask by which the polynomial that has the values to1 and to2 at 1 and 2 has the value at sigma that it
+-- had with this mask and the values at1 and at2. Where a mask counts nothing it stays, since the inverse of 0
+-- is 0
+unfoldable pub moved_mask : ℕ → ℕ → ℕ → ℕ → ℕ → ℕ → ℕ
+moved_mask sigma mask at1 at2 to1 to2 =
+    let change = value (through_three 0 (bit_xor at1 to1) (bit_xor at2 to2)) sigma in
+    bit_xor mask (product (inverse_at 7 (weight sigma)) change)
+
 -- ---- the words
 
 -- the choice with its expansions moved, and its words as they were
@@ -63,74 +82,80 @@ walked viewer choice from to =
       other = moved_list part viewer choice.own_root choice.other from.target to.target to.message;
     }
 
--- the other server's f and g, before what masks them
-abbrev pub other_f : ℕ → List ℕ → Sums → List ℕ
-other_f viewer words sums = through_three (slice_index words (1 - viewer)) sums.x sums.m
+-- the sums that the other server audits of the moved expansions
+abbrev pub moved_sums : ℕ → PlainChoice → PlainAim → PlainAim → PlainGame → Sums
+moved_sums viewer choice from to game = other_sums viewer (walked viewer choice from to) to game
 
-abbrev pub other_g : ℕ → List ℕ → Sums → List ℕ
-other_g viewer words sums = through_three (slice_index words (2 + (1 - viewer))) sums.y sums.z
+-- the other server's u and v, which mask its f and g
+abbrev pub moved_u : ℕ → PlainChoice → PlainAim → PlainAim → PlainGame → ℕ
+moved_u viewer choice from to game =
+    let sums = other_sums viewer choice from game in
+    let gone = moved_sums viewer choice from to game in
+    moved_mask game.sigma (slice_index choice.words (1 - viewer)) sums.x sums.m gone.x gone.m
+
+abbrev pub moved_v : ℕ → PlainChoice → PlainAim → PlainAim → PlainGame → ℕ
+moved_v viewer choice from to game =
+    let sums = other_sums viewer choice from game in
+    let gone = moved_sums viewer choice from to game in
+    moved_mask game.sigma (slice_index choice.words (2 + (1 - viewer))) sums.y sums.z gone.y gone.z
 
 -- the other server's a and b, by which it opens what it opened
 abbrev pub moved_a : ℕ → PlainChoice → PlainAim → PlainAim → PlainGame → ℕ
 moved_a viewer choice from to game =
-    let sums = other_sums viewer (walked viewer choice from to) to game in
-    bit_xor (other_opening viewer choice from game).d (value (other_f viewer choice.words sums) game.sigma)
+    let gone = moved_sums viewer choice from to game in
+    let f = through_three (moved_u viewer choice from to game) gone.x gone.m in
+    bit_xor (other_opening viewer choice from game).d (value f game.sigma)
 
 abbrev pub moved_b : ℕ → PlainChoice → PlainAim → PlainAim → PlainGame → ℕ
 moved_b viewer choice from to game =
-    let sums = other_sums viewer (walked viewer choice from to) to game in
-    let g = value (other_g viewer choice.words sums) game.sigma in
-    bit_xor (other_opening viewer choice from game).e (product game.sigma g)
+    let gone = moved_sums viewer choice from to game in
+    let g = through_three (moved_v viewer choice from to game) gone.y gone.z in
+    bit_xor (other_opening viewer choice from game).e (product game.sigma (value g game.sigma))
 
--- server 0's h, where server 1 has this one
+-- the words with server 1's u, v, a and b replaced
+abbrev pub with_one : List ℕ → ℕ → ℕ → ℕ → ℕ → List ℕ
+with_one words u v a b =
+    let word = slice_index words in
+    let masks = word 0 ∷ (u ∷ (word 2 ∷ (v ∷ []))) in
+    let h = word 4 ∷ (word 5 ∷ (word 6 ∷ (word 7 ∷ (word 8 ∷ [])))) in
+    masks ++ (h ++ (word 9 ∷ (a ∷ (word 11 ∷ (b ∷ (word 13 ∷ []))))))
+
+-- the words with those replaced that are server 0's share
+abbrev pub with_zero : List ℕ → ProofShare → List ℕ
+with_zero words share =
+    let word = slice_index words in
+    let masks = share.u ∷ (word 1 ∷ (share.v ∷ (word 3 ∷ []))) in
+    masks ++ (share.h ++ (share.a ∷ (word 10 ∷ (share.b ∷ (word 12 ∷ (share.c ∷ []))))))
+
+-- server 0's h, where server 1 has this one and the words are those of the choice: that, and f·g
 abbrev pub made_h : PlainChoice → ℕ → ℕ → ℕ → List ℕ → List ℕ
 made_h choice m r s h =
     plus_of bit_xor h
     (times_of 0 bit_xor product (honest_f m r (drawn choice)) (honest_g m r s (drawn choice)))
-
--- server 0's h, where the viewer is server 1: the viewer's, and f·g
-abbrev pub moved_h : PlainChoice → PlainAim → PlainAim → PlainGame → List ℕ
-moved_h choice from to game =
-    let m = difference_of 1 (walked 1 choice from to) to in
-    let r = challenge_r game.ckey to.target in
-    let s = challenge_s game.ckey to.target in
-    made_h choice m r s (share_of 1 1 choice from game).h
 
 -- server 0's c, where server 1 has this one: that, and a·b
 abbrev pub made_c : List ℕ → ℕ → ℕ → ℕ → ℕ
 made_c words a b c =
     bit_xor c (product (bit_xor a (slice_index words 10)) (bit_xor b (slice_index words 12)))
 
--- the words with server 1's a and b replaced
-abbrev pub with_one : List ℕ → ℕ → ℕ → List ℕ
-with_one words a b =
-    let word = slice_index words in
-    let masks = word 0 ∷ (word 1 ∷ (word 2 ∷ (word 3 ∷ []))) in
-    let h = word 4 ∷ (word 5 ∷ (word 6 ∷ (word 7 ∷ (word 8 ∷ [])))) in
-    masks ++ (h ++ (word 9 ∷ (a ∷ (word 11 ∷ (b ∷ (word 13 ∷ []))))))
-
--- the words with server 0's h, a, b and c replaced
-abbrev pub with_zero : List ℕ → List ℕ → ℕ → ℕ → ℕ → List ℕ
-with_zero words h a b c =
-    let word = slice_index words in
-    let masks = word 0 ∷ (word 1 ∷ (word 2 ∷ (word 3 ∷ []))) in
-    masks ++ (h ++ (a ∷ (word 10 ∷ (b ∷ (word 12 ∷ (c ∷ []))))))
-
--- the words by which server 0's share makes up server 1's, where that one has this h and c: with f·g and a·b
+-- the words in which server 0 has u, v, a and b of this share, and server 1 its h and c
 abbrev pub zero_words : PlainChoice → ProofShare → ℕ → ℕ → ℕ → List ℕ
-zero_words choice own m r s =
-    let h = made_h choice m r s own.h in
-    let c = made_c choice.words own.a own.b own.c in
-    with_zero choice.words h own.a own.b c
+zero_words choice share m r s =
+    let masked = record choice { words = with_zero choice.words share } in
+    let h = made_h masked m r s share.h in
+    with_zero choice.words (record share { h = h; c = made_c choice.words share.a share.b share.c })
 
--- where the viewer is server 1, server 0's c is the viewer's, and a·b
+-- where the viewer is server 1, its own h and c stay by what server 0's are
 unfoldable pub moved_words : ℕ → PlainChoice → PlainAim → PlainAim → PlainGame → List ℕ
 moved_words viewer choice from to game =
+    let u = moved_u viewer choice from to game in
+    let v = moved_v viewer choice from to game in
     let a = moved_a viewer choice from to game in
     let b = moved_b viewer choice from to game in
-    let c = made_c choice.words a b (share_of 1 1 choice from game).c in
-    if viewer == 0 then with_one choice.words a b
-    else with_zero choice.words (moved_h choice from to game) a b c
+    let m = difference_of viewer (walked viewer choice from to) to in
+    let share = record (own_share viewer choice from game) { u = u; v = v; a = a; b = b } in
+    if viewer == 0 then with_one choice.words u v a b
+    else zero_words choice share m (challenge_r game.ckey to.target) (challenge_s game.ckey to.target)
 
 -- the moved choice: the roots stay
 unfoldable pub moved : ℕ → PlainChoice → PlainAim → PlainAim → PlainGame → PlainChoice
@@ -142,15 +167,17 @@ abbrev pub moved_of : ℕ → IdealChoice → Aim → Aim → Game → PlainChoi
 moved_of viewer choice from to game =
     moved viewer (plain_choice choice) (plain_aim from) (plain_aim to) (plain_game game)
 
--- what a choice at an aim gave the viewer to see, and what both servers audit where it is moved to another
+-- what a choice at an aim gave the viewer to see, and what both servers audit of it there, and where it is
+-- moved to another
 pub record IsAudited (viewer : ℕ) (choice : PlainChoice) (from to : PlainAim) (game : PlainGame)
-    (seen : View) (audited : Audited) : Type 0 where
+    (seen : View) (sums : Sums) (audited : Audited) : Type 0 where
   pub viewed : seen ≡ view viewer choice from game
-  pub other : audited.other ≡ other_sums viewer (walked viewer choice from to) to game
+  pub before : sums ≡ other_sums viewer choice from game
+  pub other : audited.other ≡ moved_sums viewer choice from to game
   pub difference : audited.difference ≡ difference_of viewer (walked viewer choice from to) to
 
 -- Whatever aim gave the viewer this to see, these are the words of the choice that is moved from there.
-abbrev pub AreMovedWords : ℕ → PlainChoice → PlainAim → PlainGame → View → Audited → List ℕ → Type 0
-AreMovedWords viewer choice to game seen audited words =
-    (from : PlainAim) → IsAudited viewer choice from to game seen audited →
+abbrev pub AreMovedWords : ℕ → PlainChoice → PlainAim → PlainGame → View → Sums → Audited → List ℕ → Type 0
+AreMovedWords viewer choice to game seen sums audited words =
+    (from : PlainAim) → IsAudited viewer choice from to game seen sums audited →
     words ≡ moved_words viewer choice from to game

@@ -14,6 +14,9 @@ mod views;
 mod words;
 
 pub use choice::{Aim, Game, IdealChoice, View};
-pub use laws::{public_part_stays, views_stay, writes_are_choices};
+pub use laws::{
+    adversaries_see_the_same, malicious_views_stay, malicious_writes_are_seen, public_part_stays,
+    views_stay, writes_are_choices,
+};
 pub use moves::moved;
 pub use views::view;

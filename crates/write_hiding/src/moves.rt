@@ -1,8 +1,10 @@
 //! The choice by which another write gives the viewer the same view.
 ghost use Rattle.std.specs.Prelude.{◌≡◌, ◌≢◌, ◌≤◌, length, AllPairs, Contains, IfOk};
 ghost use Rattle.express_words.specs.Limits.{IsWidth};
-ghost use Rattle.write_hiding.specs.Choices.{IsChoice, plain_choice};
+ghost use Rattle.express_words.specs.declared.audit.Openings.{Openings};
+ghost use Rattle.write_hiding.specs.Choices.{IsChoice, plain_choice, plain_aim, plain_game};
 ghost use Rattle.write_hiding.specs.Views.{view_of};
+ghost use Rattle.write_hiding.specs.Malicious.{malicious_view, MasksCount};
 ghost use Rattle.write_hiding.specs.Moved.{moved_of};
 
 use crate::audit::audit;
@@ -16,8 +18,9 @@ use express_words::NoMemory;
 use std::alloc::Global;
 
 /// The choice that gives the viewer, of the write to `to`, the view that `choice` gives it of the write to
-/// `from`. The opposite move gives `choice` back. `NoMemory` comes where there is none for that view, for the
-/// moved pairs and block, or for their leaves.
+/// `from`, at any point but 1 and 2 also where the viewer opens to the other server whatever it likes. The
+/// opposite move gives `choice` back. `NoMemory` comes where there is none for that view, for the moved pairs
+/// and block, or for leaves.
 pub fn moved(
     alloc: Global,
     choice: &IdealChoice,
@@ -41,6 +44,12 @@ pub fn moved(
     ensures same_view { let c = choice.now in
         IfOk result (λ gone.
         view_of c.viewer gone to.now game.now ≡ view_of c.viewer c from.now game.now) }
+    // .. also that of a malicious viewer, whatever it opens, at any point but 1 and 2, ..
+    ensures same_malicious_view { let c = choice.now in
+        let g = plain_game game.now in
+        IfOk result (λ gone. MasksCount g → (sent : Openings) →
+        malicious_view c.viewer sent (plain_choice gone) (plain_aim to.now) g
+        ≡ malicious_view c.viewer sent (plain_choice c) (plain_aim from.now) g) }
     // .. and the opposite move gives the choice back.
     ensures moves_back { let c = choice.now in
         IfOk result (λ gone. moved_of c.viewer gone to.now from.now game.now ≡ plain_choice c) }
@@ -51,8 +60,9 @@ pub fn moved(
     read_game(game);
     let seen = view(alloc, choice, from, game)?;
     let part = PublicPart::of(seen.public.as_slice()).unwrap();
+    let before = audit(alloc, &part, choice, from, game)?;
     let walked = walked(alloc, &part, choice, from, to)?;
-    let audited = audit(alloc, &part, &walked, to, game)?;
-    let words = moved_words(choice, &seen, &audited, to, game);
+    let after = audit(alloc, &part, &walked, to, game)?;
+    let words = moved_words(choice, &seen, &before.other, &after, to, game);
     Ok(IdealChoice { words, ..walked })
 }

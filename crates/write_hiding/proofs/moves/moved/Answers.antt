@@ -4,7 +4,9 @@ use Rattle.write_hiding.specs.Views.{view}
 use Rattle.write_hiding.specs.Moved.{moved}
 use Rattle.write_hiding.proofs.PartLemmas.{stays}
 use Rattle.write_hiding.proofs.ChoiceLemmas.{share_in}
+use Rattle.write_hiding.specs.Malicious.{malicious_view}
 use Rattle.write_hiding.proofs.HidingLemmas.{choices_stay, views_stay, moves_return}
+use Rattle.write_hiding.proofs.MaliciousHidingLemmas.{malicious_views_stay}
 use Rattle.write_hiding.proofs.MoveLemmas.{part_of_walked, sums_of_walked, difference_of_walked, moved_is}
 use Rattle.write_hiding.proofs.moves.moved.Goals as goal
 
@@ -22,6 +24,12 @@ walked-requires-clause-width c =
 pub audit-requires-clause-part : goal.audit-requires-clause-part
 unfolding view
 audit-requires-clause-part c =
+    let is : c.unwrap-part.result ≡ c.as_slice.result.now = rw c.unwrap-part.ensures at c.of.ensures.value in
+    is ∙ c.as_slice.ensures ∙ ap (λ v. v.public) c.in_ok-seen.ensures.view
+
+pub audit-requires-2-clause-part : goal.audit-requires-2-clause-part
+unfolding view
+audit-requires-2-clause-part c =
     let viewer = c.args.choice.now.viewer in
     let choice = plain_choice c.args.choice.now in
     let from = plain_aim c.args.from.now in
@@ -54,10 +62,11 @@ returns-clause-moved c =
     let game = plain_game c.args.game.now in
     let gone = plain_choice c.in_ok-walked.walked in
     let walk = c.in_ok-walked.ensures in
-    let seen = c.in_ok-audited.ensures in
+    let seen = c.in_ok-after.ensures in
     moved_is viewer _ choice from to game gone walk.viewer walk.walked c.moved_words-words.result
     (c.moved_words-words.ensures from (record {
       viewed = c.in_ok-seen.ensures.view;
+      before = c.in_ok-before.ensures.other;
       other = sums_of_walked viewer _ choice from to game gone walk.viewer walk.walked _ seen.other;
       difference = difference_of_walked viewer _ choice from to game gone walk.viewer walk.walked _ seen.difference;
     }))
@@ -89,6 +98,20 @@ returns-clause-same_view c =
     ap (λ (p : PlainChoice). view viewer p to game)
     (returns-clause-moved c)
     ∙ views_stay (length from.message) viewer choice from to game small c.read_game.ensures.form good c.read_aim.ensures.form aimed
+
+pub returns-clause-same_malicious_view : goal.returns-clause-same_malicious_view
+returns-clause-same_malicious_view c = λ count sent.
+    let viewer = c.args.choice.now.viewer in
+    let choice = plain_choice c.args.choice.now in
+    let from = plain_aim c.args.from.now in
+    let to = plain_aim c.args.to.now in
+    let game = plain_game c.args.game.now in
+    let small : viewer < 2 = omega arith in
+    let good : IsChoice (length from.message) choice = subst (λ n. IsChoice n choice) c.requires.block c.read_choice.ensures.form in
+    let aimed : IsAim (length from.message) game to = subst (λ n. IsAim n game to) c.requires.message c.read_aim-2.ensures.form in
+    ap (λ (p : PlainChoice). malicious_view viewer sent p to game)
+    (returns-clause-moved c)
+    ∙ malicious_views_stay (length from.message) viewer choice from to game small c.read_game.ensures.form good c.read_aim.ensures.form aimed count sent
 
 pub returns-clause-moves_back : goal.returns-clause-moves_back
 returns-clause-moves_back c =
