@@ -5,9 +5,10 @@ import collections
 import hashlib
 
 import plain
+from desks import MET
 
 FRONT = 26  # bytes of a box in front of a letter's text
-SAME = {"written": "is written", "not": "isn't written", "maybe": "may be written"}
+TOLD = {"written": "is written", "not": "isn't written", "maybe": "may be written"}  # by what a fate is called
 
 
 def opened(held):
@@ -89,7 +90,7 @@ def check_fates(letters, places):
             raise plain.Differs(f"of {letter} its writer was told {letter.fates or 'nothing'}")
         fate, = letter.fates
         if (fate, bool(boxes)) in (("written", False), ("not", True)):
-            raise plain.Differs(f"of {letter} its writer was told that it {SAME[fate]}, and it lies in the boxes {boxes}")
+            raise plain.Differs(f"of {letter} its writer was told that it {TOLD[fate]}, and it lies in the boxes {boxes}")
 
 
 class Telling:
@@ -153,7 +154,7 @@ class Telling:
                 raise plain.Differs(f"{showing} doesn't tell that letters met: {dict(untold)}")
             self.met_waiting.clear()
             self.told_half.clear()
-        if showing.is_over and (showing.status == 5) != bool(showing.met):
+        if showing.is_over and (showing.status == MET) != bool(showing.met):
             raise plain.Differs(f"{showing} tells of {sum(showing.met.values())} times that letters met")
 
 
