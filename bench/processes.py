@@ -9,7 +9,7 @@ import threading
 
 TOP = os.path.dirname(os.path.dirname(os.path.abspath(__file__)))
 PROGRAM = os.path.join(TOP, "crates/express/out/express")
-PATIENCE = 300  # seconds for a process to listen, or to come to its end
+PATIENCE = 3600  # seconds for a process to listen, or to come to its end, before it counts as one that hangs
 
 
 class Sizes:
@@ -133,7 +133,7 @@ connections = {connections}
         """What it prints when a connection without a frame has ended it."""
         socket.create_connection(("127.0.0.1", self.port)).close()
         line = self.process.stdout.readline()
-        self.process.wait(timeout=30)
+        self.process.wait(timeout=PATIENCE)
         return line
 
     def stop(self):

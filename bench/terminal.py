@@ -12,7 +12,7 @@ import cutting
 import processes
 
 SIZES = processes.Sizes(width=64, boxes=16, lanes=4, window=8)  # those of examples/
-MOST_SECONDS = 120  # for a block of lines
+MOST_SECONDS = 3600  # for a block of lines, before it counts as one that hangs
 WRAPPER = """#!/usr/bin/env bash
 echo $$ >"$HOME/pid"
 if [[ -e $HOME/limit ]]; then

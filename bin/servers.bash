@@ -3,7 +3,7 @@
 # shellcheck shell=bash
 # shellcheck disable=SC2154
 
-PATIENCE=60 # seconds for whatever is waited for
+PATIENCE=3600 # seconds for whatever is waited for, before it counts as what hangs
 declare -A pids=()
 
 # A port of loopback that is free, as are the ones behind it where more than one is asked for.
