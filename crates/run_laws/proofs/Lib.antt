@@ -1,0 +1,4 @@
+pub mod Draws
+pub mod RunKeeps
+pub mod Owners
+pub mod Shown

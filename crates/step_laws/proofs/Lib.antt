@@ -1,0 +1,6 @@
+pub mod Draws
+pub mod LeaderCauses
+pub mod HelperCauses
+pub mod Lanes
+pub mod Points
+pub mod Replies
