@@ -36,7 +36,12 @@ PIECES='644 share/man/man1/express.1 man/express.1
 644 share/doc/express/deploy/leader.toml deploy/leader.toml
 644 share/doc/express/deploy/leader.haproxy.cfg deploy/leader.haproxy.cfg
 644 share/doc/express/deploy/leader.stunnel.conf deploy/leader.stunnel.conf
-644 share/doc/express/deploy/client.stunnel.conf deploy/client.stunnel.conf'
+644 share/doc/express/deploy/client.stunnel.conf deploy/client.stunnel.conf
+644 share/doc/express/deploy/torrc.helper deploy/torrc.helper
+644 share/doc/express/deploy/torrc.leader deploy/torrc.leader
+644 share/doc/express/deploy/onion.haproxy.cfg deploy/onion.haproxy.cfg
+755 share/doc/express/deploy/onion-key deploy/onion-key
+644 lib/systemd/system/express-link.service units/express-link.service'
 
 # Whether this program stands as it was built, and the sources as they were then.
 is_built() {

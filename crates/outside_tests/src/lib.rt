@@ -23,4 +23,6 @@ mod papers;
 #[cfg(test)]
 mod patience;
 #[cfg(test)]
+mod proxies;
+#[cfg(test)]
 mod seeds;

@@ -1,0 +1,4 @@
+mod NameLaws
+pub mod TalkLaws
+pub mod ReplyLaws
+pub mod DialLaws

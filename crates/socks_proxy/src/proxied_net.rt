@@ -1,0 +1,325 @@
+//! A net whose dials may go through a proxy.
+ghost use Rattle.std.specs.Prelude.{◌≡◌, ◌≢◌, ◌+◌, ◌++◌, ◌-◌, ◌^◌, ◌<◌, ◌≤◌, ℕ, None, Some, length, IfOk, OnOk, OnErr, IsErr, is_err};
+ghost use Rattle.express_words.specs.Seen.{netted, silent};
+ghost use Rattle.express_words.specs.Causes.{HasCause, CountsFault, CountsFailure, Rose, next};
+ghost use Rattle.express_words.specs.Calls.{Listened, Accepted, Dialled, Adds, AddsClose, GivesTelling};
+ghost use Rattle.express_words.specs.Streams.{IsAtStart, IsBlank};
+ghost use Rattle.socks_proxy.specs.Circuits.{said_for};
+ghost use Rattle.socks_proxy.specs.Forms.{greeting};
+ghost use Rattle.socks_proxy.specs.Dials.{places_of, is_named, ReachesOn, RefusedOn, IsOpened, Makes, unreached};
+ghost use Rattle.socks_proxy.specs.Routes.{Direct, Through, Wrong, PlainTarget, plain_target, route_of};
+
+use crate::circuits::Login;
+use crate::fault::ProxyFault;
+use crate::forms::{credentials, request};
+use crate::proxy::Proxy;
+use crate::routes::{Route, route_of};
+use crate::talking::talk;
+use crate::targets::Target;
+use crate::tunnel::Tunnel;
+use express_words::outside::{Counted, Failed, Net};
+use std::alloc::Global;
+
+/// Where Tor listens, and where Tor Browser's does.
+const TOR: &str = "127.0.0.1:9050";
+
+const TOR_BROWSER: &str = "127.0.0.1:9150";
+
+/// A net whose dials go through a proxy where their place is one of an onion service, and all of them where a proxy is
+/// named. Each dial through it has a user name of its own. It counts its own faults, one a call that fails, and tells no
+/// calls; what its contracts say is said of the net below.
+#[derive(Drop)]
+pub struct ProxiedNet<'a, N> {
+    pub below: N,
+    alloc: Global,
+    proxy: Proxy<'a>,
+    drawn: [u8; 16],
+    number: u64,
+    why: Option<ProxyFault>,
+    faults: u64,
+    doors: u64,
+}
+
+// Dials the proxy's places, one after another until one is reached.
+fn reach<N: Net>(net: &mut N, proxy: Proxy<'_>) -> Result<N::Conn, ProxyFault>
+    ensures reached { OnOk result (ReachesOn (places_of proxy.entry) (N.seen net.old).calls (N.seen net.new).calls) }
+    ensures unreached { OnErr result (Makes (N.seen net.old).calls (N.seen net.new).calls (unreached (places_of proxy.entry))) }
+    ensures whole { IfOk result (λ conn. (N.Conn.seen conn).faults ≡ 0) }
+    ensures unread { IfOk result (λ conn. IsAtStart (N.Conn.seen conn).content) }
+    ensures unwritten { IfOk result (λ conn. IsBlank (N.Conn.seen conn).written) }
+    ensures tells { IfOk result (λ conn. GivesTelling (N.seen net.new).calls
+        (N.Conn.seen conn).content (N.Conn.seen conn).written) }
+{
+    match proxy {
+        Proxy::Named(place) => match net.dial(place) {
+            Ok(conn) => Ok(conn),
+            Err(_) => Err(ProxyFault::NoProxy),
+        },
+        Proxy::Tor => match net.dial(TOR) {
+            Ok(conn) => Ok(conn),
+            Err(_) => match net.dial(TOR_BROWSER) {
+                Ok(conn) => Ok(conn),
+                Err(_) => Err(ProxyFault::NoTor),
+            },
+        },
+    }
+}
+
+// A connection through the proxy, of which each byte of the talk is over.
+#[tactic(auto, using(crate::proofs::DialLaws::refused_unreached))]
+fn open<N: Net>(
+    net: &mut N,
+    proxy: Proxy<'_>,
+    credentials: &[u8],
+    request: &[u8],
+) -> Result<N::Conn, ProxyFault>
+    ensures opened { IfOk result (λ conn. IsOpened (N.seen net.new).calls (N.Conn.seen conn)
+        (greeting ++ (credentials.now ++ request.now))) }
+    ensures whole { IfOk result (λ conn. (N.Conn.seen conn).faults ≡ 0) }
+    ensures reached { OnOk result (ReachesOn (places_of proxy.entry) (N.seen net.old).calls (N.seen net.new).calls) }
+    ensures refused { OnErr result (RefusedOn (places_of proxy.entry) (greeting ++ (credentials.now ++ request.now))
+        (N.seen net.old).calls (N.seen net.new).calls) }
+{
+    let mut conn = match reach(net, proxy) {
+        Ok(conn) => conn,
+        Err(why) => return Err(why),
+    };
+    match talk(&mut conn, credentials, request) {
+        Ok(()) => Ok(conn),
+        Err(why) => {
+            net.close(conn);
+            Err(why)
+        }
+    }
+}
+
+// A connection to the target through the proxy, under this user name.
+#[tactic(auto, using(crate::proofs::DialLaws::refused_before))]
+fn open_to<N: Net>(
+    alloc: Global,
+    net: &mut N,
+    proxy: Proxy<'_>,
+    login: &Login,
+    target: &Target<'_>,
+) -> Result<N::Conn, ProxyFault>
+    requires { length target.now.host.now ≤ 255 }
+    ensures opened { IfOk result (λ conn. IsOpened (N.seen net.new).calls (N.Conn.seen conn)
+        (said_for login.now.drawn login.now.number (plain_target target.now))) }
+    ensures whole { IfOk result (λ conn. (N.Conn.seen conn).faults ≡ 0) }
+    ensures reached { OnOk result (ReachesOn (places_of proxy.entry) (N.seen net.old).calls (N.seen net.new).calls) }
+    ensures refused { OnErr result (RefusedOn (places_of proxy.entry)
+        (said_for login.now.drawn login.now.number (plain_target target.now))
+        (N.seen net.old).calls (N.seen net.new).calls) }
+{
+    let Ok(credentials) = credentials(alloc, login) else {
+        return Err(ProxyFault::NoMemory);
+    };
+    let Ok(request) = request(alloc, target) else {
+        return Err(ProxyFault::NoMemory);
+    };
+    open(net, proxy, credentials.as_slice(), request.as_slice())
+}
+
+impl<'a, N: Net> ProxiedNet<'a, N> {
+    /// A net over the one below, whose dials through the proxy have user names of these bytes, which were drawn for it.
+    pub fn new(alloc: Global, below: N, proxy: Proxy<'a>, drawn: &[u8; 16]) -> Self
+        ensures below { result.below ≡ below }
+        ensures proxy { result.proxy ≡ proxy.entry }
+        ensures drawn { result.drawn ≡ drawn.now }
+        ensures unused { result.number ≡ 0 }
+    {
+        ProxiedNet {
+            below,
+            alloc,
+            proxy,
+            drawn: *drawn,
+            number: 0,
+            why: None,
+            faults: 0,
+            doors: 0,
+        }
+    }
+
+    /// Why the last dial got no connection through the proxy, if it got none.
+    pub fn why(&self) -> Option<ProxyFault>
+        ensures { result ≡ self.now.why }
+    {
+        self.why
+    }
+
+    // A dial got no connection through the proxy.
+    fn note(&mut self, why: ProxyFault)
+        ensures counted { self.new ≡ record self.old { why = Some why; faults = next self.old.faults } }
+        ensures later { self.old.faults ≤ self.new.faults }
+    {
+        self.why = Some(why);
+        self.faults = self.faults.saturating_add(1);
+    }
+
+    // A dial through the proxy, under the next user name.
+    #[tactic(auto, using(crate::proofs::DialLaws::refused_before))]
+    fn open_through(&mut self, target: &Target<'_>) -> Result<N::Conn, ProxyFault>
+        requires { length target.now.host.now ≤ 255 }
+        ensures opened { IfOk result (λ conn. IsOpened (N.seen self.new.below).calls (N.Conn.seen conn)
+            (said_for self.old.drawn self.old.number (plain_target target.now))) }
+        ensures whole { IfOk result (λ conn. (N.Conn.seen conn).faults ≡ 0) }
+        ensures reached { OnOk result (ReachesOn (places_of self.old.proxy) (N.seen self.old.below).calls
+            (N.seen self.new.below).calls) }
+        ensures refused { OnErr result (RefusedOn (places_of self.old.proxy)
+            (said_for self.old.drawn self.old.number (plain_target target.now))
+            (N.seen self.old.below).calls (N.seen self.new.below).calls) }
+        ensures next_name { self.new.number ≡ next self.old.number }
+        ensures spent { self.old.number ≡ 2 ^ 64 - 1 → IsErr result × (self.new.below ≡ self.old.below) }
+        ensures proxy { (self.new.proxy ≡ self.old.proxy) × (self.new.drawn ≡ self.old.drawn) }
+        ensures kept { (self.new.faults ≡ self.old.faults) × (self.new.doors ≡ self.old.doors) }
+        ensures why { self.new.why ≡ self.old.why }
+    {
+        if self.number == u64::MAX {
+            return Err(ProxyFault::Spent);
+        }
+        let login = Login {
+            drawn: self.drawn,
+            number: self.number,
+        };
+        self.number += 1;
+        open_to(self.alloc, &mut self.below, self.proxy, &login, target)
+    }
+
+    // A dial failed, or a connection that is closed had faults.
+    fn count_fault(&mut self)
+        ensures counted { self.new ≡ record self.old { faults = next self.old.faults } }
+        ensures later { self.old.faults ≤ self.new.faults }
+    {
+        self.faults = self.faults.saturating_add(1);
+    }
+
+    // A listen or an accept failed, which both counts count.
+    fn count_door_fault(&mut self)
+        ensures counted { self.new ≡ record self.old { faults = next self.old.faults; doors = next self.old.doors } }
+        ensures later { self.old.faults ≤ self.new.faults }
+        ensures doors_later { self.old.doors ≤ self.new.doors }
+    {
+        self.faults = self.faults.saturating_add(1);
+        self.doors = self.doors.saturating_add(1);
+    }
+}
+
+impl<N: Net> Counted for ProxiedNet<'_, N> {
+    ghost seen = { λ n. netted None n.faults n.doors };
+
+    fn faults(&self) -> u64 {
+        self.faults
+    }
+}
+
+impl<N: Net> Net for ProxiedNet<'_, N> {
+    type Conn = Tunnel<N::Conn>;
+
+    /// The net below listens.
+    fn listen(&mut self, at: &str) -> Result<(), Failed>
+        ensures below { Adds (N.seen self.old.below).calls (N.seen self.new.below).calls
+            (Listened at.now (is_err result)) }
+        ensures door { CountsFailure self.old.doors self.new.doors result }
+        ensures cause { HasCause self.old.faults self.new.faults result }
+        ensures counts { CountsFault self.old.faults self.new.faults result }
+        ensures names { (self.new.drawn ≡ self.old.drawn) × (self.new.number ≡ self.old.number) }
+    {
+        match self.below.listen(at) {
+            Ok(()) => Ok(()),
+            Err(_) => {
+                self.count_door_fault();
+                Err(Failed)
+            }
+        }
+    }
+
+    /// The net below accepts.
+    fn accept(&mut self) -> Result<Tunnel<N::Conn>, Failed>
+        ensures whole { IfOk result (λ conn. (N.Conn.seen conn.below).faults ≡ 0) }
+        ensures unread { IfOk result (λ conn. IsAtStart (silent (N.Conn.seen conn.below).faults).content) }
+        ensures unread_below { IfOk result (λ conn. IsAtStart (N.Conn.seen conn.below).content) }
+        ensures unwritten_below { IfOk result (λ conn. IsBlank (N.Conn.seen conn.below).written) }
+        ensures below { Adds (N.seen self.old.below).calls (N.seen self.new.below).calls
+            (Accepted (is_err result)) }
+        ensures door { CountsFailure self.old.doors self.new.doors result }
+        ensures cause { HasCause self.old.faults self.new.faults result }
+        ensures counts { CountsFault self.old.faults self.new.faults result }
+        ensures names { (self.new.drawn ≡ self.old.drawn) × (self.new.number ≡ self.old.number) }
+    {
+        match self.below.accept() {
+            Ok(below) => Ok(Tunnel { below }),
+            Err(_) => {
+                self.count_door_fault();
+                Err(Failed)
+            }
+        }
+    }
+
+    /// A connection to the program at `peer`, by the route that its place has. One through the proxy is given only
+    /// once the proxy has said yes, and one that the proxy refuses isn't dialled in any other way.
+    fn dial(&mut self, peer: &str) -> Result<Tunnel<N::Conn>, Failed>
+        ensures whole { IfOk result (λ conn. (N.Conn.seen conn.below).faults ≡ 0) }
+        ensures unread { IfOk result (λ conn. IsAtStart (silent (N.Conn.seen conn.below).faults).content) }
+        ensures direct { route_of peer.now (is_named self.old.proxy) ≡ Direct
+            → Adds (N.seen self.old.below).calls (N.seen self.new.below).calls (Dialled peer.now (is_err result)) }
+        ensures wrong { route_of peer.now (is_named self.old.proxy) ≡ Wrong
+            → IsErr result × (self.new.below ≡ self.old.below) }
+        ensures through { (to : PlainTarget) → route_of peer.now (is_named self.old.proxy) ≡ Through to
+            → OnOk result (ReachesOn (places_of self.old.proxy)
+            (N.seen self.old.below).calls (N.seen self.new.below).calls) }
+        ensures opened { (to : PlainTarget) → route_of peer.now (is_named self.old.proxy) ≡ Through to
+            → IfOk result (λ conn. IsOpened (N.seen self.new.below).calls (N.Conn.seen conn.below)
+            (said_for self.old.drawn self.old.number to)) }
+        ensures refused { (to : PlainTarget) → route_of peer.now (is_named self.old.proxy) ≡ Through to
+            → OnErr result (RefusedOn (places_of self.old.proxy) (said_for self.old.drawn self.old.number to)
+            (N.seen self.old.below).calls (N.seen self.new.below).calls) }
+        ensures names { (to : PlainTarget) → route_of peer.now (is_named self.old.proxy) ≡ Through to
+            → self.new.number ≡ next self.old.number }
+        ensures spent { (to : PlainTarget) → route_of peer.now (is_named self.old.proxy) ≡ Through to
+            → self.old.number ≡ 2 ^ 64 - 1 → IsErr result × (self.new.below ≡ self.old.below) }
+        ensures proxy { (self.new.proxy ≡ self.old.proxy) × (self.new.drawn ≡ self.old.drawn) }
+        ensures told { OnOk result (self.new.why ≡ None) }
+        ensures door { self.new.doors ≡ self.old.doors }
+        ensures cause { HasCause self.old.faults self.new.faults result }
+        ensures counts { CountsFault self.old.faults self.new.faults result }
+    {
+        self.why = None;
+        match route_of(peer.as_bytes(), self.proxy.is_named()) {
+            Route::Direct => match self.below.dial(peer) {
+                Ok(below) => Ok(Tunnel { below }),
+                Err(_) => {
+                    self.count_fault();
+                    Err(Failed)
+                }
+            },
+            Route::Through(target) => match self.open_through(&target) {
+                Ok(below) => Ok(Tunnel { below }),
+                Err(why) => {
+                    self.note(why);
+                    Err(Failed)
+                }
+            },
+            Route::Wrong => {
+                self.note(ProxyFault::Place);
+                Err(Failed)
+            }
+        }
+    }
+
+    /// The net below closes the connection.
+    fn close(&mut self, conn: Tunnel<N::Conn>)
+        ensures below { AddsClose (N.seen self.old.below).calls (N.seen self.new.below).calls
+            (N.Conn.seen conn.below).content (N.Conn.seen conn.below).written (N.Conn.seen conn.below).faults }
+        ensures door { self.new.doors ≡ self.old.doors }
+        ensures later { self.old.faults ≤ self.new.faults }
+        ensures whole { (N.Conn.seen conn.below).faults ≡ 0 → self.new.faults ≡ self.old.faults }
+        ensures broken { (N.Conn.seen conn.below).faults ≢ 0 → Rose self.old.faults self.new.faults }
+        ensures names { (self.new.drawn ≡ self.old.drawn) × (self.new.number ≡ self.old.number) }
+    {
+        if conn.faults() != 0 {
+            self.count_fault();
+        }
+        let Tunnel { below } = conn;
+        self.below.close(below);
+    }
+}
