@@ -1,6 +1,6 @@
 -- What the system was asked of a folder or of a paper, and what it answered, call by call. An object that
 -- tells none of its calls has None in place of their list.
-use Rattle.std.specs.Prelude.{◌≡◌, ℕ, List, Option, Result, Ok, Bool, true, false}
+use Rattle.std.specs.Prelude.{◌≡◌, ℕ, List, Option, Result, Ok, Bool, true}
 use Rattle.express_outside.specs.declared.calls.Trouble.{Trouble}
 use Rattle.express_outside.specs.Calls.{added}
 use Rattle.desk_outside.specs.declared.folder.DeskFile.{DeskFile}
@@ -9,7 +9,7 @@ use Rattle.desk_outside.specs.declared.folder_fault.FolderFault.{FolderFault}
 use Rattle.desk_outside.specs.declared.papers.Written.{Written}
 use Rattle.desk_outside.specs.declared.papers.Written.TheVariants.{New, Before, Taken}
 use Rattle.desk_files.specs.declared.paper_files.Stands.{Stands}
-use Rattle.desk_files.specs.declared.paper_files.Stands.TheVariants.{Nothing, These, Others}
+use Rattle.desk_files.specs.declared.paper_files.Stands.TheVariants.{These, Others}
 
 -- A call on a folder, with its answer: it was made where it wasn't there, found to be its user's alone,
 -- locked; a file was looked for, renamed to another, unlinked; the disk has the folder's names.

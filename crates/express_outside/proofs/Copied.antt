@@ -1,5 +1,5 @@
 -- How a copy grows, piece by piece.
-use Rattle.std.proofs.Common.{◌≡◌, ℕ, ◌+◌, List, [], ◌∷◌, ◌++◌, length, take, Option, Some, None, Result, Ok, Err, refl, ap, sym, ◌∙◌, arith}
+use Rattle.std.proofs.Common.{◌≡◌, ℕ, ◌+◌, List, [], ◌∷◌, ◌++◌, length, Option, Some, None, Result, Ok, Err, ap, sym, ◌∙◌, arith}
 use Rattle.express_outside.specs.Calls.{FileCall, ReadAt, CopiedAt, added, given}
 use Rattle.express_outside.specs.declared.calls.Trouble.{Trouble}
 use Rattle.express_outside.specs.declared.calls.Trouble.TheVariants.{Interrupted}

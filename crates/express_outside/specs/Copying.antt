@@ -1,7 +1,6 @@
 -- How a file is copied: piece by piece, each as a read gave it and to where it was read.
 use Rattle.std.specs.Prelude.{◌≡◌, ℕ, ◌+◌, List, [], ◌∷◌, length, Option, Some, None, Ok, Err}
 use Rattle.express_outside.specs.Calls.{FileCall, ReadAt, CopiedAt, added}
-use Rattle.express_outside.specs.declared.calls.Trouble.{Trouble}
 use Rattle.express_outside.specs.declared.calls.Trouble.TheVariants.{Interrupted}
 
 -- The calls behind these: a read at this offset for each piece, which was interrupted or gave the piece, and then

@@ -1,4 +1,4 @@
-use Rattle.std.proofs.Common.{◌≡◌, ◌∙◌, ap, take, Ok, Err}
+use Rattle.std.proofs.Common.{◌∙◌, ap, take}
 use Rattle.express_outside.specs.Calls.{given}
 use Rattle.express_outside.proofs.Copied.{interrupted_step, piece_step}
 use Rattle.express_outside.proofs.file_disk.copy_whole.Goals as goal
