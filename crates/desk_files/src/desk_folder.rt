@@ -5,7 +5,7 @@ ghost use Rattle.express_words.specs.Causes.{HasCause, CountsFault, next};
 ghost use Rattle.express_outside.specs.Calls.{added, EndedBy};
 ghost use Rattle.desk_files.specs.Steps.{FolderStep, Made, Checked, Locked, Looked, Renamed, Unlinked, Synced, EndedByBoth, EndedByThree};
 
-use desk_outside::{DeskFile, Folder, Hold};
+use desk_outside::{DeskFile, Folder, FolderFault, Hold};
 use express_outside::{FileCalls, FileDisk, Trouble};
 use express_words::outside::{Counted, Failed};
 
@@ -20,19 +20,19 @@ pub trait FolderCalls {
     ghost calls: { Self → Option (List FolderStep) };
 
     /// Makes the folder for its user alone, where there is none, and waits until the disk has its name.
-    fn make(&mut self) -> Result<(), Trouble>
+    fn make(&mut self) -> Result<(), FolderFault>
         ensures told { calls self.new ≡ added (Made result) (calls self.old) };
 
-    /// Fails where the folder is none, is a link, or is open to others than its user.
-    fn check(&mut self) -> Result<(), Trouble>
+    /// Fails where the folder is none, is a link, or is open to others than its user, and says which.
+    fn check(&mut self) -> Result<(), FolderFault>
         ensures told { calls self.new ≡ added (Checked result) (calls self.old) };
 
     /// Takes the folder's lock, which is this process's until it ends.
-    fn lock(&mut self) -> Result<Hold, Trouble>
+    fn lock(&mut self) -> Result<Hold, FolderFault>
         ensures told { calls self.new ≡ added (Locked result) (calls self.old) };
 
-    /// Whether the file is there.
-    fn look(&mut self, file: DeskFile) -> Result<bool, Trouble>
+    /// Whether the file is there, which must be its user's alone then, and no link.
+    fn look(&mut self, file: DeskFile) -> Result<bool, FolderFault>
         ensures told { calls self.new ≡ added (Looked file result) (calls self.old) };
 
     /// The file, which isn't touched yet.
@@ -74,7 +74,7 @@ impl<C: FolderCalls> DeskFolder<C> {
         self.faults = self.faults.saturating_add(1);
     }
 
-    fn take(&mut self) -> Result<Hold, Trouble>
+    fn take(&mut self) -> Result<Hold, FolderFault>
         ensures faults { self.new.faults ≡ self.old.faults }
         ensures held { IfOk result (λ hold. EndedByThree (C.calls self.new.system)
             (Made (Ok tt)) (Checked (Ok tt)) (Locked (Ok hold))) }
@@ -116,7 +116,7 @@ impl<C: FolderCalls> Folder for DeskFolder<C> {
 
     ghost calls = { λ _. None };
 
-    fn hold(&mut self) -> Result<Hold, Failed>
+    fn hold(&mut self) -> Result<Hold, FolderFault>
         ensures held { IfOk result (λ hold. EndedByThree (C.calls self.new.system)
             (Made (Ok tt)) (Checked (Ok tt)) (Locked (Ok hold))) }
         ensures cause { HasCause self.old.faults self.new.faults result }
@@ -124,29 +124,33 @@ impl<C: FolderCalls> Folder for DeskFolder<C> {
     {
         match self.take() {
             Ok(hold) => Ok(hold),
-            Err(_) => {
+            Err(fault) => {
                 self.count_fault();
-                Err(Failed)
+                Err(fault)
             }
         }
     }
 
-    fn is_there(&mut self, file: DeskFile) -> Result<bool, Failed>
+    fn is_there(&mut self, file: DeskFile) -> Result<bool, FolderFault>
         ensures looked { IfOk result (λ there. EndedBy (C.calls self.new.system) (Looked file (Ok there))) }
         ensures cause { HasCause self.old.faults self.new.faults result }
         ensures counts { CountsFault self.old.faults self.new.faults result }
     {
         match self.system.look(file) {
             Ok(there) => Ok(there),
-            Err(_) => {
+            Err(fault) => {
                 self.count_fault();
-                Err(Failed)
+                Err(fault)
             }
         }
     }
 
     fn open(&mut self, file: DeskFile) -> Result<FileDisk<C::File>, Failed> {
         Ok(FileDisk::new(self.system.file(file)))
+    }
+
+    fn look_into(&mut self, file: DeskFile) -> Result<FileDisk<C::File>, Failed> {
+        Ok(FileDisk::only_read(self.system.file(file)))
     }
 
     fn put_in_place(&mut self, next: DeskFile, file: DeskFile) -> Result<(), Failed>

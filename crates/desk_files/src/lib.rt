@@ -10,7 +10,7 @@ mod system_papers;
 
 pub use desk_folder::{DeskFolder, FolderCalls};
 pub use desk_paths::DeskPaths;
-pub use paper_files::{PaperCalls, PaperFiles};
+pub use paper_files::{PaperCalls, PaperFiles, Stands};
 pub use system_clock::SystemClock;
 pub use system_folder::SystemFolder;
 pub use system_papers::SystemPapers;

@@ -1,13 +1,25 @@
 //! Papers over the system's calls.
-ghost use Rattle.std.specs.Prelude.{◌≡◌, List, Option, OnOk};
+ghost use Rattle.std.specs.Prelude.{◌≡◌, List, Option, Ok, IfOk, true};
 ghost use Rattle.express_words.specs.Seen.{silent};
 ghost use Rattle.express_words.specs.Causes.{HasCause, CountsFault};
 ghost use Rattle.express_outside.specs.Calls.{added};
-ghost use Rattle.desk_files.specs.Steps.{PaperStep, FolderMade, Laid, Named, FolderSynced, IsWritten};
+ghost use Rattle.desk_files.specs.Steps.{PaperStep, FolderMade, Found, Laid, Placed, Tidied, FolderSynced};
+ghost use Rattle.desk_files.specs.Steps.{PutNew, IsAnswered};
 
-use desk_outside::Papers;
+use desk_outside::{Papers, Written};
 use express_outside::{Adapter, Reads, Trouble};
 use express_words::outside::{Counted, Failed};
+
+/// What stands under a name, compared with bytes.
+#[derive(Clone, Copy, Debug, PartialEq, Eq)]
+pub enum Stands {
+    /// Nothing has the name.
+    Nothing,
+    /// A file with these very bytes, and the disk has them.
+    These,
+    /// Something else.
+    Others,
+}
 
 /// The system's calls on papers.
 pub trait PaperCalls {
@@ -27,13 +39,22 @@ pub trait PaperCalls {
     fn make(&mut self, folder: &str) -> Result<(), Trouble>
         ensures told { calls self.new ≡ added (FolderMade folder.now result) (calls self.old) };
 
-    /// Writes these bytes to a file of its own beside this name, and waits until the disk has them.
+    /// What stands under this name, compared with these bytes. A link isn't followed.
+    fn find(&mut self, folder: &str, name: &str, bytes: &[u8]) -> Result<Stands, Trouble>
+        ensures told { calls self.new ≡ added (Found folder.now name.now bytes.now result) (calls self.old) };
+
+    /// Writes these bytes to a new file beside this name, which its user alone may read, and waits until the disk has
+    /// them. What was left there goes first; a link isn't followed.
     fn lay(&mut self, folder: &str, name: &str, bytes: &[u8]) -> Result<(), Trouble>
         ensures told { calls self.new ≡ added (Laid folder.now name.now bytes.now result) (calls self.old) };
 
-    /// Gives the file that was written beside it this name; one that has it is replaced.
-    fn rename(&mut self, folder: &str, name: &str) -> Result<(), Trouble>
-        ensures told { calls self.new ≡ added (Named folder.now name.now result) (calls self.old) };
+    /// Gives the file that was written beside it this name, unless something has it: says whether it did.
+    fn place(&mut self, folder: &str, name: &str, bytes: &[u8]) -> Result<bool, Trouble>
+        ensures told { calls self.new ≡ added (Placed folder.now name.now bytes.now result) (calls self.old) };
+
+    /// Takes what stands beside this name away.
+    fn tidy(&mut self, folder: &str, name: &str) -> Result<(), Trouble>
+        ensures told { calls self.new ≡ added (Tidied folder.now name.now result) (calls self.old) };
 
     /// Waits until the disk has the folder's names.
     fn sync(&mut self, folder: &str) -> Result<(), Trouble>
@@ -47,6 +68,20 @@ pub struct PaperFiles<C> {
     faults: u64,
 }
 
+// What a write is answered, where this stands under its name in the end.
+fn written_as(is_new: bool, stands: Stands) -> Result<Written, Trouble>
+    ensures new { result ≡ Ok Written.New → (is_new ≡ true) × (stands ≡ Stands.These) }
+    ensures before { result ≡ Ok Written.Before → stands ≡ Stands.These }
+    ensures taken { result ≡ Ok Written.Taken → stands ≡ Stands.Others }
+{
+    match stands {
+        Stands::These if is_new => Ok(Written::New),
+        Stands::These => Ok(Written::Before),
+        Stands::Others => Ok(Written::Taken),
+        Stands::Nothing => Err(Trouble::Broken),
+    }
+}
+
 impl<C: PaperCalls> PaperFiles<C> {
     /// No call of it has failed yet.
     pub fn new(system: C) -> Self
@@ -55,15 +90,31 @@ impl<C: PaperCalls> PaperFiles<C> {
         PaperFiles { system, faults: 0 }
     }
 
-    fn put(&mut self, folder: &str, name: &str, bytes: &[u8]) -> Result<(), Trouble>
+    // Puts the bytes under the name, if nothing has it, and says whether it did.
+    fn put_new(&mut self, folder: &str, name: &str, bytes: &[u8]) -> Result<bool, Trouble>
         ensures faults { self.new.faults ≡ self.old.faults }
-        ensures written { OnOk result
-            (IsWritten (C.calls self.new.system) folder.now name.now bytes.now) }
+        ensures put { result ≡ Ok true → PutNew (C.calls self.new.system) folder.now name.now bytes.now }
+    {
+        match self.system.find(folder, name, bytes)? {
+            Stands::These | Stands::Others => Ok(false),
+            Stands::Nothing => {
+                self.system.lay(folder, name, bytes)?;
+                self.system.place(folder, name, bytes)
+            }
+        }
+    }
+
+    fn put(&mut self, folder: &str, name: &str, bytes: &[u8]) -> Result<Written, Trouble>
+        ensures faults { self.new.faults ≡ self.old.faults }
+        ensures answered { IfOk result
+            (λ written. IsAnswered written (C.calls self.new.system) folder.now name.now bytes.now) }
     {
         self.system.make(folder)?;
-        self.system.lay(folder, name, bytes)?;
-        self.system.rename(folder, name)?;
-        self.system.sync(folder)
+        let is_new = self.put_new(folder, name, bytes)?;
+        let stands = self.system.find(folder, name, bytes)?;
+        self.system.tidy(folder, name)?;
+        self.system.sync(folder)?;
+        written_as(is_new, stands)
     }
 }
 
@@ -88,14 +139,14 @@ impl<C: PaperCalls> Papers for PaperFiles<C> {
         }
     }
 
-    fn write(&mut self, folder: &str, name: &str, bytes: &[u8]) -> Result<(), Failed>
-        ensures written { OnOk result
-            (IsWritten (C.calls self.new.system) folder.now name.now bytes.now) }
+    fn write(&mut self, folder: &str, name: &str, bytes: &[u8]) -> Result<Written, Failed>
+        ensures answered { IfOk result
+            (λ written. IsAnswered written (C.calls self.new.system) folder.now name.now bytes.now) }
         ensures cause { HasCause self.old.faults self.new.faults result }
         ensures counts { CountsFault self.old.faults self.new.faults result }
     {
         match self.put(folder, name, bytes) {
-            Ok(()) => Ok(()),
+            Ok(written) => Ok(written),
             Err(_) => {
                 self.faults = self.faults.saturating_add(1);
                 Err(Failed)

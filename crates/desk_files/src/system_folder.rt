@@ -1,11 +1,12 @@
 //! The system's calls on a desk's folder.
-ghost use Rattle.std.specs.Prelude.{◌≡◌, ◌↔◌, None, IsTrue, bit_and};
-ghost use Rattle.std.specs.Fs.{IsDir, file_type, metadata_mode};
+ghost use Rattle.std.specs.Prelude.{◌≡◌, ◌≢◌, None, Err, OnOk, bit_and};
+ghost use Rattle.std.specs.Fs.{IsDir, IsFile, IsSymlink, file_type, metadata_mode};
+ghost use Rattle.std.specs.IoError.{error_kind};
 
 use crate::desk_folder::FolderCalls;
 use crate::desk_paths::DeskPaths;
-use desk_outside::{DeskFile, Hold};
-use express_outside::{FileCalls, JournalFile, Trouble, trouble_of};
+use desk_outside::{DeskFile, FolderFault, Hold};
+use express_outside::{JournalFile, Trouble, clear_beside, trouble_of};
 use std::fs::{DirBuilder, File, Metadata, TryLockError};
 use std::io::ErrorKind;
 use std::os::unix::fs::{DirBuilderExt, MetadataExt, OpenOptionsExt};
@@ -20,6 +21,9 @@ const LOCK_MODE: u32 = 0o600;
 
 /// What of a folder's mode lets group or others in.
 const OTHERS: u32 = 0o077;
+
+/// What of a file's mode lets group or others read or write it.
+const READERS: u32 = 0o066;
 
 /// A desk's folder, and its lock while this process has it.
 #[derive(Drop)]
@@ -40,18 +44,51 @@ impl<'a> SystemFolder<'a> {
     }
 }
 
-// Whether this is a folder that nobody but its user may look into or change.
-fn is_private(found: &Metadata) -> bool
-    ensures { IsTrue result ↔ (IsDir (file_type found.now) × (bit_and (metadata_mode found.now) 0o077 ≡ 0)) }
+// Why an error of the system keeps a folder from being used.
+fn cause_of(error: &io::Error) -> FolderFault
+    ensures denied { error_kind error.now ≡ ErrorKind.PermissionDenied → result ≡ FolderFault.NotYours }
+    ensures missing { error_kind error.now ≡ ErrorKind.NotFound → result ≡ FolderFault.NoParent }
+    ensures broken { error_kind error.now ≢ ErrorKind.PermissionDenied → error_kind error.now ≢ ErrorKind.NotFound
+        → result ≡ FolderFault.Broken }
 {
-    found.is_dir() && found.mode() & OTHERS == 0
+    match error.kind() {
+        ErrorKind::PermissionDenied => FolderFault::NotYours,
+        ErrorKind::NotFound => FolderFault::NoParent,
+        _ => FolderFault::Broken,
+    }
 }
 
-fn check_private(found: &Metadata) -> io::Result<()> {
-    if is_private(found) {
-        Ok(())
+// Fails where this isn't a folder that its user alone may look into or change.
+fn check_folder(found: &Metadata) -> Result<(), FolderFault>
+    ensures private { OnOk result
+        (IsDir (file_type found.now) × (bit_and (metadata_mode found.now) 0o077 ≡ 0)) }
+    ensures link { IsSymlink (file_type found.now) → result ≡ Err FolderFault.Link }
+{
+    if found.is_symlink() {
+        Err(FolderFault::Link)
+    } else if !found.is_dir() {
+        Err(FolderFault::OtherKind)
+    } else if found.mode() & OTHERS != 0 {
+        Err(FolderFault::NotPrivate)
     } else {
-        Err(io::Error::from(ErrorKind::PermissionDenied))
+        Ok(())
+    }
+}
+
+// Fails where this isn't a file that its user alone may read or write.
+fn check_file(found: &Metadata) -> Result<(), FolderFault>
+    ensures private { OnOk result
+        (IsFile (file_type found.now) × (bit_and (metadata_mode found.now) 0o066 ≡ 0)) }
+    ensures link { IsSymlink (file_type found.now) → result ≡ Err FolderFault.Link }
+{
+    if found.is_symlink() {
+        Err(FolderFault::Link)
+    } else if !found.is_file() {
+        Err(FolderFault::OtherKind)
+    } else if found.mode() & READERS != 0 {
+        Err(FolderFault::NotPrivate)
+    } else {
+        Ok(())
     }
 }
 
@@ -77,20 +114,30 @@ pub fn made(rt: &HostRuntime, folder: &str) -> io::Result<()> {
     }
 }
 
-fn is_there(rt: &HostRuntime, path: &str) -> io::Result<bool> {
+// Whether a file of the folder is there, which must be private then.
+fn is_there(rt: &HostRuntime, path: &str) -> Result<bool, FolderFault> {
     match fs::symlink_metadata(rt, path) {
-        Ok(_) => Ok(true),
+        Ok(found) => {
+            check_file(&found)?;
+            Ok(true)
+        }
         Err(error) if error.kind() == ErrorKind::NotFound => Ok(false),
-        Err(error) => Err(error),
+        Err(error) => Err(cause_of(&error)),
     }
 }
 
-fn unlinked(rt: &HostRuntime, path: &str) -> io::Result<()> {
+pub fn unlinked(rt: &HostRuntime, path: &str) -> io::Result<()> {
     match fs::remove_file(rt, path) {
         Ok(()) => Ok(()),
         Err(error) if error.kind() == ErrorKind::NotFound => Ok(()),
         Err(error) => Err(error),
     }
+}
+
+// Takes a file's name away, and what stands beside it.
+fn forgotten(rt: &HostRuntime, path: &str) -> io::Result<()> {
+    unlinked(rt, path)?;
+    clear_beside(rt, path)
 }
 
 // The lock's file, which is made where there is none.
@@ -115,19 +162,19 @@ impl<'a> FolderCalls for SystemFolder<'a> {
 
     ghost calls = { λ _. None };
 
-    fn make(&mut self) -> Result<(), Trouble> {
-        made(self.rt, self.paths.folder()).map_err(|error| trouble_of(error))
+    fn make(&mut self) -> Result<(), FolderFault> {
+        made(self.rt, self.paths.folder()).map_err(|error| cause_of(&error))
     }
 
-    fn check(&mut self) -> Result<(), Trouble> {
-        let found = fs::symlink_metadata(self.rt, self.paths.folder()).map_err(|error| trouble_of(
-            error,
-        ))?;
-        check_private(&found).map_err(|error| trouble_of(error))
+    fn check(&mut self) -> Result<(), FolderFault> {
+        match fs::symlink_metadata(self.rt, self.paths.folder()) {
+            Ok(found) => check_folder(&found),
+            Err(error) => Err(cause_of(&error)),
+        }
     }
 
-    fn lock(&mut self) -> Result<Hold, Trouble> {
-        self.lock = locked(self.rt, self.paths.lock()).map_err(|error| trouble_of(error))?;
+    fn lock(&mut self) -> Result<Hold, FolderFault> {
+        self.lock = locked(self.rt, self.paths.lock()).map_err(|error| cause_of(&error))?;
         Ok(if self.lock.is_some() {
             Hold::Held
         } else {
@@ -135,8 +182,8 @@ impl<'a> FolderCalls for SystemFolder<'a> {
         })
     }
 
-    fn look(&mut self, file: DeskFile) -> Result<bool, Trouble> {
-        is_there(self.rt, self.paths.path(file)).map_err(|error| trouble_of(error))
+    fn look(&mut self, file: DeskFile) -> Result<bool, FolderFault> {
+        is_there(self.rt, self.paths.path(file))
     }
 
     fn file(&self, file: DeskFile) -> JournalFile<'a> {
@@ -150,7 +197,7 @@ impl<'a> FolderCalls for SystemFolder<'a> {
     }
 
     fn unlink(&mut self, file: DeskFile) -> Result<(), Trouble> {
-        unlinked(self.rt, self.paths.path(file)).map_err(|error| trouble_of(error))
+        forgotten(self.rt, self.paths.path(file)).map_err(|error| trouble_of(error))
     }
 
     fn sync(&mut self) -> Result<(), Trouble> {

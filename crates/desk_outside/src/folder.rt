@@ -3,6 +3,7 @@ ghost use Rattle.std.specs.Prelude.{◌≡◌, ℕ, List, Option, IfOk, is_err};
 ghost use Rattle.express_words.specs.Causes.{HasCause, CountsFault};
 ghost use Rattle.desk_outside.specs.Calls.{FolderCall, Held, Looked, Opened, Placed, Removed, Adds, given};
 
+use crate::FolderFault;
 use express_words::outside::{Counted, Failed};
 use node_journal::Disk;
 
@@ -36,20 +37,28 @@ pub trait Folder: Counted {
     /// Its calls so far, if it tells.
     ghost calls: { Self → Option (List (FolderCall Self.File)) };
 
-    /// Makes the folder where there is none, and takes it for this process alone.
-    fn hold(&mut self) -> Result<Hold, Failed>
+    /// Makes the folder where there is none, and takes it for this process alone. It must be its user's alone, and no
+    /// link.
+    fn hold(&mut self) -> Result<Hold, FolderFault>
         ensures call { Adds (calls self.old) (calls self.new) (Held (is_err result)) }
         ensures cause { HasCause (Self.seen self.old).faults (Self.seen self.new).faults result }
         ensures counts { CountsFault (Self.seen self.old).faults (Self.seen self.new).faults result };
 
-    /// Whether the file is there.
-    fn is_there(&mut self, file: DeskFile) -> Result<bool, Failed>
+    /// Whether the file is there, which must be its user's alone then, and no link.
+    fn is_there(&mut self, file: DeskFile) -> Result<bool, FolderFault>
         ensures call { Adds (calls self.old) (calls self.new) (Looked file (given result)) }
         ensures cause { HasCause (Self.seen self.old).faults (Self.seen self.new).faults result }
         ensures counts { CountsFault (Self.seen self.old).faults (Self.seen self.new).faults result };
 
     /// The file as a disk, which is empty where there was none.
     fn open(&mut self, file: DeskFile) -> Result<Self::File, Failed>
+        ensures whole { IfOk result (λ disk. (Self.File.seen disk).faults ≡ 0) }
+        ensures call { Adds (calls self.old) (calls self.new) (Opened file (given result)) }
+        ensures cause { HasCause (Self.seen self.old).faults (Self.seen self.new).faults result }
+        ensures counts { CountsFault (Self.seen self.old).faults (Self.seen self.new).faults result };
+
+    /// The file, which must be there, as a disk that is only read: nothing in the folder changes.
+    fn look_into(&mut self, file: DeskFile) -> Result<Self::File, Failed>
         ensures whole { IfOk result (λ disk. (Self.File.seen disk).faults ≡ 0) }
         ensures call { Adds (calls self.old) (calls self.new) (Opened file (given result)) }
         ensures cause { HasCause (Self.seen self.old).faults (Self.seen self.new).faults result }

@@ -5,6 +5,17 @@ ghost use Rattle.express_words.specs.Streams.{IsAtStart};
 
 use express_words::outside::{Counted, Failed, Source};
 
+/// What became of a file that was to be written.
+#[derive(Clone, Copy, Debug, PartialEq, Eq)]
+pub enum Written {
+    /// It is new, and the disk has it.
+    New,
+    /// A file of that name was there and has these very bytes, and the disk has it.
+    Before,
+    /// Something of that name was there that isn't a file with these bytes. It stays as it is.
+    Taken,
+}
+
 /// Files that are named on the command line: pair files, cards and letters. With a count of its faults.
 pub trait Papers: Counted {
     /// What a read gives.
@@ -17,9 +28,9 @@ pub trait Papers: Counted {
         ensures cause { HasCause (Self.seen self.old).faults (Self.seen self.new).faults result }
         ensures counts { CountsFault (Self.seen self.old).faults (Self.seen self.new).faults result };
 
-    /// Writes a file of this name into this folder, and waits until the disk has it. The folder is made where there is
-    /// none. A file of that name is replaced at once.
-    fn write(&mut self, folder: &str, name: &str, bytes: &[u8]) -> Result<(), Failed>
+    /// Writes a new file of this name into this folder, which its user alone may read, and waits until the disk has it.
+    /// The folder is made where there is none. A file of that name stays as it is, and its answer says what it has.
+    fn write(&mut self, folder: &str, name: &str, bytes: &[u8]) -> Result<Written, Failed>
         ensures cause { HasCause (Self.seen self.old).faults (Self.seen self.new).faults result }
         ensures counts { CountsFault (Self.seen self.old).faults (Self.seen self.new).faults result };
 }

@@ -6,7 +6,9 @@ ghost use Rattle.std.specs.IoError.{error_kind};
 ghost use Rattle.std.specs.Process.{exit_status};
 
 use express_cli::run_kept;
-use express_outside::{Adapter, Direct, FileDisk, JournalFile, TcpNet, TcpPorts, random_seed};
+use express_outside::{
+    Adapter, Direct, FileDisk, JournalFile, TcpNet, TcpPorts, random_seed, stand_in,
+};
 use std::io::ErrorKind;
 use std::process::ExitCode;
 use std::rt::Env;
@@ -18,7 +20,7 @@ const JOURNAL: &str = "express.journal";
 /// The status where memory is wanting before the top call.
 const OUT_OF_MEMORY: u8 = 7;
 
-/// The status where no seed can be had.
+/// The status where no seed can be had, or no file that stands in for a closed input or output.
 const NO_SEED: u8 = 9;
 
 /// The status where the words can't be had for another cause.
@@ -72,6 +74,16 @@ fn start(rt: &HostRuntime) -> Result<u8, u8>
     Ok(work(rt, &words, &seed))
 }
 
+// The same, with something in the place of standard input, output and error where these are closed.
+fn begin(rt: &HostRuntime) -> Result<u8, u8>
+    ensures { IfErr result (λ status. Contains (7 ∷ 9 ∷ 14 ∷ []) status) }
+{
+    let held = stand_in(rt).map_err(|_| NO_SEED)?;
+    let started = start(rt);
+    drop(held);
+    started
+}
+
 // What the program ends with: the status, wherever it was found.
 fn exit_of(started: Result<u8, u8>) -> ExitCode
     ensures { MatchResult started (λ status. exit_status result ≡ status) (λ status. exit_status result ≡ status) }
@@ -82,5 +94,5 @@ fn exit_of(started: Result<u8, u8>) -> ExitCode
 }
 
 fn main(rt: HostRuntime) -> ExitCode {
-    exit_of(start(&rt))
+    exit_of(begin(&rt))
 }

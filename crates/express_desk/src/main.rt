@@ -9,7 +9,7 @@ mod missing;
 use desk_files::{DeskFolder, DeskPaths, PaperFiles, SystemClock, SystemFolder, SystemPapers};
 use desk_run::{Around, run_desk};
 use desk_words::folder_of;
-use express_outside::{Adapter, Direct, TcpNet, TcpPorts, random_seed};
+use express_outside::{Adapter, Direct, TcpNet, TcpPorts, random_seed, stand_in};
 use missing::{Missing, why_no_words};
 use std::process::ExitCode;
 use std::rt::Env;
@@ -64,6 +64,14 @@ fn start(rt: &HostRuntime) -> Result<u8, Missing> {
     Ok(work(rt, &words, &seed, &paths))
 }
 
+// The same, with something in the place of standard input, output and error where these are closed.
+fn begin(rt: &HostRuntime) -> Result<u8, Missing> {
+    let held = stand_in(rt).map_err(|_| Missing::Null)?;
+    let started = start(rt);
+    drop(held);
+    started
+}
+
 // Tells what is missing, where it can be told.
 fn tell(rt: &HostRuntime, missing: Missing) -> u8
     ensures { result ≡ status_without missing }
@@ -73,7 +81,7 @@ fn tell(rt: &HostRuntime, missing: Missing) -> u8
 }
 
 fn main(rt: HostRuntime) -> ExitCode {
-    let status = match start(&rt) {
+    let status = match begin(&rt) {
         Ok(status) => status,
         Err(missing) => tell(&rt, missing),
     };

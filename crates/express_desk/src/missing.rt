@@ -15,6 +15,8 @@ pub enum Missing {
     Words,
     /// The user's own folder, where the words name no desk.
     Home,
+    /// A file that stands in for a closed input or output.
+    Null,
     /// A seed.
     Seed,
 }
@@ -27,6 +29,7 @@ impl fmt::Display for Missing {
             Missing::Memory => "there is no memory left; try again later",
             Missing::Words => "a word that you typed is no text",
             Missing::Home => "HOME names no folder; name the desk's by --desk FOLDER",
+            Missing::Null => "the system has no /dev/null",
             Missing::Seed => "the system gives no random bytes (/dev/urandom)",
         })
     }
@@ -39,7 +42,7 @@ impl Missing {
     {
         match self {
             Missing::Words => 2,
-            Missing::Memory | Missing::Home | Missing::Seed => 1,
+            Missing::Memory | Missing::Home | Missing::Null | Missing::Seed => 1,
         }
     }
 }

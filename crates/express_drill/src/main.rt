@@ -10,6 +10,7 @@ mod running;
 mod step;
 
 use drill::drill;
+use express_outside::stand_in;
 use fault::Fault;
 use order::order_of;
 use std::fmt::Display;
@@ -42,8 +43,16 @@ fn run<R: Print + Env + AllocGlobal + Processes + Clock>(rt: &R) -> Result<u8, F
     Ok(say(rt, verdict, verdict.status()))
 }
 
+// The same, with something in the place of standard input, output and error where these are closed.
+fn begin(rt: &HostRuntime) -> Result<u8, Fault> {
+    let held = stand_in(rt)?;
+    let ended = run(rt);
+    drop(held);
+    ended
+}
+
 fn main(rt: HostRuntime) -> ExitCode {
-    match run(&rt) {
+    match begin(&rt) {
         Ok(status) => ExitCode::from(status),
         Err(fault) => ExitCode::from(fault.status()),
     }

@@ -1,8 +1,10 @@
 -- What the calls so far came to.
-use Rattle.std.specs.Prelude.{◌≡◌, ℕ, List, Bool, Option, Some, Result, Ok, Err, MatchBool, MatchResult}
+use Rattle.std.specs.Prelude.{◌≡◌, ℕ, List, [], Bool, true, false, Option, Some, Result, Ok, Err, MatchBool, MatchResult}
 use Rattle.std.specs.declared.time.Instant.{Instant}
 use Rattle.express_words.specs.Streams.{Took, TookPrefix}
 use Rattle.express_outside.specs.Calls.{WriteCall, Flushed, IsRefusal, FileCall, ReadAt, Synced, Named}
+use Rattle.express_outside.specs.Calls.{Asked, Unsettled, Settled, Begun, Replaced}
+use Rattle.express_outside.specs.Copying.{CopiedWhole}
 use Rattle.express_outside.specs.Calls.{added, EndedBy}
 use Rattle.express_outside.specs.declared.calls.Trouble.{Trouble}
 use Rattle.express_outside.specs.declared.patience.Limit.{Limit}
@@ -31,7 +33,27 @@ EndedByRefusal calls = (last : WriteCall) × IsRefusal last × EndedBy calls las
 
 -- the last call was a read, and there was nothing to read
 abbrev pub EndedByEnd : Option (List FileCall) → Type 0
-EndedByEnd calls = (from : ℕ) × EndedBy calls (ReadAt from (Ok 0))
+EndedByEnd calls = (from : ℕ) × EndedBy calls (ReadAt from (Ok []))
+
+-- A file of which it isn't noted that a sync of it failed: that was asked, and the file was synced. No other call
+-- was made.
+abbrev pub OpenedAsItWas : (old new : Option (List FileCall)) → Type 0
+OpenedAsItWas old new = new ≡ added (Synced (Ok tt)) (added (Asked (Ok false)) old)
+
+-- A copy of all that the file has was begun and took its place, and then the note was taken away.
+abbrev pub Renewed : (old new : Option (List FileCall)) → Type 0
+Renewed old new = (copied : Option (List FileCall)) × CopiedWhole (added (Begun (Ok tt)) old) copied
+    × (new ≡ added (Settled (Ok tt)) (added (Replaced (Ok tt)) copied))
+
+-- A file of which that is noted: that was asked, a copy of it took its place, and it was synced.
+abbrev pub OpenedAnew : (old new : Option (List FileCall)) → Type 0
+OpenedAnew old new = (renewed : Option (List FileCall)) × Renewed (added (Asked (Ok true)) old) renewed
+    × (new ≡ added (Synced (Ok tt)) renewed)
+
+-- a sync failed, and that was noted beside the file, if that could be
+abbrev pub EndedUnsettled : Option (List FileCall) → Type 0
+EndedUnsettled calls = (before : Option (List FileCall)) × (why : Trouble) × (noted : Result (Unit {0}) Trouble)
+    × (calls ≡ added (Unsettled noted) (added (Synced (Err why)) before))
 
 -- the file was synced, and then had its name still
 abbrev pub EndedSynced : Option (List FileCall) → Type 0

@@ -1,3 +1,4 @@
 pub mod Calls
 pub mod Patience
+pub mod Copying
 pub mod Answers

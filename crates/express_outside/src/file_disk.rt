@@ -1,18 +1,22 @@
 //! A journal's disk over a file.
-ghost use Rattle.std.specs.Prelude.{◌≡◌, ◌≤◌, ◌<◌, List, length, Option, true, false, Ok, IfOk, OnOk};
+ghost use Rattle.std.specs.Prelude.{◌≡◌, ◌≤◌, ◌<◌, ◌+◌, ◌⊎◌, List, length, Option, true, false, Ok, Err, IfOk, OnOk, OnErr};
 ghost use Rattle.express_words.specs.Seen.{silent};
 ghost use Rattle.express_words.specs.Causes.{HasCause, CountsFault, next};
-ghost use Rattle.express_outside.specs.Calls.{FileCall, ReadAt, WroteAt, Synced, Named, added, EndedBy};
-ghost use Rattle.express_outside.specs.Answers.{EndedByEnd, EndedSynced};
+ghost use Rattle.express_outside.specs.Calls.{FileCall, ReadAt, WroteAt, Synced, Named, added, given, EndedBy};
+ghost use Rattle.express_outside.specs.Calls.{Asked, Unsettled, Settled, Begun, CopiedAt, Replaced};
+ghost use Rattle.express_outside.specs.Copying.{CopiedWhole};
+ghost use Rattle.express_outside.specs.Answers.{EndedByEnd, EndedSynced, EndedUnsettled};
+ghost use Rattle.express_outside.specs.Answers.{OpenedAsItWas, OpenedAnew, Renewed};
 
 use crate::calls::Trouble;
 use express_words::outside::{Counted, Failed};
 use node_journal::Disk;
 
-/// So many bytes at once are written back when a file is opened.
+/// So many bytes at once are copied of a file that is put in place anew.
 const PIECE: usize = 8192;
 
-/// The system's calls on one file.
+/// The system's calls on one file, on the note beside it that says that a sync of it failed, and on a copy that
+/// is to take its place.
 pub trait FileCalls {
     /// Its calls so far, if it tells.
     ghost calls: { Self → Option (List FileCall) };
@@ -21,14 +25,18 @@ pub trait FileCalls {
     fn open(&mut self) -> Result<(), Trouble>
         ensures told { calls self.new ≡ calls self.old };
 
+    /// Opens the file, which must be there, for reading alone.
+    fn open_to_read(&mut self) -> Result<(), Trouble>
+        ensures told { calls self.new ≡ calls self.old };
+
     /// One read from an offset on. Ok(0) for a buffer that isn't empty is the file's end.
     fn read_at(&mut self, at: u64, out: &mut [u8]) -> Result<usize, Trouble>
         ensures bound { IfOk result (λ n. n ≤ length out.new) }
-        ensures told { calls self.new ≡ added (ReadAt at result) (calls self.old) };
+        ensures told { calls self.new ≡ added (ReadAt at (given result out.new)) (calls self.old) };
 
     /// Writes all of the bytes from an offset on.
     fn write_at(&mut self, at: u64, bytes: &[u8]) -> Result<(), Trouble>
-        ensures told { calls self.new ≡ added (WroteAt at result) (calls self.old) };
+        ensures told { calls self.new ≡ added (WroteAt at bytes.now result) (calls self.old) };
 
     /// Waits until the disk has what was written.
     fn sync(&mut self) -> Result<(), Trouble>
@@ -37,6 +45,31 @@ pub trait FileCalls {
     /// Fails where the name that the file was opened by isn't its own any more.
     fn check_name(&mut self) -> Result<(), Trouble>
         ensures told { calls self.new ≡ added (Named result) (calls self.old) };
+
+    /// Whether a sync of the file has failed since it was settled, as is noted beside it.
+    fn is_unsettled(&mut self) -> Result<bool, Trouble>
+        ensures told { calls self.new ≡ added (Asked result) (calls self.old) };
+
+    /// Notes beside the file that a sync of it failed.
+    fn unsettle(&mut self) -> Result<(), Trouble>
+        ensures told { calls self.new ≡ added (Unsettled result) (calls self.old) };
+
+    /// Takes that note away.
+    fn settle(&mut self) -> Result<(), Trouble>
+        ensures told { calls self.new ≡ added (Settled result) (calls self.old) };
+
+    /// Begins a copy of the file, an empty one. What was left of an earlier copy goes.
+    fn begin_copy(&mut self) -> Result<(), Trouble>
+        ensures told { calls self.new ≡ added (Begun result) (calls self.old) };
+
+    /// Writes all of the bytes to the copy, from an offset on.
+    fn copy_at(&mut self, at: u64, bytes: &[u8]) -> Result<(), Trouble>
+        ensures told { calls self.new ≡ added (CopiedAt at bytes.now result) (calls self.old) };
+
+    /// Waits until the disk has the copy, and puts it in the file's place at once; the disk has its name then. It is
+    /// the file from here on.
+    fn replace(&mut self) -> Result<(), Trouble>
+        ensures told { calls self.new ≡ added (Replaced result) (calls self.old) };
 }
 
 /// A file as a disk, opened at the first call. Each error is a fault. It doesn't tell its content.
@@ -44,6 +77,7 @@ pub trait FileCalls {
 pub struct FileDisk<F> {
     file: F,
     is_open: bool,
+    is_only_read: bool,
     faults: u64,
 }
 
@@ -69,55 +103,130 @@ fn read_on<F: FileCalls>(file: &mut F, at: u64, out: &mut [u8]) -> Result<usize,
     Err(Trouble::Interrupted)
 }
 
-// Writes a piece back to where it is read, and tells how many bytes that were.
-fn write_piece_back<F: FileCalls>(file: &mut F, at: u64) -> Result<usize, Trouble> {
-    let mut piece = [0; PIECE];
-    let count = read_on(file, at, &mut piece)?;
-    file.write_at(at, &piece[..count])?;
-    Ok(count)
+// Writes a piece to the copy, and tells the offset behind it.
+fn copy_piece<F: FileCalls>(file: &mut F, at: u64, piece: &[u8]) -> Result<u64, Trouble>
+    ensures copied { OnOk result
+        (F.calls file.new ≡ added (CopiedAt at piece.now (Ok tt)) (F.calls file.old)) }
+    ensures behind { IfOk result (λ end. end ≡ at + length piece.now) }
+{
+    file.copy_at(at, piece)?;
+    match at.checked_add(piece.len() as u64) {
+        Some(end) => Ok(end),
+        None => Err(Trouble::Broken),
+    }
 }
 
-// Writes all that is read back to where it is, and waits until the disk has it. After a sync that failed the
-// system may hold bytes as if the disk had them: from now on it has.
-fn write_back<F: FileCalls>(file: &mut F) -> Result<(), Trouble>
-    ensures synced { OnOk result (EndedBy (F.calls file.new) (Synced (Ok tt))) }
+// Copies all that the file has, piece by piece.
+fn copy_whole<F: FileCalls>(file: &mut F) -> Result<(), Trouble>
+    ensures whole { OnOk result (CopiedWhole (F.calls file.old) (F.calls file.new)) }
 {
+    let mut piece = [0; PIECE];
     let mut at = 0u64;
-    for _ in 0..u64::MAX {
-        match write_piece_back(file, at)? {
-            0 => break,
-            count => at = at.wrapping_add(count as u64),
+    'copying: for _ in 0..u64::MAX {
+        match file.read_at(at, &mut piece) {
+            Ok(0) => return Ok(()),
+            Ok(count) => at = copy_piece(file, at, &piece[..count])?,
+            Err(Trouble::Interrupted) => {}
+            Err(Trouble::Broken) => return Err(Trouble::Broken),
         }
     }
-    file.sync()
+    Err(Trouble::Interrupted)
+}
+
+// Puts a copy of what can be read of the file in its place, and then takes the note away that a sync of it failed.
+fn renew<F: FileCalls>(file: &mut F) -> Result<(), Trouble>
+    ensures renewed { OnOk result (Renewed (F.calls file.old) (F.calls file.new)) }
+{
+    file.begin_copy()?;
+    copy_whole(file)?;
+    file.replace()?;
+    file.settle()
+}
+
+// Waits until the disk has what was written. Where that fails the system may forget what it couldn't write, and
+// give it to readers all the same; so that is noted for whoever opens the file next.
+fn sync_or_note<F: FileCalls>(file: &mut F) -> Result<(), Trouble>
+    ensures synced { OnOk result (F.calls file.new ≡ added (Synced (Ok tt)) (F.calls file.old)) }
+    ensures noted { OnErr result (EndedUnsettled (F.calls file.new)) }
+{
+    match file.sync() {
+        Ok(()) => Ok(()),
+        Err(why) => {
+            let _ = file.unsettle();
+            Err(why)
+        }
+    }
+}
+
+// What was opened is on the disk from here on. Nothing is written but where it is noted that a sync failed.
+fn settled<F: FileCalls>(file: &mut F) -> Result<(), Trouble>
+    ensures { OnOk result (OpenedAsItWas (F.calls file.old) (F.calls file.new)
+        ⊎ OpenedAnew (F.calls file.old) (F.calls file.new)) }
+{
+    if file.is_unsettled()? {
+        renew(file)?;
+    }
+    sync_or_note(file)
 }
 
 impl<F: FileCalls> FileDisk<F> {
     /// The file, which isn't touched yet.
     pub fn new(file: F) -> Self
-        ensures { result ≡ record { file = file; is_open = false; faults = 0 } }
+        ensures { result ≡ record { file = file; is_open = false; is_only_read = false; faults = 0 } }
     {
         FileDisk {
             file,
             is_open: false,
+            is_only_read: false,
             faults: 0,
         }
     }
 
-    // Opens the file at the first call. What it had is on the disk then.
+    /// The file, which must be there, to be only read: a write or a sync of it fails, and nothing on the disk changes.
+    pub fn only_read(file: F) -> Self
+        ensures { result ≡ record { file = file; is_open = false; is_only_read = true; faults = 0 } }
+    {
+        FileDisk {
+            file,
+            is_open: false,
+            is_only_read: true,
+            faults: 0,
+        }
+    }
+
+    // Opens the file at the first call. What it had is on the disk then, if it isn't only read.
     fn open(&mut self) -> Result<(), Trouble>
         ensures faults { self.new.faults ≡ self.old.faults }
         ensures opened { OnOk result (self.new.is_open ≡ true) }
-        ensures first { self.old.is_open ≡ false
-            → OnOk result (EndedBy (F.calls self.new.file) (Synced (Ok tt))) }
+        ensures purpose { self.new.is_only_read ≡ self.old.is_only_read }
+        ensures first { self.old.is_open ≡ false → self.old.is_only_read ≡ false
+            → OnOk result (OpenedAsItWas (F.calls self.old.file) (F.calls self.new.file)
+            ⊎ OpenedAnew (F.calls self.old.file) (F.calls self.new.file)) }
+        ensures only_read { self.old.is_only_read ≡ true → F.calls self.new.file ≡ F.calls self.old.file }
         ensures later { self.old.is_open ≡ true → self.new ≡ self.old }
     {
-        if !self.is_open {
-            self.file.open()?;
-            write_back(&mut self.file)?;
-            self.is_open = true;
+        if self.is_open {
+            return Ok(());
         }
+        if self.is_only_read {
+            self.file.open_to_read()?;
+        } else {
+            self.file.open()?;
+            settled(&mut self.file)?;
+        }
+        self.is_open = true;
         Ok(())
+    }
+
+    // Opens the file where it may be written.
+    fn open_to_write(&mut self) -> Result<(), Trouble>
+        ensures faults { self.new.faults ≡ self.old.faults }
+        ensures only_read { self.old.is_only_read ≡ true → (result ≡ Err Trouble.Broken) × (self.new ≡ self.old) }
+    {
+        if self.is_only_read {
+            return Err(Trouble::Broken);
+        }
+        self.open()
     }
 
     fn read_file(&mut self, at: u64, out: &mut [u8]) -> Result<usize, Trouble>
@@ -132,17 +241,20 @@ impl<F: FileCalls> FileDisk<F> {
 
     fn write_file(&mut self, at: u64, bytes: &[u8]) -> Result<(), Trouble>
         ensures faults { self.new.faults ≡ self.old.faults }
+        ensures written { OnOk result (EndedBy (F.calls self.new.file) (WroteAt at bytes.now (Ok tt))) }
+        ensures only_read { self.old.is_only_read ≡ true → self.new ≡ self.old }
     {
-        self.open()?;
+        self.open_to_write()?;
         self.file.write_at(at, bytes)
     }
 
     fn sync_file(&mut self) -> Result<(), Trouble>
         ensures faults { self.new.faults ≡ self.old.faults }
         ensures synced { OnOk result (EndedSynced (F.calls self.new.file)) }
+        ensures only_read { self.old.is_only_read ≡ true → self.new ≡ self.old }
     {
-        self.open()?;
-        self.file.sync()?;
+        self.open_to_write()?;
+        sync_or_note(&mut self.file)?;
         self.file.check_name()
     }
 
@@ -182,7 +294,11 @@ impl<F: FileCalls> Disk for FileDisk<F> {
         }
     }
 
-    fn write(&mut self, at: u64, bytes: &[u8]) -> Result<(), Failed> {
+    fn write(&mut self, at: u64, bytes: &[u8]) -> Result<(), Failed>
+        ensures cause { HasCause self.old.faults self.new.faults result }
+        ensures counts { CountsFault self.old.faults self.new.faults result }
+        ensures put { OnOk result (EndedBy (F.calls self.new.file) (WroteAt at bytes.now (Ok tt))) }
+    {
         match self.write_file(at, bytes) {
             Ok(()) => Ok(()),
             Err(_) => {

@@ -15,6 +15,12 @@ const MODE: u32 = 0o600;
 /// What of a file's mode lets group or others read or write it.
 const OTHERS: u32 = 0o066;
 
+/// What the name of a file that says that a sync of it failed has behind the file's.
+const NOTE: &str = "unsettled";
+
+/// What the name of a copy that is to take a file's place has behind the file's.
+const COPY: &str = "copy";
+
 /// Where a journal's file stands.
 #[derive(Clone, Copy)]
 pub struct Place<'a> {
@@ -32,6 +38,7 @@ pub struct JournalFile<'a> {
     rt: &'a HostRuntime,
     place: Place<'a>,
     file: Option<File>,
+    copy: Option<File>,
 }
 
 // Whether this is a regular file that nobody but its user may read or write.
@@ -92,17 +99,112 @@ fn check_named(rt: &HostRuntime, place: Place<'_>, file: &File) -> io::Result<()
     }
 }
 
-// Opens or makes the file, for this process alone, and waits until the disk has its name.
+// Takes a file for this process alone.
+fn lock(file: &File) -> io::Result<()> {
+    match file.try_lock() {
+        Ok(()) => Ok(()),
+        Err(_) => Err(io::Error::from(ErrorKind::WouldBlock)),
+    }
+}
+
+fn sync_folder(rt: &HostRuntime, folder: &str) -> io::Result<()> {
+    File::open(rt, folder)?.sync_all()
+}
+
+// Opens or makes the file, for this process alone, and waits until the disk has its name. That it has its name still is
+// asked behind the lock: whoever had the lock may have put a copy in its place.
 fn opened(rt: &HostRuntime, place: Place<'_>) -> io::Result<File> {
     let is_new = !is_there(rt, place.path)?;
     let file = options(is_new).mode(MODE).open(rt, place.path)?;
     check_private(&file.metadata()?)?;
+    lock(&file)?;
     check_named(rt, place, &file)?;
-    if file.try_lock().is_err() {
-        return Err(io::Error::from(ErrorKind::WouldBlock));
-    }
-    File::open(rt, place.folder)?.sync_all()?;
+    sync_folder(rt, place.folder)?;
     Ok(file)
+}
+
+// Opens the file for reading alone.
+fn opened_to_read(rt: &HostRuntime, place: Place<'_>) -> io::Result<File> {
+    check_private(&fs::symlink_metadata(rt, place.path)?)?;
+    let file = File::open(rt, place.path)?;
+    check_private(&file.metadata()?)?;
+    check_named(rt, place, &file)?;
+    Ok(file)
+}
+
+// The name that the open file has now.
+fn name_of<'a>(rt: &HostRuntime, place: Place<'a>, file: &File) -> io::Result<&'a str> {
+    if is_named(rt, place.path, file)? {
+        return Ok(place.path);
+    }
+    check_named(rt, place, file)?;
+    Ok(place.moved)
+}
+
+// The path of what stands beside a file.
+fn beside(rt: &HostRuntime, path: &str, what: &str) -> io::Result<String> {
+    format!(in rt.alloc(); "{path}.{what}").map_err(|_| io::Error::from(ErrorKind::OutOfMemory))
+}
+
+// Makes a file that isn't there yet, which its user alone may read or write. A link isn't followed.
+fn made(rt: &HostRuntime, path: &str) -> io::Result<File> {
+    options(true).mode(MODE).open(rt, path)
+}
+
+fn removed(rt: &HostRuntime, path: &str) -> io::Result<()> {
+    match fs::remove_file(rt, path) {
+        Ok(()) => Ok(()),
+        Err(error) if error.kind() == ErrorKind::NotFound => Ok(()),
+        Err(error) => Err(error),
+    }
+}
+
+fn is_noted(rt: &HostRuntime, place: Place<'_>) -> io::Result<bool> {
+    let note = beside(rt, place.path, NOTE)?;
+    match fs::symlink_metadata(rt, note.as_str()) {
+        Ok(_) => Ok(true),
+        Err(error) if error.kind() == ErrorKind::NotFound => Ok(false),
+        Err(error) => Err(error),
+    }
+}
+
+// Makes the note. It needn't be on the disk: where the machine starts anew, what is read is what the disk has.
+fn note(rt: &HostRuntime, path: &str) -> io::Result<()> {
+    let note = beside(rt, path, NOTE)?;
+    match made(rt, note.as_str()) {
+        Ok(_) => Ok(()),
+        Err(error) if error.kind() == ErrorKind::AlreadyExists => Ok(()),
+        Err(error) => Err(error),
+    }
+}
+
+fn unnoted(rt: &HostRuntime, place: Place<'_>) -> io::Result<()> {
+    let note = beside(rt, place.path, NOTE)?;
+    removed(rt, note.as_str())?;
+    sync_folder(rt, place.folder)
+}
+
+/// Takes away what may stand beside a file that was removed: the note that a sync of it failed, and a copy.
+pub fn clear_beside(rt: &HostRuntime, path: &str) -> io::Result<()> {
+    let (copy, note) = (beside(rt, path, COPY)?, beside(rt, path, NOTE)?);
+    removed(rt, copy.as_str())?;
+    removed(rt, note.as_str())
+}
+
+// Makes a copy's file, for this process alone.
+fn begun(rt: &HostRuntime, place: Place<'_>) -> io::Result<File> {
+    let path = beside(rt, place.path, COPY)?;
+    removed(rt, path.as_str())?;
+    let copy = made(rt, path.as_str())?;
+    lock(&copy)?;
+    Ok(copy)
+}
+
+fn placed(rt: &HostRuntime, place: Place<'_>, copy: &File) -> io::Result<()> {
+    let path = beside(rt, place.path, COPY)?;
+    copy.sync_all()?;
+    fs::rename(rt, path.as_str(), place.path)?;
+    sync_folder(rt, place.folder)
 }
 
 impl<'a> JournalFile<'a> {
@@ -122,6 +224,7 @@ impl<'a> JournalFile<'a> {
             rt,
             place,
             file: None,
+            copy: None,
         }
     }
 }
@@ -131,6 +234,11 @@ impl<'a> FileCalls for JournalFile<'a> {
 
     fn open(&mut self) -> Result<(), Trouble> {
         self.file = Some(opened(self.rt, self.place).map_err(trouble_of)?);
+        Ok(())
+    }
+
+    fn open_to_read(&mut self) -> Result<(), Trouble> {
+        self.file = Some(opened_to_read(self.rt, self.place).map_err(trouble_of)?);
         Ok(())
     }
 
@@ -160,5 +268,42 @@ impl<'a> FileCalls for JournalFile<'a> {
             Some(file) => check_named(self.rt, self.place, file).map_err(trouble_of),
             None => Err(Trouble::Broken),
         }
+    }
+
+    fn is_unsettled(&mut self) -> Result<bool, Trouble> {
+        is_noted(self.rt, self.place).map_err(trouble_of)
+    }
+
+    fn unsettle(&mut self) -> Result<(), Trouble> {
+        let Some(file) = &self.file else {
+            return Err(Trouble::Broken);
+        };
+        let path = name_of(self.rt, self.place, file).map_err(trouble_of)?;
+        note(self.rt, path).map_err(trouble_of)
+    }
+
+    fn settle(&mut self) -> Result<(), Trouble> {
+        unnoted(self.rt, self.place).map_err(trouble_of)
+    }
+
+    fn begin_copy(&mut self) -> Result<(), Trouble> {
+        self.copy = Some(begun(self.rt, self.place).map_err(trouble_of)?);
+        Ok(())
+    }
+
+    fn copy_at(&mut self, at: u64, bytes: &[u8]) -> Result<(), Trouble> {
+        match &self.copy {
+            Some(copy) => copy.write_all_at(bytes, at).map_err(trouble_of),
+            None => Err(Trouble::Broken),
+        }
+    }
+
+    fn replace(&mut self) -> Result<(), Trouble> {
+        let Some(copy) = &self.copy else {
+            return Err(Trouble::Broken);
+        };
+        placed(self.rt, self.place, copy).map_err(trouble_of)?;
+        self.file = self.copy.take();
+        Ok(())
     }
 }

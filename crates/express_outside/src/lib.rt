@@ -8,14 +8,16 @@ mod file_disk;
 mod journal_file;
 mod patience;
 mod seeding;
+mod stand_ins;
 mod tcp_net;
 mod tcp_ports;
 
 pub use adapter::Adapter;
 pub use calls::{Direct, Reads, Trouble, Writes, trouble_of};
 pub use file_disk::{FileCalls, FileDisk};
-pub use journal_file::{JournalFile, Place};
+pub use journal_file::{JournalFile, Place, clear_beside};
 pub use patience::{Limit, Socket, Timed};
 pub use seeding::{NoSeed, random_seed};
+pub use stand_ins::{StandIns, stand_in};
 pub use tcp_net::{Connected, Ports, TcpNet};
 pub use tcp_ports::{TcpPorts, TcpSocket};

@@ -11,13 +11,15 @@ use std::os::unix::fs::FileExt;
 /// So many bytes a file in memory may have.
 const ROOM: usize = 32;
 
-/// How many bytes were written to a file, how many of them since its last sync, and the offset from which on its reads
-/// fail.
+/// How many bytes were written to a file, how many of them since its last sync, the offset from which on its reads
+/// fail, whether its syncs fail, and whether that is noted beside it.
 #[derive(Drop)]
 struct Notes {
     written: Cell<usize>,
     unsynced: Cell<usize>,
     fails_from: Cell<u64>,
+    syncs_fail: Cell<bool>,
+    is_unsettled: Cell<bool>,
 }
 
 impl Notes {
@@ -26,6 +28,8 @@ impl Notes {
             written: Cell::new(0),
             unsynced: Cell::new(0),
             fails_from: Cell::new(u64::MAX),
+            syncs_fail: Cell::new(false),
+            is_unsettled: Cell::new(false),
         }
     }
 
@@ -43,6 +47,7 @@ impl Notes {
 #[derive(Drop)]
 struct Narrow<'a> {
     content: [u8; ROOM],
+    copy: [u8; ROOM],
     len: usize,
     is_next_interrupted: bool,
     notes: &'a Notes,
@@ -55,6 +60,7 @@ impl<'a> Narrow<'a> {
         content[..len].copy_from_slice(&bytes[..len]);
         Narrow {
             content,
+            copy: [0; ROOM],
             len,
             is_next_interrupted: false,
             notes,
@@ -79,6 +85,10 @@ impl<'a> FileCalls for Narrow<'a> {
     ghost calls = { λ _. None };
 
     fn open(&mut self) -> Result<(), Trouble> {
+        Ok(())
+    }
+
+    fn open_to_read(&mut self) -> Result<(), Trouble> {
         Ok(())
     }
 
@@ -110,11 +120,47 @@ impl<'a> FileCalls for Narrow<'a> {
     }
 
     fn sync(&mut self) -> Result<(), Trouble> {
+        if self.notes.syncs_fail.get() {
+            return Err(Trouble::Broken);
+        }
         self.notes.unsynced.set(0);
         Ok(())
     }
 
     fn check_name(&mut self) -> Result<(), Trouble> {
+        Ok(())
+    }
+
+    fn is_unsettled(&mut self) -> Result<bool, Trouble> {
+        Ok(self.notes.is_unsettled.get())
+    }
+
+    fn unsettle(&mut self) -> Result<(), Trouble> {
+        self.notes.is_unsettled.set(true);
+        Ok(())
+    }
+
+    fn settle(&mut self) -> Result<(), Trouble> {
+        self.notes.is_unsettled.set(false);
+        Ok(())
+    }
+
+    fn begin_copy(&mut self) -> Result<(), Trouble> {
+        self.copy = [0; ROOM];
+        Ok(())
+    }
+
+    fn copy_at(&mut self, at: u64, bytes: &[u8]) -> Result<(), Trouble> {
+        let from = at.min(ROOM as u64) as usize;
+        if bytes.len() > ROOM - from {
+            return Err(Trouble::Broken);
+        }
+        self.copy[from..from + bytes.len()].copy_from_slice(bytes);
+        Ok(())
+    }
+
+    fn replace(&mut self) -> Result<(), Trouble> {
+        self.content = self.copy;
         Ok(())
     }
 }
@@ -149,23 +195,62 @@ fn has_counted<F: FileCalls>(disk: &FileDisk<F>, faults: u64) -> bool {
     disk.faults() == faults
 }
 
-fn written_back(disk: &mut NarrowDisk<'_>, notes: &Notes) -> [bool; 6] {
+// A file of which it isn't noted that a sync failed is read and not written.
+fn opened(disk: &mut NarrowDisk<'_>, notes: &Notes) -> [bool; 5] {
     [
         ends_with(disk, 8, b"before"),
-        notes.are(14, 0),
-        // It stays as it was, and is written back only once.
+        notes.are(0, 0),
         ends_with(disk, 0, b"written before"),
         ends_with(disk, 14, b""),
-        notes.are(14, 0),
         has_counted(disk, 0),
     ]
 }
 
 #[test]
-fn what_is_there_is_written_back_before_the_first_answer(rt: HostRuntime) {
+fn what_is_there_is_only_read_at_its_opening(rt: HostRuntime) {
     let notes = Notes::new();
     let mut disk = FileDisk::new(Narrow::new(b"written before", &notes));
-    assert!(rt; written_back(&mut disk, &notes) == [true; 6]);
+    assert!(rt; opened(&mut disk, &notes) == [true; 5]);
+}
+
+// A sync fails, and whoever opens the file next puts a copy of it in its place.
+fn renewed(notes: &Notes) -> [bool; 6] {
+    let mut disk = FileDisk::new(Narrow::new(b"written before", notes));
+    let opened = ends_with(&mut disk, 8, b"before");
+    notes.syncs_fail.set(true);
+    let failed = [!keeps(&mut disk, 0, b"W"), notes.is_unsettled.get()];
+    notes.syncs_fail.set(false);
+    let mut next = FileDisk::new(Narrow::new(b"Written before", notes));
+    [
+        opened,
+        failed[0],
+        failed[1],
+        ends_with(&mut next, 0, b"Written before"),
+        !notes.is_unsettled.get(),
+        has_counted(&next, 0),
+    ]
+}
+
+#[test]
+fn a_file_whose_sync_failed_is_put_in_place_anew(rt: HostRuntime) {
+    assert!(rt; renewed(&Notes::new()) == [true; 6]);
+}
+
+// A disk that is only read: whether its syncs and writes fail and it is read.
+fn only_read(notes: &Notes) -> [bool; 4] {
+    notes.is_unsettled.set(true);
+    let mut disk = FileDisk::only_read(Narrow::new(b"bytes", notes));
+    [
+        ends_with(&mut disk, 0, b"bytes"),
+        !keeps(&mut disk, 0, b"other"),
+        notes.is_unsettled.get(),
+        notes.are(0, 0),
+    ]
+}
+
+#[test]
+fn a_disk_that_is_only_read_changes_nothing(rt: HostRuntime) {
+    assert!(rt; only_read(&Notes::new()) == [true; 4]);
 }
 
 fn written_in_pieces(disk: &mut NarrowDisk<'_>, notes: &Notes) -> [bool; 7] {
@@ -200,7 +285,8 @@ fn a_read_error_is_not_taken_for_the_end(rt: HostRuntime) {
     assert!(rt; read_until_it_fails(&mut disk, &notes) == [true; 2]);
 }
 
-fn opened_once_it_is_read(disk: &mut NarrowDisk<'_>, notes: &Notes) -> [bool; 4] {
+fn opened_once_it_is_copied(disk: &mut NarrowDisk<'_>, notes: &Notes) -> [bool; 4] {
+    notes.is_unsettled.set(true);
     notes.fails_from.set(3);
     let (fails, keeps) = (fails(disk, 1), keeps(disk, 0, b"others"));
     let has_failed = has_counted(disk, 2);
@@ -209,10 +295,10 @@ fn opened_once_it_is_read(disk: &mut NarrowDisk<'_>, notes: &Notes) -> [bool; 4]
 }
 
 #[test]
-fn a_file_that_cannot_be_read_whole_is_not_opened(rt: HostRuntime) {
+fn a_file_that_cannot_be_copied_whole_is_not_opened(rt: HostRuntime) {
     let notes = Notes::new();
     let mut disk = FileDisk::new(Narrow::new(b"bytes", &notes));
-    assert!(rt; opened_once_it_is_read(&mut disk, &notes) == [true; 4]);
+    assert!(rt; opened_once_it_is_copied(&mut disk, &notes) == [true; 4]);
 }
 
 /// The folder that the program runs in, as a file whose writes go nowhere.
@@ -228,6 +314,10 @@ impl<'a> FileCalls for FolderAsFile<'a> {
     fn open(&mut self) -> Result<(), Trouble> {
         self.folder = Some(File::open(self.rt, ".").map_err(|error| trouble_of(error))?);
         Ok(())
+    }
+
+    fn open_to_read(&mut self) -> Result<(), Trouble> {
+        self.open()
     }
 
     fn read_at(&mut self, at: u64, out: &mut [u8]) -> Result<usize, Trouble> {
@@ -246,6 +336,30 @@ impl<'a> FileCalls for FolderAsFile<'a> {
     }
 
     fn check_name(&mut self) -> Result<(), Trouble> {
+        Ok(())
+    }
+
+    fn is_unsettled(&mut self) -> Result<bool, Trouble> {
+        Ok(true)
+    }
+
+    fn unsettle(&mut self) -> Result<(), Trouble> {
+        Ok(())
+    }
+
+    fn settle(&mut self) -> Result<(), Trouble> {
+        Ok(())
+    }
+
+    fn begin_copy(&mut self) -> Result<(), Trouble> {
+        Ok(())
+    }
+
+    fn copy_at(&mut self, _at: u64, _bytes: &[u8]) -> Result<(), Trouble> {
+        Ok(())
+    }
+
+    fn replace(&mut self) -> Result<(), Trouble> {
         Ok(())
     }
 }

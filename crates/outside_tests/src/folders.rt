@@ -1,7 +1,7 @@
 //! A desk's folder of the system.
 use crate::disks::keeps;
 use desk_files::{DeskFolder, DeskPaths, SystemFolder};
-use desk_outside::{DeskFile, Folder, Hold};
+use desk_outside::{DeskFile, Folder, FolderFault, Hold};
 use express_words::outside::Counted;
 use std::fs;
 use std::fs::Permissions;
@@ -94,20 +94,21 @@ const OPEN: &str = "folders_tests.open";
 
 const LINK: &str = "folders_tests.link";
 
-fn is_refused(rt: &HostRuntime, path: &str) -> Result<bool, Fail> {
+// Why a folder isn't held, where it isn't.
+fn refusal_of(rt: &HostRuntime, path: &str) -> Result<Option<FolderFault>, Fail> {
     let paths = DeskPaths::of(rt.alloc(), path)?;
     let mut folder = folder_of(rt, &paths);
-    Ok(folder.hold().is_err() && folder.faults() == 1)
+    Ok(folder.hold().err())
 }
 
-fn refuses_mode(rt: &HostRuntime, mode: u32) -> Result<bool, Fail> {
+fn refusal_of_mode(rt: &HostRuntime, mode: u32) -> Result<Option<FolderFault>, Fail> {
     fs::set_permissions(rt, OPEN, Permissions::from_mode(mode))?;
-    is_refused(rt, OPEN)
+    refusal_of(rt, OPEN)
 }
 
-fn refuses_link(rt: &HostRuntime) -> Result<bool, Fail> {
+fn refusal_of_link(rt: &HostRuntime) -> Result<Option<FolderFault>, Fail> {
     symlink(rt, OPEN, LINK)?;
-    let refused = is_refused(rt, LINK)?;
+    let refused = refusal_of(rt, LINK)?;
     fs::remove_file(rt, LINK)?;
     Ok(refused)
 }
@@ -116,13 +117,50 @@ fn refuses_link(rt: &HostRuntime) -> Result<bool, Fail> {
 fn a_folder_that_is_open_to_others_or_a_link_is_refused(rt: HostRuntime) -> Result<(), Fail> {
     fs::create_dir(&rt, OPEN)?;
     let open = [
-        refuses_mode(&rt, 0o701)?,
-        refuses_mode(&rt, 0o710)?,
-        refuses_mode(&rt, 0o750)?,
+        refusal_of_mode(&rt, 0o701)?,
+        refusal_of_mode(&rt, 0o710)?,
+        refusal_of_mode(&rt, 0o750)?,
     ];
-    let private = refuses_mode(&rt, 0o700)?;
-    let link = refuses_link(&rt)?;
+    let private = refusal_of_mode(&rt, 0o700)?;
+    let link = refusal_of_link(&rt)?;
     fs::remove_dir_all(&rt, OPEN)?;
-    assert!(rt; open == [true; 3] && !private && link);
+    assert!(rt; open == [Some(FolderFault::NotPrivate); 3] && private.is_none());
+    assert!(rt; link == Some(FolderFault::Link));
+    Ok(())
+}
+
+const NOWHERE: &str = "folders_tests.none/desk";
+
+const FILE: &str = "folders_tests.file";
+
+// Whether a ledger is there, in a folder where its mode is this.
+fn look_at_ledger(
+    rt: &HostRuntime,
+    paths: &DeskPaths,
+    mode: u32,
+) -> Result<Result<bool, FolderFault>, Fail> {
+    fs::set_permissions(
+        rt,
+        paths.path(DeskFile::Ledger),
+        Permissions::from_mode(mode),
+    )?;
+    Ok(folder_of(rt, paths).is_there(DeskFile::Ledger))
+}
+
+#[test]
+fn what_is_wrong_with_a_folder_is_told(rt: HostRuntime) -> Result<(), Fail> {
+    let paths = DeskPaths::of(rt.alloc(), OPEN)?;
+    fs::create_dir(&rt, OPEN)?;
+    fs::write(&rt, paths.path(DeskFile::Ledger), b"bytes")?;
+    fs::write(&rt, FILE, b"bytes")?;
+    let told = [refusal_of(&rt, NOWHERE)?, refusal_of(&rt, FILE)?];
+    let ledger = [
+        look_at_ledger(&rt, &paths, 0o644)?,
+        look_at_ledger(&rt, &paths, 0o600)?,
+    ];
+    fs::remove_dir_all(&rt, OPEN)?;
+    fs::remove_file(&rt, FILE)?;
+    assert!(rt; told == [Some(FolderFault::NoParent), Some(FolderFault::OtherKind)]);
+    assert!(rt; ledger == [Err(FolderFault::NotPrivate), Ok(true)]);
     Ok(())
 }

@@ -5,7 +5,7 @@ use express_words::outside::Counted;
 use node_journal::Disk;
 use std::fs;
 use std::fs::Permissions;
-use std::os::unix::fs::{PermissionsExt, symlink};
+use std::os::unix::fs::{MetadataExt, PermissionsExt, symlink};
 use std::test::Fail;
 
 fn on_file<'a>(rt: &'a HostRuntime, name: &'a str) -> FileDisk<JournalFile<'a>> {
@@ -206,5 +206,41 @@ fn a_file_may_be_moved_to_one_other_name(rt: HostRuntime) -> Result<(), Fail> {
     let moved = moved(&rt, &mut disk)?;
     fs::remove_file(&rt, ELSEWHERE)?;
     assert!(rt; moved == [true; 4]);
+    Ok(())
+}
+
+const ANEW: &str = "journals_tests.anew";
+
+const NOTE: &str = "journals_tests.anew.unsettled";
+
+const COPY: &str = "journals_tests.anew.copy";
+
+fn inode(rt: &HostRuntime, name: &str) -> Result<u64, Fail> {
+    Ok(fs::symlink_metadata(rt, name)?.ino())
+}
+
+// Whether a disk of the file reads its bytes and keeps others, and whether the file is another one then.
+fn is_anew(rt: &HostRuntime) -> Result<[bool; 3], Fail> {
+    let before = inode(rt, ANEW)?;
+    let mut disk = on_file(rt, ANEW);
+    Ok([
+        ends_with(&mut disk, 0, b"bytes"),
+        keeps(&mut disk, 0, b"other"),
+        inode(rt, ANEW)? != before,
+    ])
+}
+
+#[test]
+fn a_file_is_put_in_place_anew_where_its_sync_has_failed(rt: HostRuntime) -> Result<(), Fail> {
+    let made = makes(&rt, ANEW);
+    fs::write(&rt, NOTE, b"")?;
+    fs::write(&rt, COPY, b"left behind")?;
+    let first = is_anew(&rt)?;
+    fs::write(&rt, ANEW, b"bytes")?;
+    let second = is_anew(&rt)?;
+    let left = [fs::exists(&rt, NOTE)?, fs::exists(&rt, COPY)?];
+    fs::remove_file(&rt, ANEW)?;
+    assert!(rt; made && first == [true; 3] && second == [true, true, false]);
+    assert!(rt; left == [false; 2]);
     Ok(())
 }
