@@ -15,6 +15,8 @@ pub enum Missing {
     Words,
     /// The user's own folder, where the words name no desk.
     Home,
+    /// A proxy's place that is text.
+    Proxy,
     /// A seed.
     Seed,
 }
@@ -27,6 +29,7 @@ impl fmt::Display for Missing {
             Missing::Memory => "there is no memory left; try again later",
             Missing::Words => "a word that you typed is no text",
             Missing::Home => "HOME names no folder; name the desk's by --desk FOLDER",
+            Missing::Proxy => "EXPRESS_PROXY is no text",
             Missing::Seed => "the system gives no random bytes (/dev/urandom)",
         })
     }
@@ -38,7 +41,7 @@ impl Missing {
         ensures { result ≡ status_without self }
     {
         match self {
-            Missing::Words => 2,
+            Missing::Words | Missing::Proxy => 2,
             Missing::Memory | Missing::Home | Missing::Seed => 1,
         }
     }
