@@ -23,8 +23,8 @@ _express_desk() {
         [[ " ${COMP_WORDS[*]:1:COMP_CWORD-1} " == *' send '* ]]; then
         mapfile -t COMPREPLY < <(compgen -f -- "$word")
     elif [[ $word == -* ]]; then
-        mapfile -t COMPREPLY < <(compgen -W '--desk --out' -- "$word")
-    elif ((COMP_CWORD == 1)) || [[ ${COMP_WORDS[COMP_CWORD - 2]} == --desk ]]; then
+        mapfile -t COMPREPLY < <(compgen -W '--desk --out --proxy' -- "$word")
+    elif ((COMP_CWORD == 1)) || [[ ${COMP_WORDS[COMP_CWORD - 2]} == --desk || ${COMP_WORDS[COMP_CWORD - 2]} == --proxy ]]; then
         mapfile -t COMPREPLY < <(compgen -W "$_express_desk_commands" -- "$word")
     fi
 }

@@ -1,4 +1,4 @@
--- The command line of a desk, as clap reads it: a required WORD, two optional values, --desk and --out.
+-- The command line of a desk, as clap reads it: a required WORD, two optional values, --desk, --out and --proxy.
 use Rattle.std.specs.Prelude.{◌≡◌, ◌≤◌, ◌⊎◌, ℕ, List, [], ◌∷◌, Option, Some, None, true, option_map}
 use Rattle.std.specs.Prelude.{String, Vec, codes, map, string_bytes}
 use Rattle.std.specs.Fmt.{decimal}
@@ -29,8 +29,8 @@ abbrev pub word_rule : Rule
 word_rule = record (new_rule (codes "WORD")) { required = true }
 
 abbrev pub options_app : App
-options_app = with_rule (with_rule plain_app (option_rule (codes "DESK") (codes "desk")))
-    (option_rule (codes "OUT") (codes "out"))
+options_app = with_rule (with_rule (with_rule plain_app (option_rule (codes "DESK") (codes "desk")))
+    (option_rule (codes "OUT") (codes "out"))) (option_rule (codes "PROXY") (codes "proxy"))
 
 abbrev pub desk_app : App
 desk_app = with_rule (with_rule (with_rule options_app word_rule) (new_rule (codes "FIRST")))
@@ -39,7 +39,7 @@ desk_app = with_rule (with_rule (with_rule options_app word_rule) (new_rule (cod
 abbrev pub value_of : Text → List Text → Option Text
 value_of id words = first_of id (matches_of desk_app words)
 
--- What stands at each place of the command line, but for --desk.
+-- What stands at each place of the command line, but for --desk and --proxy.
 pub record Said : Type 0 where
   pub word : Option Text
   pub first : Option Text
@@ -105,3 +105,8 @@ AskSome words = (t : DeskTask) × IsAsked words (Some t)
 abbrev pub FolderIs : List Text → Option Text → Type 0
 FolderIs words folder = (WantHelp words → folder ≡ None)
     × ((WantHelp words → ⊥) → folder ≡ value_of (codes "DESK") words)
+
+-- The proxy that words of a desk name: what stands at --proxy. The help has none.
+abbrev pub ProxyIs : List Text → Option Text → Type 0
+ProxyIs words proxy = (WantHelp words → proxy ≡ None)
+    × ((WantHelp words → ⊥) → proxy ≡ value_of (codes "PROXY") words)

@@ -1,6 +1,6 @@
 //! What the words ask for.
 ghost use Rattle.std.specs.Prelude.{◌≡◌, ◌↔◌, IfOk, IfSome, IsTrue, Some, None, option_map};
-ghost use Rattle.desk_words.specs.CommandLine.{AskSome, FolderIs, IsAsked, IsHelpWord, WantHelp, said, words_in};
+ghost use Rattle.desk_words.specs.CommandLine.{AskSome, FolderIs, ProxyIs, IsAsked, IsHelpWord, WantHelp, said, words_in};
 ghost use Rattle.desk_words.specs.Places.{said_at};
 ghost use Rattle.desk_words.specs.Tasks.{IsCountOf, IsTaskOf};
 
@@ -10,10 +10,11 @@ use clap::error::ErrorKind;
 use express_words::NoMemory;
 use std::alloc::{AllocError, Global};
 
-/// What the words ask for: a task, and the desk's folder where they name one.
+/// What the words ask for: a task, and the desk's folder and a proxy where they name them.
 #[derive(Clone, Copy, Debug, PartialEq, Eq)]
 pub struct Asked<'a> {
     pub folder: Option<&'a str>,
+    pub proxy: Option<&'a str>,
     pub task: DeskTask<'a>,
 }
 
@@ -161,10 +162,13 @@ pub fn asked_of<'a>(alloc: Global, words: &'a Vec<String>) -> Result<Option<Aske
         IsAsked (words_in words.entry.now) (option_map (λ a. a.task) asked)) }
     ensures folder { IfOk result (λ asked. IfSome asked (λ a.
         FolderIs (words_in words.entry.now) (option_map (λ s. s.now) a.folder))) }
+    ensures proxy { IfOk result (λ asked. IfSome asked (λ a.
+        ProxyIs (words_in words.entry.now) (option_map (λ s. s.now) a.proxy))) }
 {
     if wants_help(words) {
         return Ok(Some(Asked {
             folder: None,
+            proxy: None,
             task: DeskTask::Help,
         }));
     }
@@ -176,6 +180,7 @@ pub fn asked_of<'a>(alloc: Global, words: &'a Vec<String>) -> Result<Option<Aske
     match task_in(alloc, &given)? {
         Some(task) => Ok(Some(Asked {
             folder: given.desk,
+            proxy: given.proxy,
             task,
         })),
         None => Ok(None),
@@ -192,6 +197,20 @@ pub fn folder_of<'a>(alloc: Global, words: &'a Vec<String>) -> Result<Option<&'a
 {
     match asked_of(alloc, words)? {
         Some(asked) => Ok(asked.folder),
+        None => Ok(None),
+    }
+}
+
+/// The proxy that the words name, if they are words of a desk and name one.
+#[tactic(auto, using(crate::proofs::Named::some_asked, crate::proofs::Named::none_asked))]
+pub fn proxy_of<'a>(alloc: Global, words: &'a Vec<String>) -> Result<Option<&'a str>, NoMemory>
+    ensures named { IfOk result (λ proxy. AskSome (words_in words.entry.now)
+        → ProxyIs (words_in words.entry.now) (option_map (λ s. s.now) proxy)) }
+    ensures other { IfOk result (λ proxy. (AskSome (words_in words.entry.now) → ⊥)
+        → option_map (λ s. s.now) proxy ≡ None) }
+{
+    match asked_of(alloc, words)? {
+        Some(asked) => Ok(asked.proxy),
         None => Ok(None),
     }
 }

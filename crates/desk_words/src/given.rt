@@ -15,20 +15,25 @@ pub(crate) struct Given<'a> {
     pub(crate) word: Option<&'a str>,
     pub(crate) first: Option<&'a str>,
     pub(crate) second: Option<&'a str>,
+    pub(crate) proxy: Option<&'a str>,
 }
 
-// The options --desk and --out.
+// The options --desk, --out and --proxy.
 fn with_options<'a>(alloc: Global) -> Result<Command<'a>, AllocError>
     ensures { IfOk result (λ c. app_of c ≡ options_app) }
 {
     let desk = Arg::new(alloc, "DESK").long("desk").action(ArgAction::Set);
     let out = Arg::new(alloc, "OUT").long("out").action(ArgAction::Set);
+    let proxy = Arg::new(alloc, "PROXY")
+        .long("proxy")
+        .action(ArgAction::Set);
     let bare = Command::new(alloc, "express-desk")
         .no_binary_name(true)
         .disable_help_flag(true)
         .disable_version_flag(true);
     let with_desk = bare.arg(desk)?;
-    let whole = with_desk.arg(out)?;
+    let with_out = with_desk.arg(out)?;
+    let whole = with_out.arg(proxy)?;
     Ok(whole)
 }
 
@@ -58,6 +63,8 @@ pub(crate) fn given_in<'a>(alloc: Global, words: &'a Vec<String>) -> Result<Give
         ≡ value_of (codes "SECOND") (words_in words.entry.now)) }
     ensures out { IfOk result (λ g. option_map (λ s. s.now) g.out
         ≡ value_of (codes "OUT") (words_in words.entry.now)) }
+    ensures proxy { IfOk result (λ g. option_map (λ s. s.now) g.proxy
+        ≡ value_of (codes "PROXY") (words_in words.entry.now)) }
     ensures taken { IfOk result (λ g. fault_of desk_app (words_in words.entry.now) ≡ []) }
     ensures refused { IfErr result (λ e. kind_of e ≢ ErrorKind.OutOfMemory
         → fault_of desk_app (words_in words.entry.now) ≢ []) }
@@ -71,6 +78,7 @@ pub(crate) fn given_in<'a>(alloc: Global, words: &'a Vec<String>) -> Result<Give
             word: matches.get_str("WORD"),
             first: matches.get_str("FIRST"),
             second: matches.get_str("SECOND"),
+            proxy: matches.get_str("PROXY"),
         }),
     }
 }

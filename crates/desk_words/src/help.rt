@@ -2,7 +2,7 @@
 
 /// The help: each word, in plain English.
 pub const HELP: &str = "\
-express-desk [--desk FOLDER] WORD ..
+express-desk [--desk FOLDER] [--proxy HOST:PORT] WORD ..
 
 For a stranger who has a card:
   send CARD [FILE]       leave a letter: the file's text, or what you type, up to 998 bytes or so
@@ -20,6 +20,8 @@ For an owner of a desk:
   resume                 finish what a stop or a fault left undone; every other word does so first
 
 The desk lies in ~/.express-desk, or in the folder that --desk names. It is always safe to run a word again.
+Servers at onion addresses are reached through Tor, at 127.0.0.1:9050 or else Tor Browser's 127.0.0.1:9150;
+--proxy names another place, as EXPRESS_PROXY does, and then every server is reached through it.
 The exit status is 0 when it is done, 1 when it isn't done yet (run the word again), 2 for words that
 aren't these or a name that isn't taken, 3 for a file that isn't right, 4 when the desk is in use, and
 5 when letters met.

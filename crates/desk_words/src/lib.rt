@@ -6,6 +6,6 @@ mod given;
 mod help;
 mod task;
 
-pub use asking::{Asked, asked_of, folder_of};
+pub use asking::{Asked, asked_of, folder_of, proxy_of};
 pub use help::HELP;
 pub use task::{DeskTask, MOST_COUNT, USUAL_COUNT};

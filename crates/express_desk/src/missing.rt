@@ -17,6 +17,8 @@ pub enum Missing {
     Home,
     /// A file that stands in for a closed input or output.
     Null,
+    /// A proxy's place that is text.
+    Proxy,
     /// A seed.
     Seed,
 }
@@ -30,6 +32,7 @@ impl fmt::Display for Missing {
             Missing::Words => "a word that you typed is no text",
             Missing::Home => "HOME names no folder; name the desk's by --desk FOLDER",
             Missing::Null => "the system has no /dev/null",
+            Missing::Proxy => "EXPRESS_PROXY is no text",
             Missing::Seed => "the system gives no random bytes (/dev/urandom)",
         })
     }
@@ -41,7 +44,7 @@ impl Missing {
         ensures { result ≡ status_without self }
     {
         match self {
-            Missing::Words => 2,
+            Missing::Words | Missing::Proxy => 2,
             Missing::Memory | Missing::Home | Missing::Null | Missing::Seed => 1,
         }
     }

@@ -67,3 +67,10 @@ returns-in-Ok-clause-second c =
     let words_are = ap (map string_bytes) c.as_slice.ensures.value in
     let rows = (c.in-Ok.ensures.matches (ap is_simple whole_is ∙ simple)).0 ∙ ap₂ matches_of whole_is words_are in
     c.get_str-in-Ok-4.ensures ∙ first_value-rows (found_of c.in-Ok.matches) (codes "SECOND") ∙ ap (first_of (codes "SECOND")) rows
+
+pub returns-in-Ok-clause-proxy : goal.returns-in-Ok-clause-proxy
+returns-in-Ok-clause-proxy c =
+    let whole_is : app_of c.in_ok-command.command ≡ desk_app = c.in_ok-command.ensures in
+    let words_are = ap (map string_bytes) c.as_slice.ensures.value in
+    let rows = (c.in-Ok.ensures.matches (ap is_simple whole_is ∙ simple)).0 ∙ ap₂ matches_of whole_is words_are in
+    c.get_str-in-Ok-5.ensures ∙ first_value-rows (found_of c.in-Ok.matches) (codes "PROXY") ∙ ap (first_of (codes "PROXY")) rows
