@@ -7,9 +7,9 @@ use Rattle.desk_outside.specs.declared.folder.DeskFile.{DeskFile}
 use Rattle.desk_outside.specs.declared.folder.Hold.{Hold}
 use Rattle.desk_outside.specs.declared.folder_fault.FolderFault.{FolderFault}
 use Rattle.desk_outside.specs.declared.papers.Written.{Written}
-use Rattle.desk_outside.specs.declared.papers.Written.TheVariants.{New, Before, Taken}
+use Rattle.desk_outside.specs.declared.papers.Written.TheVariants.{New, Before}
 use Rattle.desk_files.specs.declared.paper_files.Stands.{Stands}
-use Rattle.desk_files.specs.declared.paper_files.Stands.TheVariants.{These, Others}
+use Rattle.desk_files.specs.declared.paper_files.Stands.TheVariants.{These}
 
 -- A call on a folder, with its answer: it was made where it wasn't there, found to be its user's alone,
 -- locked; a file was looked for, renamed to another, unlinked; the disk has the folder's names.
@@ -55,12 +55,9 @@ abbrev pub PutNew : Option (List PaperStep) → (folder name bytes : List ℕ) �
 PutNew calls folder name bytes =
     EndedByBoth calls (Laid folder name bytes (Ok tt)) (Placed folder name bytes (Ok true))
 
--- What the answer to a write stands for: that these bytes were put under the name, that they stood there, and that
--- something else did.
+-- What the answer to a write stands for: that these bytes were put under the name, and that they stood there.
 abbrev pub IsAnswered : Written → Option (List PaperStep) → (folder name bytes : List ℕ) → Type 0
 IsAnswered New calls folder name bytes = (before : Option (List PaperStep))
     × PutNew before folder name bytes × FoundBehind before calls folder name bytes These
 IsAnswered Before calls folder name bytes =
     (before : Option (List PaperStep)) × FoundBehind before calls folder name bytes These
-IsAnswered Taken calls folder name bytes =
-    (before : Option (List PaperStep)) × FoundBehind before calls folder name bytes Others

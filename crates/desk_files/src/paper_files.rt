@@ -72,13 +72,11 @@ pub struct PaperFiles<C> {
 fn written_as(is_new: bool, stands: Stands) -> Result<Written, Trouble>
     ensures new { result ≡ Ok Written.New → (is_new ≡ true) × (stands ≡ Stands.These) }
     ensures before { result ≡ Ok Written.Before → stands ≡ Stands.These }
-    ensures taken { result ≡ Ok Written.Taken → stands ≡ Stands.Others }
 {
     match stands {
         Stands::These if is_new => Ok(Written::New),
         Stands::These => Ok(Written::Before),
-        Stands::Others => Ok(Written::Taken),
-        Stands::Nothing => Err(Trouble::Broken),
+        Stands::Others | Stands::Nothing => Err(Trouble::Broken),
     }
 }
 

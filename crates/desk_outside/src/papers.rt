@@ -12,8 +12,6 @@ pub enum Written {
     New,
     /// A file of that name was there and has these very bytes, and the disk has it.
     Before,
-    /// Something of that name was there that isn't a file with these bytes. It stays as it is.
-    Taken,
 }
 
 /// Files that are named on the command line: pair files, cards and letters. With a count of its faults.
@@ -29,7 +27,8 @@ pub trait Papers: Counted {
         ensures counts { CountsFault (Self.seen self.old).faults (Self.seen self.new).faults result };
 
     /// Writes a new file of this name into this folder, which its user alone may read, and waits until the disk has it.
-    /// The folder is made where there is none. A file of that name stays as it is, and its answer says what it has.
+    /// The folder is made where there is none. Whatever has that name stays as it is: it is a fault, unless it is a file
+    /// with these very bytes.
     fn write(&mut self, folder: &str, name: &str, bytes: &[u8]) -> Result<Written, Failed>
         ensures cause { HasCause (Self.seen self.old).faults (Self.seen self.new).faults result }
         ensures counts { CountsFault (Self.seen self.old).faults (Self.seen self.new).faults result };

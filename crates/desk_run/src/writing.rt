@@ -13,7 +13,7 @@ use crate::showing::{ShownLetters, either, is_met, met_text, note_shown};
 use crate::trouble::Trouble;
 use desk_entries::{Held, Reading};
 use desk_ledger::Ledger;
-use desk_outside::{Papers, Written};
+use desk_outside::Papers;
 use express_words::NoMemory;
 use express_words::outside::Sink;
 use node_journal::Disk;
@@ -86,10 +86,12 @@ fn write_file<'a, P: Papers>(
 {
     if let Held::Letter { id: _, text } = &reading.held {
         let file = file_name(alloc, name, reading.serial)?;
-        return match papers.write(folder, file.as_str(), text.as_slice()) {
-            Ok(Written::New | Written::Before) => Ok(()),
-            Ok(Written::Taken) | Err(_) => Err(Trouble::Unwritten(folder)),
-        };
+        if papers
+            .write(folder, file.as_str(), text.as_slice())
+            .is_err()
+        {
+            return Err(Trouble::Unwritten(folder));
+        }
     }
     Ok(())
 }

@@ -48,7 +48,7 @@ fn written(papers: &mut Files<'_>) -> [bool; 4] {
     [
         writes(papers, "one.txt", b"a letter") == Some(Written::New),
         writes(papers, "one.txt", b"a letter") == Some(Written::Before),
-        writes(papers, "one.txt", b"another") == Some(Written::Taken),
+        writes(papers, "one.txt", b"another").is_none(),
         has(papers, ONE, b"a letter"),
     ]
 }
@@ -56,9 +56,9 @@ fn written(papers: &mut Files<'_>) -> [bool; 4] {
 fn counted(papers: &mut Files<'_>) -> [bool; 4] {
     [
         !reads(papers, "papers_tests.letters/two.txt"),
-        has_counted(papers, 1),
-        writes(papers, "none/one.txt", b"nowhere").is_none(),
         has_counted(papers, 2),
+        writes(papers, "none/one.txt", b"nowhere").is_none(),
+        has_counted(papers, 3),
     ]
 }
 
@@ -84,7 +84,7 @@ fn planted(rt: &HostRuntime) -> Result<[bool; 4], Fail> {
     Ok([
         papers.write(PLANTED, "one.txt", b"a letter") == Ok(Written::New),
         has(&mut papers, "papers_tests.planted/one.txt", b"a letter"),
-        papers.write(PLANTED, "two.txt", b"mine") == Ok(Written::Taken),
+        papers.write(PLANTED, "two.txt", b"mine").is_err(),
         !fs::exists(rt, PART)?,
     ])
 }
