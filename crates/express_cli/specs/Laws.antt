@@ -8,7 +8,6 @@ use Rattle.schedule_text.specs.Mill.{mill_schedule}
 use Rattle.schedule_text.specs.Rules.{KeepsRules}
 use Rattle.schedule_text.specs.Spelling.{SpellsSchedule}
 use Rattle.schedule_text.specs.declared.schedule.Schedule.{Schedule}
-use Rattle.run_rules.specs.Follows.{Follows}
 use Rattle.run_rules.specs.EveryEnd.{HistoryIsSo, RepliesFit}
 use Rattle.run_rules.specs.Heeded.{CurrentIsHeeded}
 use Rattle.run_rules.specs.HistoryRuns.{HistoryIsRuns}
@@ -20,6 +19,14 @@ use Rattle.run_hiding.specs.Flow.{OutcomesStayBeside, RunsFitBeside, SchedulesFi
 use Rattle.run_hiding.specs.Laws.{DistinctRunsStay, ForeignOrdersStay, ForeignRepliesAreIdeal, IdealsStay}
 use Rattle.run_hiding.specs.Laws.{LettersAreIdeal, MasksApart, RealIsIdeal, ResultsStay, RunsFitOtherAims}
 use Rattle.run_hiding.specs.Laws.{RunsHaveForm, RunsReturn, SightsStay, WritesAddUp}
+use Rattle.run_laws.specs.Draws.{DrawsAreApart}
+use Rattle.run_laws.specs.Owners.{OwnersKeepTheirs}
+use Rattle.run_laws.specs.Shown.{FramesAreShown}
+use Rattle.step_laws.specs.Causes.{HelperAnswers, LeaderAnswers}
+use Rattle.step_laws.specs.Draws.{ClientsDrawAfresh, ServersDrawAfresh}
+use Rattle.step_laws.specs.Lanes.{DepositIsHeld, LaterIsTaken, RequestsGoOn}
+use Rattle.step_laws.specs.Points.{HelperTellsNoPoint, LeaderTellsNoPoint}
+use Rattle.step_laws.specs.Replies.{AcksAreOwn, TurnsAreOwn}
 use Rattle.replay_world.specs.Laws.{AreFromClients}
 use Rattle.replay_world.specs.Mills.{MillsCount}
 use Rattle.replay_world.specs.Protocol.{FollowsProtocol}
@@ -74,9 +81,9 @@ pub record Laws : Type 0 where
   pub journal_in_order : OfEverySchedule JournalInOrder
   pub shares_are_folds : OfEverySchedule SharesAreFolds
   pub boxes_are_plain : OfEverySchedule BoxesArePlain
-  -- All this follows from one relation of the history and the two runs, which also says what each row, each
-  -- client and each outcome holds.
-  pub invariant_holds : OfEverySchedule Follows
+  -- An owner's own boxes are his: in every run over bytes a client is told that it has no box of a number
+  -- only where it was told of no more boxes than that before, counted from 0.
+  pub owners_keep_theirs : OwnersKeepTheirs
   -- Each client's requests are told in the order in which it was asked.
   pub requests_are_told : RequestsAreTold
   -- A frame of a client's current request, whenever it comes, is one that the helper says it holds, and the
@@ -96,9 +103,27 @@ pub record Laws : Type 0 where
   -- A foreign command that did something was brought what it needs by its lane, at both servers: submission
   -- and deposit, for an audit or settle both proofs, for a read or retire the token of the box's key at both.
   pub strangers_were_brought : StrangersWereBrought
-  -- What is addressed to a client is one of the six answers that clients get, whatever lane it is: no frame
-  -- to a client has the point of a proof in it.
+  -- What is addressed to a client is one of the six answers that clients get, whatever lane it is.
   pub clients_get_answers : ClientsGetAnswers
+  -- The point of a proof is told to no client: whatever lane's frame comes to a leader or a helper at any
+  -- state, what is said to it is the same for any two points of a row that isn't done.
+  pub leader_tells_no_point : LeaderTellsNoPoint
+  pub helper_tells_no_point : HelperTellsNoPoint
+  -- At any state the leader answers a client's frame by its row's kept answer or by a refusal that has its
+  -- one cause, and the helper refuses a command for its cause alone.
+  pub leader_answers : LeaderAnswers
+  pub helper_answers : HelperAnswers
+  -- A lane goes on, whatever became of its last request: a later request's command is issued, or is to come
+  -- again for want of room, at every row that isn't busy; its deposit is held; and a client whose request is
+  -- told to come again, or that the link is down, still has it.
+  pub later_is_taken : LaterIsTaken
+  pub deposit_is_held : DepositIsHeld
+  pub requests_go_on : RequestsGoOn
+  -- What a leader writes has the lane and serial of the frame, or of the oldest command, that it answers.
+  pub turns_are_own : TurnsAreOwn
+  pub acks_are_own : AcksAreOwn
+  -- Each `show` shows the frame of its number as it was sent, if it was, and nothing else is shown.
+  pub frames_are_shown : FramesAreShown
   -- At the end each request that a client was asked before a `finish` of it has its outcome.
   pub finishes_answer : FinishesAnswer
   -- Where the client had a request, the `finish` leaves no command outstanding: each drain ends with none.
@@ -121,6 +146,12 @@ pub record Laws : Type 0 where
   pub distinct_stay : DistinctStay
   pub writes_are_choices : WritesAreChoices
   pub writes_are_seen : WritesAreSeen
+  -- Draws are apart: a client's words of a write, its keys of a box and both servers' draws are slices of the
+  -- streams that the run's seed is expanded into, and no two of them share a byte. At any state a server's
+  -- count of draws and a client's serial name a stream of their seed that no other count or serial names.
+  pub draws_are_apart : OfEverySchedule DrawsAreApart
+  pub servers_draw_afresh : ServersDrawAfresh
+  pub clients_draw_afresh : ClientsDrawAfresh
   -- What either server is sent in a whole run is what it is sent in the ideal history with the run's own
   -- expansions and masks, foreign lanes beside; and no two reads take one slice of a key's stream.
   pub letters_are_ideal : (viewer : ℕ) → OfEverySchedule (LettersAreIdeal viewer)

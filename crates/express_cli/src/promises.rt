@@ -12,7 +12,11 @@ use run_hiding::{
     flow_stays, runs_are_ideal, runs_fit_other_aims, sights_stay, strangers_tell_no_more,
     writes_add_up,
 };
+use run_laws::{draws_are_apart, frames_are_shown, owners_keep_theirs};
 use settings_text::{carry_is_read_exactly, client_is_read_exactly, serve_is_read_exactly};
+use step_laws::{
+    answers_are_own, draws_are_fresh, lanes_go_on, points_are_untold, refusals_have_causes,
+};
 use write_hiding::{views_stay, writes_are_choices};
 
 /// What holds of every schedule, batch, game and file: the laws that stand on the top call. It does nothing.
@@ -33,6 +37,12 @@ pub fn laws()
     rows_are_awaited();
     strangers_were_brought();
     clients_get_answers();
+    points_are_untold();
+    refusals_have_causes();
+    lanes_go_on();
+    answers_are_own();
+    owners_keep_theirs();
+    frames_are_shown();
     accepted_writes_pass();
     answers_join();
     unwritten_is_missing();
@@ -40,6 +50,8 @@ pub fn laws()
     few_values_pass();
     views_stay();
     writes_are_choices();
+    draws_are_apart();
+    draws_are_fresh();
     runs_are_ideal();
     strangers_tell_no_more();
     sights_stay();
