@@ -41,6 +41,10 @@ use Rattle.batch_audit.specs.Batch.{FewValuesPass}
 use Rattle.batch_audit.specs.Sorting.{SortsAreOne}
 use Rattle.write_hiding.specs.Laws.{ChoicesStay, ViewsStay, MovesReturn, DistinctStay}
 use Rattle.write_hiding.specs.Laws.{WritesAreChoices, WritesAreSeen}
+use Rattle.write_hiding.specs.MaliciousLaws.{MaliciousViewsStay, MaliciousDistinctStay}
+use Rattle.write_hiding.specs.MaliciousLaws.{MaliciousWritesAreSeen}
+use Rattle.write_hiding.specs.MaliciousLaws.{AdversariesPlayTheSame, AdversariesSeeTheSame}
+use Rattle.write_hiding.specs.MaliciousLaws.{AdversaryMovesReturn, DistinctStayForAdversaries}
 
 pub record Laws : Type 0 where
   -- A schedule that a text spells keeps the rules: so each law of schedules, below, speaks of what a replay
@@ -146,6 +150,15 @@ pub record Laws : Type 0 where
   pub distinct_stay : DistinctStay
   pub writes_are_choices : WritesAreChoices
   pub writes_are_seen : WritesAreSeen
+  -- So does its view where it opens to the other server whatever it likes, at any point but 1 and 2; and what
+  -- it sees where it picks key, point and openings by what it has seen.
+  pub malicious_views_stay : MaliciousViewsStay
+  pub malicious_distinct_stay : MaliciousDistinctStay
+  pub malicious_writes_are_seen : MaliciousWritesAreSeen
+  pub adversaries_play_the_same : AdversariesPlayTheSame
+  pub adversaries_see_the_same : AdversariesSeeTheSame
+  pub adversary_moves_return : AdversaryMovesReturn
+  pub distinct_stay_for_adversaries : DistinctStayForAdversaries
   -- Draws are apart: a client's words of a write, its keys of a box and both servers' draws are slices of the
   -- streams that the run's seed is expanded into, and no two of them share a byte. At any state a server's
   -- count of draws and a client's serial name a stream of their seed that no other count or serial names.

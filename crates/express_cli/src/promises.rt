@@ -17,7 +17,10 @@ use settings_text::{carry_is_read_exactly, client_is_read_exactly, serve_is_read
 use step_laws::{
     answers_are_own, draws_are_fresh, lanes_go_on, points_are_untold, refusals_have_causes,
 };
-use write_hiding::{views_stay, writes_are_choices};
+use write_hiding::{
+    adversaries_see_the_same, malicious_views_stay, malicious_writes_are_seen, views_stay,
+    writes_are_choices,
+};
 
 /// What holds of every schedule, batch, game and file: the laws that stand on the top call. It does nothing.
 pub fn laws()
@@ -50,6 +53,9 @@ pub fn laws()
     few_values_pass();
     views_stay();
     writes_are_choices();
+    malicious_views_stay();
+    malicious_writes_are_seen();
+    adversaries_see_the_same();
     draws_are_apart();
     draws_are_fresh();
     runs_are_ideal();
