@@ -2,7 +2,7 @@
 -- Source of the term: Goldreich, "Foundations of Cryptography", volume 2, 2004, section 7.2.3. Eskandarian,
 -- Corrigan-Gibbs, Zaharia and Boneh, "Express", USENIX Security 2021, ask for privacy against one malicious
 -- server.
-use Rattle.std.specs.Prelude.{◌≢◌, ℕ, ◌-◌, ◌==◌, ◌∷◌, length, if◌then◌else◌}
+use Rattle.std.specs.Prelude.{◌≡◌, ◌≢◌, ℕ, ◌-◌, ◌==◌, ◌∷◌, length, if◌then◌else◌}
 use Rattle.dpf_rules.specs.Expansion.{challenge_r, challenge_s}
 use Rattle.dpf_rules.specs.Keys.{honest_keys}
 use Rattle.dpf_rules.specs.Evaluation.{difference_at}
@@ -11,7 +11,10 @@ use Rattle.express_words.specs.declared.audit.Closing.{Closing}
 use Rattle.audit_rules.specs.Audit.{zero_share, one_share, opened_of, closing_of}
 use Rattle.audit_rules.specs.Values.{Write, values}
 use Rattle.write_hiding.specs.declared.choice.View.{View}
-use Rattle.write_hiding.specs.Choices.{PlainChoice, PlainAim, PlainGame}
+use Rattle.write_hiding.specs.declared.choice.IdealChoice.{IdealChoice}
+use Rattle.write_hiding.specs.declared.choice.Aim.{Aim}
+use Rattle.write_hiding.specs.declared.choice.Game.{Game}
+use Rattle.write_hiding.specs.Choices.{PlainChoice, PlainAim, PlainGame, plain_choice, plain_aim, plain_game}
 use Rattle.write_hiding.specs.Views.{public_part, own_share, other_share, other_opening}
 use Rattle.write_hiding.specs.Writes.{Drawn}
 
@@ -36,6 +39,16 @@ malicious_view viewer sent choice aim game =
 pub record MasksCount (game : PlainGame) : Type 0 where
   pub one : game.sigma ≢ 1
   pub two : game.sigma ≢ 2
+
+-- Of one choice at its aim and another at its own, which lie in memory, the viewer has the same view at such
+-- a point, whatever it opens.
+abbrev pub SameMaliciousViews : ℕ → Game → (one : IdealChoice) → Aim → (other : IdealChoice) → Aim
+    → Type 0
+SameMaliciousViews viewer game one at other there =
+    let rules = plain_game game in
+    MasksCount rules → (sent : Openings) →
+    malicious_view viewer sent (plain_choice one) (plain_aim at) rules
+    ≡ malicious_view viewer sent (plain_choice other) (plain_aim there) rules
 
 -- what the viewer gets of a client's write: its keys and its share of the proof from the client, and the
 -- other server's values of the audit, by that one's own leaves, where this was opened to it

@@ -55,7 +55,8 @@ MaliciousWritesAreSeen = OfAWrite (λ width viewer drawn aim game.
 -- ---- an adversary that picks the key, the point and what it opens
 
 -- a law of what an adversary plays and sees of two writes to registered addresses
-abbrev pub OfTwoPlays : (Adversary → List ℕ → ℕ → ℕ → PlainChoice → PlainAim → PlainAim → Type 0) → Type 0
+abbrev pub OfTwoPlays : (Adversary → List ℕ → ℕ → ℕ → PlainChoice → PlainAim → PlainAim → Type 0)
+    → Type 0
 OfTwoPlays Law =
     (adversary : Adversary) (addresses : List ℕ) (width viewer : ℕ) (choice : PlainChoice)
     (from to : PlainAim) →

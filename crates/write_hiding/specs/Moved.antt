@@ -72,6 +72,16 @@ moved_mask sigma mask at1 at2 to1 to2 =
     let change = value (through_three 0 (bit_xor at1 to1) (bit_xor at2 to2)) sigma in
     bit_xor mask (product (inverse_at 7 (weight sigma)) change)
 
+-- the other server's u and v, which mask its f and g, moved by the sums that it audited before and those that
+-- it audits after the move
+abbrev pub u_by_sums : ℕ → List ℕ → ℕ → (were are : Sums) → ℕ
+u_by_sums viewer words sigma were are =
+    moved_mask sigma (slice_index words (1 - viewer)) were.x were.m are.x are.m
+
+abbrev pub v_by_sums : ℕ → List ℕ → ℕ → (were are : Sums) → ℕ
+v_by_sums viewer words sigma were are =
+    moved_mask sigma (slice_index words (2 + (1 - viewer))) were.y were.z are.y are.z
+
 -- ---- the words
 
 -- the choice with its expansions moved, and its words as they were
@@ -86,18 +96,16 @@ walked viewer choice from to =
 abbrev pub moved_sums : ℕ → PlainChoice → PlainAim → PlainAim → PlainGame → Sums
 moved_sums viewer choice from to game = other_sums viewer (walked viewer choice from to) to game
 
--- the other server's u and v, which mask its f and g
+-- the other server's u and v
 abbrev pub moved_u : ℕ → PlainChoice → PlainAim → PlainAim → PlainGame → ℕ
 moved_u viewer choice from to game =
     let sums = other_sums viewer choice from game in
-    let gone = moved_sums viewer choice from to game in
-    moved_mask game.sigma (slice_index choice.words (1 - viewer)) sums.x sums.m gone.x gone.m
+    u_by_sums viewer choice.words game.sigma sums (moved_sums viewer choice from to game)
 
 abbrev pub moved_v : ℕ → PlainChoice → PlainAim → PlainAim → PlainGame → ℕ
 moved_v viewer choice from to game =
     let sums = other_sums viewer choice from game in
-    let gone = moved_sums viewer choice from to game in
-    moved_mask game.sigma (slice_index choice.words (2 + (1 - viewer))) sums.y sums.z gone.y gone.z
+    v_by_sums viewer choice.words game.sigma sums (moved_sums viewer choice from to game)
 
 -- the other server's a and b, by which it opens what it opened
 abbrev pub moved_a : ℕ → PlainChoice → PlainAim → PlainAim → PlainGame → ℕ
@@ -177,7 +185,8 @@ pub record IsAudited (viewer : ℕ) (choice : PlainChoice) (from to : PlainAim) 
   pub difference : audited.difference ≡ difference_of viewer (walked viewer choice from to) to
 
 -- Whatever aim gave the viewer this to see, these are the words of the choice that is moved from there.
-abbrev pub AreMovedWords : ℕ → PlainChoice → PlainAim → PlainGame → View → Sums → Audited → List ℕ → Type 0
+abbrev pub AreMovedWords : ℕ → PlainChoice → PlainAim → PlainGame → View → Sums → Audited
+    → List ℕ → Type 0
 AreMovedWords viewer choice to game seen sums audited words =
     (from : PlainAim) → IsAudited viewer choice from to game seen sums audited →
     words ≡ moved_words viewer choice from to game

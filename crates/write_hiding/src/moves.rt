@@ -1,10 +1,9 @@
 //! The choice by which another write gives the viewer the same view.
 ghost use Rattle.std.specs.Prelude.{◌≡◌, ◌≢◌, ◌≤◌, length, AllPairs, Contains, IfOk};
 ghost use Rattle.express_words.specs.Limits.{IsWidth};
-ghost use Rattle.express_words.specs.declared.audit.Openings.{Openings};
-ghost use Rattle.write_hiding.specs.Choices.{IsChoice, plain_choice, plain_aim, plain_game};
+ghost use Rattle.write_hiding.specs.Choices.{IsChoice, plain_choice};
 ghost use Rattle.write_hiding.specs.Views.{view_of};
-ghost use Rattle.write_hiding.specs.Malicious.{malicious_view, MasksCount};
+ghost use Rattle.write_hiding.specs.Malicious.{SameMaliciousViews};
 ghost use Rattle.write_hiding.specs.Moved.{moved_of};
 
 use crate::audit::audit;
@@ -46,10 +45,7 @@ pub fn moved(
         view_of c.viewer gone to.now game.now ≡ view_of c.viewer c from.now game.now) }
     // .. also that of a malicious viewer, whatever it opens, at any point but 1 and 2, ..
     ensures same_malicious_view { let c = choice.now in
-        let g = plain_game game.now in
-        IfOk result (λ gone. MasksCount g → (sent : Openings) →
-        malicious_view c.viewer sent (plain_choice gone) (plain_aim to.now) g
-        ≡ malicious_view c.viewer sent (plain_choice c) (plain_aim from.now) g) }
+        IfOk result (λ gone. SameMaliciousViews c.viewer game.now gone to.now c from.now) }
     // .. and the opposite move gives the choice back.
     ensures moves_back { let c = choice.now in
         IfOk result (λ gone. moved_of c.viewer gone to.now from.now game.now ≡ plain_choice c) }

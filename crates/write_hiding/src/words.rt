@@ -1,9 +1,9 @@
 //! The words of the proof that open the same with moved expansions, and close the same.
-ghost use Rattle.std.specs.Prelude.{◌≡◌, ◌≤◌, ◌-◌, ◌+◌, length, slice_index, bit_xor};
+ghost use Rattle.std.specs.Prelude.{◌≡◌, ◌≤◌, length, bit_xor};
 ghost use Rattle.tower_numbers.specs.Levels.{inverse_at};
 ghost use Rattle.audit_rules.specs.Audit.{product, value, through_three};
 ghost use Rattle.write_hiding.specs.Choices.{plain_choice, plain_aim, plain_game};
-ghost use Rattle.write_hiding.specs.Moved.{weight, moved_mask, with_one, with_zero};
+ghost use Rattle.write_hiding.specs.Moved.{weight, moved_mask, u_by_sums, v_by_sums, with_one, with_zero};
 ghost use Rattle.write_hiding.specs.Moved.{zero_words, AreMovedWords};
 
 use crate::audit::Audited;
@@ -69,10 +69,8 @@ fn moved_mask(sigma: u128, mask: u128, from: (u128, u128), to: (u128, u128)) -> 
 // The other server's u and v, by which f and g have the values that they had.
 fn moved_masks(choice: &IdealChoice, before: &Sums, after: &Sums, sigma: u128) -> (u128, u128)
     requires viewer { choice.now.viewer ≤ 1 }
-    ensures u { let u = slice_index choice.now.words (1 - choice.now.viewer) in
-        result.0 ≡ moved_mask sigma u before.now.x before.now.m after.now.x after.now.m }
-    ensures v { let v = slice_index choice.now.words (2 + (1 - choice.now.viewer)) in
-        result.1 ≡ moved_mask sigma v before.now.y before.now.z after.now.y after.now.z }
+    ensures u { let c = choice.now in result.0 ≡ u_by_sums c.viewer c.words sigma before.now after.now }
+    ensures v { let c = choice.now in result.1 ≡ v_by_sums c.viewer c.words sigma before.now after.now }
 {
     let other = usize::from(1 - choice.viewer);
     let u = choice.words[other];
