@@ -9,6 +9,7 @@ import threading
 
 TOP = os.path.dirname(os.path.dirname(os.path.abspath(__file__)))
 PROGRAM = os.path.join(TOP, "crates/express/out/express")
+LASTING = range(20000, 32000)  # ports that the system gives to no outgoing connection
 PATIENCE = 3600  # seconds for a process to listen, or to come to its end, before it counts as one that hangs
 
 
@@ -64,7 +65,7 @@ def port_row(count):
 
 def lasting_ports(count):
     """Free ports that the system gives to no outgoing connection, also while nobody listens there."""
-    return [port for port in random.sample(range(20000, 32000), 1000) if is_free(port)][:count]
+    return [port for port in random.sample(LASTING, 1000) if is_free(port)][:count]
 
 
 def digits(count):
