@@ -49,6 +49,10 @@ one_answer (Err e) f ok err = cc ok
 fault_of : (T : Type 0) (f g : NoteFault) → IsErrOf {T = T} (Err f) g → f ≡ g
 fault_of T f g e = cc
 
+-- whatever a call would answer else
+pub same_fault : (T U : Type 0) (f g : NoteFault) → IsErrOf {T = T} (Err f) g → IsErrOf {T = U} (Err f) g
+same_fault T U f g e = ap (λ (x : NoteFault). Err x) (fault_of T f g e)
+
 either : (T U : Type 0) (f : NoteFault) → IsOkOrDiskFault {T = T} (Err f) → IsOkOrDiskFault {T = U} (Err f)
 either T U (Journal (Disk faults)) ok = tt
 either T U (Journal Closed) ok = absurd ok
@@ -61,8 +65,8 @@ either T U (Foreign n) ok = absurd ok
 -- a fault keeps the same, whatever a call would answer else
 pub keeps_err : (T U : Type 0) (n : Noted) (old new : Sight) (f : NoteFault) → KeepsNote {T = T} n old new (Err f) → KeepsNote {T = U} n old new (Err f)
 keeps_err T U n old new f k =
-    let over : (g : NoteFault) → IsErrOf {T = T} (Err f) g → IsErrOf {T = U} (Err f) g = λ g e. ap (λ (x : NoteFault). Err x) (fault_of T f g e) in
-    let back : (g : NoteFault) → IsErrOf {T = U} (Err f) g → IsErrOf {T = T} (Err f) g = λ g e. ap (λ (x : NoteFault). Err x) (fault_of U f g e) in
+    let over : (g : NoteFault) → IsErrOf {T = T} (Err f) g → IsErrOf {T = U} (Err f) g = λ g e. same_fault T U f g e in
+    let back : (g : NoteFault) → IsErrOf {T = U} (Err f) g → IsErrOf {T = T} (Err f) g = λ g e. same_fault U T f g e in
     record {
       opening = k.opening;
       step = tt;
@@ -73,9 +77,9 @@ keeps_err T U n old new f k =
       durable = k.durable;
       any_moment = k.any_moment;
       judged = record {
+        closed = λ closed. over (Journal Closed) (k.judged.closed closed);
+        full = λ still passes. over (Journal (Full old.journal.end)) (k.judged.full still passes);
         memory = λ e. k.judged.memory (back NoMemory e);
-        closed = λ some closed. over (Journal Closed) (k.judged.closed (λ e. some (over NoMemory e)) closed);
-        full = λ some still passes. over (Journal (Full old.journal.end)) (k.judged.full (λ e. some (over NoMemory e)) still passes);
         fits = λ some still fits.
             let was = k.judged.fits (λ e. some (over NoMemory e)) still fits in (either T U f was.0, was.1);
       };

@@ -2,6 +2,7 @@ pub mod CallLaws
 pub mod CoreLaws
 pub mod FaultLaws
 pub mod HistoryLaws
+pub mod JudgeLaws
 pub mod KeptLaws
 pub mod MakingLaws
 pub mod NoteLaws

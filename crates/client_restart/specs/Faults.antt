@@ -71,6 +71,16 @@ IsNoMemoryOrForeign NoMemory = Unit {0}
 IsNoMemoryOrForeign (Foreign n) = Unit {0}
 IsNoMemoryOrForeign (Journal why) = ⊥
 
+-- the faults of what stands on a disk, which are found without memory
+abbrev pub IsOfRecords : NoteFault → Type 0
+IsOfRecords (Journal (Disk faults)) = Unit {0}
+IsOfRecords (Journal (Damaged at)) = Unit {0}
+IsOfRecords (Journal Closed) = ⊥
+IsOfRecords (Journal NotEmpty) = ⊥
+IsOfRecords (Journal (Full end)) = ⊥
+IsOfRecords NoMemory = ⊥
+IsOfRecords (Foreign n) = Unit {0}
+
 -- the faults of a client that is opened again
 abbrev pub IsOfReopen : NoteFault → Type 0
 IsOfReopen (Journal (Disk faults)) = Unit {0}

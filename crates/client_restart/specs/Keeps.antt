@@ -1,13 +1,13 @@
 -- What a call does that notes something before its step.
 use Rattle.std.specs.Prelude.{◌≡◌, ℕ, List, [], ◌∷◌, ◌++◌, true, false}
-use Rattle.std.specs.Prelude.{Result, IsErrOf, OnOk, OnErr}
+use Rattle.std.specs.Prelude.{Option, Some, None, Result, IsErrOf, OnOk, OnErr}
 use Rattle.express_words.specs.Seen.{Seen}
 use Rattle.node_journal.specs.Disk.{DiskSeen, LeavesOnly, Within}
 use Rattle.node_journal.specs.Records.{Appended}
-use Rattle.node_journal.specs.Journal.{JournalState, HasSpace, LacksSpace, IsOkOrDisk, OnlyAnswers}
-use Rattle.node_journal.specs.Journal.{OnlyAnswersFull, LeavesWithOrWithout, longer, broken}
+use Rattle.node_journal.specs.Journal.{JournalState, HasSpace, LacksSpace, IsOkOrDisk, LeavesWithOrWithout}
+use Rattle.node_journal.specs.Journal.{longer, broken}
 use Rattle.node_journal.specs.declared.fault.JournalFault.{JournalFault}
-use Rattle.node_journal.specs.declared.fault.JournalFault.TheVariants.{Closed, Full}
+use Rattle.node_journal.specs.declared.fault.JournalFault.TheVariants.{Closed, NotEmpty, Full, Disk, Damaged}
 use Rattle.client_restart.specs.declared.fault.NoteFault.{NoteFault}
 use Rattle.client_restart.specs.declared.fault.NoteFault.TheVariants.{Journal, NoMemory}
 use Rattle.client_restart.specs.declared.opening.ClientOpening.{ClientOpening}
@@ -17,17 +17,23 @@ use Rattle.client_restart.specs.Notes.{Noted, note_record, size_of}
 use Rattle.client_restart.specs.Steps.{CoreState, step_of}
 use Rattle.client_restart.specs.Kept.{ClientState, HoldsNotes, LeavesNotes, StandsByNotes}
 
--- The record of a note goes behind a journal's end.
+-- why a note won't be written, judged before anything is: none where its record is then appended
+abbrev pub IsFaultBefore : Noted → JournalState → Option JournalFault → Type 0
+IsFaultBefore note j (Some Closed) = j.closed ≡ true
+IsFaultBefore note j (Some (Full end)) = (j.closed ≡ false) × LacksSpace j (size_of note) × (end ≡ j.end)
+IsFaultBefore note j (Some NotEmpty) = ⊥
+IsFaultBefore note j (Some (Disk faults)) = ⊥
+IsFaultBefore note j (Some (Damaged at)) = ⊥
+IsFaultBefore note j None = (j.closed ≡ false) × HasSpace j (size_of note)
+
+-- The record of a note goes behind the end of a journal that has space for it.
 pub record WritesNote {D : Type 0} (shows : D → DiskSeen) (note : Noted) (old new : JournalState)
     (disk disk_new : D) (r : Result (Unit {0}) JournalFault) : Type 0 where
-  pub closed : old.closed ≡ true → OnlyAnswers r Closed old new disk disk_new
-  pub full : old.closed ≡ false → LacksSpace old (size_of note) → OnlyAnswersFull r old new disk disk_new
-  pub fits : old.closed ≡ false → HasSpace old (size_of note) → IsOkOrDisk r × OnErr r (new ≡ broken old)
+  pub fits : IsOkOrDisk r × OnErr r (new ≡ broken old)
   pub longer : OnOk r (new ≡ longer (size_of note) old)
   pub added : OnOk r ((c : List ℕ) → (shows disk_new).reads c
       → Appended (shows disk).reads (note_record note) c)
-  pub any_moment : old.closed ≡ false
-      → LeavesWithOrWithout old.limit (shows disk) (shows disk_new) (note_record note)
+  pub any_moment : LeavesWithOrWithout old.limit (shows disk) (shows disk_new) (note_record note)
 
 -- what is seen of a kept client
 pub record Sight : Type 1 where
@@ -46,12 +52,12 @@ sight shows counts k = record {
   faults = (counts k.disk).faults;
 }
 
--- the faults of a note, in the order in which they are judged
+-- The faults of a note, in the order in which they are judged: what the journal won't write is never told
+-- as a want of memory.
 pub record IsJudged {T : Type 0} (note : Noted) (j now : JournalState) (r : Result T NoteFault) : Type 0 where
+  pub closed : j.closed ≡ true → IsErrOf r (Journal Closed)
+  pub full : j.closed ≡ false → LacksSpace j (size_of note) → IsErrOf r (Journal (Full j.end))
   pub memory : IsErrOf r NoMemory → TakesMemory note
-  pub closed : (IsErrOf r NoMemory → ⊥) → j.closed ≡ true → IsErrOf r (Journal Closed)
-  pub full : (IsErrOf r NoMemory → ⊥) → j.closed ≡ false → LacksSpace j (size_of note)
-      → IsErrOf r (Journal (Full j.end))
   pub fits : (IsErrOf r NoMemory → ⊥) → j.closed ≡ false → HasSpace j (size_of note)
       → IsOkOrDiskFault r × OnErr r (now ≡ broken j)
 

@@ -36,6 +36,19 @@ abbrev pub HoldsNoNotes : (List ℕ → Type 0) → Type 0
 HoldsNoNotes reads = (o : ClientOpening) (notes : List Noted) (c : List ℕ) → reads c → IsClientOpening o
     → AllNotes notes → HoldsNotes o notes reads → ⊥
 
+-- The disk's content is the records of an opening and of notes, and under this limit nothing of it is damaged.
+pub record HoldsWholeNotes (limit : ℕ) (reads : List ℕ → Type 0) : Type 0 where
+  pub opening : ClientOpening
+  pub is_opening : IsClientOpening opening
+  pub notes : List Noted
+  pub whole : AllNotes notes
+  pub held : HoldsNotes opening notes reads
+  pub undamaged : (c : List ℕ) → reads c → IsUndamaged limit 0 c
+
+-- at the first byte nothing is damaged
+abbrev pub IsSoundFirst : ℕ → (List ℕ → Type 0) → Type 0
+IsSoundFirst limit reads = (c : List ℕ) → reads c → found 0 limit c ≡ Err (Damaged 0) → ⊥
+
 -- The client is the fold of the opening and of the notes that stand on the disk.
 pub record StandsByNotes (o : ClientOpening) (core : CoreState) (reads : List ℕ → Type 0) : Type 0 where
   pub notes : List Noted

@@ -19,7 +19,7 @@ ghost use Rattle.client_restart.specs.Steps.{fold};
 use crate::ended::Ended;
 use crate::fault::NoteFault;
 use crate::hearing::{asked_note, is_one_frame, makes_step};
-use crate::keeping::keep;
+use crate::keeping::NoteJournal;
 use crate::note::Note;
 use crate::opening::ClientOpening;
 use crate::owned_box::OwnedBox;
@@ -36,7 +36,7 @@ pub struct KeptClient<D: Disk> {
     alloc: Global,
     opening: ClientOpening,
     core: ClientCore,
-    journal: Journal,
+    journal: NoteJournal,
     disk: D,
 }
 
@@ -53,7 +53,7 @@ impl<D: Disk> Model for KeptClient<D> {
 }
 
 impl<D: Disk> KeptClient<D> {
-    ghost use Rattle.client_restart.specs.Kept.{HoldsNoNotes, HoldsNotes, IsDamagedBehindNotes, IsToldBy, MakesOnly, OnDisk, StandsByNotes};
+    ghost use Rattle.client_restart.specs.Kept.{HoldsNoNotes, HoldsNotes, HoldsWholeNotes, IsDamagedBehindNotes, IsSoundFirst, IsToldBy, MakesOnly, OnDisk, StandsByNotes};
     ghost use Rattle.client_restart.specs.Keeps.{CallKeeps};
 
     /// A client before its first request, on a disk with no byte. No more than `limit` bytes of the disk will
@@ -103,7 +103,7 @@ impl<D: Disk> KeptClient<D> {
                 alloc,
                 opening: *opening,
                 core,
-                journal,
+                journal: NoteJournal::of(journal, limit),
                 disk,
             }),
             Err(fault) => Err((NoteFault::Journal(fault), disk)),
@@ -128,10 +128,15 @@ impl<D: Disk> KeptClient<D> {
         ensures foreign { IfErr result (λ x. OnForeign x.0 (λ n. (c : List ℕ) → (D.disk disk).reads c
             → IsForeign n (content c))) }
         ensures never_foreign { IfErr result (λ x. OnForeign x.0 (λ n. HoldsNoNotes (D.disk disk).reads)) }
+        ensures foreign_first { IfErr result
+            (λ x. OnForeign x.0 (λ n. n ≡ 0 → IsSoundFirst limit (D.disk disk).reads)) }
         ensures damaged { IfErr result (λ x. OnDamaged x.0 (λ n. (c : List ℕ) → (D.disk disk).reads c
             → IsDamagedBehindNotes limit n c)) }
         ensures never_damaged { IfErr result (λ x. OnDamaged x.0 (λ n. (c : List ℕ) → (D.disk disk).reads c
             → IsUndamaged limit 0 c → ⊥)) }
+        // A want of memory hides nothing that is wrong with the records.
+        ensures no_memory { IfErr result
+            (λ x. OnNoMemory x.0 (HoldsWholeNotes limit (D.disk disk).reads)) }
         ensures untouched { IfErr result (λ x. IsUntouched (D.disk disk) (D.disk x.1)) }
         ensures counts_ok { IfOk result (λ k. (D.Counted.seen k.disk).faults ≡ (D.Counted.seen disk).faults) }
         ensures counts { IfErr result
@@ -157,17 +162,20 @@ impl<D: Disk> KeptClient<D> {
         }
     }
 
-    // A note is on the disk before its step.
+    // A note is on the disk before its step. What the journal won't write is told before memory is asked for.
     fn take(&mut self, note: &Note<'_>) -> Result<(), NoteFault>
         requires is_note { IsNote (plain_note note.now) }
         requires fits { FitsRecord (plain_note note.now) }
         ensures keeps { CallKeeps D.disk D.Counted.seen (plain_note note.now) self.old self.new result }
         ensures stays { OnStill result (self.new ≡ self.old) }
     {
+        if let Some(fault) = self.journal.fault_before(note) {
+            return Err(NoteFault::Journal(fault));
+        }
         let Ok(room) = self.core.room_for(self.alloc, note) else {
             return Err(NoteFault::NoMemory);
         };
-        match keep(&mut self.journal, &mut self.disk, note) {
+        match self.journal.keep(&mut self.disk, note) {
             Ok(()) => {
                 self.core.step(note, room);
                 Ok(())

@@ -6,6 +6,7 @@ mod ended;
 mod errand;
 mod fault;
 mod hearing;
+mod judging;
 mod keeping;
 mod kept;
 mod laws;

@@ -1,7 +1,7 @@
 //! What a client's journal notes behind its opening, and the records of it.
 ghost use Rattle.std.specs.Prelude.{◌≡◌, ◌≤◌, ◌+◌, ◌<◌, ◌∷◌, ◌++◌, [], IsNone, IfSome, length};
 ghost use Rattle.std.specs.Int.{w32, w128, to_be_bytes};
-ghost use Rattle.client_restart.specs.Notes.{FitsRecord, IsNoNote, IsNote, note_record, plain_note};
+ghost use Rattle.client_restart.specs.Notes.{FitsRecord, IsNoNote, IsNote, note_record, plain_note, size_of};
 
 use crate::owned_box::OwnedBox;
 use client_core::Request;
@@ -133,6 +133,21 @@ impl<'a> Note<'a> {
             Note::GivenUp => put(&[10], &[], room),
             Note::Owned(owned) => put(&tagged_box(11, &owned), &[], room),
             Note::Remark(words) => put(&[12], words, room),
+        }
+    }
+
+    /// How many bytes the record has.
+    pub(crate) fn size(&self) -> usize
+        requires { FitsRecord (plain_note self.now) }
+        ensures { result ≡ size_of (plain_note self.now) }
+    {
+        match *self {
+            Note::Asked(Request::Register { address: _ }) => 17,
+            Note::Asked(Request::Write { target: _, message }) => 17 + message.len(),
+            Note::Asked(Request::Read { own: _ } | Request::Retire { own: _ }) => 5,
+            Note::Heard(bytes) | Note::Remark(bytes) => 1 + bytes.len(),
+            Note::Owned(_) => 9,
+            Note::Told | Note::GivenUp => 1,
         }
     }
 

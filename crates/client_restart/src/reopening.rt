@@ -5,11 +5,13 @@ ghost use Rattle.node_journal.specs.Records.{content, IsUndamaged};
 ghost use Rattle.client_restart.specs.Openings.{IsClientOpening};
 ghost use Rattle.client_restart.specs.Cores.{core_in, IsCore};
 ghost use Rattle.client_restart.specs.Records.{IsForeign};
-ghost use Rattle.client_restart.specs.Faults.{IfForeign, IfDamaged, IsOfReopen, Counts};
+ghost use Rattle.client_restart.specs.Faults.{IfForeign, IfDamaged, OnNoMemory, IsOfReopen, Counts};
 ghost use Rattle.client_restart.specs.Replays.{IsReadingNotes};
-ghost use Rattle.client_restart.specs.Kept.{StandsByNotes, IsDamagedBehindNotes};
+ghost use Rattle.client_restart.specs.Kept.{StandsByNotes, HoldsWholeNotes, IsDamagedBehindNotes, IsSoundFirst};
 
 use crate::fault::NoteFault;
+use crate::judging::judge;
+use crate::keeping::NoteJournal;
 use crate::opening::ClientOpening;
 use crate::replaying::{first_opening, replay};
 use crate::standing::ClientCore;
@@ -21,15 +23,11 @@ use std::alloc::Global;
 pub(crate) struct FoundClient {
     pub(crate) opening: ClientOpening,
     pub(crate) core: ClientCore,
-    pub(crate) journal: Journal,
+    pub(crate) journal: NoteJournal,
 }
 
-/// The client that the records on a disk give.
-pub(crate) fn find<D: Disk>(
-    alloc: Global,
-    disk: &mut D,
-    limit: u64,
-) -> Result<FoundClient, NoteFault>
+// The client that the records on a disk give, where memory is found for it.
+fn restore<D: Disk>(alloc: Global, disk: &mut D, limit: u64) -> Result<FoundClient, NoteFault>
     requires limit { limit ≤ 2 ^ 62 }
     ensures is_opening { IfOk result (λ f. IsClientOpening f.opening) }
     ensures is_core { IfOk result (λ f. IsCore f.core) }
@@ -39,6 +37,7 @@ pub(crate) fn find<D: Disk>(
     ensures cause { IfErr result IsOfReopen }
     ensures foreign { IfForeign result (λ n. (c : List ℕ) → (D.disk disk.old).reads c
         → IsForeign n (content c)) }
+    ensures foreign_first { IfForeign result (λ n. n ≡ 0 → IsSoundFirst limit (D.disk disk.old).reads) }
     ensures damaged { IfDamaged result (λ n. (c : List ℕ) → (D.disk disk.old).reads c
         → IsDamagedBehindNotes limit n c) }
     ensures never_damaged { IfDamaged result (λ n. (c : List ℕ) → (D.disk disk.old).reads c
@@ -61,8 +60,41 @@ pub(crate) fn find<D: Disk>(
         Ok(()) => Ok(FoundClient {
             opening,
             core,
-            journal,
+            journal: NoteJournal::of(journal, limit),
         }),
+        Err(fault) => Err(fault),
+    }
+}
+
+/// The client that the records on a disk give. Where no memory is found for it they are judged without any,
+/// so that what is wrong with them is told all the same.
+pub(crate) fn find<D: Disk>(
+    alloc: Global,
+    disk: &mut D,
+    limit: u64,
+) -> Result<FoundClient, NoteFault>
+    requires limit { limit ≤ 2 ^ 62 }
+    ensures is_opening { IfOk result (λ f. IsClientOpening f.opening) }
+    ensures is_core { IfOk result (λ f. IsCore f.core) }
+    ensures stands { IfOk result (λ f. StandsByNotes f.opening (core_in f.core) (D.disk disk.old).reads) }
+    ensures ready { IfOk result (λ f. f.journal.ready ≡ true) }
+    ensures reading { IfOk result (λ f. IsReadingNotes limit f.journal (D.disk disk.new)) }
+    ensures cause { IfErr result IsOfReopen }
+    ensures foreign { IfForeign result (λ n. (c : List ℕ) → (D.disk disk.old).reads c
+        → IsForeign n (content c)) }
+    ensures foreign_first { IfForeign result (λ n. n ≡ 0 → IsSoundFirst limit (D.disk disk.old).reads) }
+    ensures damaged { IfDamaged result (λ n. (c : List ℕ) → (D.disk disk.old).reads c
+        → IsDamagedBehindNotes limit n c) }
+    ensures never_damaged { IfDamaged result (λ n. (c : List ℕ) → (D.disk disk.old).reads c
+        → IsUndamaged limit 0 c → ⊥) }
+    ensures no_memory { IfErr result (λ fault.
+        OnNoMemory fault (HoldsWholeNotes limit (D.disk disk.old).reads)) }
+    ensures untouched { IsUntouched (D.disk disk.old) (D.disk disk.new) }
+    ensures counts { Counts (D.Counted.seen disk.old).faults (D.Counted.seen disk.new).faults result }
+{
+    match restore(alloc, disk, limit) {
+        Ok(found) => Ok(found),
+        Err(NoteFault::NoMemory) => Err(judge(disk, limit)),
         Err(fault) => Err(fault),
     }
 }

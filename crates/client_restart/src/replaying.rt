@@ -1,14 +1,16 @@
 //! The notes of a journal, each taken as it was before.
-ghost use Rattle.std.specs.Prelude.{◌≡◌, ◌≤◌, ◌<◌, ◌^◌, ℕ, List, ◌∷◌, true, false, Ok, IfOk, OnOk, IfErr};
+ghost use Rattle.std.specs.Prelude.{◌≡◌, ◌≤◌, ◌<◌, ◌^◌, ℕ, List, ◌∷◌, true, false, Ok, None, IfOk, OnOk, IfErr, IsErrOf};
 ghost use Rattle.node_journal.specs.Disk.{IsUntouched};
 ghost use Rattle.node_journal.specs.Records.{content, records_from, HasNoMore, StaysUndamaged};
 ghost use Rattle.node_journal.specs.Journal.{at_end};
 ghost use Rattle.client_restart.specs.Openings.{IsClientOpening, opening_record};
 ghost use Rattle.client_restart.specs.Cores.{core_in, IsCore};
-ghost use Rattle.client_restart.specs.Notes.{IsNoNote};
+ghost use Rattle.client_restart.specs.Kept.{IsSoundFirst};
+ghost use Rattle.client_restart.specs.Notes.{plain_note};
 ghost use Rattle.client_restart.specs.Records.{LacksOpening};
-ghost use Rattle.client_restart.specs.Faults.{IfForeign, IfDamaged, IsNoMemoryOrForeign, IsOfReopen, Counts};
-ghost use Rattle.client_restart.specs.Replays.{IsReadingNotes, StepsByNote, StepsOnce, StepsToEnd, StandsForeign, StandsDamaged, EndsForeign, EndsDamaged};
+ghost use Rattle.client_restart.specs.Faults.{IfForeign, IfDamaged, IsOfRecords, IsOfReopen, Counts};
+ghost use Rattle.client_restart.specs.Replays.{IsReadingNotes, IfNote, StandsNote, StepsOnce, StepsToEnd, StandsForeign, StandsDamaged, StandsWanting, EndsForeign, EndsDamaged, EndsWanting};
+ghost use Rattle.client_restart.specs.declared.fault.NoteFault.TheVariants.{NoMemory};
 
 use crate::fault::NoteFault;
 use crate::note::{NOTE_MAX, Note};
@@ -33,9 +35,10 @@ pub(crate) fn first_opening<D: Disk>(
     ensures reading { OnOk result (IsReadingNotes journal.old.limit journal.new (D.disk disk.new)) }
     ensures foreign { IfForeign result (λ n. (n ≡ 0)
         × ((c : List ℕ) → (D.disk disk.old).reads c → LacksOpening (content c))) }
+    ensures foreign_first { IfForeign result (λ n. IsSoundFirst journal.old.limit (D.disk disk.old).reads) }
     ensures damaged { IfDamaged result (λ n. (n ≡ 0)
         × StandsDamaged journal.old.limit 0 (D.disk disk.old).reads) }
-    ensures cause { IfErr result IsOfReopen }
+    ensures cause { IfErr result IsOfRecords }
     ensures counts { Counts (D.Counted.seen disk.old).faults (D.Counted.seen disk.new).faults result }
     ensures untouched { IsUntouched (D.disk disk.old) (D.disk disk.new) }
 {
@@ -50,28 +53,34 @@ pub(crate) fn first_opening<D: Disk>(
     }
 }
 
-// The step of a record, whose number this is, if it is a note's.
-fn step_record(
-    alloc: Global,
-    core: &mut ClientCore,
-    bytes: &[u8],
+/// The note that the next record is, whose number this is; None where no record is left.
+pub(crate) fn next_note<'a, D: Disk>(
+    journal: &mut Journal,
+    disk: &mut D,
+    room: &'a mut [u8; NOTE_MAX],
     number: u64,
-) -> Result<(), NoteFault>
-    requires is { IsCore core.old }
-    ensures ok { OnOk result (StepsByNote bytes.now (core_in core.old) (core_in core.new)) }
-    ensures foreign { IfForeign result (λ n. (n ≡ number) × IsNoNote bytes.now) }
-    ensures cause { IfErr result IsNoMemoryOrForeign }
-    ensures is { IsCore core.new }
+) -> Result<Option<Note<'a>>, NoteFault>
+    requires reading { IsReadingNotes journal.old.limit journal.old (D.disk disk.old) }
+    ensures note { IfNote result (λ note. StandsNote journal.old.limit (plain_note note)
+        journal.old.end journal.new.end (D.disk disk.old).reads) }
+    ensures ended { result ≡ Ok None → journal.new ≡ at_end journal.old }
+    ensures no_more { result ≡ Ok None → HasNoMore journal.old.end (D.disk disk.old).reads }
+    ensures reading { OnOk result (IsReadingNotes journal.old.limit journal.new (D.disk disk.new)) }
+    ensures foreign { IfForeign result (λ n. (n ≡ number)
+        × StandsForeign journal.old.end (D.disk disk.old).reads) }
+    ensures damaged { IfDamaged result (λ n. (n ≡ journal.old.end)
+        × StandsDamaged journal.old.limit journal.old.end (D.disk disk.old).reads) }
+    ensures cause { IfErr result IsOfRecords }
+    ensures counts { Counts (D.Counted.seen disk.old).faults (D.Counted.seen disk.new).faults result }
+    ensures untouched { IsUntouched (D.disk disk.old) (D.disk disk.new) }
 {
-    let Some(note) = Note::of(bytes) else {
-        return Err(NoteFault::Foreign(number));
-    };
-    match core.room_for(alloc, &note) {
-        Ok(room) => {
-            core.step(&note, room);
-            Ok(())
-        }
-        Err(_) => Err(NoteFault::NoMemory),
+    match journal.next(disk, room) {
+        Ok(Some(len)) => match Note::of(&room[..len]) {
+            Some(note) => Ok(Some(note)),
+            None => Err(NoteFault::Foreign(number)),
+        },
+        Ok(None) => Ok(None),
+        Err(fault) => Err(NoteFault::Journal(fault)),
     }
 }
 
@@ -85,13 +94,8 @@ fn replay_next<D: Disk>(
 ) -> Result<bool, NoteFault>
     requires reading { IsReadingNotes journal.old.limit journal.old (D.disk disk.old) }
     requires is { IsCore core.old }
-    ensures stepped { result ≡ Ok true
-        → StepsOnce journal.old.end journal.new.end (core_in core.old) (core_in core.new)
-        (D.disk disk.old).reads }
-    ensures longer { result ≡ Ok true → journal.old.end < journal.new.end }
-    ensures within { result ≡ Ok true → journal.new.end < journal.old.limit }
-    ensures undamaged { result ≡ Ok true
-        → StaysUndamaged journal.old.limit journal.old.end journal.new.end (D.disk disk.old).reads }
+    ensures stepped { result ≡ Ok true → StepsOnce journal.old.limit journal.old.end journal.new.end
+        (core_in core.old) (core_in core.new) (D.disk disk.old).reads }
     ensures ended { result ≡ Ok false
         → (core_in core.new ≡ core_in core.old) × (journal.new ≡ at_end journal.old) }
     ensures no_more { result ≡ Ok false → HasNoMore journal.old.end (D.disk disk.old).reads }
@@ -100,19 +104,23 @@ fn replay_next<D: Disk>(
         × StandsForeign journal.old.end (D.disk disk.old).reads) }
     ensures damaged { IfDamaged result (λ n. (n ≡ journal.old.end)
         × StandsDamaged journal.old.limit journal.old.end (D.disk disk.old).reads) }
+    ensures no_memory { IsErrOf result NoMemory → StandsWanting journal.old.end (D.disk disk.old).reads }
     ensures cause { IfErr result IsOfReopen }
     ensures counts { Counts (D.Counted.seen disk.old).faults (D.Counted.seen disk.new).faults result }
     ensures untouched { IsUntouched (D.disk disk.old) (D.disk disk.new) }
     ensures is { IsCore core.new }
 {
-    let mut room = [0; NOTE_MAX];
-    match journal.next(disk, &mut room) {
-        Ok(Some(len)) => match step_record(alloc, core, &room[..len], number) {
-            Ok(()) => Ok(true),
-            Err(fault) => Err(fault),
+    let mut bytes = [0; NOTE_MAX];
+    match next_note(journal, disk, &mut bytes, number) {
+        Ok(Some(note)) => match core.room_for(alloc, &note) {
+            Ok(room) => {
+                core.step(&note, room);
+                Ok(true)
+            }
+            Err(_) => Err(NoteFault::NoMemory),
         },
         Ok(None) => Ok(false),
-        Err(fault) => Err(NoteFault::Journal(fault)),
+        Err(fault) => Err(fault),
     }
 }
 
@@ -135,6 +143,7 @@ pub(crate) fn replay<D: Disk>(
         EndsForeign n journal.old.end (D.disk disk.old).reads) }
     ensures damaged { IfDamaged result (λ n.
         EndsDamaged journal.old.limit n journal.old.end (D.disk disk.old).reads) }
+    ensures no_memory { IsErrOf result NoMemory → EndsWanting journal.old.end (D.disk disk.old).reads }
     ensures cause { IfErr result IsOfReopen }
     ensures counts { Counts (D.Counted.seen disk.old).faults (D.Counted.seen disk.new).faults result }
     ensures untouched { IsUntouched (D.disk disk.old) (D.disk disk.new) }

@@ -6,7 +6,7 @@ use Rattle.client_restart.proofs.replaying.replay.Given as goal
 abbrev pub invariant-loop-number : goal.invariant-loop-number
 invariant-loop-number g l =
     record {
-      so_far : Replays l.fn.journal.limit l.fn.journal.end l.number l.journal (core_in l.fn.core) (core_in l.core) (g.D.Disk.disk l.fn.disk) (g.D.Disk.disk l.disk);
+      steps : Replays l.fn.journal.limit l.fn.journal.end l.number l.journal (core_in l.fn.core) (core_in l.core) (g.D.Disk.disk l.fn.disk) (g.D.Disk.disk l.disk);
       is : IsCore l.core;
       count : (g.D.Counted.seen l.disk).faults ≡ (g.D.Counted.seen l.fn.disk).faults;
     }

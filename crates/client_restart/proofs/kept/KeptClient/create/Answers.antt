@@ -1,5 +1,5 @@
-use Rattle.std.proofs.Common.{◌≡◌, ◌≢◌, ◌<◌, ℕ, List, [], ◌∷◌, Err, ap, ◌∙◌, arith}
-use Rattle.node_journal.specs.Journal.{JournalState}
+use Rattle.std.proofs.Common.{◌≡◌, ◌≢◌, ◌<◌, ℕ, List, [], ◌∷◌, Err, sym, ap, ◌∙◌, subst, arith}
+use Rattle.node_journal.specs.Journal.{IsInPlace, JournalState}
 use Rattle.node_journal.specs.declared.fault.JournalFault.{JournalFault}
 use Rattle.client_restart.proofs.FaultLaws.{on_full, on_not_empty}
 use Rattle.client_restart.proofs.MakingLaws.{none_left, opening_left}
@@ -10,8 +10,8 @@ invariant_of-result g c =
     record {
       is_opening = c.requires.opening;
       is_core = c.in-Ok.ensures.is;
-      ready = ap (λ (j : JournalState). j.ready) c.in-Ok-create.ensures.made;
-      in_place = λ still. c.in-Ok-create.ensures.in_place;
+      ready = ap (λ (j : JournalState). j.ready) (c.of.ensures ∙ c.in-Ok-create.ensures.made);
+      in_place = λ still. subst (λ (j : JournalState). IsInPlace j (g.D.Disk.disk c.create.new.disk)) (sym c.of.ensures) c.in-Ok-create.ensures.in_place;
       stands = λ still. record {
         notes = [];
         whole = tt;

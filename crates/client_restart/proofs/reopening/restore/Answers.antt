@@ -4,7 +4,7 @@ use Rattle.node_journal.specs.Records.{IsUndamaged}
 use Rattle.client_restart.specs.Kept.{IsDamagedBehindNotes}
 use Rattle.client_restart.proofs.FaultLaws.{on_foreign, on_damaged}
 use Rattle.client_restart.proofs.KeptLaws.{StandsFirst, ends_foreign, ends_damaged}
-use Rattle.client_restart.proofs.reopening.find.Goals as goal
+use Rattle.client_restart.proofs.reopening.restore.Goals as goal
 
 pub returns-in-Err-first_opening-clause-foreign : goal.returns-in-Err-first_opening-clause-foreign
 returns-in-Err-first_opening-clause-foreign g c =
