@@ -1,5 +1,6 @@
 -- What the calls so far came to.
-use Rattle.std.specs.Prelude.{◌≡◌, ℕ, List, [], Bool, true, false, Option, Some, Result, Ok, Err, MatchBool, MatchResult}
+use Rattle.std.specs.Prelude.{◌≡◌, ◌⊎◌, ℕ, List, [], Bool, true, false, Option, Some, Result, Ok, Err}
+use Rattle.std.specs.Prelude.{MatchBool, MatchResult}
 use Rattle.std.specs.declared.time.Instant.{Instant}
 use Rattle.express_words.specs.Streams.{Took, TookPrefix}
 use Rattle.express_outside.specs.Calls.{WriteCall, Flushed, IsRefusal, FileCall, ReadAt, Synced, Named}
@@ -8,6 +9,7 @@ use Rattle.express_outside.specs.Copying.{CopiedWhole}
 use Rattle.express_outside.specs.Calls.{added, EndedBy}
 use Rattle.express_outside.specs.declared.calls.Trouble.{Trouble}
 use Rattle.express_outside.specs.declared.patience.Limit.{Limit}
+use Rattle.express_outside.specs.declared.file_disk.FileDisk.{FileDisk}
 use Rattle.express_outside.specs.declared.tcp_net.Connected.{Connected}
 
 -- ---- what takes bytes
@@ -49,6 +51,14 @@ Renewed old new = (copied : Option (List FileCall)) × CopiedWhole (added (Begun
 abbrev pub OpenedAnew : (old new : Option (List FileCall)) → Type 0
 OpenedAnew old new = (renewed : Option (List FileCall)) × Renewed (added (Asked (Ok true)) old) renewed
     × (new ≡ added (Synced (Ok tt)) renewed)
+
+-- A file was opened, and what it had is on the disk: as it was, or anew.
+abbrev pub OpenedSettled : (old new : Option (List FileCall)) → Type 0
+OpenedSettled old new = OpenedAsItWas old new ⊎ OpenedAnew old new
+
+-- A file that may be written, and hasn't been opened yet.
+abbrev pub IsUnopened : {F : Type 0} → FileDisk F → Type 0
+IsUnopened disk = (disk.is_open ≡ false) × (disk.is_only_read ≡ false)
 
 -- a sync failed, and that was noted beside the file, if that could be
 abbrev pub EndedUnsettled : Option (List FileCall) → Type 0

@@ -1,12 +1,12 @@
 //! A journal's disk over a file.
-ghost use Rattle.std.specs.Prelude.{◌≡◌, ◌≤◌, ◌<◌, ◌+◌, ◌⊎◌, List, length, Option, true, false, Ok, Err, IfOk, OnOk, OnErr};
+ghost use Rattle.std.specs.Prelude.{◌≡◌, ◌≤◌, ◌<◌, ◌+◌, List, length, Option, true, false, Ok, Err, IfOk, OnOk, OnErr};
 ghost use Rattle.express_words.specs.Seen.{silent};
 ghost use Rattle.express_words.specs.Causes.{HasCause, CountsFault, next};
 ghost use Rattle.express_outside.specs.Calls.{FileCall, ReadAt, WroteAt, Synced, Named, added, given, EndedBy};
 ghost use Rattle.express_outside.specs.Calls.{Asked, Unsettled, Settled, Begun, CopiedAt, Replaced};
 ghost use Rattle.express_outside.specs.Copying.{CopiedWhole};
 ghost use Rattle.express_outside.specs.Answers.{EndedByEnd, EndedSynced, EndedUnsettled};
-ghost use Rattle.express_outside.specs.Answers.{OpenedAsItWas, OpenedAnew, Renewed};
+ghost use Rattle.express_outside.specs.Answers.{IsUnopened, OpenedSettled, Renewed};
 
 use crate::calls::Trouble;
 use express_words::outside::{Counted, Failed};
@@ -160,8 +160,7 @@ fn sync_or_note<F: FileCalls>(file: &mut F) -> Result<(), Trouble>
 
 // What was opened is on the disk from here on. Nothing is written but where it is noted that a sync failed.
 fn settled<F: FileCalls>(file: &mut F) -> Result<(), Trouble>
-    ensures { OnOk result (OpenedAsItWas (F.calls file.old) (F.calls file.new)
-        ⊎ OpenedAnew (F.calls file.old) (F.calls file.new)) }
+    ensures { OnOk result (OpenedSettled (F.calls file.old) (F.calls file.new)) }
 {
     if file.is_unsettled()? {
         renew(file)?;
@@ -199,9 +198,8 @@ impl<F: FileCalls> FileDisk<F> {
         ensures faults { self.new.faults ≡ self.old.faults }
         ensures opened { OnOk result (self.new.is_open ≡ true) }
         ensures purpose { self.new.is_only_read ≡ self.old.is_only_read }
-        ensures first { self.old.is_open ≡ false → self.old.is_only_read ≡ false
-            → OnOk result (OpenedAsItWas (F.calls self.old.file) (F.calls self.new.file)
-            ⊎ OpenedAnew (F.calls self.old.file) (F.calls self.new.file)) }
+        ensures first { IsUnopened self.old
+            → OnOk result (OpenedSettled (F.calls self.old.file) (F.calls self.new.file)) }
         ensures only_read { self.old.is_only_read ≡ true → F.calls self.new.file ≡ F.calls self.old.file }
         ensures later { self.old.is_open ≡ true → self.new ≡ self.old }
     {

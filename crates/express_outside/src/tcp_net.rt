@@ -1,5 +1,5 @@
 //! A net over the system's ports.
-ghost use Rattle.std.specs.Prelude.{◌≡◌, ◌≤◌, List, Option, None, Some, Result, Ok, Err, IfOk, MatchResult};
+ghost use Rattle.std.specs.Prelude.{◌≡◌, ◌≤◌, List, Option, None, Some, Result, Ok, Err, IfOk, OnErr, MatchResult};
 ghost use Rattle.std.specs.Duration.{as_nanos};
 ghost use Rattle.express_words.specs.Seen.{netted};
 ghost use Rattle.express_words.specs.Causes.{HasCause, CountsFault, CountsFailure, next};
@@ -139,9 +139,8 @@ impl<P: Ports> Net for TcpNet<P> {
         ensures door { CountsFailure self.old.doors self.new.doors result }
         ensures cause { HasCause self.old.faults self.new.faults result }
         ensures counts { CountsFault self.old.faults self.new.faults result }
-        ensures ended { MatchResult result
-            (λ conn. EndedAtBegin conn.inner.reading (P.accepts self.new.ports))
-            (λ _. EndedByTrouble (P.accepts self.new.ports)) }
+        ensures begun { IfOk result (λ conn. EndedAtBegin conn.inner.reading (P.accepts self.new.ports)) }
+        ensures ended { OnErr result (EndedByTrouble (P.accepts self.new.ports)) }
         ensures reading { IfOk result (λ conn. as_nanos conn.inner.reading.allowed ≡ seconds 10) }
         ensures writing { IfOk result (λ conn. IsLimit conn.inner.writing None 10) }
     {

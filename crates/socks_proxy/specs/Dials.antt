@@ -1,8 +1,13 @@
 -- The calls on a net below that a dial makes.
-use Rattle.std.specs.Prelude.{◌≡◌, ◌⊎◌, ℕ, Bool, true, false, List, [], ◌∷◌, ◌++◌, codes, Option, Some, None}
-use Rattle.express_words.specs.Calls.{Call, Dialled, Closed}
+use Rattle.std.specs.Prelude.{◌≡◌, ◌⊎◌, ℕ, ◌-◌, ◌^◌, Bool, true, false, List, [], ◌∷◌, ◌++◌, codes, Option, Some, None}
+use Rattle.std.specs.Prelude.{Result, OnOk, OnErr, IfOk, IsErr, is_err}
+use Rattle.express_words.specs.Calls.{Call, Dialled, Closed, Adds, AddsClose}
+use Rattle.express_words.specs.Causes.{next}
 use Rattle.express_words.specs.Seen.{Seen}
+use Rattle.socks_proxy.specs.Circuits.{said_for}
+use Rattle.socks_proxy.specs.Routes.{PlainTarget, PlainRoute, route_of}
 use Rattle.socks_proxy.specs.Talks.{IsYes}
+use Rattle.socks_proxy.specs.declared.proxied_net.ProxiedNet.{ProxiedNet}
 use Rattle.socks_proxy.specs.declared.proxy.Proxy.{Proxy}
 use Rattle.socks_proxy.specs.declared.proxy.Proxy.TheVariants.{Named, Tor}
 
@@ -55,3 +60,34 @@ IsOpened (Some calls) conn said =
     (conn.written ≡ Some said)
     × ((answer : List ℕ) × (left : List ℕ) × IsYes answer
     × (conn.content ≡ Some (record { given = answer; left = left })))
+
+-- What a dial through a proxy came to on a net, where this is said to the proxy: with a connection, the proxy
+-- was reached, and the connection is opened; with none, the dial was refused.
+pub record Opens {C E : Type 0} (conn_seen : C → Seen) (proxy : Proxy) (said : List ℕ) (old new : Seen)
+    (result : Result C E) : Type 0 where
+  pub reached : OnOk result (ReachesOn (places_of proxy) old.calls new.calls)
+  pub opened : IfOk result (λ conn. IsOpened new.calls (conn_seen conn) said)
+  pub refused : OnErr result (RefusedOn (places_of proxy) said old.calls new.calls)
+
+-- From old to new a net dialled a place, with this result.
+abbrev pub Dials : {C E : Type 0} → (old new : Seen) → List ℕ → Result C E → Type 0
+Dials old new place result = Adds old.calls new.calls (Dialled place (is_err result))
+
+-- From old to new a net closed a connection.
+abbrev pub Closes : (old new conn : Seen) → Type 0
+Closes old new conn = AddsClose old.calls new.calls conn.content conn.written conn.faults
+
+-- ---- a net whose dials may go through a proxy, over the net below
+
+-- how a place is reached
+abbrev pub route_on : {N : Type 0} → ProxiedNet N → List ℕ → PlainRoute
+route_on net place = route_of place (is_named net.proxy)
+
+-- What a dial through its proxy came to: it is made under the next user name, and once the numbers of these
+-- are spent it fails, and makes no call below.
+pub record DialsThrough {N C E : Type 0} (seen : N → Seen) (conn_seen : C → Seen) (old new : ProxiedNet N)
+    (to : PlainTarget) (result : Result C E) : Type 0 where
+  pub opens : Opens conn_seen old.proxy (said_for old.drawn old.number to) (seen old.below) (seen new.below)
+      result
+  pub names : new.number ≡ next old.number
+  pub spent : old.number ≡ 2 ^ 64 - 1 → IsErr result × (new.below ≡ old.below)

@@ -1,5 +1,5 @@
 -- How a place is reached.
-use Rattle.std.specs.Prelude.{ℕ, ◌+◌, ◌≤◌, nat_le, ◌==◌, ◌||◌, ◌&&◌, if◌then◌else◌, Bool, false}
+use Rattle.std.specs.Prelude.{◌≡◌, ℕ, ◌+◌, ◌≤◌, nat_le, ◌==◌, ◌||◌, ◌&&◌, if◌then◌else◌, Bool, false}
 use Rattle.std.specs.Prelude.{List, [], ◌∷◌, length, take, drop, codes, position, Option, Some, None, option_map}
 use Rattle.std.specs.Char.{is_ascii_lowercase}
 use Rattle.std.specs.List.{list_all}
@@ -70,6 +70,10 @@ route_of place is_named =
     if names_onion place then route_to (onion_of place)
     else if is_named then route_to (target_of place)
     else Direct
+
+-- where a route is one through a proxy, what holds of its target
+abbrev pub IfThrough : PlainRoute → (PlainTarget → Type 0) → Type 0
+IfThrough route Law = (to : PlainTarget) → route ≡ Through to → Law to
 
 -- ---- as contracts see the code's own
 

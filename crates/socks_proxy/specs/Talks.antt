@@ -74,6 +74,10 @@ abbrev pub IsCut : Seen → Seen → ProxyFault → Type 0
 IsCut old new why =
     ((why ≡ fault.Ended) × IsAtEnd new.content) ⊎ ((why ≡ fault.Failed) × Rose old.faults new.faults)
 
+-- from old to new a connection gave this front of an answer, and was cut
+abbrev pub BreaksOff : Seen → Seen → ProxyFault → Type 0
+BreaksOff old new why = (front : List ℕ) × Gave old.content new.content front × IsCut old new why
+
 -- from old to new a connection gave an answer that is such a cause, or was cut
 abbrev pub Refuses : (ProxyFault → List ℕ → Type 0) → Seen → Seen → ProxyFault → Type 0
 Refuses cause old new why =

@@ -1,6 +1,5 @@
 //! The user name of a dial, by which Tor keeps its circuit apart from all others.
-ghost use Rattle.std.specs.Prelude.{◌≡◌, ◌^◌, ◌<◌, List as Listed, ℕ, length};
-ghost use Rattle.socks_proxy.specs.Circuits.{name_of};
+ghost use Rattle.socks_proxy.specs.Circuits.{NamesDiffer};
 
 /// The password of each user name.
 pub const PASSWORD: &[u8] = b"express";
@@ -14,6 +13,5 @@ pub struct Login {
 
 /// Dials of different numbers, or under bytes that were drawn differently, have different names.
 pub fn names_differ()
-    ensures { (a b : Listed ℕ) (m n : ℕ) → length a ≡ length b → m < 2 ^ 64 → n < 2 ^ 64
-        → name_of a m ≡ name_of b n → (a ≡ b) × (m ≡ n) }
+    ensures { NamesDiffer }
 {}

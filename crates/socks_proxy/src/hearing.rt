@@ -1,7 +1,7 @@
 //! Bytes are taken of a proxy, and never one more than are wanted.
 ghost use Rattle.std.specs.Prelude.{◌≡◌, ◌≤◌, ℕ, List, length, OnOk, IfErr};
 ghost use Rattle.express_words.specs.Streams.{Gave};
-ghost use Rattle.socks_proxy.specs.Talks.{IsCut};
+ghost use Rattle.socks_proxy.specs.Talks.{BreaksOff};
 
 use crate::fault::ProxyFault;
 use express_words::outside::Source;
@@ -9,8 +9,7 @@ use express_words::outside::Source;
 /// Takes bytes until all of `into` is filled.
 pub fn hear<S: Source>(source: &mut S, into: &mut [u8]) -> Result<(), ProxyFault>
     ensures whole { OnOk result (Gave (S.seen source.old).content (S.seen source.new).content into.new) }
-    ensures refused { IfErr result (λ why. (front : List ℕ) × Gave (S.seen source.old).content (S.seen source.new).content front
-        × IsCut (S.seen source.old) (S.seen source.new) why) }
+    ensures refused { IfErr result (BreaksOff (S.seen source.old) (S.seen source.new)) }
     ensures unfailed { OnOk result ((S.seen source.new).faults ≡ (S.seen source.old).faults) }
     ensures later { (S.seen source.old).faults ≤ (S.seen source.new).faults }
     ensures writes_nothing { (S.seen source.new).written ≡ (S.seen source.old).written }
@@ -31,8 +30,7 @@ pub fn hear_some<S: Source>(source: &mut S, room: &mut [u8], count: usize) -> Re
     requires { count ≤ length room.old }
     ensures whole { OnOk result ((bytes : List ℕ) × (length bytes ≡ count)
         × Gave (S.seen source.old).content (S.seen source.new).content bytes) }
-    ensures refused { IfErr result (λ why. (front : List ℕ) × Gave (S.seen source.old).content (S.seen source.new).content front
-        × IsCut (S.seen source.old) (S.seen source.new) why) }
+    ensures refused { IfErr result (BreaksOff (S.seen source.old) (S.seen source.new)) }
     ensures unfailed { OnOk result ((S.seen source.new).faults ≡ (S.seen source.old).faults) }
     ensures later { (S.seen source.old).faults ≤ (S.seen source.new).faults }
     ensures writes_nothing { (S.seen source.new).written ≡ (S.seen source.old).written }

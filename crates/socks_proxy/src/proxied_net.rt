@@ -1,13 +1,13 @@
 //! A net whose dials may go through a proxy.
-ghost use Rattle.std.specs.Prelude.{◌≡◌, ◌≢◌, ◌+◌, ◌++◌, ◌-◌, ◌^◌, ◌<◌, ◌≤◌, ℕ, None, Some, length, IfOk, OnOk, OnErr, IsErr, is_err};
+ghost use Rattle.std.specs.Prelude.{◌≡◌, ◌≢◌, ◌++◌, ◌≤◌, None, Some, length, IfOk, OnOk, OnErr, IsErr, is_err};
 ghost use Rattle.express_words.specs.Seen.{netted, silent};
 ghost use Rattle.express_words.specs.Causes.{HasCause, CountsFault, CountsFailure, Rose, next};
-ghost use Rattle.express_words.specs.Calls.{Listened, Accepted, Dialled, Adds, AddsClose, GivesTelling};
+ghost use Rattle.express_words.specs.Calls.{Listened, Accepted, Adds, GivesTelling};
 ghost use Rattle.express_words.specs.Streams.{IsAtStart, IsBlank};
-ghost use Rattle.socks_proxy.specs.Circuits.{said_for};
+ghost use Rattle.socks_proxy.specs.Circuits.{said_under};
 ghost use Rattle.socks_proxy.specs.Forms.{greeting};
-ghost use Rattle.socks_proxy.specs.Dials.{places_of, is_named, ReachesOn, RefusedOn, IsOpened, Makes, unreached};
-ghost use Rattle.socks_proxy.specs.Routes.{Direct, Through, Wrong, PlainTarget, plain_target, route_of};
+ghost use Rattle.socks_proxy.specs.Dials.{places_of, ReachesOn, Makes, unreached, Opens, Dials, Closes, route_on, DialsThrough};
+ghost use Rattle.socks_proxy.specs.Routes.{Direct, Wrong, plain_target, IfThrough};
 
 use crate::circuits::Login;
 use crate::fault::ProxyFault;
@@ -73,12 +73,9 @@ fn open<N: Net>(
     credentials: &[u8],
     request: &[u8],
 ) -> Result<N::Conn, ProxyFault>
-    ensures opened { IfOk result (λ conn. IsOpened (N.seen net.new).calls (N.Conn.seen conn)
-        (greeting ++ (credentials.now ++ request.now))) }
+    ensures opens { Opens N.Conn.seen proxy.entry (greeting ++ (credentials.now ++ request.now))
+        (N.seen net.old) (N.seen net.new) result }
     ensures whole { IfOk result (λ conn. (N.Conn.seen conn).faults ≡ 0) }
-    ensures reached { OnOk result (ReachesOn (places_of proxy.entry) (N.seen net.old).calls (N.seen net.new).calls) }
-    ensures refused { OnErr result (RefusedOn (places_of proxy.entry) (greeting ++ (credentials.now ++ request.now))
-        (N.seen net.old).calls (N.seen net.new).calls) }
 {
     let mut conn = match reach(net, proxy) {
         Ok(conn) => conn,
@@ -103,13 +100,9 @@ fn open_to<N: Net>(
     target: &Target<'_>,
 ) -> Result<N::Conn, ProxyFault>
     requires { length target.now.host.now ≤ 255 }
-    ensures opened { IfOk result (λ conn. IsOpened (N.seen net.new).calls (N.Conn.seen conn)
-        (said_for login.now.drawn login.now.number (plain_target target.now))) }
+    ensures opens { Opens N.Conn.seen proxy.entry (said_under login.now target.now)
+        (N.seen net.old) (N.seen net.new) result }
     ensures whole { IfOk result (λ conn. (N.Conn.seen conn).faults ≡ 0) }
-    ensures reached { OnOk result (ReachesOn (places_of proxy.entry) (N.seen net.old).calls (N.seen net.new).calls) }
-    ensures refused { OnErr result (RefusedOn (places_of proxy.entry)
-        (said_for login.now.drawn login.now.number (plain_target target.now))
-        (N.seen net.old).calls (N.seen net.new).calls) }
 {
     let Ok(credentials) = credentials(alloc, login) else {
         return Err(ProxyFault::NoMemory);
@@ -160,16 +153,8 @@ impl<'a, N: Net> ProxiedNet<'a, N> {
     #[tactic(auto, using(crate::proofs::DialLaws::refused_before))]
     fn open_through(&mut self, target: &Target<'_>) -> Result<N::Conn, ProxyFault>
         requires { length target.now.host.now ≤ 255 }
-        ensures opened { IfOk result (λ conn. IsOpened (N.seen self.new.below).calls (N.Conn.seen conn)
-            (said_for self.old.drawn self.old.number (plain_target target.now))) }
+        ensures through { DialsThrough N.seen N.Conn.seen self.old self.new (plain_target target.now) result }
         ensures whole { IfOk result (λ conn. (N.Conn.seen conn).faults ≡ 0) }
-        ensures reached { OnOk result (ReachesOn (places_of self.old.proxy) (N.seen self.old.below).calls
-            (N.seen self.new.below).calls) }
-        ensures refused { OnErr result (RefusedOn (places_of self.old.proxy)
-            (said_for self.old.drawn self.old.number (plain_target target.now))
-            (N.seen self.old.below).calls (N.seen self.new.below).calls) }
-        ensures next_name { self.new.number ≡ next self.old.number }
-        ensures spent { self.old.number ≡ 2 ^ 64 - 1 → IsErr result × (self.new.below ≡ self.old.below) }
         ensures proxy { (self.new.proxy ≡ self.old.proxy) × (self.new.drawn ≡ self.old.drawn) }
         ensures kept { (self.new.faults ≡ self.old.faults) × (self.new.doors ≡ self.old.doors) }
         ensures why { self.new.why ≡ self.old.why }
@@ -260,23 +245,11 @@ impl<N: Net> Net for ProxiedNet<'_, N> {
     fn dial(&mut self, peer: &str) -> Result<Tunnel<N::Conn>, Failed>
         ensures whole { IfOk result (λ conn. (N.Conn.seen conn.below).faults ≡ 0) }
         ensures unread { IfOk result (λ conn. IsAtStart (silent (N.Conn.seen conn.below).faults).content) }
-        ensures direct { route_of peer.now (is_named self.old.proxy) ≡ Direct
-            → Adds (N.seen self.old.below).calls (N.seen self.new.below).calls (Dialled peer.now (is_err result)) }
-        ensures wrong { route_of peer.now (is_named self.old.proxy) ≡ Wrong
-            → IsErr result × (self.new.below ≡ self.old.below) }
-        ensures through { (to : PlainTarget) → route_of peer.now (is_named self.old.proxy) ≡ Through to
-            → OnOk result (ReachesOn (places_of self.old.proxy)
-            (N.seen self.old.below).calls (N.seen self.new.below).calls) }
-        ensures opened { (to : PlainTarget) → route_of peer.now (is_named self.old.proxy) ≡ Through to
-            → IfOk result (λ conn. IsOpened (N.seen self.new.below).calls (N.Conn.seen conn.below)
-            (said_for self.old.drawn self.old.number to)) }
-        ensures refused { (to : PlainTarget) → route_of peer.now (is_named self.old.proxy) ≡ Through to
-            → OnErr result (RefusedOn (places_of self.old.proxy) (said_for self.old.drawn self.old.number to)
-            (N.seen self.old.below).calls (N.seen self.new.below).calls) }
-        ensures names { (to : PlainTarget) → route_of peer.now (is_named self.old.proxy) ≡ Through to
-            → self.new.number ≡ next self.old.number }
-        ensures spent { (to : PlainTarget) → route_of peer.now (is_named self.old.proxy) ≡ Through to
-            → self.old.number ≡ 2 ^ 64 - 1 → IsErr result × (self.new.below ≡ self.old.below) }
+        ensures direct { route_on self.old peer.now ≡ Direct
+            → Dials (N.seen self.old.below) (N.seen self.new.below) peer.now result }
+        ensures wrong { route_on self.old peer.now ≡ Wrong → IsErr result × (self.new.below ≡ self.old.below) }
+        ensures through { IfThrough (route_on self.old peer.now) (λ to.
+            DialsThrough N.seen (λ conn. N.Conn.seen conn.below) self.old self.new to result) }
         ensures proxy { (self.new.proxy ≡ self.old.proxy) × (self.new.drawn ≡ self.old.drawn) }
         ensures told { OnOk result (self.new.why ≡ None) }
         ensures door { self.new.doors ≡ self.old.doors }
@@ -308,8 +281,7 @@ impl<N: Net> Net for ProxiedNet<'_, N> {
 
     /// The net below closes the connection.
     fn close(&mut self, conn: Tunnel<N::Conn>)
-        ensures below { AddsClose (N.seen self.old.below).calls (N.seen self.new.below).calls
-            (N.Conn.seen conn.below).content (N.Conn.seen conn.below).written (N.Conn.seen conn.below).faults }
+        ensures below { Closes (N.seen self.old.below) (N.seen self.new.below) (N.Conn.seen conn.below) }
         ensures door { self.new.doors ≡ self.old.doors }
         ensures later { self.old.faults ≤ self.new.faults }
         ensures whole { (N.Conn.seen conn.below).faults ≡ 0 → self.new.faults ≡ self.old.faults }

@@ -1,8 +1,9 @@
 //! The talk with a proxy before a connection through it.
-ghost use Rattle.std.specs.Prelude.{◌≡◌, ◌≤◌, ◌++◌, ℕ, List, OnOk, OnErr, IfErr};
-ghost use Rattle.express_words.specs.Streams.{Gave, TookPrefix};
+ghost use Rattle.std.specs.Prelude.{◌≡◌, ◌≤◌, ◌++◌, OnOk, OnErr, IfErr};
+ghost use Rattle.express_words.specs.Streams.{TookPrefix};
 ghost use Rattle.socks_proxy.specs.Forms.{greeting, choice, status, IsReply};
-ghost use Rattle.socks_proxy.specs.Talks.{Talked, Answered, Refuses, IsCut, IsYes, IsChoiceCause, IsStatusCause, IsReplyCause, IsTalkCause};
+ghost use Rattle.socks_proxy.specs.Talks.{Talked, Answered, BreaksOff, Refuses, IsYes};
+ghost use Rattle.socks_proxy.specs.Talks.{IsChoiceCause, IsStatusCause, IsReplyCause, IsTalkCause};
 
 use crate::answers::{judge_choice, judge_reply, judge_status};
 use crate::fault::ProxyFault;
@@ -17,8 +18,7 @@ const REPLY_REST: usize = 257;
 fn ask<C: Conn>(conn: &mut C, message: &[u8], answer: &mut [u8]) -> Result<(), ProxyFault>
     ensures whole { OnOk result (Talked (C.seen conn.old) (C.seen conn.new) message.now answer.new) }
     ensures said { OnErr result (TookPrefix (C.seen conn.old).written (C.seen conn.new).written message.now) }
-    ensures refused { IfErr result (λ why. (front : List ℕ) × Gave (C.seen conn.old).content (C.seen conn.new).content front
-        × IsCut (C.seen conn.old) (C.seen conn.new) why) }
+    ensures refused { IfErr result (BreaksOff (C.seen conn.old) (C.seen conn.new)) }
     ensures unfailed { OnOk result ((C.seen conn.new).faults ≡ (C.seen conn.old).faults) }
     ensures later { (C.seen conn.old).faults ≤ (C.seen conn.new).faults }
 {
