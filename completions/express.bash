@@ -13,7 +13,7 @@ _express() {
     fi
 }
 
-_express_desk_commands='send open box card letters retire forget status resume help'
+_express_desk_commands='send discard open box card letters retire forget status resume adopt help'
 
 # Words; behind those that have a file, and behind `--desk` and `--out`, files.
 _express_desk() {
@@ -23,7 +23,7 @@ _express_desk() {
         [[ " ${COMP_WORDS[*]:1:COMP_CWORD-1} " == *' send '* ]]; then
         mapfile -t COMPREPLY < <(compgen -f -- "$word")
     elif [[ $word == -* ]]; then
-        mapfile -t COMPREPLY < <(compgen -W '--desk --out --proxy' -- "$word")
+        mapfile -t COMPREPLY < <(compgen -W '--desk --out --proxy --until --now' -- "$word")
     elif ((COMP_CWORD == 1)) || [[ ${COMP_WORDS[COMP_CWORD - 2]} == --desk || ${COMP_WORDS[COMP_CWORD - 2]} == --proxy ]]; then
         mapfile -t COMPREPLY < <(compgen -W "$_express_desk_commands" -- "$word")
     fi

@@ -1,2 +1,4 @@
+mod HiddenLaws
 mod LetterLaws
+mod NamingLaws
 mod ScreenLaws

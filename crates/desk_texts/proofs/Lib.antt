@@ -1,4 +1,7 @@
 mod CheckLaws
+mod DayLaws
+mod DigitLaws
+mod FindLaws
 mod HeadLaws
 mod LoopLaws
 mod PlaceLaws

@@ -1,5 +1,6 @@
 -- What is printed of a sheet has the sheet's lines.
-use Rattle.std.proofs.Common.{◌≡◌, ◌≢◌, inl, ℕ, zero, suc, ◌+◌, ◌-◌, ◌/◌, ◌%◌, ◌^◌, ◌<◌, ◌≤◌, true, false, List, [], ◌∷◌, ◌++◌, map, length, get_or, drop, Ok, codes, refl, ap, ◌∙◌, arith, append_assoc, append-nil}
+use Rattle.std.proofs.Common.{◌≡◌, ◌≢◌, inl, ℕ, zero, suc, ◌+◌, ◌-◌, ◌/◌, ◌%◌, ◌^◌, ◌<◌, ◌≤◌, true, false, Bool, ◌||◌, List, [], ◌∷◌, ◌++◌, map, length, get_or, drop, Ok, Option, Some, None, codes, subst, refl, sym, ap, ◌∙◌, arith, append_assoc, append-nil}
+use Rattle.std.specs.Prelude.{IfSome, is_some, replicate}
 use Rattle.std.specs.Fmt.{decimal}
 use Rattle.std.specs.Char.{is_ascii_digit}
 use Rattle.std.specs.List.{list_all}
@@ -11,20 +12,27 @@ use Rattle.std.proofs.lemmas.Grind.{common_steps}
 use Rattle.std.proofs.lemmas.List.{length-append}
 use Rattle.sha2.specs.Sha256.{sha256}
 use Rattle.hex.specs.Hex.{lower_digits, encode_with}
+use Rattle.express_texts.specs.LineFields.{after}
 use Rattle.express_texts.specs.Lines.{HasNoLf, AreLines}
+use Rattle.express_texts.proofs.FieldLaws.{after_only}
 use Rattle.express_texts.proofs.LineLaws.{lines_only}
 use Rattle.express_texts.proofs.NumberLaws.{numerals}
+use Rattle.desk_texts.specs.declared.day.Day.{Day}
+use Rattle.desk_texts.specs.declared.sheet.CardHead.{CardHead}
 use Rattle.desk_texts.specs.declared.sheet.Head.{Head}
 use Rattle.desk_texts.specs.declared.sheet.Head.TheVariants.{Card, Pair}
 use Rattle.desk_texts.specs.declared.sheet.Sheet.{Sheet}
 use Rattle.desk_texts.specs.Checks.{with_content, digit_of, check_word, checked, checked_lines}
+use Rattle.desk_texts.specs.Days.{IsDay, zero_filled, day_text}
 use Rattle.desk_texts.specs.Fields.{address_digits}
-use Rattle.desk_texts.specs.Lines.{is_blank, trimmed, lines_in}
+use Rattle.desk_texts.specs.Lines.{is_blank, trimmed, lines_in, begins_sheet, from_first}
 use Rattle.desk_texts.specs.Places.{is_place_byte}
 use Rattle.desk_texts.specs.Printing.{printed_from, printed}
 use Rattle.desk_texts.specs.Sheets.{sheet_of}
-use Rattle.desk_texts.specs.Spelling.{head_text, address_text, IsHead, IsSheet, contents}
+use Rattle.desk_texts.specs.Spelling.{numbers_text, card_text_by, head_text, address_text, IsCard, IsHead, IsSheet, contents}
 use Rattle.desk_texts.proofs.CheckLaws.{length-check_word}
+use Rattle.desk_texts.proofs.DayLaws.{short_day}
+use Rattle.desk_texts.proofs.FindLaws.{from_start, line_found}
 use Rattle.desk_texts.proofs.SheetLaws.{is_only}
 use Rattle.desk_texts.proofs.TextLaws.{place_bytes}
 use Rattle.desk_texts.proofs.TrimLaws.{trim_other}
@@ -70,13 +78,38 @@ spaced n rest small h =
 spaced_last : (n : ℕ) → n < 2 ^ 64 → HasNoLf (codes " " ++ decimal n)
 spaced_last n small = HasNoLf-append (codes " ") (decimal n) (search arith) (HasNoLf-decimal n small)
 
-head_no_lf : (head : Head) → IsHead head → HasNoLf (head_text head)
-head_no_lf (Card h) is =
+numbers_no_lf : (h : CardHead) (rest : List ℕ) → IsCard h → HasNoLf rest → HasNoLf (numbers_text h rest)
+numbers_no_lf h rest is none =
     let width = is.width.most in let order = is.lanes.order in let last = is.lanes.last in let few = is.few in
-    let tail1 = spaced_last h.addresses (omega (arith, few)) in
+    let tail1 = spaced h.addresses rest (omega (arith, few)) none in
     let tail2 = spaced h.to _ (omega (arith, last)) tail1 in
     let tail3 = spaced h.from _ (omega (arith, order, last)) tail2 in
-    HasNoLf-append (codes "express card 1 ") _ (search arith) (HasNoLf-append (decimal h.width) _ (HasNoLf-decimal h.width (omega (arith, width))) tail3)
+    HasNoLf-append (decimal h.width) _ (HasNoLf-decimal h.width (omega (arith, width))) tail3
+
+zeros_no_lf : (n : ℕ) → HasNoLf (replicate n 48)
+zeros_no_lf zero = tt
+zeros_no_lf (suc n) = ((λ e. absurd (omega (arith, e))), zeros_no_lf n)
+
+filled_no_lf : (width n : ℕ) → n < 2 ^ 64 → HasNoLf (zero_filled width n)
+filled_no_lf width n small = HasNoLf-append _ (decimal n) (zeros_no_lf (width - length (decimal n))) (HasNoLf-decimal n small)
+
+day_no_lf : (d : Day) → IsDay d → HasNoLf (day_text d)
+day_no_lf d is =
+    let year = is.year in let month = is.last_month in let day = (short_day d is).1 in
+    let tail1 = HasNoLf-append (codes "-") (zero_filled 2 d.day) (search arith) (filled_no_lf 2 d.day (omega (arith, day))) in
+    let tail2 = HasNoLf-append (zero_filled 2 d.month) _ (filled_no_lf 2 d.month (omega (arith, month))) tail1 in
+    let tail3 = HasNoLf-append (codes "-") _ (search arith) tail2 in
+    HasNoLf-append (zero_filled 4 d.year) _ (filled_no_lf 4 d.year (omega (arith, year))) tail3
+
+card_no_lf : (h : CardHead) → IsCard h → (u : Option Day) → h.until ≡ u → HasNoLf (card_text_by h u)
+card_no_lf h is None e = HasNoLf-append (codes "express card 1 ") _ (search arith) (numbers_no_lf h [] is tt)
+card_no_lf h is (Some day) e =
+    let d : IsDay day = subst (λ (u : Option Day). IfSome u IsDay) e is.until in
+    let behind = HasNoLf-append (codes " ") (day_text day) (search arith) (day_no_lf day d) in
+    HasNoLf-append (codes "express card 2 ") _ (search arith) (numbers_no_lf h _ is behind)
+
+head_no_lf : (head : Head) → IsHead head → HasNoLf (head_text head)
+head_no_lf (Card h) is = card_no_lf h is h.until refl
 head_no_lf (Pair h) is =
     let width = is.width.most in let order = is.lanes.order in let last = is.lanes.last in let few = is.few in
     let lane = is.lane in
@@ -189,14 +222,46 @@ are_lines said (content ∷ next ∷ contents) h = (
   ),
 )
 
+-- ---- a printed sheet begins with its first line
+
+begins_by : (word rest : List ℕ) → is_some (after word (word ++ rest)) ≡ true
+begins_by word rest = ap is_some (after_only word rest)
+
+begins_card : (rest : List ℕ) → begins_sheet (codes "express card " ++ rest) ≡ true
+begins_card rest = rw (begins_by (codes "express card ") rest) refl
+
+begins_pair : (rest : List ℕ) → begins_sheet (codes "express pair " ++ rest) ≡ true
+begins_pair rest = rw (begins_by (codes "express pair ") rest) (some_or (is_some (after (codes "express card ") (codes "express pair " ++ rest))))
+  where
+    some_or : (t : Bool) → t || true ≡ true
+    some_or true = refl
+    some_or false = refl
+
+head_begins : (head : Head) (rest : List ℕ) → begins_sheet (head_text head ++ rest) ≡ true
+head_begins (Card h) rest = at_until h.until
+  where
+    at_until : (u : Option Day) → begins_sheet (card_text_by h u ++ rest) ≡ true
+    at_until None = begins_card _
+    at_until (Some day) = begins_card _
+head_begins (Pair h) rest = begins_pair _
+
+nothing_before : (line : List ℕ) (lines : List (List ℕ)) → begins_sheet line ≡ true
+    → from_first (line ∷ lines) ≡ line ∷ lines
+nothing_before line lines begins =
+    ap (λ k. drop k (line ∷ lines)) (sym (line_found 0 line (line ∷ lines) (line ∷ lines) lines (omega arith) refl begins (from_start (line ∷ lines))))
+
 -- reading what is printed of a sheet gives it again
 pub prints_again : (s : Sheet) → IsSheet s → sheet_of (lines_in (printed s)) ≡ Ok s
 prints_again s is =
+    let lines : lines_in (printed s) ≡ checked_lines [] (contents s) =
+    ap (λ (ls : List (List ℕ)). map trimmed ls)
+    (lines_only (checked_lines [] (contents s)) (printed s) (are_lines [] (contents s) (contents_no_lf s is)))
+    ∙ all_stay [] (contents s) in
     is_only (printed s) s (record {
       sheet = is;
-      lines = ap (λ (ls : List (List ℕ)). map trimmed ls)
-          (lines_only (checked_lines [] (contents s)) (printed s) (are_lines [] (contents s) (contents_no_lf s is)))
-          ∙ all_stay [] (contents s);
+      behind = [];
+      lines = ap from_first lines ∙ nothing_before _ _ (head_begins s.head _)
+          ∙ sym (append-nil (checked_lines [] (contents s)));
     })
 
 -- ---- the loop over the addresses

@@ -6,8 +6,8 @@ use Rattle.desk_texts.specs.declared.sheet.Head.{Head}
 use Rattle.desk_texts.specs.declared.sheet.Sheet.{Sheet}
 use Rattle.desk_texts.specs.Checks.{with_content, checked, content_of, checked_lines}
 use Rattle.desk_texts.specs.Fields.{head_of, place_of}
-use Rattle.desk_texts.specs.Lines.{content_at, lines_in}
-use Rattle.desk_texts.specs.Sheets.{line_as, count_of, new_address, addresses_at, sheet_of}
+use Rattle.desk_texts.specs.Lines.{content_at, lines_in, lines_before, from_first}
+use Rattle.desk_texts.specs.Sheets.{line_as, count_of, new_address, addresses_at, sheet_at, sheet_of}
 use Rattle.desk_texts.specs.Spelling.{head_text, SpellsHead, SpellsPlace, address_text, SpellsNew, AreNew, IsSheet, contents, SpellsSheet, Says, FaultOfAddresses, FaultOfLines, IsFirstBadLine}
 use Rattle.desk_texts.proofs.CheckLaws.{content_found, content_only}
 use Rattle.desk_texts.proofs.HeadLaws.{head_found, head_only, place_found, place_only, new_found, new_only}
@@ -135,20 +135,21 @@ pub record New (room : ℕ) (said before : List ℕ) (lines : List (List ℕ)) (
   pub addresses : List ℕ
   pub all_is : all ≡ before ++ addresses
   pub new : AreNew before addresses
-  pub lines_are : lines ≡ checked_lines said (map address_text addresses)
+  pub behind : List (List ℕ)
+  pub lines_are : lines ≡ checked_lines said (map address_text addresses) ++ behind
   pub count : length addresses ≡ room
 
 addresses_found : (room place : ℕ) (said before : List ℕ) (lines : List (List ℕ)) (all : List ℕ)
     → addresses_at room place said before lines ≡ Ok all → New room said before lines all
 unfolding addresses_at
-addresses_found zero place said before [] all h = record {
+addresses_found zero place said before lines all h = record {
   addresses = [];
   all_is = (let e : before ≡ all = cc in sym e ∙ sym (append-nil before));
   new = tt;
+  behind = lines;
   lines_are = refl;
   count = refl;
 }
-addresses_found zero place said before (line ∷ lines) all h = cc
 addresses_found (suc room) place said before lines all h =
     let one = line_ok place said (new_address before) (SpellsNew before) (reads_new before) lines _ all h in
     let l = one.0 in
@@ -157,21 +158,22 @@ addresses_found (suc room) place said before lines all h =
       addresses = l.a ∷ later.addresses;
       all_is = later.all_is ∙ append_assoc before (l.a ∷ []) later.addresses;
       new = (l.spelled.0, l.spelled.1, later.new);
+      behind = later.behind;
       lines_are = l.are ∙ ap (λ (ls : List (List ℕ)). checked said l.content ∷ ls) later.lines_are
-          ∙ ap (λ (c : List ℕ). checked said c ∷ checked_lines (with_content said c) (map address_text later.addresses)) l.spelled.2;
+          ∙ ap (λ (c : List ℕ). checked said c ∷ (checked_lines (with_content said c) (map address_text later.addresses) ++ later.behind)) l.spelled.2;
       count = ap suc later.count;
     }
 
-addresses_only : (place : ℕ) (said before addresses : List ℕ) → AreNew before addresses
-    → addresses_at (length addresses) place said before (checked_lines said (map address_text addresses))
+addresses_only : (place : ℕ) (said before addresses : List ℕ) (behind : List (List ℕ)) → AreNew before addresses
+    → addresses_at (length addresses) place said before (checked_lines said (map address_text addresses) ++ behind)
     ≡ Ok (before ++ addresses)
 unfolding addresses_at
-addresses_only place said before [] new = ap Ok (sym (append-nil before))
-addresses_only place said before (a ∷ addresses) new =
+addresses_only place said before [] behind new = ap Ok (sym (append-nil before))
+addresses_only place said before (a ∷ addresses) behind new =
     let content : List ℕ = address_text a in
     let one = line_on place said (new_address before) (SpellsNew before) (reads_new before) content
-    (checked_lines (with_content said content) (map address_text addresses)) a (new.0, new.1, refl) in
-    rw one (addresses_only (place + 1) (with_content said content) (before ++ a ∷ []) addresses new.2
+    (checked_lines (with_content said content) (map address_text addresses) ++ behind) a (new.0, new.1, refl) in
+    rw one (addresses_only (place + 1) (with_content said content) (before ++ a ∷ []) addresses behind new.2
     ∙ ap Ok (append_assoc before (a ∷ []) addresses))
 
 -- the faults behind an address
@@ -181,8 +183,7 @@ behind room place before r = FaultOfAddresses room (place + 1) r.1 (before ++ r.
 addresses_bad : (room place : ℕ) (said before : List ℕ) (lines : List (List ℕ)) (n : ℕ)
     → addresses_at room place said before lines ≡ Err n → FaultOfAddresses room place said before n lines
 unfolding addresses_at
-addresses_bad zero place said before [] n h = cc
-addresses_bad zero place said before (line ∷ lines) n h = cc
+addresses_bad zero place said before lines n h = cc
 addresses_bad (suc room) place said before lines n h =
     line_bad place said (new_address before) (SpellsNew before) (reads_new before) lines _ (behind room place before) n
     (λ a more rest k. addresses_bad room (place + 1) more (before ++ a ∷ []) rest n k) h
@@ -190,8 +191,7 @@ addresses_bad (suc room) place said before lines n h =
 addresses_bad_only : (room place : ℕ) (said before : List ℕ) (lines : List (List ℕ)) (n : ℕ)
     → FaultOfAddresses room place said before n lines → addresses_at room place said before lines ≡ Err n
 unfolding addresses_at
-addresses_bad_only zero place said before [] n h = absurd h
-addresses_bad_only zero place said before (line ∷ lines) n h = ap Err (sym h)
+addresses_bad_only zero place said before lines n h = absurd h
 addresses_bad_only (suc room) place said before lines n h =
     line_bad_only place said (new_address before) (SpellsNew before) (reads_new before) lines _ (behind room place before) n
     (λ a more rest k. addresses_bad_only room (place + 1) more (before ++ a ∷ []) rest n k) h
@@ -212,19 +212,20 @@ ok_is x y h = cc
 -- what was found, and the lines that spell it
 pub record Found (s : Sheet) (lines : List (List ℕ)) : Type 0 where
   pub sheet : IsSheet s
-  pub lines_are : lines ≡ checked_lines [] (contents s)
+  pub behind : List (List ℕ)
+  pub lines_are : lines ≡ checked_lines [] (contents s) ++ behind
 
-sheet_found : (lines : List (List ℕ)) (s : Sheet) → sheet_of lines ≡ Ok s → Found s lines
-unfolding sheet_of
-sheet_found lines s h =
-    let one = line_ok 1 [] head_of SpellsHead reads_head lines _ s h in
+sheet_found : (place : ℕ) (lines : List (List ℕ)) (s : Sheet) → sheet_at place lines ≡ Ok s → Found s lines
+unfolding sheet_at
+sheet_found place lines s h =
+    let one = line_ok place [] head_of SpellsHead reads_head lines _ s h in
     let said1 = with_content [] one.0.content in
-    let two = line_ok 2 said1 (place_of (codes "leader ")) (SpellsPlace (codes "leader ")) (reads_place (codes "leader ")) one.0.rest _ s one.1 in
+    let two = line_ok (place + 1) said1 (place_of (codes "leader ")) (SpellsPlace (codes "leader ")) (reads_place (codes "leader ")) one.0.rest _ s one.1 in
     let said2 = with_content said1 two.0.content in
-    let three = line_ok 3 said2 (place_of (codes "helper ")) (SpellsPlace (codes "helper ")) (reads_place (codes "helper ")) two.0.rest _ s two.1 in
+    let three = line_ok (place + 2) said2 (place_of (codes "helper ")) (SpellsPlace (codes "helper ")) (reads_place (codes "helper ")) two.0.rest _ s two.1 in
     let said3 = with_content said2 three.0.content in
-    let last = bind_ok (addresses_at (count_of one.0.a) 4 said3 [] three.0.rest) _ s three.1 in
-    let four = addresses_found (count_of one.0.a) 4 said3 [] three.0.rest last.0 last.1 in
+    let last = bind_ok (addresses_at (count_of one.0.a) (place + 3) said3 [] three.0.rest) _ s three.1 in
+    let four = addresses_found (count_of one.0.a) (place + 3) said3 [] three.0.rest last.0 last.1 in
     made one.0 two.0 three.0 last.0 four last.2
   where
     made : (one : Line [] SpellsHead lines)
@@ -247,31 +248,34 @@ sheet_found lines s h =
             addresses = four.new;
             count = four.count;
           };
+          behind = four.behind;
           lines_are = one.are
               ∙ ap (λ (ls : List (List ℕ)). checked [] one.content ∷ ls) (two.are
               ∙ ap (λ (ls : List (List ℕ)). checked (with_content [] one.content) two.content ∷ ls) (three.are
               ∙ ap (λ (ls : List (List ℕ)). checked (with_content (with_content [] one.content) two.content) three.content ∷ ls) four.lines_are))
-              ∙ ap (λ (c : List ℕ). checked_lines [] (c ∷ (two.content ∷ (three.content ∷ map address_text four.addresses)))) one.spelled.1
-              ∙ ap (λ (c : List ℕ). checked_lines [] (head_text one.a ∷ (c ∷ (three.content ∷ map address_text four.addresses)))) two.spelled.1
-              ∙ ap (λ (c : List ℕ). checked_lines [] (head_text one.a ∷ ((codes "leader " ++ two.a) ∷ (c ∷ map address_text four.addresses)))) three.spelled.1;
+              ∙ ap (λ (c : List ℕ). checked_lines [] (c ∷ (two.content ∷ (three.content ∷ map address_text four.addresses))) ++ four.behind) one.spelled.1
+              ∙ ap (λ (c : List ℕ). checked_lines [] (head_text one.a ∷ (c ∷ (three.content ∷ map address_text four.addresses))) ++ four.behind) two.spelled.1
+              ∙ ap (λ (c : List ℕ). checked_lines [] (head_text one.a ∷ ((codes "leader " ++ two.a) ∷ (c ∷ map address_text four.addresses))) ++ four.behind) three.spelled.1;
         })
 
-sheet_only : (s : Sheet) → IsSheet s → sheet_of (checked_lines [] (contents s)) ≡ Ok s
-unfolding sheet_of
-sheet_only s is =
+sheet_only : (place : ℕ) (s : Sheet) (behind : List (List ℕ)) → IsSheet s
+    → sheet_at place (checked_lines [] (contents s) ++ behind) ≡ Ok s
+unfolding sheet_at
+sheet_only place s behind is =
     let first : List ℕ = head_text s.head in
     let second : List ℕ = codes "leader " ++ s.leader in
     let third : List ℕ = codes "helper " ++ s.helper in
     let said1 : List ℕ = with_content [] first in
     let said2 : List ℕ = with_content said1 second in
     let said3 : List ℕ = with_content said2 third in
-    let last : List (List ℕ) = checked_lines said3 (map address_text s.addresses) in
-    let addresses : addresses_at (count_of s.head) 4 said3 [] last ≡ Ok s.addresses =
-    ap (λ n. addresses_at n 4 said3 [] last) (sym is.count) ∙ addresses_only 4 said3 [] s.addresses is.addresses in
+    let last : List (List ℕ) = checked_lines said3 (map address_text s.addresses) ++ behind in
+    let addresses : addresses_at (count_of s.head) (place + 3) said3 [] last ≡ Ok s.addresses =
+    ap (λ n. addresses_at n (place + 3) said3 [] last) (sym is.count)
+    ∙ addresses_only (place + 3) said3 [] s.addresses behind is.addresses in
     rw (
-      line_on 1 [] head_of SpellsHead reads_head first (checked said1 second ∷ (checked said2 third ∷ last)) s.head (is.head, refl),
-      line_on 2 said1 (place_of (codes "leader ")) (SpellsPlace (codes "leader ")) (reads_place (codes "leader ")) second (checked said2 third ∷ last) s.leader (is.leader, refl),
-      line_on 3 said2 (place_of (codes "helper ")) (SpellsPlace (codes "helper ")) (reads_place (codes "helper ")) third last s.helper (is.helper, refl),
+      line_on place [] head_of SpellsHead reads_head first (checked said1 second ∷ (checked said2 third ∷ last)) s.head (is.head, refl),
+      line_on (place + 1) said1 (place_of (codes "leader ")) (SpellsPlace (codes "leader ")) (reads_place (codes "leader ")) second (checked said2 third ∷ last) s.leader (is.leader, refl),
+      line_on (place + 2) said2 (place_of (codes "helper ")) (SpellsPlace (codes "helper ")) (reads_place (codes "helper ")) third last s.helper (is.helper, refl),
       addresses,
     ) refl
 
@@ -287,42 +291,53 @@ bad_bind (Ok a) f n h = cc
 bad_bind (Err m) f n h = cc
 
 -- the faults behind each line
-abbrev behind_helper : Head → List ℕ × List ℕ → ℕ → List (List ℕ) → Type 0
-behind_helper head helper = FaultOfAddresses (count_of head) 4 helper.1 []
+abbrev behind_helper : ℕ → Head → List ℕ × List ℕ → ℕ → List (List ℕ) → Type 0
+behind_helper place head helper = FaultOfAddresses (count_of head) (place + 3) helper.1 []
 
-abbrev behind_leader : Head → List ℕ × List ℕ → ℕ → List (List ℕ) → Type 0
-behind_leader head leader = FaultFrom 3 (Says leader.1 (SpellsPlace (codes "helper "))) (behind_helper head)
+abbrev behind_leader : ℕ → Head → List ℕ × List ℕ → ℕ → List (List ℕ) → Type 0
+behind_leader place head leader =
+    FaultFrom (place + 2) (Says leader.1 (SpellsPlace (codes "helper "))) (behind_helper place head)
 
-abbrev behind_head : Head × List ℕ → ℕ → List (List ℕ) → Type 0
-behind_head head = FaultFrom 2 (Says head.1 (SpellsPlace (codes "leader "))) (behind_leader head.0)
+abbrev behind_head : ℕ → Head × List ℕ → ℕ → List (List ℕ) → Type 0
+behind_head place head =
+    FaultFrom (place + 1) (Says head.1 (SpellsPlace (codes "leader "))) (behind_leader place head.0)
 
-sheet_bad : (lines : List (List ℕ)) (n : ℕ) → sheet_of lines ≡ Err n → FaultOfLines n lines
-unfolding sheet_of
-sheet_bad lines n h =
-    line_bad 1 [] head_of SpellsHead reads_head lines _ behind_head n (λ head said1 rest1 k1.
-    line_bad 2 said1 (place_of (codes "leader ")) (SpellsPlace (codes "leader ")) (reads_place (codes "leader ")) rest1 _ (behind_leader head) n (λ leader said2 rest2 k2.
-    line_bad 3 said2 (place_of (codes "helper ")) (SpellsPlace (codes "helper ")) (reads_place (codes "helper ")) rest2 _ (behind_helper head) n (λ helper said3 rest3 k3.
-    addresses_bad (count_of head) 4 said3 [] rest3 n (bind_bad (addresses_at (count_of head) 4 said3 [] rest3) (made_of head leader helper) n k3)) k2) k1) h
+sheet_bad : (place : ℕ) (lines : List (List ℕ)) (n : ℕ) → sheet_at place lines ≡ Err n → FaultOfLines place n lines
+unfolding sheet_at
+sheet_bad place lines n h =
+    line_bad place [] head_of SpellsHead reads_head lines _ (behind_head place) n (λ head said1 rest1 k1.
+    line_bad (place + 1) said1 (place_of (codes "leader ")) (SpellsPlace (codes "leader ")) (reads_place (codes "leader ")) rest1 _ (behind_leader place head) n (λ leader said2 rest2 k2.
+    line_bad (place + 2) said2 (place_of (codes "helper ")) (SpellsPlace (codes "helper ")) (reads_place (codes "helper ")) rest2 _ (behind_helper place head) n (λ helper said3 rest3 k3.
+    addresses_bad (count_of head) (place + 3) said3 [] rest3 n (bind_bad (addresses_at (count_of head) (place + 3) said3 [] rest3) (made_of head leader helper) n k3)) k2) k1) h
 
-sheet_bad_only : (lines : List (List ℕ)) (n : ℕ) → FaultOfLines n lines → sheet_of lines ≡ Err n
-unfolding sheet_of
-sheet_bad_only lines n h =
-    line_bad_only 1 [] head_of SpellsHead reads_head lines _ behind_head n (λ head said1 rest1 k1.
-    line_bad_only 2 said1 (place_of (codes "leader ")) (SpellsPlace (codes "leader ")) (reads_place (codes "leader ")) rest1 _ (behind_leader head) n (λ leader said2 rest2 k2.
-    line_bad_only 3 said2 (place_of (codes "helper ")) (SpellsPlace (codes "helper ")) (reads_place (codes "helper ")) rest2 _ (behind_helper head) n (λ helper said3 rest3 k3.
-    bad_bind (addresses_at (count_of head) 4 said3 [] rest3) (made_of head leader helper) n (addresses_bad_only (count_of head) 4 said3 [] rest3 n k3)) k2) k1) h
+sheet_bad_only : (place : ℕ) (lines : List (List ℕ)) (n : ℕ) → FaultOfLines place n lines
+    → sheet_at place lines ≡ Err n
+unfolding sheet_at
+sheet_bad_only place lines n h =
+    line_bad_only place [] head_of SpellsHead reads_head lines _ (behind_head place) n (λ head said1 rest1 k1.
+    line_bad_only (place + 1) said1 (place_of (codes "leader ")) (SpellsPlace (codes "leader ")) (reads_place (codes "leader ")) rest1 _ (behind_leader place head) n (λ leader said2 rest2 k2.
+    line_bad_only (place + 2) said2 (place_of (codes "helper ")) (SpellsPlace (codes "helper ")) (reads_place (codes "helper ")) rest2 _ (behind_helper place head) n (λ helper said3 rest3 k3.
+    bad_bind (addresses_at (count_of head) (place + 3) said3 [] rest3) (made_of head leader helper) n (addresses_bad_only (count_of head) (place + 3) said3 [] rest3 n k3)) k2) k1) h
 
 -- ---- of texts
 
+abbrev place_in : List ℕ → ℕ
+place_in text = lines_before (lines_in text) + 1
+
 pub is_found : (text : List ℕ) (s : Sheet) → sheet_of (lines_in text) ≡ Ok s → SpellsSheet s text
+unfolding sheet_of
 is_found text s h =
-    let f = sheet_found (lines_in text) s h in record { sheet = f.sheet; lines = f.lines_are }
+    let f = sheet_found (place_in text) (from_first (lines_in text)) s h in
+    record { sheet = f.sheet; behind = f.behind; lines = f.lines_are }
 
 pub is_only : (text : List ℕ) (s : Sheet) → SpellsSheet s text → sheet_of (lines_in text) ≡ Ok s
-is_only text s h = ap sheet_of h.lines ∙ sheet_only s h.sheet
+unfolding sheet_of
+is_only text s h = ap (sheet_at (place_in text)) h.lines ∙ sheet_only (place_in text) s h.behind h.sheet
 
 pub is_bad : (text : List ℕ) (n : ℕ) → sheet_of (lines_in text) ≡ Err n → IsFirstBadLine n text
-is_bad text n h = sheet_bad (lines_in text) n h
+unfolding sheet_of
+is_bad text n h = sheet_bad (place_in text) (from_first (lines_in text)) n h
 
 pub is_bad_only : (text : List ℕ) (n : ℕ) → IsFirstBadLine n text → sheet_of (lines_in text) ≡ Err n
-is_bad_only text n h = sheet_bad_only (lines_in text) n h
+unfolding sheet_of
+is_bad_only text n h = sheet_bad_only (place_in text) (from_first (lines_in text)) n h

@@ -4,27 +4,55 @@ use Rattle.std.specs.Prelude.{Option, Some, None}
 use Rattle.std.specs.Int.{w128, to_be_bytes}
 use Rattle.std.specs.Str.{bytes_eq}
 use Rattle.hex.specs.Hex.{encode_lower}
-use Rattle.express_texts.specs.LineFields.{◌>>=◌, after, spelled_word, wanted}
+use Rattle.express_texts.specs.LineFields.{◌>>=◌, after, end, spelled_word, wanted}
 use Rattle.express_texts.specs.Numbers.{number_at, last_number}
 use Rattle.desk_texts.specs.declared.sheet.CardHead.{CardHead}
 use Rattle.desk_texts.specs.declared.sheet.Head.{Head}
 use Rattle.desk_texts.specs.declared.sheet.Head.TheVariants.{Card, Pair}
 use Rattle.desk_texts.specs.declared.sheet.PairHead.{PairHead}
+use Rattle.desk_texts.specs.Days.{day_of}
 use Rattle.desk_texts.specs.Places.{is_place}
 
--- express card 1 WIDTH FROM TO ADDRESSES
-unfoldable pub card_of : List ℕ → Option CardHead
-card_of content = do
-  rest ← after (codes "express card 1 ") content
-  width ← number_at 32 4096 rest
+-- WIDTH FROM TO ADDRESSES, of a card that lasts, and what follows them
+unfoldable pub card_numbers : List ℕ → Option (CardHead × List ℕ)
+card_numbers content = do
+  width ← number_at 32 4096 content
   _ ← wanted (width.0 % 16 == 0)
   rest ← after (codes " ") width.1
   from ← number_at 0 255 rest
   rest ← after (codes " ") from.1
   to ← number_at from.0 255 rest
   rest ← after (codes " ") to.1
-  addresses ← last_number 1 64 rest
-  Some (record { width = width.0; from = from.0; to = to.0; addresses = addresses })
+  addresses ← number_at 1 64 rest
+  Some (
+    record { width = width.0; from = from.0; to = to.0; addresses = addresses.0; until = None },
+    addresses.1,
+  )
+
+-- express card 1 WIDTH FROM TO ADDRESSES
+unfoldable pub lasting_card : List ℕ → Option CardHead
+lasting_card content = do
+  rest ← after (codes "express card 1 ") content
+  card ← card_numbers rest
+  _ ← end card.1
+  Some card.0
+
+-- express card 2 WIDTH FROM TO ADDRESSES UNTIL
+unfoldable pub dated_card : List ℕ → Option CardHead
+dated_card content = do
+  rest ← after (codes "express card 2 ") content
+  card ← card_numbers rest
+  rest ← after (codes " ") card.1
+  day ← day_of rest
+  Some (record card.0 { until = Some day })
+
+-- one of both
+abbrev pub card_by : Option CardHead → Option CardHead → Option CardHead
+card_by (Some card) dated = Some card
+card_by None dated = dated
+
+unfoldable pub card_of : List ℕ → Option CardHead
+card_of content = card_by (lasting_card content) (dated_card content)
 
 -- express pair 1 WIDTH BOXES LANE FROM TO
 unfoldable pub pair_numbers : List ℕ → Option PairHead

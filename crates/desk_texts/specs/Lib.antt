@@ -1,4 +1,5 @@
 pub mod Checks
+pub mod Days
 pub mod Fields
 pub mod Judging
 pub mod Lines

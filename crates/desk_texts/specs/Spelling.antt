@@ -1,27 +1,44 @@
 -- The grammar of a card and of a pair file: the lines that are printed of it, and its first bad line.
 use Rattle.std.specs.Prelude.{◌≡◌, ℕ, zero, suc, ◌+◌, ◌≤◌, ◌%◌, true, false, List, [], ◌∷◌, ◌++◌, map, length}
-use Rattle.std.specs.Prelude.{codes, Some}
+use Rattle.std.specs.Prelude.{codes, Option, None, Some, IfSome}
 use Rattle.std.specs.Fmt.{decimal}
 use Rattle.express_texts.specs.LineFields.{spelled_word}
 use Rattle.express_texts.specs.GameSpelling.{FaultFrom}
+use Rattle.desk_texts.specs.declared.day.Day.{Day}
 use Rattle.desk_texts.specs.declared.sheet.CardHead.{CardHead}
 use Rattle.desk_texts.specs.declared.sheet.Head.{Head}
 use Rattle.desk_texts.specs.declared.sheet.Head.TheVariants.{Card, Pair}
 use Rattle.desk_texts.specs.declared.sheet.PairHead.{PairHead}
 use Rattle.desk_texts.specs.declared.sheet.Sheet.{Sheet}
 use Rattle.desk_texts.specs.Checks.{with_content, checked, checked_lines}
+use Rattle.desk_texts.specs.Days.{IsDay, day_text}
 use Rattle.desk_texts.specs.Fields.{is_strangers, address_digits}
-use Rattle.desk_texts.specs.Lines.{lines_in}
+use Rattle.desk_texts.specs.Lines.{lines_in, lines_before, from_first}
 use Rattle.desk_texts.specs.Places.{is_place}
 use Rattle.desk_texts.specs.Sheets.{count_of, is_among}
 
 -- ---- what lines say
 
--- WIDTH FROM TO ADDRESSES
+-- WIDTH FROM TO ADDRESSES, and what follows
+abbrev pub numbers_text : CardHead → List ℕ → List ℕ
+numbers_text h rest =
+    decimal h.width ++ (codes " " ++ (decimal h.from ++ (codes " " ++ (decimal h.to ++ (codes " "
+    ++ (decimal h.addresses ++ rest))))))
+
+-- of a card that lasts
+abbrev pub lasting_text : CardHead → List ℕ
+lasting_text h = codes "express card 1 " ++ numbers_text h []
+
+-- of a card with a last day
+abbrev pub dated_text : CardHead → Day → List ℕ
+dated_text h day = codes "express card 2 " ++ numbers_text h (codes " " ++ day_text day)
+
+abbrev pub card_text_by : CardHead → Option Day → List ℕ
+card_text_by h None = lasting_text h
+card_text_by h (Some day) = dated_text h day
+
 abbrev pub card_text : CardHead → List ℕ
-card_text h =
-    codes "express card 1 " ++ (decimal h.width ++ (codes " " ++ (decimal h.from ++ (codes " "
-    ++ (decimal h.to ++ (codes " " ++ decimal h.addresses))))))
+card_text h = card_text_by h h.until
 
 -- WIDTH BOXES LANE FROM TO
 abbrev pub pair_text : PairHead → List ℕ
@@ -49,6 +66,7 @@ pub record IsCard (h : CardHead) : Type 0 where
   pub lanes : AreLanes h.from h.to
   pub some : 1 ≤ h.addresses
   pub few : h.addresses ≤ 64
+  pub until : IfSome h.until IsDay
 
 -- the owner's lane is none of the strangers'
 pub record IsPair (h : PairHead) : Type 0 where
@@ -100,10 +118,12 @@ contents s =
     head_text s.head ∷ ((codes "leader " ++ s.leader) ∷ ((codes "helper " ++ s.helper)
     ∷ map address_text s.addresses))
 
--- the text is that of the sheet: each line has its check word, and blanks at its end aren't looked at
+-- The first line in the text that begins a sheet is the first of this one's lines, each with its check word.
+-- Blanks at a line's end, and other lines before and behind those, aren't looked at.
 pub record SpellsSheet (s : Sheet) (text : List ℕ) : Type 0 where
   pub sheet : IsSheet s
-  pub lines : lines_in text ≡ checked_lines [] (contents s)
+  pub behind : List (List ℕ)
+  pub lines : from_first (lines_in text) ≡ checked_lines [] (contents s) ++ behind
 
 -- ---- the first bad line
 
@@ -113,21 +133,22 @@ Says said Spells r line =
     (content : List ℕ) × Spells r.0 content × (line ≡ checked said content)
     × (r.1 ≡ with_content said content)
 
--- Line n is the first bad one of so many addresses' lines from a place on; none may follow.
+-- Line n is the first bad one of so many addresses' lines from a place on.
 abbrev pub FaultOfAddresses : ℕ → ℕ → List ℕ → List ℕ → ℕ → List (List ℕ) → Type 0
-FaultOfAddresses zero place said before n [] = ⊥
-FaultOfAddresses zero place said before n (line ∷ lines) = n ≡ place
+FaultOfAddresses zero place said before n lines = ⊥
 FaultOfAddresses (suc room) place said before n lines =
     FaultFrom place (Says said (SpellsNew before))
     (λ r. FaultOfAddresses room (place + 1) r.1 (before ++ r.0 ∷ [])) n lines
 
--- Line n is the first bad one: it is missing, its check word is wrong, or it doesn't say what it should.
-abbrev pub FaultOfLines : ℕ → List (List ℕ) → Type 0
-FaultOfLines =
-    FaultFrom 1 (Says [] SpellsHead) (λ head.
-    FaultFrom 2 (Says head.1 (SpellsPlace (codes "leader "))) (λ leader.
-    FaultFrom 3 (Says leader.1 (SpellsPlace (codes "helper "))) (λ helper.
-    FaultOfAddresses (count_of head.0) 4 helper.1 [])))
+-- Line n is the first bad one of a sheet whose first line has the number `place`: it is missing, its check
+-- word is wrong, or it doesn't say what it should.
+abbrev pub FaultOfLines : ℕ → ℕ → List (List ℕ) → Type 0
+FaultOfLines place =
+    FaultFrom place (Says [] SpellsHead) (λ head.
+    FaultFrom (place + 1) (Says head.1 (SpellsPlace (codes "leader "))) (λ leader.
+    FaultFrom (place + 2) (Says leader.1 (SpellsPlace (codes "helper "))) (λ helper.
+    FaultOfAddresses (count_of head.0) (place + 3) helper.1 [])))
 
+-- counted from the text's first line, which is bad where none begins a sheet
 abbrev pub IsFirstBadLine : ℕ → List ℕ → Type 0
-IsFirstBadLine n text = FaultOfLines n (lines_in text)
+IsFirstBadLine n text = FaultOfLines (lines_before (lines_in text) + 1) n (from_first (lines_in text))

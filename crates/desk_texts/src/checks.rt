@@ -8,8 +8,8 @@ use sha2::{Digest, Sha256};
 
 const CHECK_LEN: usize = 6;
 
-// A space, and a digit for each of the first five bytes of a digest: of the contents so far and this one, each with
-// an LF behind it.
+// A space, and a digit for each of the first five bytes of a digest: of the contents so far and this one,
+// each with an LF behind it.
 fn check_word(said: &[u8], content: &[u8]) -> [u8; CHECK_LEN]
     ensures { result ≡ check_word (with_content said.now content.now) }
 {

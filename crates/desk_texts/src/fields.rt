@@ -1,11 +1,14 @@
 //! The fields of a sheet's lines.
 ghost use Rattle.std.specs.Prelude.{◌≡◌, ◌≤◌, true, IfSome};
+ghost use Rattle.std.specs.Prelude.{option_map};
 ghost use Rattle.std.specs.Option.{option_copied};
-ghost use Rattle.desk_texts.specs.Fields.{card_of, pair_numbers, is_strangers, pair_of, head_of};
+ghost use Rattle.desk_texts.specs.Fields.{card_numbers, lasting_card, dated_card, card_of};
+ghost use Rattle.desk_texts.specs.Fields.{pair_numbers, is_strangers, pair_of, head_of};
 ghost use Rattle.desk_texts.specs.Fields.{place_of, address_digits, address_of};
 ghost use Rattle.desk_texts.specs.Places.{is_place};
 ghost use Rattle.desk_texts.specs.Sheets.{count_of};
 
+use crate::day::day_in;
 use crate::places::is_place;
 use crate::sheet::{CardHead, Head, MOST_ADDRESSES, PairHead};
 use express_texts::{after, last_number, number_at, spelled_word};
@@ -15,13 +18,13 @@ const LEAST_WIDTH: u64 = 32;
 
 const LAST_LANE: u64 = 255;
 
-#[tactic(auto, unfolding(crate::specs::Fields::card_of))]
-fn card_of(content: &[u8]) -> Option<CardHead>
-    ensures value { result ≡ card_of content.now }
-    ensures few { IfSome result (λ card. card.addresses ≤ 64) }
+// The numbers of a card that lasts, and what follows them.
+#[tactic(auto, unfolding(crate::specs::Fields::card_numbers))]
+fn card_numbers(content: &[u8]) -> Option<(CardHead, &[u8])>
+    ensures value { option_map (λ r. (r.0, r.1.now)) result ≡ card_numbers content.now }
+    ensures few { IfSome result (λ r. r.0.addresses ≤ 64) }
 {
-    let rest = after(b"express card 1 ", content)?;
-    let (width, rest) = number_at(LEAST_WIDTH, u64::from(MOST_WIDTH), rest)?;
+    let (width, rest) = number_at(LEAST_WIDTH, u64::from(MOST_WIDTH), content)?;
     if width % 16 != 0 {
         return None;
     }
@@ -30,13 +33,51 @@ fn card_of(content: &[u8]) -> Option<CardHead>
     let rest = after(b" ", rest)?;
     let (to, rest) = number_at(from, LAST_LANE, rest)?;
     let rest = after(b" ", rest)?;
-    let addresses = last_number(1, u64::from(MOST_ADDRESSES), rest)?;
-    Some(CardHead {
+    let (addresses, rest) = number_at(1, u64::from(MOST_ADDRESSES), rest)?;
+    let card = CardHead {
         width: width as u32,
         from: from as u16,
         to: to as u16,
         addresses: addresses as u32,
+        until: None,
+    };
+    Some((card, rest))
+}
+
+#[tactic(auto, unfolding(crate::specs::Fields::lasting_card))]
+fn lasting_card(content: &[u8]) -> Option<CardHead>
+    ensures value { result ≡ lasting_card content.now }
+    ensures few { IfSome result (λ card. card.addresses ≤ 64) }
+{
+    let rest = after(b"express card 1 ", content)?;
+    let (card, rest) = card_numbers(rest)?;
+    if rest.is_empty() { Some(card) } else { None }
+}
+
+#[tactic(auto, unfolding(crate::specs::Fields::dated_card))]
+fn dated_card(content: &[u8]) -> Option<CardHead>
+    ensures value { result ≡ dated_card content.now }
+    ensures few { IfSome result (λ card. card.addresses ≤ 64) }
+{
+    let rest = after(b"express card 2 ", content)?;
+    let (card, rest) = card_numbers(rest)?;
+    let rest = after(b" ", rest)?;
+    let day = day_in(rest)?;
+    Some(CardHead {
+        until: Some(day),
+        ..card
     })
+}
+
+#[tactic(auto, unfolding(crate::specs::Fields::card_of))]
+fn card_of(content: &[u8]) -> Option<CardHead>
+    ensures value { result ≡ card_of content.now }
+    ensures few { IfSome result (λ card. card.addresses ≤ 64) }
+{
+    match lasting_card(content) {
+        Some(card) => Some(card),
+        None => dated_card(content),
+    }
 }
 
 #[tactic(auto, unfolding(crate::specs::Fields::pair_numbers))]

@@ -55,8 +55,8 @@ fn has_port(text: &[u8]) -> bool
     }
 }
 
-/// Whether a server can be reached at this place, by its form: `host:port` of at most 255 lower-case letters, digits
-/// and `.:-[]`, where the port is a number from 1 to 65,535 without leading zeros.
+/// Whether a server can be reached at this place, by its form: `host:port` of at most 255 lower-case letters,
+/// digits and `.:-[]`, where the port is a number from 1 to 65,535 without leading zeros.
 #[tactic(auto, unfolding(crate::specs::Places::is_place))]
 pub fn is_place(text: &[u8]) -> bool
     ensures { result ≡ is_place text.now }

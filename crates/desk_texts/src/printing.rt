@@ -1,27 +1,61 @@
 //! Prints a sheet.
-ghost use Rattle.std.specs.Prelude.{◌≡◌, ◌++◌, Ok, IfOk, OnOk, string_bytes, codes, map};
+ghost use Rattle.std.specs.Prelude.{◌≡◌, ◌≤◌, ◌-◌, ◌++◌, true, length, take, drop, Ok, IfOk, OnOk};
+ghost use Rattle.std.specs.Prelude.{string_bytes, codes, map};
+ghost use Rattle.std.specs.Str.{all_ascii_digits};
 ghost use Rattle.desk_texts.specs.Lines.{lines_in};
-ghost use Rattle.desk_texts.specs.Printing.{printed_from, printed};
+ghost use Rattle.desk_texts.specs.Printing.{printed_from, printed, check_digits};
 ghost use Rattle.desk_texts.specs.Sheets.{sheet_of};
-ghost use Rattle.desk_texts.specs.Spelling.{head_text, address_text, IsSheet};
+ghost use Rattle.desk_texts.specs.Spelling.{lasting_text, dated_text, card_text, head_text};
+ghost use Rattle.desk_texts.specs.Spelling.{address_text, IsSheet};
 
 use crate::checks::add_line;
+use crate::day::{Day, day_text};
 use crate::fields::address_digits;
-use crate::sheet::{Head, Sheet};
+use crate::sheet::{CardHead, Head, Sheet};
 use express_words::{NoMemory, Text};
 use std::alloc::{AllocError, Global};
+
+fn lasting_text(alloc: Global, card: &CardHead) -> Result<String, AllocError>
+    ensures { IfOk result (λ text. string_bytes text ≡ lasting_text card.now) }
+{
+    let CardHead {
+        width,
+        from,
+        to,
+        addresses,
+        ..
+    } = *card;
+    format!(in alloc; "express card 1 {width} {from} {to} {addresses}")
+}
+
+fn dated_text(alloc: Global, card: &CardHead, until: &Day) -> Result<String, AllocError>
+    ensures { IfOk result (λ text. string_bytes text ≡ dated_text card.now until.now) }
+{
+    let CardHead {
+        width,
+        from,
+        to,
+        addresses,
+        ..
+    } = *card;
+    let until = day_text(alloc, until)?;
+    format!(in alloc; "express card 2 {width} {from} {to} {addresses} {until}")
+}
+
+fn card_text(alloc: Global, card: &CardHead) -> Result<String, AllocError>
+    ensures { IfOk result (λ text. string_bytes text ≡ card_text card.now) }
+{
+    match &card.until {
+        None => lasting_text(alloc, card),
+        Some(until) => dated_text(alloc, card, until),
+    }
+}
 
 fn head_text(alloc: Global, head: &Head) -> Result<String, AllocError>
     ensures { IfOk result (λ text. string_bytes text ≡ head_text head.now) }
 {
     match head {
-        Head::Card(card) => {
-            let width = card.width;
-            let from = card.from;
-            let to = card.to;
-            let addresses = card.addresses;
-            format!(in alloc; "express card 1 {width} {from} {to} {addresses}")
-        }
+        Head::Card(card) => card_text(alloc, card),
         Head::Pair(pair) => {
             let width = pair.width;
             let boxes = pair.boxes;
@@ -96,4 +130,35 @@ pub fn print(alloc: Global, sheet: &Sheet) -> Result<Vec<u8>, NoMemory>
 {
     let text = text_of(alloc, sheet)?;
     Ok(text)
+}
+
+// The five bytes before the last.
+fn before_last(text: &[u8]) -> &[u8]
+    requires { 6 ≤ length text.now }
+    ensures { result.now ≡ take 5 (drop (length text.now - 6) text.now) }
+{
+    let last = text.len() - 1;
+    &text[last - 5..last]
+}
+
+// Digits as a text: they are ASCII.
+fn digits_text(alloc: Global, digits: &[u8]) -> Result<String, AllocError>
+    requires { all_ascii_digits digits.now ≡ true }
+    ensures { IfOk result (λ text. string_bytes text ≡ digits.now) }
+{
+    match std::str::from_utf8(digits) {
+        Ok(digits) => String::from_str(alloc, digits),
+        Err(_) => unreachable!(),
+    }
+}
+
+/// The five digits at the end of a sheet's last line, by which people tell one card from another.
+pub fn check_digits(alloc: Global, sheet: &Sheet) -> Result<String, NoMemory>
+    ensures value { IfOk result (λ digits. string_bytes digits ≡ check_digits sheet.now) }
+    ensures five { IfOk result (λ digits. length (string_bytes digits) ≡ 5) }
+    ensures digits { IfOk result (λ digits. all_ascii_digits (string_bytes digits) ≡ true) }
+{
+    let text = text_of(alloc, sheet)?;
+    let digits = digits_text(alloc, before_last(&text))?;
+    Ok(digits)
 }

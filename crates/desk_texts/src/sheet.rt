@@ -1,4 +1,5 @@
 //! A card or a pair file.
+use crate::day::Day;
 use express_words::{List, Text};
 
 /// A card has at most so many addresses.
@@ -15,6 +16,8 @@ pub struct CardHead {
     pub to: u16,
     /// How many addresses the card has: 1 to 64.
     pub addresses: u32,
+    /// The last day on which letters are to be sent with it; without one it lasts.
+    pub until: Option<Day>,
 }
 
 /// The first line of a pair file.

@@ -1,1 +1,4 @@
 pub mod Named
+pub mod Numbers
+pub mod Options
+pub mod WordLaws

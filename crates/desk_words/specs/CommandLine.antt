@@ -1,9 +1,12 @@
--- The command line of a desk, as clap reads it: a required WORD, two optional values, --desk, --out and --proxy.
-use Rattle.std.specs.Prelude.{◌≡◌, ◌≤◌, ◌⊎◌, ℕ, List, [], ◌∷◌, Option, Some, None, true, option_map}
-use Rattle.std.specs.Prelude.{String, Vec, codes, map, string_bytes}
+-- The command line of a desk, as clap reads it: a required WORD, two optional values, --desk, --out, --proxy
+-- and --until with a value each, and the flag --now.
+use Rattle.std.specs.Prelude.{◌≡◌, ◌≤◌, ◌⊎◌, ℕ, List, [], ◌∷◌, Option, Some, None, Bool, true, false}
+use Rattle.std.specs.Prelude.{IfSome, String, Vec, bytes_eq, codes, map, option_map, string_bytes}
 use Rattle.std.specs.Fmt.{decimal}
 use Rattle.clap.specs.Words.{App, Rule, Text, new_app, new_rule, with_rule, matches_of, first_of, fault_of}
-use Rattle.clap.specs.declared.builder.action.ArgAction.TheVariants.{Set}
+use Rattle.clap.specs.declared.builder.action.ArgAction.TheVariants.{Set, SetTrue}
+use Rattle.desk_texts.specs.Days.{IsDay, day_text}
+use Rattle.desk_texts.specs.declared.day.Day.{Day}
 use Rattle.desk_words.specs.declared.task.DeskTask.{DeskTask}
 use Rattle.desk_words.specs.declared.task.DeskTask.TheVariants as task
 
@@ -25,12 +28,20 @@ plain_app = record {
 abbrev pub option_rule : (id name : Text) → Rule
 option_rule id name = record (new_rule id) { long = Some name; action = Some Set }
 
+-- an option that is there or not
+abbrev pub flag_rule : (id name : Text) → Rule
+flag_rule id name = record (new_rule id) { long = Some name; action = Some SetTrue }
+
 abbrev pub word_rule : Rule
 word_rule = record (new_rule (codes "WORD")) { required = true }
 
-abbrev pub options_app : App
-options_app = with_rule (with_rule (with_rule plain_app (option_rule (codes "DESK") (codes "desk")))
+abbrev pub places_app : App
+places_app = with_rule (with_rule (with_rule plain_app (option_rule (codes "DESK") (codes "desk")))
     (option_rule (codes "OUT") (codes "out"))) (option_rule (codes "PROXY") (codes "proxy"))
+
+abbrev pub options_app : App
+options_app = with_rule (with_rule places_app (option_rule (codes "UNTIL") (codes "until")))
+    (flag_rule (codes "NOW") (codes "now"))
 
 abbrev pub desk_app : App
 desk_app = with_rule (with_rule (with_rule options_app word_rule) (new_rule (codes "FIRST")))
@@ -39,12 +50,22 @@ desk_app = with_rule (with_rule (with_rule options_app word_rule) (new_rule (cod
 abbrev pub value_of : Text → List Text → Option Text
 value_of id words = first_of id (matches_of desk_app words)
 
+-- a flag has a text as its value
+abbrev pub is_true : Option Text → Bool
+is_true (Some text) = bytes_eq text (codes "true")
+is_true None = false
+
+abbrev pub is_set : Text → List Text → Bool
+is_set id words = is_true (value_of id words)
+
 -- What stands at each place of the command line, but for --desk and --proxy.
 pub record Said : Type 0 where
   pub word : Option Text
   pub first : Option Text
   pub second : Option Text
   pub out : Option Text
+  pub until : Option Text
+  pub at_once : Bool
 
 abbrev pub said_in : List Text → Said
 said_in words = record {
@@ -52,30 +73,61 @@ said_in words = record {
   first = value_of (codes "FIRST") words;
   second = value_of (codes "SECOND") words;
   out = value_of (codes "OUT") words;
+  until = value_of (codes "UNTIL") words;
+  at_once = is_set (codes "NOW") words;
 }
 
--- a word with these values behind it, and no --out
+-- a word with these values behind it, and no --out, --until or --now
 abbrev pub said : Text → Option Text → Option Text → Said
-said word first second = record { word = Some word; first = first; second = second; out = None }
+said word first second =
+    record { word = Some word; first = first; second = second; out = None; until = None; at_once = false }
+
+-- `letters` with this folder behind --out, or without it
+abbrev pub said_letters : Option Text → Said
+said_letters out = record (said (codes "letters") None None) { out = out }
+
+-- `box` with a name and a number behind it, and this day behind --until, or without them
+abbrev pub said_boxes : (name number until : Option Text) → Said
+said_boxes name number until = record (said (codes "box") name number) { until = until }
+
+-- `retire` with a name behind it, and with --now or without it
+abbrev pub said_retire : Option Text → Bool → Said
+said_retire name at_once = record (said (codes "retire") name None) { at_once = at_once }
+
+-- a number from 1 on
+abbrev pub IsUpTo : (most number : ℕ) → Type 0
+IsUpTo most number = (1 ≤ number) × (number ≤ most)
 
 -- a number of addresses that a card may have
 abbrev pub IsCount : ℕ → Type 0
-IsCount n = (1 ≤ n) × (n ≤ 64)
+IsCount = IsUpTo 64
 
--- `letters` with this folder behind --out, or without it
-abbrev pub letters_into : Option Text → Said
-letters_into out = record { word = Some (codes "letters"); first = None; second = None; out = out }
+-- the number of addresses that these digits say, if there are any; else it is 16
+abbrev pub SaysCount : Option Text → ℕ → Type 0
+SaysCount (Some digits) count = (digits ≡ decimal count) × IsCount count
+SaysCount None count = count ≡ 16
 
--- These values name a task. A card that names no number of addresses has 16.
+pub record NamesBoxes (s : Said) (name : Text) (count : ℕ) (until : Option Day) : Type 0 where
+  pub values : s ≡ said_boxes (Some name) s.second (option_map day_text until)
+  pub counted : SaysCount s.second count
+  pub dated : IfSome until IsDay
+
+-- a letter is named by its number, from 1 to 8, or by none
+pub record NamesLetter (s : Said) (number : Option ℕ) : Type 0 where
+  pub values : s ≡ said (codes "discard") (option_map decimal number) None
+  pub numbered : IfSome number (IsUpTo 8)
+
+-- These values name a task.
 abbrev pub Names : Said → DeskTask → Type 0
 Names s (task.Open pair) = s ≡ said (codes "open") (Some pair.now) None
-Names s (task.Box name count) = (s ≡ said (codes "box") (Some name.now) None) × (count ≡ 16)
-    ⊎ (s ≡ said (codes "box") (Some name.now) (Some (decimal count))) × IsCount count
+Names s (task.Box name count until) = NamesBoxes s name.now count until
 Names s (task.Card name) = s ≡ said (codes "card") (Some name.now) None
-Names s (task.Letters out) = s ≡ letters_into (option_map (λ o. o.now) out)
+Names s (task.Letters out) = s ≡ said_letters (option_map (λ o. o.now) out)
 Names s (task.Send card file) = s ≡ said (codes "send") (Some card.now) (option_map (λ f. f.now) file)
+Names s (task.Discard number) = NamesLetter s number
 Names s task.Resume = s ≡ said (codes "resume") None None
-Names s (task.Retire name) = s ≡ said (codes "retire") (Some name.now) None
+Names s task.Adopt = s ≡ said (codes "adopt") None None
+Names s (task.Retire name at_once) = s ≡ said_retire (Some name.now) at_once
 Names s task.Forget = s ≡ said (codes "forget") None None
 Names s task.Status = s ≡ said (codes "status") None None
 Names s task.Help = s ≡ said (codes "help") None None

@@ -9,4 +9,6 @@ said_at g = record {
   first = option_map (λ s. s.now) g.first;
   second = option_map (λ s. s.now) g.second;
   out = option_map (λ s. s.now) g.out;
+  until = option_map (λ s. s.now) g.until;
+  at_once = g.at_once;
 }

@@ -2,13 +2,18 @@
 use Rattle.std.specs.Prelude.{◌≡◌, ℕ, Option, Some, None}
 use Rattle.std.specs.Fmt.{decimal}
 use Rattle.clap.specs.Words.{Text}
-use Rattle.desk_words.specs.CommandLine.{IsCount, Names, Said}
+use Rattle.desk_words.specs.CommandLine.{IsUpTo, Names, Said, SaysCount}
 use Rattle.desk_words.specs.declared.task.DeskTask.{DeskTask}
 
--- the number of addresses whose decimal digits these are, if any
-abbrev pub IsCountOf : Text → Option ℕ → Type 0
-IsCountOf text (Some n) = (text ≡ decimal n) × IsCount n
-IsCountOf text None = (n : ℕ) → IsCount n → text ≡ decimal n → ⊥
+-- the number from 1 on, and not above `most`, whose decimal digits these are, if any
+abbrev pub IsNumberOf : (most : ℕ) → Text → Option ℕ → Type 0
+IsNumberOf most text (Some n) = (text ≡ decimal n) × IsUpTo most n
+IsNumberOf most text None = (n : ℕ) → IsUpTo most n → text ≡ decimal n → ⊥
+
+-- the number of addresses that these digits say, if any
+abbrev pub IsCountOf : Option Text → Option ℕ → Type 0
+IsCountOf digits (Some n) = SaysCount digits n
+IsCountOf digits None = (n : ℕ) → SaysCount digits n → ⊥
 
 -- the task that these values name, if any
 abbrev pub IsTaskOf : Said → Option DeskTask → Type 0

@@ -1,7 +1,7 @@
 //! The values of the command line's arguments.
 ghost use Rattle.std.specs.Prelude.{◌≡◌, ◌≢◌, [], IfOk, IfErr, option_map, codes};
 ghost use Rattle.clap.specs.Words.{app_of, fault_of, kind_of};
-ghost use Rattle.desk_words.specs.CommandLine.{desk_app, options_app, value_of, words_in};
+ghost use Rattle.desk_words.specs.CommandLine.{desk_app, is_set, is_true, options_app, places_app, value_of, words_in};
 
 use clap::error::ErrorKind;
 use clap::{Arg, ArgAction, Command, Error};
@@ -12,6 +12,8 @@ use std::alloc::{AllocError, Global};
 pub(crate) struct Given<'a> {
     pub(crate) desk: Option<&'a str>,
     pub(crate) out: Option<&'a str>,
+    pub(crate) until: Option<&'a str>,
+    pub(crate) at_once: bool,
     pub(crate) word: Option<&'a str>,
     pub(crate) first: Option<&'a str>,
     pub(crate) second: Option<&'a str>,
@@ -19,8 +21,8 @@ pub(crate) struct Given<'a> {
 }
 
 // The options --desk, --out and --proxy.
-fn with_options<'a>(alloc: Global) -> Result<Command<'a>, AllocError>
-    ensures { IfOk result (λ c. app_of c ≡ options_app) }
+fn with_places<'a>(alloc: Global) -> Result<Command<'a>, AllocError>
+    ensures { IfOk result (λ c. app_of c ≡ places_app) }
 {
     let desk = Arg::new(alloc, "DESK").long("desk").action(ArgAction::Set);
     let out = Arg::new(alloc, "OUT").long("out").action(ArgAction::Set);
@@ -34,6 +36,22 @@ fn with_options<'a>(alloc: Global) -> Result<Command<'a>, AllocError>
     let with_desk = bare.arg(desk)?;
     let with_out = with_desk.arg(out)?;
     let whole = with_out.arg(proxy)?;
+    Ok(whole)
+}
+
+// The same, and --until and the flag --now.
+fn with_options<'a>(alloc: Global) -> Result<Command<'a>, AllocError>
+    ensures { IfOk result (λ c. app_of c ≡ options_app) }
+{
+    let until = Arg::new(alloc, "UNTIL")
+        .long("until")
+        .action(ArgAction::Set);
+    let now = Arg::new(alloc, "NOW")
+        .long("now")
+        .action(ArgAction::SetTrue);
+    let places = with_places(alloc)?;
+    let with_until = places.arg(until)?;
+    let whole = with_until.arg(now)?;
     Ok(whole)
 }
 
@@ -51,6 +69,16 @@ fn parser<'a>(alloc: Global) -> Result<Command<'a>, AllocError>
     Ok(whole)
 }
 
+// Whether a flag is set: its value is a text.
+fn is_true(value: Option<&str>) -> bool
+    ensures { result ≡ is_true (option_map (λ s. s.now) value.entry) }
+{
+    match value {
+        Some(text) => text == "true",
+        None => false,
+    }
+}
+
 /// The values that these words give.
 pub(crate) fn given_in<'a>(alloc: Global, words: &'a Vec<String>) -> Result<Given<'a>, Error>
     ensures desk { IfOk result (λ g. option_map (λ s. s.now) g.desk
@@ -63,6 +91,9 @@ pub(crate) fn given_in<'a>(alloc: Global, words: &'a Vec<String>) -> Result<Give
         ≡ value_of (codes "SECOND") (words_in words.entry.now)) }
     ensures out { IfOk result (λ g. option_map (λ s. s.now) g.out
         ≡ value_of (codes "OUT") (words_in words.entry.now)) }
+    ensures until { IfOk result (λ g. option_map (λ s. s.now) g.until
+        ≡ value_of (codes "UNTIL") (words_in words.entry.now)) }
+    ensures at_once { IfOk result (λ g. g.at_once ≡ is_set (codes "NOW") (words_in words.entry.now)) }
     ensures proxy { IfOk result (λ g. option_map (λ s. s.now) g.proxy
         ≡ value_of (codes "PROXY") (words_in words.entry.now)) }
     ensures taken { IfOk result (λ g. fault_of desk_app (words_in words.entry.now) ≡ []) }
@@ -75,6 +106,8 @@ pub(crate) fn given_in<'a>(alloc: Global, words: &'a Vec<String>) -> Result<Give
         Ok(matches) => Ok(Given {
             desk: matches.get_str("DESK"),
             out: matches.get_str("OUT"),
+            until: matches.get_str("UNTIL"),
+            at_once: is_true(matches.get_str("NOW")),
             word: matches.get_str("WORD"),
             first: matches.get_str("FIRST"),
             second: matches.get_str("SECOND"),

@@ -1,10 +1,15 @@
 //! What a desk is asked to do.
 
+use desk_texts::Day;
+
 /// A card has so many addresses where no other number is named.
 pub const USUAL_COUNT: u32 = 16;
 
 /// A card has at most so many.
 pub const MOST_COUNT: u32 = 64;
+
+/// At most so many letters are on their way at once, numbered from 1.
+pub const MOST_LETTERS: u32 = 8;
 
 /// What a desk is asked to do. The texts are the command line's own.
 #[derive(Clone, Copy, Debug, PartialEq, Eq)]
@@ -13,10 +18,12 @@ pub enum DeskTask<'a> {
     Open {
         pair: &'a str,
     },
-    /// Registers so many boxes under a name, 1 to 64, and prints their card.
+    /// Registers so many boxes under a name, 1 to 64, and prints their card, with the last day that is named
+    /// for it, if any.
     Box {
         name: &'a str,
         count: u32,
+        until: Option<Day>,
     },
     /// Prints a card again.
     Card {
@@ -31,11 +38,18 @@ pub enum DeskTask<'a> {
         card: &'a str,
         file: Option<&'a str>,
     },
+    /// Gives up a letter that is on its way: the one of this number, 1 to 8, where one is named.
+    Discard {
+        number: Option<u32>,
+    },
     /// Finishes what is under way.
     Resume,
-    /// Reads the boxes of this name for the last time, and retires them.
+    /// Goes on as the desk with a folder that was copied.
+    Adopt,
+    /// Closes the boxes of this name, or reads them for the last time and retires them now.
     Retire {
         name: &'a str,
+        now: bool,
     },
     /// Forgets letters and old requests.
     Forget,

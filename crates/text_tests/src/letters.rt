@@ -1,6 +1,6 @@
 //! Letters, cards and pair files that `bench/desk_vectors` made, and what of such isn't taken; a stranger's tries.
 use crate::told::is_told;
-use desk_letters::{SealFault, open, room, screen_text, seal};
+use desk_letters::{SealFault, open, room, seal};
 use desk_texts::{is_place, print, read_sheet};
 use desk_tries::{Answer, Sending, fate_by, highest_named, lane_among, next_lane, serial_above};
 use express_words::Refusal;
@@ -67,23 +67,6 @@ fn letters(rt: HostRuntime) -> Result<(), Fail> {
     is_told(letters_told(rt.alloc(), &met), LETTERS)
 }
 
-fn screen_told(alloc: Global, text: &[u8]) -> Result<String, Fail> {
-    match screen_text(alloc, text)? {
-        Some(shown) => Ok(String::from_str(alloc, shown.as_str())?),
-        None => Ok(String::from_str(alloc, "no text")?),
-    }
-}
-
-#[test]
-fn screens(rt: HostRuntime) -> Result<(), Fail> {
-    let shown = "bell\\x07, \\x9b, é\n";
-    is_told(
-        screen_told(rt.alloc(), b"bell\x07, \xc2\x9b, \xc3\xa9\n"),
-        shown,
-    )?;
-    is_told(screen_told(rt.alloc(), b"\xff"), "no text")
-}
-
 // Whether a sheet is read, and printed as it was.
 fn is_read(alloc: Global, text: &[u8]) -> Result<bool, Fail> {
     let sheet = read_sheet(alloc, text)?;
@@ -121,7 +104,7 @@ const SHEETS: [&[u8]; 5] = [
 ];
 
 const READ: &str =
-    "Card(CardHead { width: 1024, from: 16, to: 79, addresses: 2 }) leader.example.org:7000 \
+    "Card(CardHead { width: 1024, from: 16, to: 79, addresses: 2, until: None }) leader.example.org:7000 \
     [2001:db8::7]:7001 [88962710306127702866241727433142015, \
     340282366920938463463374607431768211455]\n\
     Pair(PairHead { width: 64, boxes: 4096, lane: 15, from: 16, to: 255 }) 10.0.0.1:7000 10.0.0.2:65535 []\n\

@@ -5,6 +5,8 @@
 #[cfg(test)]
 mod batches;
 #[cfg(test)]
+mod cards;
+#[cfg(test)]
 mod files;
 #[cfg(test)]
 mod frame_rows;
@@ -22,6 +24,8 @@ mod outside;
 mod schedules;
 #[cfg(test)]
 mod settings;
+#[cfg(test)]
+mod shown_letters;
 #[cfg(test)]
 mod told;
 #[cfg(test)]

@@ -1,7 +1,7 @@
 use Rattle.std.proofs.Common.{arith, ◌≡◌, ◌↔◌, ◌∙◌, ap, sym, subst, IsTrue, length, get_or, string_bytes}
 use Rattle.clap.specs.Words.{Text}
 use Rattle.desk_words.specs.CommandLine.{IsHelpWord}
-use Rattle.desk_words.proofs.Named.{one_word}
+use Rattle.desk_words.proofs.WordLaws.{one_word}
 use Rattle.desk_words.proofs.asking.wants_help.Goals as goal
 
 pub returns-in-len1 : goal.returns-in-len1

@@ -4,7 +4,7 @@ use Rattle.clap.specs.declared.error.kind.ErrorKind.{ErrorKind}
 use Rattle.clap.specs.declared.error.kind.ErrorKind.TheVariants as kind
 use Rattle.clap.proofs.OnLiterals.{clap_on_literals}
 use Rattle.clap.proofs.WalkLemmas.{first_value-rows}
-use Rattle.desk_words.specs.CommandLine.{desk_app}
+use Rattle.desk_words.specs.CommandLine.{desk_app, is_true}
 use Rattle.desk_words.proofs.given.given_in.Goals as goal
 
 simple : is_simple desk_app ≡ true
@@ -52,25 +52,40 @@ returns-in-Ok-clause-word c =
     let whole_is : app_of c.in_ok-command.command ≡ desk_app = c.in_ok-command.ensures in
     let words_are = ap (map string_bytes) c.as_slice.ensures.value in
     let rows = (c.in-Ok.ensures.matches (ap is_simple whole_is ∙ simple)).0 ∙ ap₂ matches_of whole_is words_are in
-    c.get_str-in-Ok-2.ensures ∙ first_value-rows (found_of c.in-Ok.matches) (codes "WORD") ∙ ap (first_of (codes "WORD")) rows
+    c.get_str-in-Ok-4.ensures ∙ first_value-rows (found_of c.in-Ok.matches) (codes "WORD") ∙ ap (first_of (codes "WORD")) rows
 
 pub returns-in-Ok-clause-first : goal.returns-in-Ok-clause-first
 returns-in-Ok-clause-first c =
     let whole_is : app_of c.in_ok-command.command ≡ desk_app = c.in_ok-command.ensures in
     let words_are = ap (map string_bytes) c.as_slice.ensures.value in
     let rows = (c.in-Ok.ensures.matches (ap is_simple whole_is ∙ simple)).0 ∙ ap₂ matches_of whole_is words_are in
-    c.get_str-in-Ok-3.ensures ∙ first_value-rows (found_of c.in-Ok.matches) (codes "FIRST") ∙ ap (first_of (codes "FIRST")) rows
+    c.get_str-in-Ok-5.ensures ∙ first_value-rows (found_of c.in-Ok.matches) (codes "FIRST") ∙ ap (first_of (codes "FIRST")) rows
 
 pub returns-in-Ok-clause-second : goal.returns-in-Ok-clause-second
 returns-in-Ok-clause-second c =
     let whole_is : app_of c.in_ok-command.command ≡ desk_app = c.in_ok-command.ensures in
     let words_are = ap (map string_bytes) c.as_slice.ensures.value in
     let rows = (c.in-Ok.ensures.matches (ap is_simple whole_is ∙ simple)).0 ∙ ap₂ matches_of whole_is words_are in
-    c.get_str-in-Ok-4.ensures ∙ first_value-rows (found_of c.in-Ok.matches) (codes "SECOND") ∙ ap (first_of (codes "SECOND")) rows
+    c.get_str-in-Ok-6.ensures ∙ first_value-rows (found_of c.in-Ok.matches) (codes "SECOND") ∙ ap (first_of (codes "SECOND")) rows
 
 pub returns-in-Ok-clause-proxy : goal.returns-in-Ok-clause-proxy
 returns-in-Ok-clause-proxy c =
     let whole_is : app_of c.in_ok-command.command ≡ desk_app = c.in_ok-command.ensures in
     let words_are = ap (map string_bytes) c.as_slice.ensures.value in
     let rows = (c.in-Ok.ensures.matches (ap is_simple whole_is ∙ simple)).0 ∙ ap₂ matches_of whole_is words_are in
-    c.get_str-in-Ok-5.ensures ∙ first_value-rows (found_of c.in-Ok.matches) (codes "PROXY") ∙ ap (first_of (codes "PROXY")) rows
+    c.get_str-in-Ok-7.ensures ∙ first_value-rows (found_of c.in-Ok.matches) (codes "PROXY") ∙ ap (first_of (codes "PROXY")) rows
+
+pub returns-in-Ok-clause-until : goal.returns-in-Ok-clause-until
+returns-in-Ok-clause-until c =
+    let whole_is : app_of c.in_ok-command.command ≡ desk_app = c.in_ok-command.ensures in
+    let words_are = ap (map string_bytes) c.as_slice.ensures.value in
+    let rows = (c.in-Ok.ensures.matches (ap is_simple whole_is ∙ simple)).0 ∙ ap₂ matches_of whole_is words_are in
+    c.get_str-in-Ok-2.ensures ∙ first_value-rows (found_of c.in-Ok.matches) (codes "UNTIL") ∙ ap (first_of (codes "UNTIL")) rows
+
+pub returns-in-Ok-clause-at_once : goal.returns-in-Ok-clause-at_once
+returns-in-Ok-clause-at_once c =
+    let whole_is : app_of c.in_ok-command.command ≡ desk_app = c.in_ok-command.ensures in
+    let words_are = ap (map string_bytes) c.as_slice.ensures.value in
+    let rows = (c.in-Ok.ensures.matches (ap is_simple whole_is ∙ simple)).0 ∙ ap₂ matches_of whole_is words_are in
+    c.is_true.ensures
+    ∙ ap is_true (c.get_str-in-Ok-3.ensures ∙ first_value-rows (found_of c.in-Ok.matches) (codes "NOW") ∙ ap (first_of (codes "NOW")) rows)
