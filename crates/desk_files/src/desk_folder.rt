@@ -1,55 +1,16 @@
 //! A desk's folder over the system's calls.
-ghost use Rattle.std.specs.Prelude.{◌≡◌, ◌≤◌, List, None, Option, Ok, IfOk, OnOk};
+ghost use Rattle.std.specs.Prelude.{◌≡◌, ◌≤◌, List, None, Option, Ok, IfErr, IfOk, OnOk, true};
 ghost use Rattle.express_words.specs.Seen.{silent};
 ghost use Rattle.express_words.specs.Causes.{HasCause, CountsFault, next};
-ghost use Rattle.express_outside.specs.Calls.{added, EndedBy};
-ghost use Rattle.desk_files.specs.Steps.{FolderStep, Made, Checked, Locked, Looked, Renamed, Unlinked, Synced, EndedByBoth, EndedByThree};
+ghost use Rattle.express_outside.specs.Calls.{added};
+ghost use Rattle.desk_files.specs.Disks.{IsOnlyRead, MayBeWritten};
+ghost use Rattle.desk_files.specs.Steps.{FolderStep, Looked, Renamed, Unlinked, Synced, HandedOut, MarkSet};
+ghost use Rattle.desk_files.specs.Steps.{IsHoldOf, FailsToHold, locked_behind};
 
+use crate::folder_calls::{FolderCalls, Mark};
 use desk_outside::{DeskFile, Folder, FolderFault, Hold};
-use express_outside::{FileCalls, FileDisk, Trouble};
+use express_outside::{FileDisk, Trouble};
 use express_words::outside::{Counted, Failed};
-
-/// The system's calls on a desk's folder.
-pub trait FolderCalls {
-    ghost use Rattle.express_outside.specs.declared.calls.Trouble.{Trouble};
-
-    /// One of its files, with the system's calls on it.
-    type File: FileCalls + Drop;
-
-    /// Its calls so far, if it tells.
-    ghost calls: { Self → Option (List FolderStep) };
-
-    /// Makes the folder for its user alone, where there is none, and waits until the disk has its name.
-    fn make(&mut self) -> Result<(), FolderFault>
-        ensures told { calls self.new ≡ added (Made result) (calls self.old) };
-
-    /// Fails where the folder is none, is a link, or is open to others than its user, and says which.
-    fn check(&mut self) -> Result<(), FolderFault>
-        ensures told { calls self.new ≡ added (Checked result) (calls self.old) };
-
-    /// Takes the folder's lock, which is this process's until it ends.
-    fn lock(&mut self) -> Result<Hold, FolderFault>
-        ensures told { calls self.new ≡ added (Locked result) (calls self.old) };
-
-    /// Whether the file is there, which must be its user's alone then, and no link.
-    fn look(&mut self, file: DeskFile) -> Result<bool, FolderFault>
-        ensures told { calls self.new ≡ added (Looked file result) (calls self.old) };
-
-    /// The file, which isn't touched yet.
-    fn file(&self, file: DeskFile) -> Self::File;
-
-    /// Gives the file `from` the name of the file `to`, which it replaces.
-    fn rename(&mut self, from: DeskFile, to: DeskFile) -> Result<(), Trouble>
-        ensures told { calls self.new ≡ added (Renamed from to result) (calls self.old) };
-
-    /// Takes the file's name away, where it is there.
-    fn unlink(&mut self, file: DeskFile) -> Result<(), Trouble>
-        ensures told { calls self.new ≡ added (Unlinked file result) (calls self.old) };
-
-    /// Waits until the disk has the folder's names.
-    fn sync(&mut self) -> Result<(), Trouble>
-        ensures told { calls self.new ≡ added (Synced result) (calls self.old) };
-}
 
 /// A folder of the system. Each error is a fault. It doesn't tell its calls.
 #[derive(Drop)]
@@ -74,20 +35,49 @@ impl<C: FolderCalls> DeskFolder<C> {
         self.faults = self.faults.saturating_add(1);
     }
 
+    // What the mark says of a folder whose lock this process has. One in which nothing stands gets its mark.
+    fn marked(&mut self) -> Result<Hold, FolderFault>
+        ensures faults { self.new.faults ≡ self.old.faults }
+        ensures hold { (before : Option (List FolderStep))
+            → C.calls self.old.system ≡ locked_behind before true
+            → IfOk result (λ hold. IsHoldOf hold before (C.calls self.new.system)) }
+        ensures fails { (before : Option (List FolderStep))
+            → C.calls self.old.system ≡ locked_behind before true
+            → IfErr result (λ fault. FailsToHold fault before (C.calls self.new.system)) }
+    {
+        match self.system.mark()? {
+            Mark::This => Ok(Hold::Held),
+            Mark::Other => Ok(Hold::Copied),
+            Mark::Absent => {
+                if !self.system.is_bare()? {
+                    return Ok(Hold::Copied);
+                }
+                self.system.set_mark()?;
+                Ok(Hold::Held)
+            }
+        }
+    }
+
     fn take(&mut self) -> Result<Hold, FolderFault>
         ensures faults { self.new.faults ≡ self.old.faults }
-        ensures held { IfOk result (λ hold. EndedByThree (C.calls self.new.system)
-            (Made (Ok tt)) (Checked (Ok tt)) (Locked (Ok hold))) }
+        ensures hold { IfOk result
+            (λ hold. IsHoldOf hold (C.calls self.old.system) (C.calls self.new.system)) }
+        ensures fails { IfErr result
+            (λ fault. FailsToHold fault (C.calls self.old.system) (C.calls self.new.system)) }
     {
         self.system.make()?;
         self.system.check()?;
-        self.system.lock()
+        if self.system.lock()? {
+            self.marked()
+        } else {
+            Ok(Hold::InUse)
+        }
     }
 
     fn replace(&mut self, next: DeskFile, file: DeskFile) -> Result<(), Trouble>
         ensures faults { self.new.faults ≡ self.old.faults }
-        ensures placed { OnOk result
-            (EndedByBoth (C.calls self.new.system) (Renamed next file (Ok tt)) (Synced (Ok tt))) }
+        ensures placed { OnOk result (C.calls self.new.system
+            ≡ added (Synced (Ok tt)) (added (Renamed next file (Ok tt)) (C.calls self.old.system))) }
     {
         self.system.rename(next, file)?;
         self.system.sync()
@@ -95,8 +85,8 @@ impl<C: FolderCalls> DeskFolder<C> {
 
     fn forget(&mut self, file: DeskFile) -> Result<(), Trouble>
         ensures faults { self.new.faults ≡ self.old.faults }
-        ensures removed { OnOk result
-            (EndedByBoth (C.calls self.new.system) (Unlinked file (Ok tt)) (Synced (Ok tt))) }
+        ensures removed { OnOk result (C.calls self.new.system
+            ≡ added (Synced (Ok tt)) (added (Unlinked file (Ok tt)) (C.calls self.old.system))) }
     {
         self.system.unlink(file)?;
         self.system.sync()
@@ -117,8 +107,10 @@ impl<C: FolderCalls> Folder for DeskFolder<C> {
     ghost calls = { λ _. None };
 
     fn hold(&mut self) -> Result<Hold, FolderFault>
-        ensures held { IfOk result (λ hold. EndedByThree (C.calls self.new.system)
-            (Made (Ok tt)) (Checked (Ok tt)) (Locked (Ok hold))) }
+        ensures hold { IfOk result
+            (λ hold. IsHoldOf hold (C.calls self.old.system) (C.calls self.new.system)) }
+        ensures fails { IfErr result
+            (λ fault. FailsToHold fault (C.calls self.old.system) (C.calls self.new.system)) }
         ensures cause { HasCause self.old.faults self.new.faults result }
         ensures counts { CountsFault self.old.faults self.new.faults result }
     {
@@ -132,7 +124,8 @@ impl<C: FolderCalls> Folder for DeskFolder<C> {
     }
 
     fn is_there(&mut self, file: DeskFile) -> Result<bool, FolderFault>
-        ensures looked { IfOk result (λ there. EndedBy (C.calls self.new.system) (Looked file (Ok there))) }
+        ensures looked { IfOk result
+            (λ there. C.calls self.new.system ≡ added (Looked file (Ok there)) (C.calls self.old.system)) }
         ensures cause { HasCause self.old.faults self.new.faults result }
         ensures counts { CountsFault self.old.faults self.new.faults result }
     {
@@ -145,17 +138,31 @@ impl<C: FolderCalls> Folder for DeskFolder<C> {
         }
     }
 
-    fn open(&mut self, file: DeskFile) -> Result<FileDisk<C::File>, Failed> {
+    fn open(&mut self, file: DeskFile) -> Result<FileDisk<C::File>, Failed>
+        ensures file { OnOk result
+            (C.calls self.new.system ≡ added (HandedOut file) (C.calls self.old.system)) }
+        ensures whole { IfOk result (λ disk. disk.faults ≡ 0) }
+        ensures purpose { IfOk result MayBeWritten }
+        ensures cause { HasCause self.old.faults self.new.faults result }
+        ensures counts { CountsFault self.old.faults self.new.faults result }
+    {
         Ok(FileDisk::new(self.system.file(file)))
     }
 
-    fn look_into(&mut self, file: DeskFile) -> Result<FileDisk<C::File>, Failed> {
+    fn look_into(&mut self, file: DeskFile) -> Result<FileDisk<C::File>, Failed>
+        ensures file { OnOk result
+            (C.calls self.new.system ≡ added (HandedOut file) (C.calls self.old.system)) }
+        ensures whole { IfOk result (λ disk. disk.faults ≡ 0) }
+        ensures purpose { IfOk result IsOnlyRead }
+        ensures cause { HasCause self.old.faults self.new.faults result }
+        ensures counts { CountsFault self.old.faults self.new.faults result }
+    {
         Ok(FileDisk::only_read(self.system.file(file)))
     }
 
     fn put_in_place(&mut self, next: DeskFile, file: DeskFile) -> Result<(), Failed>
-        ensures placed { OnOk result
-            (EndedByBoth (C.calls self.new.system) (Renamed next file (Ok tt)) (Synced (Ok tt))) }
+        ensures placed { OnOk result (C.calls self.new.system
+            ≡ added (Synced (Ok tt)) (added (Renamed next file (Ok tt)) (C.calls self.old.system))) }
         ensures cause { HasCause self.old.faults self.new.faults result }
         ensures counts { CountsFault self.old.faults self.new.faults result }
     {
@@ -169,12 +176,27 @@ impl<C: FolderCalls> Folder for DeskFolder<C> {
     }
 
     fn remove(&mut self, file: DeskFile) -> Result<(), Failed>
-        ensures removed { OnOk result
-            (EndedByBoth (C.calls self.new.system) (Unlinked file (Ok tt)) (Synced (Ok tt))) }
+        ensures removed { OnOk result (C.calls self.new.system
+            ≡ added (Synced (Ok tt)) (added (Unlinked file (Ok tt)) (C.calls self.old.system))) }
         ensures cause { HasCause self.old.faults self.new.faults result }
         ensures counts { CountsFault self.old.faults self.new.faults result }
     {
         match self.forget(file) {
+            Ok(()) => Ok(()),
+            Err(_) => {
+                self.count_fault();
+                Err(Failed)
+            }
+        }
+    }
+
+    fn adopt(&mut self) -> Result<(), Failed>
+        ensures marked { OnOk result
+            (C.calls self.new.system ≡ added (MarkSet (Ok tt)) (C.calls self.old.system)) }
+        ensures cause { HasCause self.old.faults self.new.faults result }
+        ensures counts { CountsFault self.old.faults self.new.faults result }
+    {
+        match self.system.set_mark() {
             Ok(()) => Ok(()),
             Err(_) => {
                 self.count_fault();

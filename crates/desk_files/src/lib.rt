@@ -3,13 +3,18 @@
 
 mod desk_folder;
 mod desk_paths;
+mod folder_calls;
+mod folder_checks;
 mod paper_files;
 mod system_clock;
+mod system_files;
 mod system_folder;
+mod system_mark;
 mod system_papers;
 
-pub use desk_folder::{DeskFolder, FolderCalls};
+pub use desk_folder::DeskFolder;
 pub use desk_paths::DeskPaths;
+pub use folder_calls::{FolderCalls, Mark};
 pub use paper_files::{PaperCalls, PaperFiles, Stands};
 pub use system_clock::SystemClock;
 pub use system_folder::SystemFolder;

@@ -3,15 +3,11 @@ ghost use Rattle.std.specs.Prelude.{◌≡◌, ◌↔◌, ◌⊎◌, IsTrue, Non
 ghost use Rattle.std.specs.IoError.{error_kind};
 
 use crate::paper_files::{PaperCalls, Stands};
-use crate::system_folder::{made, sync_folder, unlinked};
+use crate::system_files::{made, sync_folder, unlinked, written};
 use express_outside::{Direct, Trouble, trouble_of};
 use std::fs::File;
-use std::io::{ErrorKind, Write};
-use std::os::unix::fs::OpenOptionsExt;
+use std::io::ErrorKind;
 use std::{fs, io};
-
-/// Who else than its user may read a letter that is written: nobody.
-const MODE: u32 = 0o600;
 
 /// The system's files, by their paths.
 #[derive(Drop)]
@@ -56,15 +52,6 @@ fn stands(rt: &HostRuntime, path: &str, bytes: &[u8]) -> io::Result<Stands> {
 fn found(rt: &HostRuntime, folder: &str, name: &str, bytes: &[u8]) -> io::Result<Stands> {
     let path = path_of(rt, folder, name)?;
     stands(rt, path.as_str(), bytes)
-}
-
-// Writes a file that isn't there yet: of two that have its path, a link among them, the second fails.
-fn written(rt: &HostRuntime, path: &str, bytes: &[u8]) -> io::Result<()> {
-    let mut options = File::options();
-    options.write(true).create_new(true).mode(MODE);
-    let mut file = options.open(rt, path)?;
-    file.write_all(bytes)?;
-    file.sync_all()
 }
 
 fn tidied(rt: &HostRuntime, folder: &str, name: &str) -> io::Result<()> {

@@ -1,14 +1,16 @@
 -- The calls on a desk's folder.
 use Rattle.std.specs.Prelude.{◌≡◌, Bool, List, [], ◌∷◌, ◌++◌, Option, Some, None, Result, Ok, Err}
 use Rattle.desk_outside.specs.declared.folder.DeskFile.{DeskFile}
+use Rattle.desk_outside.specs.declared.folder.Hold.{Hold}
 
 -- A call on the folder, with its files: whether it failed, or else what it gave, None where it failed.
 pub data FolderCall (D : Type 0) : Type 0 where
-  Held : Bool → FolderCall D
+  Held : Option Hold → FolderCall D
   Looked : DeskFile → Option Bool → FolderCall D
   Opened : DeskFile → Option D → FolderCall D
   Placed : DeskFile → DeskFile → Bool → FolderCall D
   Removed : DeskFile → Bool → FolderCall D
+  Adopted : Bool → FolderCall D
 
 -- what a call gave
 abbrev pub given : {A E : Type 0} → Result A E → Option A

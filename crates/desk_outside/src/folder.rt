@@ -1,11 +1,20 @@
 //! The folder of a desk.
 ghost use Rattle.std.specs.Prelude.{◌≡◌, ℕ, List, Option, IfOk, is_err};
 ghost use Rattle.express_words.specs.Causes.{HasCause, CountsFault};
-ghost use Rattle.desk_outside.specs.Calls.{FolderCall, Held, Looked, Opened, Placed, Removed, Adds, given};
+ghost use Rattle.desk_outside.specs.Calls.{FolderCall, Held, Looked, Opened, Placed, Removed, Adopted, Adds, given};
 
 use crate::FolderFault;
 use express_words::outside::{Counted, Failed};
 use node_journal::Disk;
+
+/// So many letters can be on their way at once.
+pub const MOST_LETTERS: u8 = 8;
+
+/// The place of a letter on its way, counted from 0, below `MOST_LETTERS`.
+#[derive(Clone, Copy, Debug, PartialEq, Eq)]
+pub struct Slot {
+    pub number: u8,
+}
 
 /// A file of the folder.
 #[derive(Clone, Copy, Debug, PartialEq, Eq)]
@@ -15,9 +24,9 @@ pub enum DeskFile {
     /// A ledger that isn't in place yet.
     NextLedger,
     /// A stranger's letter on its way.
-    Outbox,
-    /// A try of a letter that isn't in place yet.
-    NextOutbox,
+    Outbox(Slot),
+    /// A try of that letter that isn't in place yet.
+    NextOutbox(Slot),
 }
 
 /// Whether the folder is this process's alone.
@@ -25,6 +34,8 @@ pub enum DeskFile {
 pub enum Hold {
     /// It is, until this process ends.
     Held,
+    /// The same, and what stands in it was copied from another folder.
+    Copied,
     /// Another process has it.
     InUse,
 }
@@ -38,9 +49,9 @@ pub trait Folder: Counted {
     ghost calls: { Self → Option (List (FolderCall Self.File)) };
 
     /// Makes the folder where there is none, and takes it for this process alone. It must be its user's alone, and no
-    /// link.
+    /// link. Says whether it is a copy: what a desk leaves in its folder isn't this folder's then.
     fn hold(&mut self) -> Result<Hold, FolderFault>
-        ensures call { Adds (calls self.old) (calls self.new) (Held (is_err result)) }
+        ensures call { Adds (calls self.old) (calls self.new) (Held (given result)) }
         ensures cause { HasCause (Self.seen self.old).faults (Self.seen self.new).faults result }
         ensures counts { CountsFault (Self.seen self.old).faults (Self.seen self.new).faults result };
 
@@ -74,6 +85,12 @@ pub trait Folder: Counted {
     /// Removes the file, where it is there.
     fn remove(&mut self, file: DeskFile) -> Result<(), Failed>
         ensures call { Adds (calls self.old) (calls self.new) (Removed file (is_err result)) }
+        ensures cause { HasCause (Self.seen self.old).faults (Self.seen self.new).faults result }
+        ensures counts { CountsFault (Self.seen self.old).faults (Self.seen self.new).faults result };
+
+    /// From now on the folder isn't taken for a copy.
+    fn adopt(&mut self) -> Result<(), Failed>
+        ensures call { Adds (calls self.old) (calls self.new) (Adopted (is_err result)) }
         ensures cause { HasCause (Self.seen self.old).faults (Self.seen self.new).faults result }
         ensures counts { CountsFault (Self.seen self.old).faults (Self.seen self.new).faults result };
 }

@@ -7,6 +7,6 @@ mod folder_fault;
 mod papers;
 
 pub use clock::Clock;
-pub use folder::{DeskFile, Folder, Hold};
+pub use folder::{DeskFile, Folder, Hold, MOST_LETTERS, Slot};
 pub use folder_fault::FolderFault;
 pub use papers::{Papers, Written};
