@@ -1,9 +1,12 @@
 -- Bytes that are no name's with its addresses.
-use Rattle.std.proofs.Common.{◌≡◌, ℕ, ◌+◌, ◌*◌, ◌≤◌, ◌<◌, true, false, List, [], ◌∷◌, ◌++◌, length, drop, get_or, refl, sym, ◌∙◌, ap, subst, arith}
+use Rattle.std.proofs.Common.{◌≡◌, ℕ, ◌*◌, ◌≤◌, ◌<◌, true, false, List, ◌∷◌, ◌++◌, Option, length, drop, get_or, sym, ◌∙◌, ap, subst, arith}
+use Rattle.std.specs.Prelude.{IfSome}
 use Rattle.std.specs.Int.{w128, to_be_bytes}
 use Rattle.std.specs.List.{flat_map}
 use Rattle.std.proofs.Math.Seq.{drop-append_seam}
 use Rattle.std.proofs.lemmas.List.{length-append}
+use Rattle.desk_texts.specs.Days.{IsDay}
+use Rattle.desk_texts.specs.declared.day.Day.{Day}
 use Rattle.desk_entries.specs.declared.entry.NamedBoxes.{NamedBoxes}
 use Rattle.desk_entries.specs.Entries.{AreAddresses, IsNamed}
 use Rattle.desk_entries.specs.Names.{is_name}
@@ -42,10 +45,11 @@ none_unnamed count rest unnamed n named is =
     let a_name = named.name in
     absurd (cc)
 
-pub named_is : (count : ℕ) (rest front behind addresses name : List ℕ) → 1 ≤ count → count ≤ 64 → front ++ behind ≡ rest → length front ≡ count * 16
+pub named_is : (count : ℕ) (rest front behind addresses name : List ℕ) (until : Option Day) → IfSome until IsDay → 1 ≤ count → count ≤ 64 → front ++ behind ≡ rest → length front ≡ count * 16
     → flat_map (to_be_bytes w128) addresses ≡ front → AreAddresses addresses → name ≡ behind → is_name behind ≡ true
-    → IsNamed (record { name = name; addresses = addresses }) × (count ∷ rest ≡ named_record (record { name = name; addresses = addresses }))
-named_is count rest front behind addresses name some few split size spelled are is named =
+    → IsNamed (record { name = name; addresses = addresses; until = until })
+    × (count ∷ rest ≡ named_record (record { name = name; addresses = addresses; until = until }))
+named_is count rest front behind addresses name until day some few split size spelled are is named =
     let flat = flat_size addresses in
     let long : length (flat_map (to_be_bytes w128) addresses) ≡ count * 16 = ap length spelled ∙ size in
     let many : length addresses ≡ count = omega (arith, flat, long) in
@@ -55,6 +59,7 @@ named_is count rest front behind addresses name some few split size spelled are 
         some = omega (arith, many, some);
         few = omega (arith, many, few);
         addresses = are;
+        until = day;
       },
       ap (λ (k : ℕ). k ∷ rest) (sym many) ∙ ap (λ (l : List ℕ). length addresses ∷ l) whole,
     )

@@ -1,10 +1,10 @@
--- A name is ASCII.
-use Rattle.std.proofs.Common.{◌≡◌, ℕ, zero, suc, ◌<◌, true, List, [], ◌∷◌, arith}
+-- A name is ASCII, and bytes are a text or none.
+use Rattle.std.proofs.Common.{◌≡◌, ℕ, zero, suc, ◌<◌, Bool, true, false, List, [], ◌∷◌, refl, arith}
 use Rattle.std.specs.List.{list_all}
-use Rattle.std.specs.Str.{IsAscii, IsUtf8}
+use Rattle.std.specs.Str.{IsAscii, IsUtf8, is_utf8}
 use Rattle.std.proofs.lemmas.Bool.{and_parts}
 use Rattle.std.proofs.lemmas.Bool.Decides.{nat_tests}
-use Rattle.std.proofs.lemmas.Str.{IsUtf8-from_ascii}
+use Rattle.std.proofs.lemmas.Str.{IsUtf8-from_ascii, IsUtf8-from_is_utf8, is_utf8-from_IsUtf8}
 use Rattle.desk_entries.specs.Names.{is_name_byte, is_name}
 
 byte_ascii : (b : ℕ) → is_name_byte b ≡ true → b < 128
@@ -23,3 +23,15 @@ name_bytes text h =
 
 pub name_utf8 : (text : List ℕ) → is_name text ≡ true → IsUtf8 text
 name_utf8 text h = IsUtf8-from_ascii text (all_ascii text (name_bytes text h))
+
+-- ---- texts
+
+pub some_text : (bytes : List ℕ) → IsUtf8 bytes → is_utf8 bytes ≡ true
+some_text bytes is = is_utf8-from_IsUtf8 bytes is
+
+pub no_text : (bytes : List ℕ) → (IsUtf8 bytes → ⊥) → is_utf8 bytes ≡ false
+no_text bytes none = by_test (is_utf8 bytes) refl
+  where
+    by_test : (b : Bool) → is_utf8 bytes ≡ b → b ≡ false
+    by_test true e = absurd (none (IsUtf8-from_is_utf8 bytes e))
+    by_test false e = refl

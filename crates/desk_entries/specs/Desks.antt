@@ -1,10 +1,11 @@
 -- What is so of a desk after its entries: names, addresses, and what is left to be done.
-use Rattle.std.specs.Prelude.{ℕ, ◌==◌, ◌||◌, ◌&&◌, not, if◌then◌else◌, Bool, true, false, List, [], ◌∷◌, ◌++◌}
-use Rattle.std.specs.Prelude.{Option, Some, None, bytes_eq}
+use Rattle.std.specs.Prelude.{ℕ, ◌==◌, ◌||◌, ◌&&◌, not, if◌then◌else◌, Bool, true, false, List, [], ◌∷◌}
+use Rattle.std.specs.Prelude.{Option, Some, None, bytes_eq, option_and_then}
 use Rattle.std.specs.List.{filter, flat_map, list_any}
+use Rattle.desk_texts.specs.declared.day.Day.{Day}
 use Rattle.desk_entries.specs.declared.entry.Entry.{Entry}
-use Rattle.desk_entries.specs.declared.entry.Entry.TheVariants.{Pair, Named, Registered, Refused, Read}
-use Rattle.desk_entries.specs.declared.entry.Entry.TheVariants.{Retiring, Shown}
+use Rattle.desk_entries.specs.declared.entry.Entry.TheVariants.{Named, Registered, Refused, Read}
+use Rattle.desk_entries.specs.declared.entry.Entry.TheVariants.{Retiring, Closed}
 use Rattle.desk_entries.specs.declared.entry.NamedBoxes.{NamedBoxes}
 use Rattle.desk_entries.specs.declared.standing.Standing.TheVariants.{Waiting}
 use Rattle.desk_entries.specs.Standings.{stands}
@@ -24,6 +25,16 @@ retires_name name e = false
 -- the boxes with this name are to be retired
 abbrev pub is_retiring : List Entry → List ℕ → Bool
 is_retiring entries name = list_any (retires_name name) entries
+
+-- the last day of the card of the boxes with this name
+abbrev pub last_day : List Entry → List ℕ → Option Day
+last_day entries name = option_and_then (λ n. n.until) (named entries name)
+
+-- the day on which the boxes with this name were closed first
+abbrev pub closed_at : List Entry → List ℕ → Option Day
+closed_at [] name = None
+closed_at (Closed c ∷ entries) name = if bytes_eq c.name name then Some c.day else closed_at entries name
+closed_at (e ∷ entries) name = closed_at entries name
 
 -- ---- addresses
 

@@ -1,11 +1,10 @@
 -- Which values are entries.
-use Rattle.std.specs.Prelude.{◌≡◌, ℕ, ◌<◌, ◌≤◌, ◌^◌, true, List, [], ◌∷◌, length}
-use Rattle.std.specs.List.{All}
-use Rattle.desk_entries.specs.declared.entry.BoxAt.{BoxAt}
-use Rattle.desk_entries.specs.declared.entry.Denied.{Denied}
+use Rattle.std.specs.Prelude.{◌≡◌, ℕ, ◌<◌, ◌≤◌, ◌^◌, true, List, [], ◌∷◌, IfSome, length}
+use Rattle.desk_texts.specs.Days.{IsDay}
+use Rattle.desk_entries.specs.declared.entry.ClosedName.{ClosedName}
 use Rattle.desk_entries.specs.declared.entry.Entry.{Entry}
 use Rattle.desk_entries.specs.declared.entry.Entry.TheVariants.{Pair, Named, Registered, Refused, Read}
-use Rattle.desk_entries.specs.declared.entry.Entry.TheVariants.{Retiring, Shown}
+use Rattle.desk_entries.specs.declared.entry.Entry.TheVariants.{Retiring, Shown, Written, Closed}
 use Rattle.desk_entries.specs.declared.entry.Held.{Held}
 use Rattle.desk_entries.specs.declared.entry.Held.TheVariants.{Nothing, Letter, Met}
 use Rattle.desk_entries.specs.declared.entry.NamedBoxes.{NamedBoxes}
@@ -19,12 +18,13 @@ abbrev pub AreAddresses : List ℕ → Type 0
 AreAddresses [] = Unit {0}
 AreAddresses (a ∷ addresses) = IsAddress a × AreAddresses addresses
 
--- a name, and 1 to 64 addresses
+-- a name, 1 to 64 addresses, and a day of the calendar where there is one
 pub record IsNamed (n : NamedBoxes) : Type 0 where
   pub name : is_name n.name ≡ true
   pub some : 1 ≤ length n.addresses
   pub few : length n.addresses ≤ 64
   pub addresses : AreAddresses n.addresses
+  pub until : IfSome n.until IsDay
 
 abbrev pub IsHeld : Held → Type 0
 IsHeld (Letter id text) = id < 2 ^ 64
@@ -37,7 +37,11 @@ pub record IsReading (r : Reading) : Type 0 where
   pub seconds : r.seconds < 2 ^ 64
   pub held : IsHeld r.held
 
--- numbers fit their bytes, and names are names
+pub record IsClosed (c : ClosedName) : Type 0 where
+  pub name : is_name c.name ≡ true
+  pub day : IsDay c.day
+
+-- numbers fit their bytes, names are names, and days are days
 abbrev pub IsFormed : Entry → Type 0
 IsFormed (Pair text) = Unit {0}
 IsFormed (Named n) = IsNamed n
@@ -46,3 +50,5 @@ IsFormed (Refused d) = (d.serial < 2 ^ 32) × IsAddress d.address
 IsFormed (Read r) = IsReading r
 IsFormed (Retiring name) = is_name name ≡ true
 IsFormed (Shown count) = count < 2 ^ 32
+IsFormed (Written count) = count < 2 ^ 32
+IsFormed (Closed c) = IsClosed c

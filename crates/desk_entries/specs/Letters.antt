@@ -1,9 +1,11 @@
 -- The letters of a desk.
-use Rattle.std.specs.Prelude.{◌≡◌, ℕ, ◌==◌, ◌||◌, not, if◌then◌else◌, Bool, true, false, List, [], ◌∷◌, ◌++◌}
+use Rattle.std.specs.Prelude.{◌≡◌, ℕ, ◌+◌, ◌-◌, ◌==◌, ◌||◌, not, if◌then◌else◌, Bool, true, false, List, [], ◌∷◌}
+use Rattle.std.specs.Prelude.{◌++◌, count_by, drop, length, take}
 use Rattle.std.specs.List.{fold, list_any}
+use Rattle.std.specs.Str.{is_utf8}
 use Rattle.desk_entries.specs.declared.entry.Entry.{Entry}
-use Rattle.desk_entries.specs.declared.entry.Entry.TheVariants.{Pair, Named, Registered, Refused, Read}
-use Rattle.desk_entries.specs.declared.entry.Entry.TheVariants.{Retiring, Shown}
+use Rattle.desk_entries.specs.declared.entry.Entry.TheVariants.{Read}
+use Rattle.desk_entries.specs.declared.entry.Entry.TheVariants.{Shown, Written}
 use Rattle.desk_entries.specs.declared.entry.Held.{Held}
 use Rattle.desk_entries.specs.declared.entry.Held.TheVariants.{Nothing, Letter, Met}
 use Rattle.desk_entries.specs.declared.entry.Reading.{Reading}
@@ -48,6 +50,32 @@ shown_with shown e = shown
 -- how many of the letters were shown: what was noted last
 abbrev pub shown_of : List Entry → ℕ
 shown_of entries = fold shown_with 0 entries
+
+abbrev pub written_with : ℕ → Entry → ℕ
+written_with written (Written count) = count
+written_with written e = written
+
+-- how many of the letters were written into files: what was noted last
+abbrev pub written_of : List Entry → ℕ
+written_of entries = fold written_with 0 entries
+
+-- it is a letter, and its bytes are no text, so that no screen can show it
+abbrev pub is_no_text : Held → Bool
+is_no_text (Letter id text) = not (is_utf8 text)
+is_no_text Nothing = false
+is_no_text Met = false
+
+abbrev pub has_no_text : Reading → Bool
+has_no_text r = is_no_text r.held
+
+-- of letters of which so many were shown, how many nobody has seen: those that are no text, and those behind
+abbrev pub unseen_among : ℕ → List Reading → ℕ
+unseen_among shown letters = count_by has_no_text (take shown letters) + length (drop shown letters)
+
+-- how many letters aren't in files, and weren't seen
+abbrev pub unseen_of : List Entry → ℕ
+unseen_of entries =
+    unseen_among (shown_of entries - written_of entries) (drop (written_of entries) (letters_of entries))
 
 -- they aren't one letter: no id is both's
 abbrev pub Differ : Reading → Reading → Type 0

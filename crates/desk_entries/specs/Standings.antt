@@ -1,10 +1,8 @@
 -- What is so of a desk after its entries: names, addresses, boxes, and what is left to be done.
-use Rattle.std.specs.Prelude.{ℕ, ◌==◌, ◌&&◌, not, if◌then◌else◌, Bool, true, false, List, [], ◌∷◌, Option}
-use Rattle.std.specs.Prelude.{Some, None}
-use Rattle.std.specs.List.{filter, flat_map, list_any}
+use Rattle.std.specs.Prelude.{ℕ, ◌==◌, ◌&&◌, if◌then◌else◌, Bool, true, false, List, [], ◌∷◌}
+use Rattle.std.specs.List.{list_any}
 use Rattle.desk_entries.specs.declared.entry.Entry.{Entry}
-use Rattle.desk_entries.specs.declared.entry.Entry.TheVariants.{Pair, Named, Registered, Refused, Read}
-use Rattle.desk_entries.specs.declared.entry.Entry.TheVariants.{Retiring, Shown}
+use Rattle.desk_entries.specs.declared.entry.Entry.TheVariants.{Registered, Refused, Read}
 use Rattle.desk_entries.specs.declared.standing.Standing.{Standing}
 use Rattle.desk_entries.specs.declared.standing.Standing.TheVariants as standing
 

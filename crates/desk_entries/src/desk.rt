@@ -2,11 +2,12 @@
 ghost use Rattle.std.specs.Prelude.{◌≡◌, ◌++◌, Some, IfOk, OnOk};
 ghost use Rattle.std.specs.List.{filter, flat_map, list_any};
 ghost use Rattle.std.specs.Option.{option_copied};
-ghost use Rattle.desk_entries.specs.Desks.{address_of, are_new, draws, is_drawn, is_outcome, has_outcome, is_among, is_retiring, name_at, name_of, name_with, named, named_in, retires_name, waiting, waiting_by, waiting_of};
+ghost use Rattle.desk_entries.specs.Desks.{address_of, are_new, closed_at, draws, is_drawn, is_outcome, has_outcome, is_among, is_retiring, last_day, name_at, name_of, name_with, named, named_in, retires_name, waiting, waiting_by, waiting_of};
 ghost use Rattle.desk_entries.specs.Standings.{stands};
 
 use crate::entry::{Entry, NamedBoxes};
 use crate::standing::{Standing, add_standing};
+use desk_texts::Day;
 use express_words::NoMemory;
 use std::alloc::Global;
 
@@ -43,6 +44,29 @@ pub fn is_retiring(entries: &[Entry], name: &[u8]) -> bool
     ensures { result ≡ is_retiring entries.now name.now }
 {
     entries.iter().any(|entry| retires_name(entry, name))
+}
+
+/// The last day of the card of the boxes with this name, if they have one.
+pub fn last_day(entries: &[Entry], name: &[u8]) -> Option<Day>
+    ensures { result ≡ last_day entries.now name.now }
+{
+    named(entries, name)?.until
+}
+
+/// The day on which the boxes with this name were closed, if they are.
+pub fn closed_at(entries: &[Entry], name: &[u8]) -> Option<Day>
+    ensures { result ≡ closed_at entries.now name.now }
+{
+    let mut rest = entries;
+    while let [entry, behind @ ..] = rest {
+        if let Entry::Closed(closed) = entry
+            && closed.name.as_str().as_bytes() == name
+        {
+            return Some(closed.day);
+        }
+        rest = behind;
+    }
+    None
 }
 
 fn is_among(address: u128, addresses: &[u128]) -> bool

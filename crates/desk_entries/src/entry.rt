@@ -2,6 +2,7 @@
 ghost use Rattle.std.specs.Prelude.{◌≡◌};
 ghost use Rattle.desk_entries.specs.Letters.{is_telling};
 
+use desk_texts::Day;
 use express_words::{List, Text};
 
 /// Boxes with one name, for one card.
@@ -11,6 +12,8 @@ pub struct NamedBoxes {
     pub name: Text,
     /// The addresses that were drawn for them, 1 to 64.
     pub addresses: List<u128>,
+    /// The last day of their card, if it has one.
+    pub until: Option<Day>,
 }
 
 /// A box that stands at an address.
@@ -63,6 +66,14 @@ pub struct Reading {
     pub held: Held,
 }
 
+/// Boxes that are closed: they are read as before, but their card isn't handed out any more.
+#[derive(Drop)]
+pub struct ClosedName {
+    pub name: Text,
+    /// The day on which they were closed.
+    pub day: Day,
+}
+
 /// What is noted of a desk, one record each.
 #[derive(Drop)]
 pub enum Entry {
@@ -80,6 +91,10 @@ pub enum Entry {
     Retiring(Text),
     /// So many of the letters were shown.
     Shown(u32),
+    /// So many of the letters were written into files.
+    Written(u32),
+    /// The boxes with this name are closed.
+    Closed(ClosedName),
 }
 
 impl Reading {

@@ -3,34 +3,10 @@ ghost use Rattle.std.specs.Prelude.{◌≡◌, ◌++◌, IfOk, OnOk, OnErr};
 ghost use Rattle.std.specs.Option.{option_to_list};
 ghost use Rattle.desk_entries.specs.Forgetting.{kept, staying};
 
-use crate::entry::{Entry, Held, NamedBoxes, Reading};
-use express_words::{List, NoMemory, Text};
+use crate::copying::copy_of_entry;
+use crate::entry::{Entry, Held, Reading};
+use express_words::NoMemory;
 use std::alloc::Global;
-
-fn copy_of_bytes(alloc: Global, bytes: &[u8]) -> Result<List<u8>, NoMemory>
-    ensures { IfOk result (λ copy. copy ≡ bytes.now) }
-{
-    let items = Vec::from_slice(alloc, bytes)?;
-    Ok(List::from_vec(items))
-}
-
-fn copy_of_text(alloc: Global, text: &Text) -> Result<Text, NoMemory>
-    ensures { IfOk result (λ copy. copy ≡ text.now) }
-{
-    let text = String::from_str(alloc, text.as_str())?;
-    Ok(Text::from_string(text))
-}
-
-fn copy_of_named(alloc: Global, named: &NamedBoxes) -> Result<NamedBoxes, NoMemory>
-    ensures { IfOk result (λ copy. copy ≡ named.now) }
-{
-    let name = copy_of_text(alloc, &named.name)?;
-    let addresses = Vec::from_slice(alloc, named.addresses.as_slice())?;
-    Ok(NamedBoxes {
-        name,
-        addresses: List::from_vec(addresses),
-    })
-}
 
 // The reading without what the box held.
 fn emptied(reading: &Reading) -> Reading
@@ -50,10 +26,6 @@ fn staying(alloc: Global, entry: &Entry) -> Result<Option<Entry>, NoMemory>
     ensures { IfOk result (λ stays. stays ≡ staying entry.now) }
 {
     match entry {
-        Entry::Pair(text) => Ok(Some(Entry::Pair(copy_of_bytes(alloc, text.as_slice())?))),
-        Entry::Named(named) => Ok(Some(Entry::Named(copy_of_named(alloc, named)?))),
-        Entry::Registered(registered) => Ok(Some(Entry::Registered(*registered))),
-        Entry::Refused(denied) => Ok(Some(Entry::Refused(*denied))),
         Entry::Read(reading) => {
             if reading.last {
                 Ok(Some(Entry::Read(emptied(reading))))
@@ -61,8 +33,13 @@ fn staying(alloc: Global, entry: &Entry) -> Result<Option<Entry>, NoMemory>
                 Ok(None)
             }
         }
-        Entry::Retiring(name) => Ok(Some(Entry::Retiring(copy_of_text(alloc, name)?))),
-        Entry::Shown(_) => Ok(None),
+        Entry::Shown(_) | Entry::Written(_) => Ok(None),
+        Entry::Pair(_)
+        | Entry::Named(_)
+        | Entry::Registered(_)
+        | Entry::Refused(_)
+        | Entry::Retiring(_)
+        | Entry::Closed(_) => Ok(Some(copy_of_entry(alloc, entry)?)),
     }
 }
 
@@ -79,7 +56,7 @@ fn add_staying(alloc: Global, entry: &Entry, found: &mut Vec<Entry>) -> Result<(
 }
 
 /// The entries without letters: of a box that was retired it stays that it is, and how many letters were
-/// shown goes.
+/// shown or written goes.
 pub fn kept(alloc: Global, entries: &[Entry]) -> Result<Vec<Entry>, NoMemory>
     ensures { IfOk result (λ found. found.items ≡ kept entries.now) }
 {

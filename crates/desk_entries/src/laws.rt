@@ -1,7 +1,7 @@
 //! The laws of entries. The functions are empty: their contracts are the laws.
-ghost use Rattle.std.specs.Prelude.{◌≡◌, ◌++◌, ◌∷◌, [], List, map};
+ghost use Rattle.std.specs.Prelude.{◌≡◌, ◌≤◌, ◌++◌, ◌∷◌, [], List, count_by, length, map};
 ghost use Rattle.std.specs.List.{AllPairs};
-ghost use Rattle.desk_entries.specs.Letters.{Differ, letters_of, told_with};
+ghost use Rattle.desk_entries.specs.Letters.{Differ, has_no_text, letters_of, shown_of, told_with, unseen_of, written_of};
 ghost use Rattle.desk_entries.specs.Records.{AreEntries, IsEntry, entry_record};
 ghost use Rattle.desk_entries.specs.declared.entry.Entry.{Entry};
 
@@ -17,4 +17,13 @@ pub fn letters_are_told_once()
     ensures grows { (entries : List Entry) (e : Entry)
         → letters_of (entries ++ e ∷ []) ≡ told_with (letters_of entries) e }
     ensures once { (entries : List Entry) → AllPairs Differ (letters_of entries) }
+{}
+
+/// No letter is unseen for ever: none is once all are written into files, or once all were shown, where each is
+/// a text.
+pub fn letters_are_seen_at_last()
+    ensures written { (entries : List Entry) → length (letters_of entries) ≤ written_of entries
+        → unseen_of entries ≡ 0 }
+    ensures shown { (entries : List Entry) → length (letters_of entries) ≤ shown_of entries
+        → count_by has_no_text (letters_of entries) ≡ 0 → unseen_of entries ≡ 0 }
 {}

@@ -1,7 +1,7 @@
 //! The letters of a desk.
 ghost use Rattle.std.specs.Prelude.{◌≡◌, ◌∷◌, [], IfOk, map};
 ghost use Rattle.std.specs.List.{fold, list_any};
-ghost use Rattle.desk_entries.specs.Letters.{has_id, is_anew, letters_of, shown_of};
+ghost use Rattle.desk_entries.specs.Letters.{has_id, is_anew, letters_of, shown_of, written_of};
 
 use crate::entry::{Entry, Held, Reading};
 use express_words::NoMemory;
@@ -72,4 +72,19 @@ pub fn shown_of(entries: &[Entry]) -> u32
         rest = behind;
     }
     shown
+}
+
+/// How many of the letters were written into files.
+pub fn written_of(entries: &[Entry]) -> u32
+    ensures { result ≡ written_of entries.now }
+{
+    let mut written = 0;
+    let mut rest = entries;
+    while let [entry, behind @ ..] = rest {
+        if let Entry::Written(count) = entry {
+            written = *count;
+        }
+        rest = behind;
+    }
+    written
 }

@@ -2,102 +2,38 @@
 ghost use Rattle.std.specs.Prelude.{◌≡◌, ◌≢◌, ◌%◌, ◌<◌, ◌^◌, ◌++◌, ◌∷◌, IsNone, IfOk, IfSome, MatchOption, length, true, false};
 ghost use Rattle.std.specs.Int.{w32, w64, w128, to_be_bytes};
 ghost use Rattle.std.specs.List.{flat_map};
-ghost use Rattle.desk_entries.specs.Entries.{AreAddresses, IsFormed, IsHeld, IsNamed, IsReading};
+ghost use Rattle.desk_texts.specs.Days.{IsDay};
+ghost use Rattle.desk_entries.specs.Entries.{AreAddresses, IsClosed, IsFormed, IsHeld, IsNamed, IsReading};
 ghost use Rattle.desk_entries.specs.Fronts.{IsFront, front_record};
 ghost use Rattle.desk_entries.specs.Names.{is_name};
-ghost use Rattle.desk_entries.specs.Records.{IsEntry, IsNoEntry, IsNoNamed, IsNoReading, box_record, denial_byte, denied_record, entry_record, flag, held_record, named_record, reading_record};
+ghost use Rattle.desk_entries.specs.Records.{HasNoDay, IsEntry, IsNoClosed, IsNoDated, IsNoEntry, IsNoNamed, IsNoReading, box_record, closed_record, day_record, denial_byte, denied_record, entry_record, flag, held_record, named_record, named_tag, reading_record, until_record};
 ghost use Rattle.desk_entries.specs.declared.entry.Denied.{Denied};
 ghost use Rattle.desk_entries.specs.declared.entry.Held.{Held};
 ghost use Rattle.desk_entries.specs.declared.entry.Reading.{Reading};
 
-use crate::entry::{BoxAt, Denial, Denied, Entry, Held, NamedBoxes, Reading};
-use crate::name::is_name;
-use express_words::{List, NoMemory, Text};
+use crate::entry::{BoxAt, ClosedName, Denial, Denied, Entry, Held, NamedBoxes, Reading};
+use crate::parts::{
+    address_of, addresses_in, copy_of, count_in, day_in, long_in, name_in, wide_in,
+};
+use desk_texts::Day;
+use express_words::{List, NoMemory};
 use std::alloc::Global;
 
 /// A record has at most so many bytes.
 pub const MOST_RECORD: usize = 8213;
 
-// A number of four bytes, and what stands behind it.
-fn wide_in(bytes: &[u8]) -> Option<(u32, &[u8])>
-    ensures some { IfSome result (λ r. bytes.now ≡ to_be_bytes w32 r.0 ++ r.1.now) }
-    ensures fits { IfSome result (λ r. r.0 < 2 ^ 32) }
-    ensures none { IsNone result → length bytes.now < 4 }
-{
-    let [a, b, c, d, rest @ ..] = bytes else {
-        return None;
-    };
-    Some((u32::from_be_bytes([*a, *b, *c, *d]), rest))
-}
-
-fn long_in(bytes: &[u8]) -> Option<(u64, &[u8])>
-    ensures some { IfSome result (λ r. bytes.now ≡ to_be_bytes w64 r.0 ++ r.1.now) }
-    ensures fits { IfSome result (λ r. r.0 < 2 ^ 64) }
-    ensures none { IsNone result → length bytes.now < 8 }
-{
-    let [a, b, c, d, e, f, g, h, rest @ ..] = bytes else {
-        return None;
-    };
-    let number = u64::from_be_bytes([*a, *b, *c, *d, *e, *f, *g, *h]);
-    Some((number, rest))
-}
-
-#[tactic(auto, using(frame_rules::proofs::Digits::be_back))]
-fn address_of(bytes: &[u8]) -> u128
-    requires { length bytes.now ≡ 16 }
-    ensures spelled { to_be_bytes w128 result ≡ bytes.now }
-    ensures fits { result < 2 ^ 128 }
-{
-    let mut number = [0; 16];
-    number.copy_from_slice(bytes);
-    u128::from_be_bytes(number)
-}
-
-// The addresses of 16 bytes each.
-fn addresses_in(alloc: Global, bytes: &[u8]) -> Result<Vec<u128>, NoMemory>
-    requires { length bytes.now % 16 ≡ 0 }
-    ensures spelled { IfOk result (λ addresses. flat_map (to_be_bytes w128) addresses.items ≡ bytes.now) }
-    ensures fits { IfOk result (λ addresses. AreAddresses addresses.items) }
-{
-    let mut addresses = Vec::new(alloc);
-    let mut rest = bytes;
-    while rest.len() >= 16 {
-        let (front, behind) = rest.split_at(16);
-        addresses.push(address_of(front))?;
-        rest = behind;
-    }
-    Ok(addresses)
-}
-
-fn copy_of(alloc: Global, bytes: &[u8]) -> Result<List<u8>, NoMemory>
-    ensures { IfOk result (λ copy. copy ≡ bytes.now) }
-{
-    let items = Vec::from_slice(alloc, bytes)?;
-    Ok(List::from_vec(items))
-}
-
-// A name as a text: its characters are ASCII.
-fn name_in(alloc: Global, bytes: &[u8]) -> Result<Option<Text>, NoMemory>
-    ensures { IfOk result (λ found. MatchOption found (is_name bytes.now ≡ false)
-        (λ name. (name ≡ bytes.now) × (is_name bytes.now ≡ true))) }
-{
-    if !is_name(bytes) {
-        return Ok(None);
-    }
-    match std::str::from_utf8(bytes) {
-        Ok(name) => {
-            let text = String::from_str(alloc, name)?;
-            Ok(Some(Text::from_string(text)))
-        }
-        Err(_) => unreachable!(),
-    }
-}
-
-// So many addresses, and a name.
+// So many addresses, and a name, with this last day of their card.
 #[tactic(auto, using(crate::proofs::NamedLaws::none_zero, crate::proofs::NamedLaws::none_many, crate::proofs::NamedLaws::none_short))]
-fn named_of(alloc: Global, count: u8, rest: &[u8]) -> Result<Option<NamedBoxes>, NoMemory>
-    ensures { IfOk result (λ found. MatchOption found (IsNoNamed (count ∷ rest.now))
+fn named_of(
+    alloc: Global,
+    count: u8,
+    rest: &[u8],
+    until: Option<Day>,
+) -> Result<Option<NamedBoxes>, NoMemory>
+    requires day { IfSome until IsDay }
+    ensures is { IfOk result (λ found. MatchOption found (IsNoNamed (count ∷ rest.now))
         (λ n. IsNamed n × (count ∷ rest.now ≡ named_record n))) }
+    ensures until { IfOk result (λ found. IfSome found (λ n. n.until ≡ until)) }
 {
     let used = usize::from(count) * 16;
     if count == 0 {
@@ -115,18 +51,48 @@ fn named_of(alloc: Global, count: u8, rest: &[u8]) -> Result<Option<NamedBoxes>,
         Some(name) => Ok(Some(NamedBoxes {
             name,
             addresses: List::from_vec(addresses),
+            until,
         })),
         None => Ok(None),
     }
 }
 
-fn named_in(alloc: Global, bytes: &[u8]) -> Result<Option<NamedBoxes>, NoMemory>
-    ensures { IfOk result (λ found. MatchOption found (IsNoNamed bytes.now)
+fn named_in(alloc: Global, bytes: &[u8], until: Option<Day>) -> Result<Option<NamedBoxes>, NoMemory>
+    requires day { IfSome until IsDay }
+    ensures is { IfOk result (λ found. MatchOption found (IsNoNamed bytes.now)
         (λ n. IsNamed n × (bytes.now ≡ named_record n))) }
+    ensures until { IfOk result (λ found. IfSome found (λ n. n.until ≡ until)) }
 {
     match bytes {
-        [count, rest @ ..] => named_of(alloc, *count, rest),
+        [count, rest @ ..] => named_of(alloc, *count, rest, until),
         [] => Ok(None),
+    }
+}
+
+// The last day of a card, and its boxes.
+#[tactic(auto, using(crate::proofs::DayLaws::none_without_day, crate::proofs::DayLaws::none_unnamed))]
+fn dated_in(alloc: Global, bytes: &[u8]) -> Result<Option<NamedBoxes>, NoMemory>
+    ensures is { IfOk result (λ found. MatchOption found (IsNoDated bytes.now)
+        (λ n. IsNamed n × (bytes.now ≡ until_record n.until ++ named_record n))) }
+    ensures dated { IfOk result (λ found. IfSome found (λ n. named_tag n.until ≡ 10)) }
+{
+    match day_in(bytes) {
+        Some((day, rest)) => named_in(alloc, rest, Some(day)),
+        None => Ok(None),
+    }
+}
+
+#[tactic(auto, using(crate::proofs::DayLaws::open_without_day, crate::proofs::DayLaws::open_unnamed))]
+fn closed_in(alloc: Global, bytes: &[u8]) -> Result<Option<ClosedName>, NoMemory>
+    ensures { IfOk result (λ found. MatchOption found (IsNoClosed bytes.now)
+        (λ c. IsClosed c × (bytes.now ≡ closed_record c))) }
+{
+    let Some((day, rest)) = day_in(bytes) else {
+        return Ok(None);
+    };
+    match name_in(alloc, rest)? {
+        Some(name) => Ok(Some(ClosedName { name, day })),
+        None => Ok(None),
     }
 }
 
@@ -247,16 +213,6 @@ fn reading_in(alloc: Global, bytes: &[u8]) -> Result<Option<Reading>, NoMemory>
     }
 }
 
-fn count_in(bytes: &[u8]) -> Option<u32>
-    ensures some { IfSome result (λ count. (count < 2 ^ 32) × (bytes.now ≡ to_be_bytes w32 count)) }
-    ensures none { IsNone result → length bytes.now ≡ 4 → ⊥ }
-{
-    let [a, b, c, d] = bytes else {
-        return None;
-    };
-    Some(u32::from_be_bytes([*a, *b, *c, *d]))
-}
-
 // The entry of this tag.
 fn entry_in(alloc: Global, tag: u8, rest: &[u8]) -> Result<Option<Entry>, NoMemory>
     ensures { IfOk result (λ found. MatchOption found (IsNoEntry (tag ∷ rest.now))
@@ -267,7 +223,7 @@ fn entry_in(alloc: Global, tag: u8, rest: &[u8]) -> Result<Option<Entry>, NoMemo
             let text = copy_of(alloc, rest)?;
             Ok(Some(Entry::Pair(text)))
         }
-        2 => match named_in(alloc, rest)? {
+        2 => match named_in(alloc, rest, None)? {
             Some(named) => Ok(Some(Entry::Named(named))),
             None => Ok(None),
         },
@@ -289,6 +245,18 @@ fn entry_in(alloc: Global, tag: u8, rest: &[u8]) -> Result<Option<Entry>, NoMemo
         },
         7 => match count_in(rest) {
             Some(count) => Ok(Some(Entry::Shown(count))),
+            None => Ok(None),
+        },
+        8 => match count_in(rest) {
+            Some(count) => Ok(Some(Entry::Written(count))),
+            None => Ok(None),
+        },
+        9 => match closed_in(alloc, rest)? {
+            Some(closed) => Ok(Some(Entry::Closed(closed))),
+            None => Ok(None),
+        },
+        10 => match dated_in(alloc, rest)? {
+            Some(named) => Ok(Some(Entry::Named(named))),
             None => Ok(None),
         },
         _ => Ok(None),

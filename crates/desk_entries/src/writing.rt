@@ -4,10 +4,11 @@ ghost use Rattle.std.specs.Int.{w64, to_be_bytes};
 ghost use Rattle.std.specs.List.{flat_map};
 ghost use Rattle.desk_entries.specs.Entries.{IsFormed};
 ghost use Rattle.desk_entries.specs.Fronts.{front_of, front_record};
-ghost use Rattle.desk_entries.specs.Records.{box_record, content, denial_byte, denied_record, entry_record, flag, held_record, named_record, reading_record, tag};
+ghost use Rattle.desk_entries.specs.Records.{box_record, closed_record, content, day_record, denial_byte, denied_record, entry_record, flag, held_record, named_record, named_tag, reading_record, tag, until_record};
 ghost use Rattle.desk_entries.specs.Writing.{written};
 
-use crate::entry::{BoxAt, Denial, Denied, Entry, Held, NamedBoxes, Reading};
+use crate::entry::{BoxAt, ClosedName, Denial, Denied, Entry, Held, NamedBoxes, Reading};
+use desk_texts::Day;
 use express_words::NoMemory;
 use std::alloc::Global;
 
@@ -54,6 +55,42 @@ fn put_named(bytes: &mut Vec<u8>, named: &NamedBoxes) -> Result<(), NoMemory>
     bytes.push(named.addresses.as_slice().len() as u8)?;
     put_addresses(bytes, named.addresses.as_slice())?;
     bytes.extend_from_slice(named.name.as_str().as_bytes())?;
+    Ok(())
+}
+
+fn put_day(bytes: &mut Vec<u8>, day: &Day) -> Result<(), NoMemory>
+    ensures { OnOk result (bytes.new.items ≡ bytes.old.items ++ day_record day.now) }
+{
+    bytes.extend_from_slice(&day.year.to_be_bytes())?;
+    bytes.push(day.month)?;
+    bytes.push(day.day)?;
+    Ok(())
+}
+
+fn put_until(bytes: &mut Vec<u8>, until: &Option<Day>) -> Result<(), NoMemory>
+    ensures { OnOk result (bytes.new.items ≡ bytes.old.items ++ until_record until.now) }
+{
+    match until {
+        Some(day) => put_day(bytes, day),
+        None => Ok(()),
+    }
+}
+
+// The last day of a card, if it has one, and the boxes.
+fn put_dated(bytes: &mut Vec<u8>, named: &NamedBoxes) -> Result<(), NoMemory>
+    requires { length named.now.addresses ≤ 64 }
+    ensures { OnOk result (bytes.new.items
+        ≡ bytes.old.items ++ (until_record named.now.until ++ named_record named.now)) }
+{
+    put_until(bytes, &named.until)?;
+    put_named(bytes, named)
+}
+
+fn put_closed(bytes: &mut Vec<u8>, closed: &ClosedName) -> Result<(), NoMemory>
+    ensures { OnOk result (bytes.new.items ≡ bytes.old.items ++ closed_record closed.now) }
+{
+    put_day(bytes, &closed.day)?;
+    bytes.extend_from_slice(closed.name.as_str().as_bytes())?;
     Ok(())
 }
 
@@ -124,18 +161,26 @@ fn put_text(bytes: &mut Vec<u8>, text: &[u8]) -> Result<(), NoMemory>
     Ok(())
 }
 
+fn named_tag(named: &NamedBoxes) -> u8
+    ensures { result ≡ named_tag named.now.until }
+{
+    if named.until.is_some() { 10 } else { 2 }
+}
+
 // The tag of an entry's record.
 fn tag(entry: &Entry) -> u8
     ensures { result ≡ tag entry.now }
 {
     match entry {
         Entry::Pair(_) => 1,
-        Entry::Named(_) => 2,
+        Entry::Named(named) => named_tag(named),
         Entry::Registered(_) => 3,
         Entry::Refused(_) => 4,
         Entry::Read(_) => 5,
         Entry::Retiring(_) => 6,
         Entry::Shown(_) => 7,
+        Entry::Written(_) => 8,
+        Entry::Closed(_) => 9,
     }
 }
 
@@ -146,12 +191,14 @@ fn put_content(bytes: &mut Vec<u8>, entry: &Entry) -> Result<(), NoMemory>
 {
     match entry {
         Entry::Pair(text) => put_text(bytes, text.as_slice()),
-        Entry::Named(named) => put_named(bytes, named),
+        Entry::Named(named) => put_dated(bytes, named),
         Entry::Registered(registered) => put_box(bytes, registered),
         Entry::Refused(denied) => put_denied(bytes, denied),
         Entry::Read(reading) => put_reading(bytes, reading),
         Entry::Retiring(name) => put_text(bytes, name.as_str().as_bytes()),
         Entry::Shown(count) => put_text(bytes, &count.to_be_bytes()),
+        Entry::Written(count) => put_text(bytes, &count.to_be_bytes()),
+        Entry::Closed(closed) => put_closed(bytes, closed),
     }
 }
 

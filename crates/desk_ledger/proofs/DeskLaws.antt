@@ -18,6 +18,8 @@ of_pair_push p (entry.Refused d ∷ entries) e is = absurd is
 of_pair_push p (entry.Read r ∷ entries) e is = absurd is
 of_pair_push p (entry.Retiring name ∷ entries) e is = absurd is
 of_pair_push p (entry.Shown count ∷ entries) e is = absurd is
+of_pair_push p (entry.Written count ∷ entries) e is = absurd is
+of_pair_push p (entry.Closed c ∷ entries) e is = absurd is
 
 pub desk_push : (p : Pair) (entries : List Entry) (remarks now : List (List ℕ)) (e : Entry) → IsEntry e → IsDesk p entries remarks → now ≡ remarks ++ entry_record e ∷ [] → IsDesk p (entries ++ e ∷ []) now
 desk_push p entries remarks now e is desk more = record {

@@ -1,5 +1,5 @@
 -- Which values are entries.
-use Rattle.std.proofs.Common.{◌≡◌, ℕ, ◌<◌, ◌+◌, ◌^◌, Bool, true, false, List, [], ◌∷◌, ◌++◌, Some, None, refl, sym, ap, subst, arith}
+use Rattle.std.proofs.Common.{◌≡◌, ℕ, ◌<◌, ◌^◌, Bool, true, false, List, [], ◌∷◌, ◌++◌, Some, None, refl, sym, ap, subst, arith}
 use Rattle.std.specs.Prelude.{if◌then◌else◌}
 use Rattle.std.specs.Option.{option_to_list}
 use Rattle.desk_entries.specs.declared.entry.Denial.{Denial}
@@ -53,6 +53,8 @@ stays_entry (entry.Read r) is = by_last r.last
     by_last false = tt
 stays_entry (entry.Retiring name) is = (is, tt)
 stays_entry (entry.Shown count) is = tt
+stays_entry (entry.Written count) is = tt
+stays_entry (entry.Closed c) is = (is, tt)
 
 are_append : (xs ys : List Entry) → AreEntries xs → AreEntries ys → AreEntries (xs ++ ys)
 are_append [] ys ax ay = ay
@@ -71,3 +73,5 @@ pair_kept p (entry.Refused d ∷ entries) is = absurd is
 pair_kept p (entry.Read r ∷ entries) is = absurd is
 pair_kept p (entry.Retiring name ∷ entries) is = absurd is
 pair_kept p (entry.Shown count ∷ entries) is = absurd is
+pair_kept p (entry.Written count ∷ entries) is = absurd is
+pair_kept p (entry.Closed c ∷ entries) is = absurd is

@@ -14,21 +14,21 @@ use Rattle.client_restart.specs.Notes.{Noted, Owned, Remark}
 use Rattle.client_restart.specs.Steps.{CoreState, fold, owned, owned_with}
 use Rattle.desk_entries.specs.declared.entry.Entry.{Entry}
 use Rattle.desk_entries.specs.Forgetting.{kept}
-use Rattle.desk_entries.specs.Records.{entry_record}
+use Rattle.desk_entries.specs.Records.{AreEntries, entry_record}
 use Rattle.desk_ledger.specs.declared.pair.Pair.{Pair}
 use Rattle.desk_ledger.specs.Forgetting.{GoesOn}
-use Rattle.desk_ledger.specs.Ledgers.{IsDesk}
+use Rattle.desk_ledger.specs.Ledgers.{IsDesk, IsOfPair}
 use Rattle.desk_ledger.proofs.EntryLaws.{are_kept, pair_kept}
 
 -- ---- a box more
 
-abbrev with_box : CoreState → OwnedBox → CoreState
+abbrev pub with_box : CoreState → OwnedBox → CoreState
 with_box k b = record k {
   client = record k.client { owned = k.client.owned ++ owned_by k.client b.number b.serial ∷ [] };
   boxes = k.boxes ++ b ∷ [];
 }
 
-own_by : (k : CoreState) (b : OwnedBox) → k.client.current ≡ None → nat_le k.client.capacity (length k.client.owned) ≡ false
+pub own_by : (k : CoreState) (b : OwnedBox) → k.client.current ≡ None → nat_le k.client.capacity (length k.client.owned) ≡ false
     → owned k b.number b.serial ≡ with_box k b
 unfolding owning
 own_by k b idle room =
@@ -59,7 +59,7 @@ own_goes shows counts b old new keeps idle room =
       ap (λ (c : CoreState). c.remarks) is,
     )
 
-abbrev with_words : CoreState → List ℕ → CoreState
+abbrev pub with_words : CoreState → List ℕ → CoreState
 with_words k words = record k { remarks = k.remarks ++ words ∷ [] }
 
 pub note_goes : {D : Type 0} (shows : D → DiskSeen) (counts : D → Seen) (words : List ℕ) (old new : ClientState D)
@@ -85,15 +85,28 @@ more_live f b base more = by_live (f b) b base (filter f more)
 
 -- ---- a desk that follows
 
-pub new_desk : (p : Pair) (entries olds : List Entry) (remarks : List (List ℕ)) (o : ClientOpening) (made now : CoreState)
-    → IsDesk p olds remarks → entries ≡ kept olds → made ≡ fold o [] → now.remarks ≡ made.remarks ++ map entry_record entries
+pub new_desk : (p : Pair) (entries : List Entry) (o : ClientOpening) (made now : CoreState)
+    → AreEntries entries → IsOfPair p entries → made ≡ fold o [] → now.remarks ≡ made.remarks ++ map entry_record entries
     → IsDesk p entries now.remarks
-new_desk p entries olds remarks o made now desk is first told =
-    subst (λ (l : List Entry). now.remarks ≡ made.remarks ++ map entry_record l → IsDesk p l now.remarks) (sym is) (λ said. record {
-      are = are_kept olds desk.are;
-      told = said ∙ ap (λ (k : CoreState). k.remarks ++ map entry_record (kept olds)) first;
-      pair = pair_kept p olds desk.pair;
-    }) told
+new_desk p entries o made now are pair first told = record {
+  are = are;
+  told = told ∙ ap (λ (k : CoreState). k.remarks ++ map entry_record entries) first;
+  pair = pair;
+}
+
+-- all entries of a desk
+pub same_desk : (p q : Pair) (entries olds : List Entry) (remarks : List (List ℕ)) → IsDesk p olds remarks → entries ≡ olds → q ≡ p
+    → AreEntries entries × IsOfPair q entries
+same_desk p q entries olds remarks desk is same =
+    subst (λ (l : List Entry). AreEntries l × IsOfPair q l) (sym is)
+    (desk.are, subst (λ (x : Pair). IsOfPair x olds) (sym same) desk.pair)
+
+-- the entries that are kept of a desk
+pub kept_desk : (p q : Pair) (entries olds : List Entry) (remarks : List (List ℕ)) → IsDesk p olds remarks → entries ≡ kept olds → q ≡ p
+    → AreEntries entries × IsOfPair q entries
+kept_desk p q entries olds remarks desk is same =
+    subst (λ (l : List Entry). AreEntries l × IsOfPair q l) (sym is)
+    (are_kept olds desk.are, subst (λ (x : Pair). IsOfPair x (kept olds)) (sym same) (pair_kept p olds desk.pair))
 
 pub new_stands : {D : Type 0} (shows : D → DiskSeen) (o : ClientOpening) (made now : ClientState D) → made.opening ≡ o → made.core ≡ fold o []
     → HoldsNotes o [] (shows made.disk).reads → GoesOn shows made now → now.journal.closed ≡ false
@@ -112,6 +125,10 @@ new_stands shows o made now opened first held goes still = either goes.stands
 pub first_client : (o : ClientOpening) → ((fold o []).client.serial ≡ o.first_serial) × ((fold o []).client.current ≡ None)
 unfolding opened_client
 first_client o = (refl, refl)
+
+pub first_room : (o : ClientOpening) → ((fold o []).client.capacity ≡ o.capacity) × (length (fold o []).client.owned ≡ 0)
+unfolding opened_client
+first_room o = (refl, refl)
 
 pub new_serial : {D : Type 0} (shows : D → DiskSeen) (o : ClientOpening) (made now : ClientState D) → made.core ≡ fold o [] → GoesOn shows made now
     → (now.core.client.serial ≡ o.first_serial) × (now.core.untold ≡ [])

@@ -2,7 +2,10 @@
 use Rattle.std.proofs.Common.{◌≡◌, inl, inr, ℕ, List, [], ◌∷◌, ◌++◌, Result, Ok, Err, false, refl, sym, ◌∙◌, ap, subst}
 use Rattle.express_words.specs.Seen.{Seen}
 use Rattle.node_journal.specs.Disk.{DiskSeen}
+use Rattle.node_journal.specs.declared.fault.JournalFault.TheVariants.{Closed, NotEmpty, Full, Disk, Damaged}
 use Rattle.client_restart.specs.declared.fault.NoteFault.{NoteFault}
+use Rattle.client_restart.specs.declared.fault.NoteFault.TheVariants.{Journal, NoMemory, Foreign}
+use Rattle.client_restart.specs.Faults.{OnStill}
 use Rattle.client_restart.specs.declared.opening.ClientOpening.{ClientOpening}
 use Rattle.client_restart.specs.Keeps.{KeepsNote, sight}
 use Rattle.client_restart.specs.Kept.{ClientState, StandsByNotes}
@@ -51,6 +54,24 @@ not_noted shows counts e words p entries now was k old s f old_is s_is same said
     record { added = tt; none_added = same; pair = refl; keeps = inr (keeps_record shows counts e words was k (Err f) said keeps) } in
     subst (λ (x : LedgerState _). Notes {T = Unit {0}} shows counts e x s (Err f)) old_is
     (subst (λ (x : LedgerState _). Notes {T = Unit {0}} shows counts e before x (Err f)) (sym s_is) so)
+
+still_so : {P Q : Type 0} (f : NoteFault) → (P → Q) → OnStill {T = Unit {0}} (Err f) P → OnStill {T = Unit {0}} (Err f) Q
+still_so (Journal Closed) so p = so p
+still_so (Journal (Full end)) so p = so p
+still_so NoMemory so p = so p
+still_so (Journal NotEmpty) so p = tt
+still_so (Journal (Disk n)) so p = tt
+still_so (Journal (Damaged at)) so p = tt
+still_so (Foreign n) so p = tt
+
+pub not_stayed : {D : Type 0} (p : Pair) (entries now : List Entry) (was k : ClientState D) (old s : LedgerState D) (f : NoteFault)
+    → record { pair = p; entries = entries; client = was } ≡ old → s ≡ record { pair = p; entries = now; client = k } → now ≡ entries
+    → OnStill {T = Unit {0}} (Err f) (k ≡ was) → OnStill {T = Unit {0}} (Err f) (s ≡ old)
+not_stayed p entries now was k old s f old_is s_is same stays =
+    still_so f (λ client. s_is
+    ∙ ap (λ (l : List Entry). let t : LedgerState _ = record { pair = p; entries = l; client = k } in t) same
+    ∙ ap (λ (x : ClientState _). let t : LedgerState _ = record { pair = p; entries = entries; client = x } in t) client
+    ∙ old_is) stays
 
 -- ---- what a note leaves as it was
 

@@ -1,6 +1,8 @@
+pub mod CloseLaws
 pub mod DeskLaws
 pub mod EntryLaws
 pub mod ForgetLaws
+pub mod HandLaws
 pub mod KeepLaws
 pub mod NameLaws
 pub mod StartLaws

@@ -6,6 +6,7 @@ use Rattle.desk_entries.specs.declared.entry.NamedBoxes.{NamedBoxes}
 use Rattle.desk_entries.specs.declared.standing.Standing.TheVariants.{Live}
 use Rattle.desk_entries.specs.Desks.{named}
 use Rattle.desk_entries.specs.Standings.{stands}
+use Rattle.desk_texts.specs.declared.day.Day.{Day}
 use Rattle.desk_texts.specs.declared.sheet.Head.TheVariants.{Card}
 use Rattle.desk_texts.specs.declared.sheet.Sheet.{Sheet}
 use Rattle.desk_ledger.specs.declared.pair.Pair.{Pair}
@@ -18,8 +19,9 @@ live_of entries None = []
 abbrev pub card_addresses : List Entry → List ℕ → List ℕ
 card_addresses entries name = live_of entries (named entries name)
 
--- a card of these addresses, of which there are some, for the pair's servers, width and strangers' lanes
-pub record IsCardOf (p : Pair) (standing : List ℕ) (s : Sheet) : Type 0 where
+-- a card of these addresses, of which there are some, for the pair's servers, width and strangers' lanes,
+-- with this last day
+pub record IsCardOf (p : Pair) (standing : List ℕ) (until : Option Day) (s : Sheet) : Type 0 where
   pub some : standing ≢ []
   pub addresses : s.addresses ≡ standing
   pub head : s.head ≡ Card (record {
@@ -27,6 +29,7 @@ pub record IsCardOf (p : Pair) (standing : List ℕ) (s : Sheet) : Type 0 where
     from = p.head.from;
     to = p.head.to;
     addresses = length standing;
+    until = until;
   })
   pub leader : s.leader ≡ p.leader
   pub helper : s.helper ≡ p.helper

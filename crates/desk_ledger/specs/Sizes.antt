@@ -1,5 +1,5 @@
 -- What fits an entry.
-use Rattle.std.specs.Prelude.{ℕ, ◌<◌, ◌≤◌, ◌^◌, length}
+use Rattle.std.specs.Prelude.{◌<◌, ◌≤◌, ◌^◌, length}
 use Rattle.desk_entries.specs.declared.entry.Held.{Held}
 use Rattle.desk_entries.specs.declared.entry.Held.TheVariants.{Nothing, Letter, Met}
 

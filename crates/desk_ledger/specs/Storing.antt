@@ -1,7 +1,7 @@
 -- The entries that outcomes leave.
 use Rattle.std.specs.Prelude.{◌≡◌, ◌⊎◌, ℕ, ◌<◌, ◌≤◌, if◌then◌else◌, Bool, true, false, List, [], ◌∷◌, ◌++◌}
 use Rattle.std.specs.Prelude.{drop, length}
-use Rattle.std.specs.Prelude.{Option, Some, None, Result, IfOk, IsSomeAnd, OnOk, OnErr, slice_get}
+use Rattle.std.specs.Prelude.{Option, Some, None, Result, IfOk, OnOk, OnErr, slice_get}
 use Rattle.std.specs.Option.{option_to_list}
 use Rattle.express_words.specs.declared.refusal.Refusal.{Refusal}
 use Rattle.express_words.specs.declared.refusal.Refusal.TheVariants as refusal

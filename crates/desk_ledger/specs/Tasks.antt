@@ -1,8 +1,7 @@
 -- What a desk asks, and what is left to be done.
 use Rattle.std.specs.Prelude.{ℕ, ◌+◌, ◌-◌, ◌==◌, ◌||◌, ◌&&◌, nat_le, not, if◌then◌else◌, Bool, true, false}
 use Rattle.std.specs.Prelude.{List, [], ◌∷◌}
-use Rattle.std.specs.Prelude.{◌++◌, length, Option, Some, None, IsOk, is_some, slice_get}
-use Rattle.std.specs.List.{filter}
+use Rattle.std.specs.Prelude.{◌++◌, length, Option, Some, None, IsOk, is_some}
 use Rattle.mailbox_rules.specs.Requests.{Request}
 use Rattle.mailbox_rules.specs.Requests as plain
 use Rattle.step_rules.specs.ClientAsks.{asked}

@@ -27,5 +27,6 @@ name_text (name.NoRoom left) = codes "no room for so many boxes: " ++ (decimal l
 abbrev pub forget_text : ForgetFault → List ℕ
 forget_text forget.Busy = codes "a request is under way"
 forget_text forget.Spent = codes "all serials are spent"
+forget_text forget.Unseen = codes "a letter wasn't seen"
 forget_text forget.NoRoom = codes "no room for the boxes"
 forget_text (forget.Keep fault) = keep.fault_text fault

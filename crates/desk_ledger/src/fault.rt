@@ -73,6 +73,8 @@ pub enum ForgetFault {
     Busy,
     /// All serials are spent.
     Spent,
+    /// A letter is in no file, and wasn't shown, or can't be, since it is no text.
+    Unseen,
     /// More boxes are live than a client has room for.
     NoRoom,
     /// The new ledger's journal fails.
@@ -86,6 +88,7 @@ impl fmt::Display for ForgetFault {
         match self {
             ForgetFault::Busy => f.write_str("a request is under way"),
             ForgetFault::Spent => f.write_str("all serials are spent"),
+            ForgetFault::Unseen => f.write_str("a letter wasn't seen"),
             ForgetFault::NoRoom => f.write_str("no room for the boxes"),
             ForgetFault::Keep(fault) => write!(f, "{fault}"),
         }

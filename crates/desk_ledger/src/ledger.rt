@@ -1,5 +1,5 @@
 //! An owner's desk on a disk.
-ghost use Rattle.std.specs.Prelude.{◌≡◌, ◌≢◌, ◌⊎◌, ◌≤◌, ◌<◌, ◌^◌, ◌∷◌, ◌++◌, [], true, false, map, drop, length, Some, None, Ok, Err, IfOk, IfErr, IfSome, OnOk, OnErr, is_none, is_some};
+ghost use Rattle.std.specs.Prelude.{◌≡◌, ◌≢◌, ◌⊎◌, ◌≤◌, ◌<◌, ◌^◌, ◌∷◌, ◌++◌, [], true, false, map, drop, length, Some, None, Ok, Err, IfOk, IfErr, IfSome, OnOk, OnErr, is_none, is_some, unwrap_or};
 ghost use Rattle.std.specs.Option.{option_to_list};
 ghost use Rattle.client_core.specs.Requests.{fault_in};
 ghost use Rattle.step_rules.specs.ClientAsks.{asked};
@@ -7,9 +7,9 @@ ghost use Rattle.client_restart.specs.Cores.{ended_in};
 ghost use Rattle.client_restart.specs.Faults.{OnStill};
 ghost use Rattle.client_restart.specs.Kept.{StandsByNotes};
 ghost use Rattle.client_restart.specs.Notes.{Asked};
-ghost use Rattle.desk_entries.specs.Desks.{is_retiring, name_of, named, waiting};
+ghost use Rattle.desk_entries.specs.Desks.{closed_at, is_retiring, last_day, name_of, named, waiting};
 ghost use Rattle.desk_entries.specs.Entries.{AreAddresses};
-ghost use Rattle.desk_entries.specs.Letters.{letters_of, shown_of};
+ghost use Rattle.desk_entries.specs.Letters.{letters_of, shown_of, unseen_of, written_of};
 ghost use Rattle.desk_entries.specs.Names.{is_name};
 ghost use Rattle.desk_entries.specs.Records.{AreEntries, IsEntry, entry_record};
 ghost use Rattle.desk_entries.specs.Standings.{stands};
@@ -17,6 +17,7 @@ ghost use Rattle.desk_ledger.specs.Cards.{IsCardOf, card_addresses};
 ghost use Rattle.desk_ledger.specs.Ledgers.{AddsEntry, EntriesOnly};
 ghost use Rattle.desk_ledger.specs.Notes.{LedgerKeeps, Notes};
 ghost use Rattle.desk_ledger.specs.Storing.{Misses, OfOldest, Stores, stored_of};
+ghost use Rattle.desk_texts.specs.Days.{IsDay};
 ghost use Rattle.desk_ledger.specs.Tasks.{TakesTask, fault_at, is_leaving, is_live, live_places, next_task, place_if, place_of, request_of, room};
 
 use crate::fault::NameFault;
@@ -27,10 +28,11 @@ use crate::task::Task;
 use client_core::AskFault;
 use client_restart::{Ended, KeptClient, NoteFault, OwnedBox};
 use desk_entries::{
-    Entry, MOST_AT_ONCE, NamedBoxes, Reading, Standing, addresses, are_new, has_outcome, is_name,
-    is_retired, is_retiring, letters_of, name_of, named, shown_of, waiting,
+    ClosedName, Entry, MOST_AT_ONCE, NamedBoxes, Reading, Standing, addresses, are_new, closed_at,
+    has_outcome, is_name, is_retired, is_retiring, last_day, letters_of, name_of, named, shown_of,
+    unseen_of, waiting, written_of,
 };
-use desk_texts::{CardHead, Head, Sheet};
+use desk_texts::{CardHead, Day, Head, Sheet};
 use express_words::{List, NoMemory, Text};
 use node_journal::Disk;
 use std::alloc::Global;
@@ -88,20 +90,24 @@ impl<D: Disk> Ledger<D> {
         }
     }
 
-    /// Wants boxes with a name, at these addresses, which were drawn. `Ok(Err(_))` is the refusal, and then
-    /// nothing is noted. `next_task` has the requests that register them.
+    /// Wants boxes with a name, at these addresses, which were drawn, and a card with this last day, if it is
+    /// to have one. `Ok(Err(_))` is the refusal, and then nothing is noted. The day stands in the name's own
+    /// record, so that no crash leaves a card without it. `next_task` has the requests that register the
+    /// boxes.
     #[tactic(auto, using(crate::proofs::NameLaws::taken_entry, crate::proofs::KeepLaws::entries_only, crate::proofs::KeepLaws::entries_rest))]
     pub fn add_name(
         &mut self,
         name: &str,
         addresses: &[u128],
+        until: Option<Day>,
     ) -> Result<Result<(), NameFault>, NoteFault>
+        requires until { IfSome until IsDay }
         ensures refused { IfOk result (λ taken. IfErr taken (λ fault.
             fault_at self.old name.now addresses.now ≡ Some fault)) }
         ensures taken { IfOk result (λ taken. OnOk taken (fault_at self.old name.now addresses.now ≡ None)) }
         ensures refused_stays { IfOk result (λ taken. OnErr taken (self.new ≡ self.old)) }
-        ensures noted { IfOk result (λ taken. OnOk taken (AddsEntry
-            (Entry.Named (record { name = name.now; addresses = addresses.now })) self.old self.new)) }
+        ensures noted { IfOk result (λ taken. OnOk taken (AddsEntry (Entry.Named
+            (record { name = name.now; addresses = addresses.now; until = until })) self.old self.new)) }
         ensures not_noted { OnErr result (self.new.entries ≡ self.old.entries) }
         ensures only { EntriesOnly self.old self.new }
         ensures stays { OnStill result (self.new ≡ self.old) }
@@ -111,7 +117,7 @@ impl<D: Disk> Ledger<D> {
             Ok(Some(fault)) => return Ok(Err(fault)),
             Err(_) => return Err(NoteFault::NoMemory),
         }
-        let Ok(named) = named_boxes(self.alloc, name, addresses) else {
+        let Ok(named) = named_boxes(self.alloc, name, addresses, until) else {
             return Err(NoteFault::NoMemory);
         };
         match self.note(Entry::Named(named)) {
@@ -186,6 +192,54 @@ impl<D: Disk> Ledger<D> {
             Ok(None) => Ok(false),
             Err(_) => Err(NoteFault::NoMemory),
         }
+    }
+
+    /// The boxes with a name are closed on this day: they are read as before, and their card isn't to be
+    /// handed out any more. `Ok(false)`, and nothing noted, where the desk has no such name; nothing is noted
+    /// either where they are closed already.
+    #[tactic(auto, using(crate::proofs::CloseLaws::closed_then, crate::proofs::CloseLaws::stays_closed, crate::proofs::KeepLaws::entries_only, crate::proofs::KeepLaws::entries_rest))]
+    pub fn close_name(&mut self, name: &str, day: Day) -> Result<bool, NoteFault>
+        requires day { IsDay day }
+        ensures unknown { is_some (named self.old.entries name.now) ≡ false
+            → (result ≡ Ok false) × (self.new ≡ self.old) }
+        ensures known { is_some (named self.old.entries name.now) ≡ true → is_name name.now ≡ true
+            → IfOk result (λ known. known ≡ true) }
+        ensures closed { IfOk result (λ known. known ≡ true → closed_at self.new.entries name.now
+            ≡ Some (unwrap_or (closed_at self.old.entries name.now) day)) }
+        ensures noted { (self.new.entries ≡ self.old.entries)
+            ⊎ AddsEntry (Entry.Closed (record { name = name.now; day = day })) self.old self.new }
+        ensures not_noted { OnErr result (self.new.entries ≡ self.old.entries) }
+        ensures only { EntriesOnly self.old self.new }
+        ensures stays { OnStill result (self.new ≡ self.old) }
+    {
+        if named(&self.entries, name.as_bytes()).is_none() {
+            return Ok(false);
+        }
+        if closed_at(&self.entries, name.as_bytes()).is_some() {
+            return Ok(true);
+        }
+        match closed_of(self.alloc, name, day) {
+            Ok(Some(entry)) => match self.note(entry) {
+                Ok(()) => Ok(true),
+                Err(fault) => Err(fault),
+            },
+            Ok(None) => Ok(false),
+            Err(_) => Err(NoteFault::NoMemory),
+        }
+    }
+
+    /// The day on which the boxes with a name were closed, if they are.
+    pub fn closed_at(&self, name: &str) -> Option<Day>
+        ensures { result ≡ closed_at self.now.entries name.now }
+    {
+        closed_at(&self.entries, name.as_bytes())
+    }
+
+    /// The last day of the card of a name, if it has one.
+    pub fn last_day(&self, name: &str) -> Option<Day>
+        ensures { result ≡ last_day self.now.entries name.now }
+    {
+        last_day(&self.entries, name.as_bytes())
     }
 
     /// What is left to be done, whatever came between: the next box to be registered, or else to be retired.
@@ -381,11 +435,38 @@ impl<D: Disk> Ledger<D> {
         self.note(Entry::Shown(count))
     }
 
+    /// How many of the letters were written into files.
+    pub fn written(&self) -> u32
+        ensures { result ≡ written_of self.now.entries }
+    {
+        written_of(&self.entries)
+    }
+
+    /// So many of the letters were written into files.
+    #[tactic(auto, using(crate::proofs::KeepLaws::entries_only))]
+    pub fn mark_written(&mut self, count: u32) -> Result<(), NoteFault>
+        ensures notes { Notes D.disk D.Counted.seen (Entry.Written count) self.old self.new result }
+        ensures only { EntriesOnly self.old self.new }
+        ensures written { OnOk result (written_of self.new.entries ≡ count) }
+        ensures stays { OnStill result (self.new ≡ self.old) }
+    {
+        self.note(Entry::Written(count))
+    }
+
+    /// How many of the letters nobody has seen: they are in no file, and weren't shown, or can't be, since
+    /// they are no text.
+    pub fn unseen(&self) -> Result<usize, NoMemory>
+        ensures { IfOk result (λ count. count ≡ unseen_of self.now.entries) }
+    {
+        unseen_of(self.alloc, &self.entries)
+    }
+
     /// The card of a name: its live boxes' addresses. None where it has no live box.
     pub fn card(&self, name: &str) -> Result<Option<Sheet>, NoMemory>
         ensures none { result ≡ Ok None → card_addresses self.now.entries name.now ≡ [] }
         ensures card { IfOk result (λ card. IfSome card
-            (IsCardOf self.now.pair (card_addresses self.now.entries name.now))) }
+            (IsCardOf self.now.pair (card_addresses self.now.entries name.now)
+            (last_day self.now.entries name.now))) }
     {
         let Some(named) = named(&self.entries, name.as_bytes()) else {
             return Ok(None);
@@ -403,6 +484,7 @@ impl<D: Disk> Ledger<D> {
             from: pair.from,
             to: pair.to,
             addresses: count,
+            until: named.until,
         };
         Ok(Some(Sheet {
             head: Head::Card(head),
@@ -523,8 +605,33 @@ fn retiring_of(alloc: Global, name: &str) -> Result<Option<Entry>, NoMemory>
     Ok(Some(Entry::Retiring(Text::from_string(copy))))
 }
 
-fn named_boxes(alloc: Global, name: &str, addresses: &[u128]) -> Result<NamedBoxes, NoMemory>
-    ensures value { IfOk result (λ n. n ≡ record { name = name.now; addresses = addresses.now }) }
+// That the boxes of a name were closed on this day, where it is one.
+#[tactic(auto, using(crate::proofs::NameLaws::is_closed_entry))]
+fn closed_of(alloc: Global, name: &str, day: Day) -> Result<Option<Entry>, NoMemory>
+    requires day { IsDay day }
+    ensures value { IfOk result (λ found. IfSome found (λ e.
+        e ≡ Entry.Closed (record { name = name.now; day = day }))) }
+    ensures is { IfOk result (λ found. IfSome found IsEntry) }
+    ensures none { result ≡ Ok None → is_name name.now ≡ false }
+{
+    if !is_name(name.as_bytes()) {
+        return Ok(None);
+    }
+    let copy = String::from_str(alloc, name)?;
+    Ok(Some(Entry::Closed(ClosedName {
+        name: Text::from_string(copy),
+        day,
+    })))
+}
+
+fn named_boxes(
+    alloc: Global,
+    name: &str,
+    addresses: &[u128],
+    until: Option<Day>,
+) -> Result<NamedBoxes, NoMemory>
+    ensures value { IfOk result (λ n.
+        n ≡ record { name = name.now; addresses = addresses.now; until = until }) }
     ensures are { OnOk result (AreAddresses addresses.now) }
 {
     let name = String::from_str(alloc, name)?;
@@ -532,6 +639,7 @@ fn named_boxes(alloc: Global, name: &str, addresses: &[u128]) -> Result<NamedBox
     Ok(NamedBoxes {
         name: Text::from_string(name),
         addresses: List::from_vec(addresses),
+        until,
     })
 }
 

@@ -3,6 +3,7 @@
 
 mod fault;
 mod forgetting;
+mod handing;
 mod ledger;
 mod opening;
 mod pair;
@@ -10,6 +11,7 @@ mod reaching;
 mod starting;
 mod stored;
 mod storing;
+mod tag;
 mod task;
 mod working;
 

@@ -8,7 +8,8 @@ use frame_rules::FRAME_MAX;
 use node_journal::Disk;
 
 impl<D: Disk> Ledger<D> {
-    /// The server that the current step's frame goes to, the leader 0 or the helper 1. None where no request is current.
+    /// The server that the current step's frame goes to, the leader 0 or the helper 1. None where no request
+    /// is current.
     pub fn server(&self) -> Option<u8>
         ensures { result
             ≡ option_map (λ sent. sent.0) (option_map addressed (sends self.now.client.core.client)) }

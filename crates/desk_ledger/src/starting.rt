@@ -6,7 +6,7 @@ ghost use Rattle.client_restart.specs.Notes.{Remark};
 ghost use Rattle.client_restart.specs.Steps.{fold};
 ghost use Rattle.desk_entries.specs.Records.{entry_record};
 ghost use Rattle.desk_ledger.specs.Ledgers.{IsOfPair, SaysPair};
-ghost use Rattle.desk_ledger.specs.Opening.{IsAsHeld, OnText, opening_of};
+ghost use Rattle.desk_ledger.specs.Opening.{IsAsHeld, IsOfReopening, OnOpening, OnText, opening_of};
 
 use crate::fault::OpenFault;
 use crate::ledger::Ledger;
@@ -49,6 +49,7 @@ impl<D: Disk> Ledger<D> {
             ≡ fold l.client.opening (Remark (entry_record (Entry.Pair text.now)) ∷ [])) }
         ensures empty { OnOk result ((c : Listed ℕ) → (D.disk disk).reads c → c ≡ []) }
         ensures refused { IfErr result (λ x. OnText x.0 text.now (x.1 ≡ disk)) }
+        ensures making { IfErr result (λ x. OnOpening limit (D.disk disk).reads text.now x.0) }
     {
         if text.len() >= MOST_RECORD {
             return Err((OpenFault::TooLong, disk));
@@ -88,6 +89,7 @@ impl<D: Disk> Ledger<D> {
         ensures entries { IfOk result (λ l. l.client.core.remarks ≡ map entry_record l.entries) }
         ensures told { IfOk result (λ l. IsAsHeld (D.disk disk) l) }
         ensures untouched_ok { IfOk result (λ l. IsUntouched (D.disk disk) (D.disk l.client.disk)) }
+        ensures cause { IfErr result (λ x. IsOfReopening limit (D.disk disk) x.0) }
         ensures untouched { IfErr result (λ x. IsUntouched (D.disk disk) (D.disk x.1)) }
     {
         let client = match KeptClient::reopen(alloc, disk, limit) {

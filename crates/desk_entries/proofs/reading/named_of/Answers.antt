@@ -1,4 +1,4 @@
-use Rattle.std.proofs.Common.{◌≡◌, ◌≤◌, ◌*◌, ◌++◌, ◌∷◌, ℕ, List, length, true, false, take, drop, sym, ◌∙◌, ap, subst, arith}
+use Rattle.std.proofs.Common.{◌≡◌, ◌≤◌, ◌*◌, ◌++◌, ℕ, List, length, false, drop, sym, ◌∙◌, ap, subst, arith}
 use Rattle.std.specs.Int.{w128, to_be_bytes}
 use Rattle.std.specs.List.{flat_map}
 use Rattle.std.proofs.lemmas.List.{take-append-drop}
@@ -7,8 +7,8 @@ use Rattle.desk_entries.specs.Names.{is_name}
 use Rattle.desk_entries.proofs.NamedLaws.{named_is, none_unnamed}
 use Rattle.desk_entries.proofs.reading.named_of.Goals as goal
 
-pub returns-in-Some : goal.returns-in-Some
-returns-in-Some c =
+pub returns-in-Some-clause-is : goal.returns-in-Some-clause-is
+returns-in-Some-clause-is c =
     let rest : List ℕ = c.args.rest.now in
     let front : List ℕ = c.split_at.result.0.now in
     let behind : List ℕ = c.split_at.result.1.now in
@@ -17,13 +17,13 @@ returns-in-Some c =
     let some : 1 ≤ c.args.count = omega (arith, c.if-count-eq0.false) in
     let few : c.args.count ≤ 64 = omega (arith, c.if-count-gt64.false) in
     let is = rw c.in-Some.is at c.in_ok-name.ensures in
-    named_is c.args.count rest front behind c.from_vec.result c.in-Some.name some few whole size
+    named_is c.args.count rest front behind c.from_vec.result c.in-Some.name c.args.until c.requires.day some few whole size
     (ap (flat_map (to_be_bytes w128)) c.from_vec.ensures ∙ c.in_ok-addresses.ensures.spelled)
     (subst AreAddresses (sym c.from_vec.ensures) c.in_ok-addresses.ensures.fits)
     is.0 is.1
 
-pub returns-in-None : goal.returns-in-None
-returns-in-None c =
+pub returns-in-None-clause-is : goal.returns-in-None-clause-is
+returns-in-None-clause-is c =
     let no_name : is_name c.split_at.result.1.now ≡ false = rw c.in-None.is at c.in_ok-name.ensures in
     let behind : c.split_at.result.1.now ≡ drop (c.args.count * 16) c.args.rest.now =
     c.split_at.ensures.back ∙ ap (λ (k : ℕ). drop (k * 16) c.args.rest.now) c.from-used.ensures in

@@ -1,8 +1,8 @@
 use Rattle.std.proofs.Common.{◌≡◌, ◌∷◌, [], ◌++◌, List, ◌∙◌, sym, ap, subst}
 use Rattle.desk_entries.specs.declared.entry.Entry.{Entry}
 use Rattle.desk_ledger.specs.Ledgers.{IsDesk}
-use Rattle.desk_ledger.proofs.KeepLaws.{desk_noted, not_noted, stands_on}
-use Rattle.desk_ledger.proofs.ledger.Ledger.note.Goals.{in-Pair-3, in-Named-3, in-Read+in-Letter-3, in-Read+in-Nothing-3, in-Retiring-3, in-Registered-3}
+use Rattle.desk_ledger.proofs.KeepLaws.{desk_noted, not_noted, not_stayed, stands_on}
+use Rattle.desk_ledger.proofs.ledger.Ledger.note.Goals.{in-Pair-3, in-Named-3, in-Read+in-Letter-3, in-Read+in-Nothing-3, in-Retiring-3, in-Registered-3, in-Closed-3}
 use Rattle.desk_ledger.proofs.ledger.Ledger.note.Goals as goal
 
 pub invariant_of-self-in-Ok-remark : goal.invariant_of-self-in-Ok-remark
@@ -28,4 +28,20 @@ returns-in-Err-clause-notes g c =
       | in-Read+in-Nothing-3 w ↦ said w.self-is c.reserve.ensures.items record_is keeps
       | in-Retiring-3 w ↦ said w.self-is c.reserve.ensures.items record_is keeps
       | in-Registered-3 w ↦ said w.self-is c.reserve.ensures.items record_is keeps
+      | in-Closed-3 w ↦ said w.self-is c.reserve.ensures.items record_is keeps
+    ]
+
+pub returns-in-Err-clause-stays : goal.returns-in-Err-clause-stays
+returns-in-Err-clause-stays g c =
+    let said = not_stayed c.self.inside.pair c.self.inside.entries.items c.reserve.new.self.items
+    c.self.inside.client c.remark.new.self c.args.self.now c.match-entry-5.self c.in-Err.fault c.self.view_is in
+    let stays = c.in-Err.ensures.stays in
+    elim c.match-entry-5.branch [
+      | in-Pair-3 w ↦ said w.self-is c.reserve.ensures.items stays
+      | in-Named-3 w ↦ said w.self-is c.reserve.ensures.items stays
+      | in-Read+in-Letter-3 w ↦ said w.self-is c.reserve.ensures.items stays
+      | in-Read+in-Nothing-3 w ↦ said w.self-is c.reserve.ensures.items stays
+      | in-Retiring-3 w ↦ said w.self-is c.reserve.ensures.items stays
+      | in-Registered-3 w ↦ said w.self-is c.reserve.ensures.items stays
+      | in-Closed-3 w ↦ said w.self-is c.reserve.ensures.items stays
     ]
