@@ -7,7 +7,7 @@ use Rattle.mailbox_rules.specs.Requests.{Write}
 use Rattle.client_restart.specs.declared.fault.NoteFault.{NoteFault}
 use Rattle.client_restart.specs.declared.fault.NoteFault.TheVariants.{Foreign, Journal, NoMemory}
 use Rattle.client_restart.specs.declared.opening.ClientOpening.{ClientOpening}
-use Rattle.client_restart.specs.Faults.{OnForeign}
+use Rattle.client_restart.specs.Faults.{CountsFault, IsNoMemoryOrForeign, OnForeign}
 use Rattle.client_restart.specs.Kept.{HoldsNotes}
 use Rattle.client_restart.specs.Notes.{Noted}
 use Rattle.client_restart.specs.Openings.{IsClientOpening}
@@ -20,7 +20,7 @@ use Rattle.desk_texts.specs.Spelling.{SpellsSheet}
 use Rattle.desk_outbox.specs.Begun.{IsBegun}
 use Rattle.desk_outbox.specs.Outboxes.{IsTry, IsWrite}
 use Rattle.desk_outbox.specs.Places.{place_record}
-use Rattle.desk_outbox.specs.Reopening.{HasEnds, HoldsOnly, IfNothing, IsNoTry, IsNoTryOf, IsNoWhole, Tells}
+use Rattle.desk_outbox.specs.Reopening.{HasEnds, HoldsOnly, IfNothing, IsNoTry, IsNoTryOf, IsNoWhole, SpellsNoSheet, TellNothing, Tells}
 use Rattle.desk_outbox.specs.declared.place.Place.{Place}
 use Rattle.desk_outbox.specs.declared.reopening.Reopened.{Reopened}
 use Rattle.desk_outbox.specs.declared.reopening.Reopened.TheVariants.{Whole, Nothing}
@@ -112,3 +112,19 @@ pub foreign_so : {D : Type 0} (reads : List ℕ → Type 0) (o : ClientOpening) 
     → IfErr r (λ x. x.0 ≢ NoMemory → IsNoWhole o k) → IfErr r (λ x. OnForeign x.0 (λ n. HoldsOnly IsNoWhole reads))
 foreign_so reads o k (Ok x) told f = tt
 foreign_so reads o k (Err x) told f = foreign_at reads o k x.0 told f
+
+-- where the first remark spells no card, remarks tell none
+pub tell_none : (text last : List ℕ) (remarks : List (List ℕ)) → HasEnds text last remarks → SpellsNoSheet text
+    → TellNothing remarks
+tell_none text last remarks ends none card place t =
+    let same : t.text ∷ (t.ends.between ++ place_record place ∷ []) ≡ text ∷ (ends.between ++ last ∷ []) = sym t.ends.is ∙ ends.is in
+    let first : t.text ≡ text = cc same in
+    none card (subst (λ (x : List ℕ). SpellsSheet card x) first t.spells)
+
+-- ---- the disk's faults
+
+-- a want of memory, or a record of another form, is no fault of the disk
+pub still_counts : (f : NoteFault) (before now : ℕ) → IsNoMemoryOrForeign f → now ≡ before → CountsFault before now f
+still_counts NoMemory before now of same = same
+still_counts (Foreign n) before now of same = same
+still_counts (Journal why) before now of same = absurd of

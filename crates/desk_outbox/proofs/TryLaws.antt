@@ -1,5 +1,5 @@
 -- What keeps a try whole.
-use Rattle.std.proofs.Common.{◌≡◌, ◌<◌, ℕ, true, List, Option, Some, None, Result, Ok, Err, refl, sym, ap, ◌∙◌, subst, length}
+use Rattle.std.proofs.Common.{◌≡◌, ◌<◌, ◌≤◌, ℕ, arith, true, List, Option, Some, None, Result, Ok, Err, refl, sym, ap, ◌∙◌, subst, length}
 use Rattle.std.specs.Prelude.{option_map}
 use Rattle.express_words.specs.Seen.{Seen}
 use Rattle.mailbox_rules.specs.Requests.{Request, Register, Write, Read, Retire}
@@ -19,6 +19,7 @@ use Rattle.client_restart.specs.Steps.{CoreState}
 use Rattle.client_restart.proofs.Turns.{Moves, Turns}
 use Rattle.client_restart.proofs.TurnLaws.{reply_turns}
 use Rattle.node_journal.specs.Disk.{DiskSeen}
+use Rattle.desk_texts.specs.Spelling.{IsCard, IsHead}
 use Rattle.desk_texts.specs.declared.sheet.Sheet.{Sheet}
 use Rattle.desk_outbox.specs.Outboxes.{IsTry, IsWrite, message_in, message_of}
 use Rattle.desk_outbox.specs.declared.place.Place.{Place}
@@ -55,6 +56,14 @@ written target message None e = absurd (cc e)
 written target message (Some now) e =
     let same : Write target message ≡ now.request = cc e in
     record { target = target; message = message; step = now.step; is = ap (λ (r : Request). Some (record { request = r; step = now.step })) (sym same); fits = refl }
+
+-- a box's bytes are few
+pub few_bytes : (o : ClientOpening) (card : Sheet) (p : Place) (now : Option Current) → IsTry o card p now
+    → length (message_in now) ≤ 4096
+few_bytes o card p now t =
+    let head : IsCard t.on_card.head = subst IsHead t.on_card.is_card t.on_card.sheet.head in
+    let bytes : length (message_in now) ≡ length t.write.message = ap (λ (x : Option Current). length (message_in x)) t.write.is in
+    omega (arith, head.width.most, t.on_card.width, t.write.fits, bytes)
 
 -- ---- a try behind a note, and behind a frame
 

@@ -1,8 +1,12 @@
 -- What is drawn for a try, one draw behind the other.
-use Rattle.std.specs.Prelude.{◌≡◌, ◌≢◌, ◌<◌, ℕ, ◌+◌, ◌-◌, ◌%◌, ◌^◌, List, max, Option, Some, None}
+use Rattle.std.specs.Prelude.{◌≡◌, ◌≢◌, ◌<◌, ◌==◌, nat_lt, if◌then◌else◌, ℕ, ◌+◌, ◌-◌, ◌%◌, ◌^◌, List, max, Option, Some, None}
 use Rattle.rand_core.specs.Stream.{Stream, fill_bytes, next_u32, next_u64}
 use Rattle.client_restart.specs.declared.opening.ClientOpening.{ClientOpening}
+use Rattle.express_words.specs.declared.refusal.Refusal.TheVariants as refusal
 use Rattle.desk_draws.specs.Streams.{behind}
+use Rattle.desk_tries.specs.declared.heard.Answer.{Answer}
+use Rattle.desk_tries.specs.declared.heard.Answer.TheVariants as answer
+use Rattle.desk_tries.specs.Draws.{next_lane, other_lane}
 use Rattle.desk_texts.specs.declared.sheet.CardHead.{CardHead}
 
 -- a seed of 32 bytes is drawn first
@@ -46,6 +50,35 @@ first_opening h s = record {
 abbrev pub known_of : ℕ → Option ℕ → ℕ
 known_of serial None = serial
 known_of serial (Some named) = max serial named
+
+-- a serial from 1 to 65,536
+abbrev pub short_in : Stream → ℕ
+short_in s = 1 + (next_u32 s).0 % 2 ^ 16
+
+-- what the last answer named, as it was answered
+abbrev pub answer_by : Option ℕ → Answer
+answer_by None = answer.Other
+answer_by (Some named) = answer.Refused (refusal.Stale named)
+
+-- the lane that is drawn first
+abbrev pub next_lane_in : CardHead → (last : ℕ) → Option ℕ → Stream → ℕ
+next_lane_in h last named s = next_lane h.from h.to last (answer_by named) (next_u64 s).0
+
+-- another lane, with one of its first serials; none where the card has no other
+abbrev pub other_in : CardHead → (last : ℕ) → Stream → Option (ℕ × ℕ)
+other_in h last s = if other_lane h.from h.to last (next_u64 s).0 == last then None
+    else Some (other_lane h.from h.to last (next_u64 s).0, short_in (behind next_u64 s))
+
+-- the same lane, with a serial above those that are known of it; where none is left, another
+abbrev pub same_in : CardHead → (last known : ℕ) → Stream → Option (ℕ × ℕ)
+same_in h last known s = if nat_lt (known + short_in s) (2 ^ 32) then Some (last, known + short_in s)
+    else other_in h last (behind next_u32 s)
+
+-- The lane and serial that are drawn behind a try of this lane and serial, whose last answer named a serial or none.
+abbrev pub next_in : CardHead → (last serial : ℕ) → Option ℕ → Stream → Option (ℕ × ℕ)
+next_in h last serial named s = if next_lane_in h last named s == last
+    then same_in h last (known_of serial named) (behind next_u64 s)
+    else Some (next_lane_in h last named s, short_in (behind next_u64 s))
 
 -- Behind a try of this lane and serial, whose last answer named a serial or none: on the same lane the next
 -- serial is above all that are known. Where none was named it is another lane, if there is one.

@@ -1,9 +1,10 @@
 -- What stands on a disk.
-use Rattle.std.specs.Prelude.{◌≡◌, ◌∷◌, ◌++◌, [], ℕ, List}
-use Rattle.client_restart.specs.Kept.{HoldsNotes}
+use Rattle.std.specs.Prelude.{◌≡◌, ◌⊎◌, ◌∷◌, ◌++◌, [], ℕ, List}
+use Rattle.node_journal.specs.Records.{content}
+use Rattle.client_restart.specs.Kept.{HoldsNotes, StandsByNotes}
 use Rattle.client_restart.specs.Notes.{Noted}
 use Rattle.client_restart.specs.Openings.{IsClientOpening}
-use Rattle.client_restart.specs.Records.{AllNotes}
+use Rattle.client_restart.specs.Records.{AllNotes, IsForeign}
 use Rattle.client_restart.specs.Steps.{CoreState, fold}
 use Rattle.client_restart.specs.declared.opening.ClientOpening.{ClientOpening}
 use Rattle.desk_texts.specs.declared.sheet.Sheet.{Sheet}
@@ -55,6 +56,11 @@ IsNoTryOf o core = IsNoTry core
 abbrev pub IsNoWhole : ClientOpening → CoreState → Type 0
 IsNoWhole o core = (card : Sheet) (place : Place) → Tells core.remarks card place
     → IsTry o card place core.client.current → ⊥
+
+-- Nothing was begun on the disk: its first record is no opening, or a client stands there, without a try.
+abbrev pub IsUnbegun : (List ℕ → Type 0) → Type 0
+IsUnbegun reads = ((c : List ℕ) → reads c → IsForeign 0 (content c))
+    ⊎ ((o : ClientOpening) × (core : CoreState) × StandsByNotes o core reads × IsNoTry core)
 
 -- whatever client the disk gives is so
 abbrev pub HoldsOnly : (ClientOpening → CoreState → Type 0) → (List ℕ → Type 0) → Type 0

@@ -1,5 +1,5 @@
 -- How a try begins.
-use Rattle.std.specs.Prelude.{◌≡◌, ◌≤◌, ◌≢◌, ℕ, List, [], ◌∷◌, Some, length, slice_get}
+use Rattle.std.specs.Prelude.{◌≡◌, ◌≤◌, ◌≢◌, ℕ, List, [], ◌∷◌, Option, Some, length, slice_get}
 use Rattle.mailbox_rules.specs.Requests.{Write}
 use Rattle.node_journal.specs.Disk.{DiskSeen}
 use Rattle.client_restart.specs.Kept.{HoldsNotes}
@@ -11,7 +11,7 @@ use Rattle.desk_texts.specs.declared.sheet.CardHead.{CardHead}
 use Rattle.desk_texts.specs.declared.sheet.Sheet.{Sheet}
 use Rattle.desk_texts.specs.Printing.{printed}
 use Rattle.rand_core.specs.Stream.{Stream}
-use Rattle.desk_outbox.specs.Drawing.{first_in, first_opening, id_in, seed_in, Follows}
+use Rattle.desk_outbox.specs.Drawing.{behind_seed, first_in, first_opening, id_in, next_in, seed_in, Follows}
 use Rattle.desk_outbox.specs.Outboxes.{OutboxState, message_in}
 use Rattle.desk_outbox.specs.Places.{address_at, first_place, next_place, place_record}
 use Rattle.desk_outbox.specs.declared.fault.StartFault.{StartFault}
@@ -57,6 +57,11 @@ IsOfStart why = why ≢ fault.Spent
 
 -- ---- a next try
 
+-- the lane and serial that are drawn for it, behind its seed
+abbrev pub drawn_for : {D : Type 0} → CardHead → OutboxState D → Stream → Option (ℕ × ℕ)
+drawn_for h old s =
+    next_in h old.kept.opening.lane old.kept.opening.first_serial old.place.named (behind_seed s)
+
 -- the same bytes at the place's address, under a fresh seed, on a lane and serial that no try before had
 pub record Retries {D E : Type 0} (shows : E → DiskSeen) (h : CardHead) (old : OutboxState D) (s : Stream)
     (o : OutboxState E) : Type 0 where
@@ -64,6 +69,7 @@ pub record Retries {D E : Type 0} (shows : E → DiskSeen) (h : CardHead) (old :
   pub seed : o.kept.opening.seed ≡ seed_in s
   pub follows : Follows h old.kept.opening.lane old.kept.opening.first_serial old.place.named
       o.kept.opening.lane o.kept.opening.first_serial
+  pub drawn : drawn_for h old s ≡ Some (o.kept.opening.lane, o.kept.opening.first_serial)
 
 -- it is the same letter
 abbrev pub IsOfNext : StartFault → Type 0

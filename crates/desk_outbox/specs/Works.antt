@@ -1,5 +1,5 @@
 -- The work on a try: frames, answers, and what is noted of them.
-use Rattle.std.specs.Prelude.{◌≡◌, ◌≢◌, ◌⊎◌, ℕ, true, false, List, Option, Result, Ok, Err, OnOk, OnErr}
+use Rattle.std.specs.Prelude.{◌≡◌, ◌≢◌, ◌⊎◌, ℕ, Bool, true, false, List, Option, Result, Ok, Err, OnOk, OnErr}
 use Rattle.std.specs.Prelude.{length}
 use Rattle.express_words.specs.Calls.{Call}
 use Rattle.express_words.specs.Seen.{Seen}
@@ -10,8 +10,10 @@ use Rattle.client_restart.specs.Keeps.{KeepsNote, sight}
 use Rattle.client_restart.specs.Notes.{Heard, Remark}
 use Rattle.desk_texts.specs.declared.sheet.Sheet.{Sheet}
 use Rattle.desk_tries.specs.declared.heard.Answer.{Answer}
+use Rattle.desk_tries.specs.declared.sending.LetterEnd.TheVariants as end
 use Rattle.desk_tries.specs.declared.sending.Next.{Next}
 use Rattle.desk_tries.specs.declared.sending.Next.TheVariants as next
+use Rattle.desk_tries.specs.Steps as steps
 use Rattle.desk_tries.specs.Steps.{SendingState, SendingTurn, turn_of}
 use Rattle.kept_errands.specs.Steps.{Talked}
 use Rattle.kept_errands.specs.declared.halt.Halt.{Halt}
@@ -61,6 +63,19 @@ Readies shows counts old new r = ((r ≡ Ok tt) × (new ≡ old)) ⊎ ReadiesFir
 -- the letter's sending, as the try stands
 abbrev pub state_of : {D : Type 0} → OutboxState D → SendingState
 state_of o = state_at (length o.card.addresses) o.place
+
+-- whether a try so far can have written the letter, unless its end is known
+abbrev pub may_by : Next → SendingState → Bool
+may_by next.GoOn s = steps.may_be_written s
+may_by next.SameAgain s = steps.may_be_written s
+may_by next.NewTry s = steps.may_be_written s
+may_by next.NextAddress s = steps.may_be_written s
+may_by (next.Stop end.Written) s = true
+may_by (next.Stop end.NotWritten) s = false
+may_by (next.Stop end.MaybeWritten) s = true
+
+abbrev pub may_be_written : {D : Type 0} → OutboxState D → Bool
+may_be_written o = may_by o.place.next (state_of o)
 
 -- where a try stands that an answer ends: as its sending does
 abbrev pub ended_at : Place → SendingTurn → Answer → Place

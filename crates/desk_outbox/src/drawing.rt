@@ -3,7 +3,7 @@ ghost use Rattle.std.specs.Prelude.{◌≡◌, ◌≢◌, ◌≤◌, ◌<◌, �
 ghost use Rattle.rand_core.specs.Stream.{next_u32};
 ghost use Rattle.desk_draws.specs.Streams.{behind, stream_from};
 ghost use Rattle.desk_texts.specs.Spelling.{IsCard};
-ghost use Rattle.desk_outbox.specs.Drawing.{lane_in, serial_in, known_of, Follows};
+ghost use Rattle.desk_outbox.specs.Drawing.{known_of, lane_in, next_in, other_in, serial_in, short_in};
 
 use desk_draws::Draws;
 use desk_texts::CardHead;
@@ -12,7 +12,7 @@ use express_words::Refusal;
 
 // A serial on a lane of which none is known.
 fn first_serial(draws: &mut Draws) -> u32
-    ensures value { result ≡ 1 + (next_u32 (stream_from draws.old)).0 % 2 ^ 16 }
+    ensures value { result ≡ short_in (stream_from draws.old) }
     ensures least { 1 ≤ result }
 {
     match serial_above(0, draws.short()) {
@@ -38,6 +38,7 @@ pub fn first_lane(head: &CardHead, draws: &mut Draws) -> (u16, u32)
 fn other_lane(head: &CardHead, last: u16, draws: &mut Draws) -> Option<(u16, u32)>
     requires from { head.now.from ≤ last }
     requires to { last ≤ head.now.to }
+    ensures value { result ≡ other_in head.now last (stream_from draws.old) }
     ensures lane { IfSome result (λ r. (head.now.from ≤ r.0) × (r.0 ≤ head.now.to)) }
     ensures serial { IfSome result (λ r. 1 ≤ r.1) }
     ensures other { IfSome result (λ r. r.0 ≢ last) }
@@ -60,6 +61,7 @@ pub fn next_lane_and_serial(
 ) -> Option<(u16, u32)>
     requires from { head.now.from ≤ last }
     requires to { last ≤ head.now.to }
+    ensures value { result ≡ next_in head.now last serial named (stream_from draws.old) }
     ensures lane { IfSome result (λ r. (head.now.from ≤ r.0) × (r.0 ≤ head.now.to)) }
     ensures serial { IfSome result (λ r. 1 ≤ r.1) }
     ensures above { IfSome result (λ r. r.0 ≡ last → known_of serial named < r.1) }

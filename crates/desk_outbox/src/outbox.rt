@@ -1,5 +1,5 @@
 //! A stranger's letter on its way.
-ghost use Rattle.std.specs.Prelude.{◌≡◌};
+ghost use Rattle.std.specs.Prelude.{◌≡◌, ◌≤◌, length};
 ghost use Rattle.client_restart.specs.Openings.{IsClientOpening};
 ghost use Rattle.desk_outbox.specs.Outboxes.{IsTry, message_in};
 
@@ -42,9 +42,10 @@ impl<D: Disk> Outbox<D> {
     }
 
     /// The box's bytes, as they go out.
-    #[tactic(auto, using(crate::proofs::TryLaws::requested, crate::proofs::TryLaws::no_register, crate::proofs::TryLaws::no_read, crate::proofs::TryLaws::no_retire, crate::proofs::TryLaws::no_none))]
+    #[tactic(auto, using(crate::proofs::TryLaws::requested, crate::proofs::TryLaws::no_register, crate::proofs::TryLaws::no_read, crate::proofs::TryLaws::no_retire, crate::proofs::TryLaws::no_none, crate::proofs::TryLaws::few_bytes))]
     pub fn message(&self) -> &[u8]
-        ensures { result.now ≡ message_in self.now.kept.core.client.current }
+        ensures bytes { result.now ≡ message_in self.now.kept.core.client.current }
+        ensures few { length result.now ≤ 4096 }
     {
         match self.client.request() {
             Some(Request::Write { target: _, message }) => message,

@@ -2,14 +2,14 @@
 ghost use Rattle.std.specs.Prelude.{◌≡◌, ◌≢◌, ◌≤◌, ◌↔◌, ℕ, List, None, IfOk, IfErr, IfSome, IsTrue, length, map};
 ghost use Rattle.node_journal.specs.Disk.{IsUntouched};
 ghost use Rattle.node_journal.specs.Records.{IsUndamaged};
-ghost use Rattle.client_restart.specs.Faults.{IsNoMemoryOrForeign, IsOfReopen, OnDamaged, OnForeign};
+ghost use Rattle.client_restart.specs.Faults.{CountsFault, IsNoMemoryOrForeign, IsOfReopen, OnDamaged, OnForeign};
 ghost use Rattle.client_restart.specs.Kept.{StandsByNotes};
 ghost use Rattle.client_restart.specs.Openings.{IsClientOpening};
 ghost use Rattle.client_restart.specs.declared.fault.NoteFault.TheVariants.{NoMemory};
 ghost use Rattle.desk_texts.specs.Spelling.{IsSheet, SpellsSheet};
 ghost use Rattle.desk_outbox.specs.Begun.{IsBegun};
 ghost use Rattle.desk_outbox.specs.Outboxes.{IsWrite};
-ghost use Rattle.desk_outbox.specs.Reopening.{HasEnds, HoldsOnly, IfNothing, IfWhole, IsNoTry, IsNoTryOf, IsNoWhole, SpellsNoSheet, TellNothing, Tells};
+ghost use Rattle.desk_outbox.specs.Reopening.{HasEnds, HoldsOnly, IfNothing, IfWhole, IsNoTry, IsNoTryOf, IsNoWhole, IsUnbegun, SpellsNoSheet, TellNothing, Tells};
 
 use crate::outbox::{OUTBOX_LIMIT, Outbox};
 use crate::place::Place;
@@ -74,8 +74,10 @@ fn remembered(alloc: Global, remarks: &[Vec<u8>]) -> Result<(Sheet, Place), Note
     let Some(place) = Place::of(last) else {
         return Err(NoteFault::Foreign(CARD_AT));
     };
-    let card = card_in(alloc, text)?;
-    Ok((card, place))
+    match card_in(alloc, text) {
+        Ok(card) => Ok((card, place)),
+        Err(fault) => Err(fault),
+    }
 }
 
 // Whether a try can stand so: at an address of the card, on one of its lanes, with a message for its boxes.
@@ -143,10 +145,12 @@ fn held<D: Disk>(alloc: Global, client: KeptClient<D>) -> Result<Reopened<D>, (N
 
 impl<D: Disk> Outbox<D> {
     /// The try that stands on a disk, as it stood.
+    #[tactic(auto, using(crate::proofs::ReopenLaws::still_counts))]
     pub fn reopen(alloc: Global, disk: D) -> Result<Reopened<D>, (NoteFault, D)>
         ensures stands { IfOk result (IfWhole (λ o. StandsByNotes o.kept.opening o.kept.core (D.disk disk).reads)) }
         ensures told { IfOk result (IfWhole (λ o. Tells o.kept.core.remarks o.card o.place)) }
         ensures nothing { IfOk result (IfNothing (λ d. HoldsOnly IsNoTryOf (D.disk disk).reads)) }
+        ensures unbegun { IfOk result (IfNothing (λ d. IsUnbegun (D.disk disk).reads)) }
         ensures foreign { IfErr result (λ x. OnForeign x.0 (λ n. HoldsOnly IsNoWhole (D.disk disk).reads)) }
         ensures damaged { IfErr result (λ x. OnDamaged x.0 (λ n. (c : List ℕ) → (D.disk disk).reads c
             → IsUndamaged 65536 0 c → ⊥)) }
@@ -155,6 +159,9 @@ impl<D: Disk> Outbox<D> {
             (IfWhole (λ o. IsUntouched (D.disk disk) (D.disk o.kept.disk))) }
         ensures untouched_nothing { IfOk result (IfNothing (λ d. IsUntouched (D.disk disk) (D.disk d))) }
         ensures untouched { IfErr result (λ x. IsUntouched (D.disk disk) (D.disk x.1)) }
+        // A fault of the disk is told only where there was one.
+        ensures counts { IfErr result
+            (λ x. CountsFault (D.Counted.seen disk).faults (D.Counted.seen x.1).faults x.0) }
     {
         match KeptClient::reopen(alloc, disk, OUTBOX_LIMIT) {
             Ok(client) => held(alloc, client),

@@ -1,5 +1,5 @@
 //! How a try begins.
-ghost use Rattle.std.specs.Prelude.{◌≡◌, ◌≢◌, ◌≤◌, [], Some, IfOk, IfErr, IfSome, OnOk, length, slice_get};
+ghost use Rattle.std.specs.Prelude.{◌≡◌, ◌≢◌, ◌≤◌, [], None, Some, IfOk, IfErr, IfSome, OnOk, length, slice_get};
 ghost use Rattle.client_restart.specs.Kept.{HoldsNotes};
 ghost use Rattle.client_restart.specs.Openings.{IsClientOpening};
 ghost use Rattle.client_restart.specs.Steps.{fold};
@@ -11,7 +11,7 @@ ghost use Rattle.desk_texts.specs.declared.sheet.Head.TheVariants.{Card};
 ghost use Rattle.desk_outbox.specs.Begun.{IsBegun, IsNoted};
 ghost use Rattle.desk_outbox.specs.Outboxes.{IsCardSheet};
 ghost use Rattle.desk_outbox.specs.Places.{address_at};
-ghost use Rattle.desk_outbox.specs.Trying.{Begins, IsOfNext, IsOfStart, MakesLetter, OnLetter, Retries, Starts};
+ghost use Rattle.desk_outbox.specs.Trying.{Begins, IsOfNext, IsOfStart, MakesLetter, OnLetter, Retries, Starts, drawn_for};
 ghost use Rattle.desk_outbox.specs.declared.fault.StartFault.TheVariants as fault;
 
 use crate::drawing::{first_lane, next_lane_and_serial};
@@ -197,6 +197,8 @@ impl<D: Disk> Outbox<D> {
         ensures retries { (h : CardHead) → self.now.card.head ≡ Card h
             → IfOk result (Retries E.disk h self.now (stream_from draws.old)) }
         ensures cause { IfErr result (λ x. IsOfNext x.0) }
+        ensures spent { (h : CardHead) → self.now.card.head ≡ Card h → IfErr result (λ x. x.0 ≡ StartFault.Spent
+            → drawn_for h self.now (stream_from draws.old) ≡ None) }
     {
         let last = *self.client.opening();
         let head = head_of(&self.card);

@@ -11,13 +11,13 @@ ghost use Rattle.kept_errands.specs.Steps.{DiskFaultBy, NetFaultBy};
 ghost use Rattle.node_exchange.specs.Exchanging.{CountBy, EarlyAtEnd};
 ghost use Rattle.desk_outbox.specs.Answers.{answer_lost, answer_to, named_by};
 ghost use Rattle.desk_outbox.specs.Places.{state_at};
-ghost use Rattle.desk_outbox.specs.Works.{Does, Ends, GoesOn, Notes, Readies, Steps, Talks, Works, ended_at, state_of};
+ghost use Rattle.desk_outbox.specs.Works.{Does, Ends, GoesOn, Notes, Readies, Steps, Talks, Works, ended_at, may_be_written, state_of};
 
 use crate::answering::{answer_lost, answer_to, named_by, stop_to};
 use crate::outbox::Outbox;
 use crate::place::Place;
 use client_restart::NoteFault;
-use desk_tries::{Answer, Next, Sending};
+use desk_tries::{Answer, LetterEnd, Next, Sending};
 use express_words::outside::Net;
 use frame_rules::FRAME_MAX;
 use kept_errands::{Halt, talk};
@@ -42,6 +42,18 @@ impl<D: Disk> Outbox<D> {
         };
         let place = self.place;
         Sending::kept(count, place.address, place.further, place.proof_out)
+    }
+
+    /// Whether a try so far can have written the letter: where it can't, the letter isn't written, and never is if it is
+    /// given up.
+    pub fn may_be_written(&self) -> bool
+        ensures { result ≡ may_be_written self.now }
+    {
+        match self.place.next {
+            Next::Stop(LetterEnd::NotWritten) => false,
+            Next::Stop(_) => true,
+            _ => self.sending().may_be_written(),
+        }
     }
 
     // A place is on the disk before the try stands there.

@@ -16,9 +16,9 @@ use Rattle.desk_tries.specs.declared.sending.LetterEnd.TheVariants as end
 use Rattle.desk_tries.specs.declared.sending.Next.TheVariants.{NewTry, NextAddress, Stop}
 use Rattle.desk_tries.specs.Fate.{by_proof, fate_by_refusal, fate_by}
 use Rattle.desk_tries.specs.Servers.{closes, excludes}
-use Rattle.desk_tries.specs.Steps.{SendingState, turn, after_proof, new_try, end_of, again_at_address, elsewhere, turn_by}
+use Rattle.desk_tries.specs.Steps.{SendingState, may_be_written, turn, after_proof, new_try, end_of, again_at_address, elsewhere, turn_by}
 use Rattle.desk_tries.specs.Runs.{Try, fresh, may_be_accepted, may_be_accepted_at, accepted_at, TryEvent, ProofGoes, Hears, Run, tries, opened, hears, follows_turn, goes_on, if_open, after_event, run_from, run_of}
-use Rattle.desk_tries.specs.Laws.{WrittenOnce, NotWrittenIsTrue, IsAccepted, WrittenIsTrue, AreFew, TriesAreFew}
+use Rattle.desk_tries.specs.Laws.{GivenUpIsNowhere, WrittenOnce, NotWrittenIsTrue, IsAccepted, WrittenIsTrue, AreFew, TriesAreFew}
 
 -- ---- what an answer tells
 
@@ -362,6 +362,24 @@ pub written_is_true : WrittenIsTrue
 written_is_true n events h is =
     let run : Run = run_of n events in
     subst (λ (e : Option LetterEnd). EndIs e run.state run.now) is (good_run n events h).end_is
+
+-- no try can have written it
+neither : (out : Bool) (first : Bool) → (out || not first) ≡ false → (out ≡ false) × (first ≡ true)
+neither true first is = cc
+neither false true is = (refl, refl)
+neither false false is = cc
+
+given_up_of : (n a : ℕ) (run : Run) → Good n run → may_be_written run.state ≡ false → accepted_at a (tries run) ≡ 0
+given_up_of n a run g is =
+    let no = neither run.state.proof_out (eqb run.state.address 0) is in
+    let none = ap (λ b. b && not (list_any excludes run.now.answers)) (g.keeps.proof_is ∙ no.0) in
+    let e = adds_none a run.now none in
+    let first = eqb-true run.state.address 0 no.1 in
+    let c = g.keeps.clear a (omega (arith, first)) in
+    let s = accepted_cons a run.now run.before in omega (arith, e, c, s)
+
+pub given_up_is_nowhere : GivenUpIsNowhere
+given_up_is_nowhere n events a h is = given_up_of n a (run_of n events) (good_run n events h) is
 
 few_of : (n : ℕ) (run : Run) → Good n run → AreFew n run
 few_of n run g = record {

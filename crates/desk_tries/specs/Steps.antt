@@ -1,5 +1,5 @@
 -- The sending of one letter, answer by answer.
-use Rattle.std.specs.Prelude.{ℕ, ◌+◌, ◌-◌, ◌==◌, ◌||◌, if◌then◌else◌, Bool, true, false}
+use Rattle.std.specs.Prelude.{ℕ, ◌+◌, ◌-◌, ◌==◌, ◌||◌, not, if◌then◌else◌, Bool, true, false}
 use Rattle.desk_tries.specs.declared.heard.Answer.{Answer}
 use Rattle.desk_tries.specs.declared.heard.Fate.{Fate}
 use Rattle.desk_tries.specs.declared.heard.Fate.TheVariants.{GoesOn, Again, NotWritten, Unknown, Written}
@@ -32,6 +32,11 @@ new_try s address = record s { address = address; further = s.further - 1; proof
 -- the end where no try is left and the present one writes nothing
 abbrev pub end_of : SendingState → LetterEnd
 end_of s = if s.address == 0 then end.NotWritten else end.MaybeWritten
+
+-- whether a try so far can have written the letter: the present one, once its last proof goes out, or one at an
+-- address before
+abbrev pub may_be_written : SendingState → Bool
+may_be_written s = s.proof_out || not (s.address == 0)
 
 -- what is done next, and where the sending then stands
 pub record SendingTurn : Type 0 where

@@ -1,6 +1,6 @@
 //! The lane and the serial of a try, from numbers that are drawn.
-ghost use Rattle.std.specs.Prelude.{◌≡◌, ◌≢◌, ◌+◌, ◌-◌, ◌%◌, ◌<◌, ◌≤◌, ◌^◌, true, false, SomeIff};
-ghost use Rattle.desk_tries.specs.Draws.{highest_named, is_stale};
+ghost use Rattle.std.specs.Prelude.{◌≡◌, ◌≢◌, ◌+◌, ◌<◌, ◌≤◌, ◌^◌, true, false, SomeIff};
+ghost use Rattle.desk_tries.specs.Draws.{highest_named, is_stale, lane_among, next_lane, other_lane};
 
 use crate::heard::Answer;
 use express_words::Refusal;
@@ -8,7 +8,7 @@ use express_words::Refusal;
 /// A lane of a card's range, both ends with it.
 pub fn lane_among(from: u16, to: u16, drawn: u64) -> u16
     requires { from ≤ to }
-    ensures value { result ≡ from + drawn % (to - from + 1) }
+    ensures value { result ≡ lane_among from to drawn }
     ensures least { from ≤ result }
     ensures most { result ≤ to }
 {
@@ -21,6 +21,7 @@ pub fn lane_among(from: u16, to: u16, drawn: u64) -> u16
 pub fn next_lane(from: u16, to: u16, last: u16, answer: Answer, drawn: u64) -> u16
     requires from { from ≤ last }
     requires to { last ≤ to }
+    ensures value { result ≡ next_lane from to last answer drawn }
     ensures least { from ≤ result }
     ensures most { result ≤ to }
     ensures stale { is_stale answer ≡ true → result ≡ last }
@@ -42,6 +43,7 @@ fn is_stale(answer: Answer) -> bool
 fn other_lane(from: u16, to: u16, last: u16, drawn: u64) -> u16
     requires from { from ≤ last }
     requires to { last ≤ to }
+    ensures value { result ≡ other_lane from to last drawn }
     ensures least { from ≤ result }
     ensures most { result ≤ to }
     ensures other { from < to → result ≢ last }

@@ -1,6 +1,6 @@
 //! The sending of one letter: a try after another, until it is written or nothing more can be done safely.
 ghost use Rattle.std.specs.Prelude.{◌≡◌, ◌≤◌, ◌<◌, true, false};
-ghost use Rattle.desk_tries.specs.Steps.{started, after_proof, next_of, state_after};
+ghost use Rattle.desk_tries.specs.Steps.{started, after_proof, may_be_written, next_of, state_after};
 ghost use Rattle.desk_tries.specs.Steps.{again_at_address, elsewhere, end_of};
 
 use crate::heard::{Answer, Fate, fate_by};
@@ -113,6 +113,14 @@ impl Sending {
         ensures { result ≡ self.now.proof_out }
     {
         self.proof_out
+    }
+
+    /// Whether a try so far can have written the letter. Where none can, and the sending is given up, it isn't written
+    /// anywhere, now or later.
+    pub fn may_be_written(&self) -> bool
+        ensures { result ≡ may_be_written self.now }
+    {
+        self.proof_out || self.address != 0
     }
 
     /// The last proof of the present try goes out: said before its first byte is sent.
