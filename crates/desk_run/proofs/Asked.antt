@@ -1,9 +1,10 @@
 -- What words ask for.
-use Rattle.std.proofs.Common.{◌≡◌, ◌∙◌, ◌⊎◌, ℕ, Bool, true, false, List, [], ◌∷◌, Contains, Some, None, inl, inr, lit<, refl, sym, subst}
+use Rattle.std.proofs.Common.{◌≡◌, ◌∙◌, ◌⊎◌, ℕ, Bool, Bor, true, false, not, List, [], ◌∷◌, Contains, Some, None, inl, inr, lit<, refl, sym, subst}
 use Rattle.std.proofs.lemmas.List.Elements.{All-contains, All-from_recursion}
 use Rattle.clap.specs.Words.{Text}
 use Rattle.desk_words.specs.CommandLine.{AskSome, IsAsked}
 use Rattle.desk_words.specs.declared.task.DeskTask.{DeskTask}
+use Rattle.desk_words.specs.declared.task.DeskTask.TheVariants as task
 use Rattle.desk_run.specs.Quiet.{AskServers, is_quiet}
 use Rattle.desk_run.specs.Statuses.{EndsAsAsked, IsInUse, MayEnd}
 use Rattle.express_words.specs.Seen.{Seen}
@@ -51,6 +52,14 @@ pub loud : {P : Type 0} (t known : DeskTask) → t ≡ known → is_quiet known 
 loud t known is other quiet_one =
     let wrong = sym other ∙ subst (λ (x : DeskTask). is_quiet x ≡ true) is quiet_one in
     absurd (cc wrong)
+
+from_not : (b : Bool) → not b ≡ true → b ≡ false
+from_not true h = absurd (cc h)
+from_not false h = refl
+
+-- one that only closes boxes
+pub closes : (t : DeskTask) (name : Bor (List ℕ)) (now : Bool) → t ≡ task.Retire name now → is_quiet t ≡ true → now ≡ false
+closes t name now is quiet_one = from_not now (subst (λ (x : DeskTask). is_quiet x ≡ true) is quiet_one)
 
 -- ---- wrong words
 

@@ -6,6 +6,7 @@ use Rattle.desk_ledger.specs.Cards.{IsCardOf}
 use Rattle.desk_texts.specs.Printing.{printed}
 use Rattle.desk_run.specs.Printing.{Prints}
 use Rattle.desk_run.specs.Shown.{IsCardText}
+use Rattle.desk_texts.specs.declared.day.Day.{Day}
 use Rattle.desk_texts.specs.declared.sheet.Sheet.{Sheet}
 use Rattle.desk_texts.specs.declared.sheet.CardHead.{CardHead}
 use Rattle.desk_texts.specs.declared.sheet.Head.TheVariants.{Card}
@@ -15,6 +16,6 @@ use Rattle.desk_outbox.specs.Outboxes.{IsCardSheet}
 pub card_sheet : (s : Sheet) (card : CardHead) → IsSheet s → s.head ≡ Card card → IsCardSheet s
 card_sheet s card sheet is = record { sheet = sheet; card = card; is_card = is }
 
-pub prints_card : (pair : Pair) (addresses : List ℕ) (s : Sheet) (old new : Option (List ℕ)) → IsCardOf pair addresses s
-    → Took old new (printed s) → Prints (IsCardText pair addresses) old new
-prints_card pair addresses s old new is took = (printed s, record { card = s; is_of = is; is = refl }, took)
+pub prints_card : (pair : Pair) (addresses : List ℕ) (until : Option Day) (s : Sheet) (old new : Option (List ℕ)) → IsCardOf pair addresses until s
+    → Took old new (printed s) → Prints (IsCardText pair addresses until) old new
+prints_card pair addresses until s old new is took = (printed s, record { card = s; is_of = is; is = refl }, took)

@@ -1,5 +1,5 @@
 -- What goes out, one part after another.
-use Rattle.std.proofs.Common.{◌≡◌, ◌≢◌, List, Option, Some, None, Result, refl, sym, subst}
+use Rattle.std.proofs.Common.{◌≡◌, ◌≢◌, ℕ, List, Option, Some, None, Result, refl, sym, subst}
 use Rattle.express_words.specs.Calls.{Call}
 use Rattle.express_words.specs.Seen.{Seen}
 use Rattle.client_restart.specs.Steps.{CoreState}
@@ -11,13 +11,19 @@ use Rattle.desk_ledger.specs.Works.{WorksAt}
 use Rattle.desk_outbox.specs.Outboxes.{OutboxState}
 use Rattle.desk_outbox.specs.Works.{Works}
 use Rattle.desk_tries.specs.declared.sending.Next.{Next}
-use Rattle.desk_run.specs.Sends.{Sends, nothing, request, letter}
+use Rattle.frame_rules.specs.Frames.{PlainFrame}
+use Rattle.node_exchange.specs.declared.exchanging.Broken.{Broken}
+use Rattle.pair_check.specs.Answers.{Asks}
+use Rattle.pair_check.specs.Questions.{IsQuestion}
+use Rattle.pair_check.specs.declared.found.Found.{Found}
+use Rattle.desk_run.specs.Sends.{Sends, nothing, question, request, letter}
 
 pub sends_more : {D : Type 0} (shows : D → DiskSeen) (counts : D → Seen) (a b c : Option (List Call))
     → Sends shows counts a b → Sends shows counts b c → Sends shows counts a c
 sends_more shows counts a b c s nothing = s
 sends_more shows counts a b c s (request pair old new r mid now t w) = request pair old new r mid now (sends_more shows counts a b mid s t) w
 sends_more shows counts a b c s (letter old new r mid now t w) = letter old new r mid now (sends_more shows counts a b mid s t) w
+sends_more shows counts a b c s (question place q r mid now t is w) = question place q r mid now (sends_more shows counts a b mid s t) is w
 
 pub sends_same : {D : Type 0} (shows : D → DiskSeen) (counts : D → Seen) (a b : Option (List Call)) → b ≡ a → Sends shows counts a b
 sends_same shows counts a b e = subst (Sends shows counts a) (sym e) nothing
@@ -43,6 +49,11 @@ pub on_request : {D : Type 0} (shows : D → DiskSeen) (counts : D → Seen) (pa
     → (old.client.current ≡ None → b ≡ a) → (old.client.current ≢ None → WorksAt pair old new r a b)
     → (start : Option (List Call)) → Sends shows counts start a → Sends shows counts start b
 on_request shows counts pair old new r a b idle works start s = sends_more shows counts start a b s (sends_request shows counts pair old new r a b idle works)
+
+pub on_question : {D : Type 0} (shows : D → DiskSeen) (counts : D → Seen) (place : List ℕ) (q : PlainFrame) (r : Result Found Broken)
+    (a b : Option (List Call)) → IsQuestion q → Asks place q r a b → (start : Option (List Call)) → Sends shows counts start a
+    → Sends shows counts start b
+on_question shows counts place q r a b is w start s = question place q r a b s is w
 
 pub sends_all : {D : Type 0} (shows : D → DiskSeen) (counts : D → Seen) (a b : Option (List Call))
     → ((start : Option (List Call)) → Sends shows counts start a → Sends shows counts start b) → Sends shows counts a b

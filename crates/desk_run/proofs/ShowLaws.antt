@@ -10,12 +10,12 @@ use Rattle.desk_entries.specs.declared.entry.Held.{Held}
 use Rattle.desk_entries.specs.declared.entry.Held.TheVariants as held
 use Rattle.desk_entries.specs.declared.entry.Reading.{Reading}
 use Rattle.desk_entries.specs.Desks.{name_of}
-use Rattle.desk_entries.specs.Letters.{letters_of, shown_of}
+use Rattle.desk_entries.specs.Letters.{letters_of, shown_of, written_of}
 use Rattle.desk_ledger.specs.Ledgers.{EntriesOnly, LedgerState}
 use Rattle.desk_run.specs.Changes.{NotesShown}
 use Rattle.desk_run.specs.Printing.{Prints, TellsMet, met_line}
 use Rattle.desk_run.specs.Shown.{Each, Shows, ShowsReading, none, then, holds_met, is_met, new_letters}
-use Rattle.desk_run.specs.Told.{TellsFile, TellsReading}
+use Rattle.desk_run.specs.Told.{TellsFile, TellsReading, unwritten_letters}
 use Rattle.desk_run.proofs.PrintLaws.{took_nothing, took_both, tells_before, tells_behind, tells_line}
 
 -- of all these the rest is to be told yet
@@ -65,13 +65,15 @@ reading_met entries r text shows met = shows_met (name_of entries r.registered) 
 only_line : (name : List ℕ) → TellsMet (met_line name)
 only_line name = record { name = name; before = []; behind = []; is = sym (append-nil (met_line name)) }
 
-writes_met : (folder name : List ℕ) (serial : ℕ) (h : Held) (one : List ℕ) → TellsFile folder name serial h one → holds_met h ≡ true → TellsMet one
-writes_met folder name serial held.Nothing one tells met = cc
-writes_met folder name serial held.Met one tells met = subst (λ (t : List ℕ). TellsMet t) (sym tells) (only_line name)
-writes_met folder name serial (held.Letter id text) one tells met = cc
+writes_met : (folder : List ℕ) (tag : ℕ) (name : List ℕ) (serial : ℕ) (h : Held) (one : List ℕ)
+    → TellsFile folder tag name serial h one → holds_met h ≡ true → TellsMet one
+writes_met folder tag name serial held.Nothing one tells met = cc
+writes_met folder tag name serial held.Met one tells met = subst (λ (t : List ℕ). TellsMet t) (sym tells) (only_line name)
+writes_met folder tag name serial (held.Letter id text) one tells met = cc
 
-pub file_met : (folder : List ℕ) (entries : List Entry) → TellsItsMet (TellsReading folder entries)
-file_met folder entries r text tells met = writes_met folder (name_of entries r.registered) r.serial r.held text tells met
+pub file_met : (folder : List ℕ) (tag : ℕ) (entries : List Entry) → TellsItsMet (TellsReading folder tag entries)
+file_met folder tag entries r text tells met =
+    writes_met folder tag (name_of entries r.registered) r.serial r.held text tells met
 
 pub each_tells : (One : Reading → List ℕ → Type 0) → TellsItsMet One → (rs : List Reading) (text : List ℕ) → Each One rs text
     → list_any is_met rs ≡ true → TellsMet text
@@ -88,12 +90,12 @@ shown_tell One its rs old new met p is so = (p.0, each_tells One its rs p.0 p.1 
 
 -- ---- those that are new
 
-pub new_of : {A : Type 0} (f : A → Reading) (xs : List A) (entries : List Entry) (n : ℕ) → map f xs ≡ letters_of entries
-    → n ≡ min (shown_of entries) (length xs) → map f (drop n xs) ≡ new_letters entries
-new_of f xs entries n are is =
+pub later_of : {A : Type 0} (f : A → Reading) (xs : List A) (entries : List Entry) (n told : ℕ) → map f xs ≡ letters_of entries
+    → n ≡ min told (length xs) → map f (drop n xs) ≡ drop told (letters_of entries)
+later_of f xs entries n told are is =
     sym (drop-map f n xs) ∙ ap (λ (l : List Reading). drop n l) are
-    ∙ ap (λ (k : ℕ). drop k (letters_of entries)) (is ∙ ap (λ (k : ℕ). min (shown_of entries) k) (sym (length-map xs f) ∙ ap length are))
-    ∙ drop_min (shown_of entries) (letters_of entries)
+    ∙ ap (λ (k : ℕ). drop k (letters_of entries)) (is ∙ ap (λ (k : ℕ). min told k) (sym (length-map xs f) ∙ ap length are))
+    ∙ drop_min told (letters_of entries)
 
 -- where some weren't shown they are noted now
 pub notes_more : {T E D : Type 0} (r : Result T E) (old new : LedgerState D) (count : ℕ) → count ≡ length (letters_of old.entries)
@@ -129,11 +131,13 @@ some_new entries more gone =
     let count : length (drop (shown_of entries) (letters_of entries)) ≡ 0 = ap length gone in
     omega (arith, length-drop (shown_of entries) (letters_of entries), more, count)
 
-pub none_there : (entries : List Entry) → length (letters_of entries) ≤ 0 → letters_of entries ≡ []
-none_there entries few = no_length (letters_of entries) (omega (arith, few))
+pub none_unwritten : (entries : List Entry) → length (letters_of entries) ≤ written_of entries → unwritten_letters entries ≡ []
+none_unwritten entries few = drop_all (letters_of entries) (written_of entries) few
 
-pub some_there : (entries : List Entry) → 0 < length (letters_of entries) → letters_of entries ≡ [] → ⊥
-some_there entries more gone = let count : length (letters_of entries) ≡ 0 = ap length gone in omega (arith, more, count)
+pub some_unwritten : (entries : List Entry) → written_of entries < length (letters_of entries) → unwritten_letters entries ≡ [] → ⊥
+some_unwritten entries more gone =
+    let count : length (drop (written_of entries) (letters_of entries)) ≡ 0 = ap length gone in
+    omega (arith, length-drop (written_of entries) (letters_of entries), more, count)
 
 -- ---- a loop over a slice, whose rest goes down
 
@@ -182,11 +186,11 @@ pub end_met : {A : Type 0} (f : A → Reading) (whole : Bool) (rest : List A) (m
 end_met f whole [] met none_left so = sym (so ∙ or_false met)
 end_met f whole (x ∷ xs) met none_left so = absurd (omega (arith, none_left))
 
-pub new_range : {A : Type 0} (f : A → Reading) (d items : List A) (entries : List Entry) (n shown count : ℕ) → d ≡ items
-    → map f items ≡ letters_of entries → n ≡ min shown count → shown ≡ shown_of entries → count ≡ length items
-    → map f (take (length d - n) (drop n d)) ≡ new_letters entries
-new_range f d items entries n shown count same are is shown_is count_is =
+pub later_range : {A : Type 0} (f : A → Reading) (d items : List A) (entries : List Entry) (n told shown count : ℕ) → d ≡ items
+    → map f items ≡ letters_of entries → n ≡ min shown count → shown ≡ told → count ≡ length items
+    → map f (take (length d - n) (drop n d)) ≡ drop told (letters_of entries)
+later_range f d items entries n told shown count same are is shown_is count_is =
     let few : length (drop n d) ≤ length d - n = omega (arith, length-drop n d) in
-    let counted : n ≡ min (shown_of entries) (length d) =
-    is ∙ ap (λ (s : ℕ). min s count) shown_is ∙ ap (λ (k : ℕ). min (shown_of entries) k) (count_is ∙ ap length (sym same)) in
-    ap (map f) (take_all (length d - n) (drop n d) few) ∙ new_of f d entries n (ap (map f) same ∙ are) counted
+    let counted : n ≡ min told (length d) =
+    is ∙ ap (λ (s : ℕ). min s count) shown_is ∙ ap (λ (k : ℕ). min told k) (count_is ∙ ap length (sym same)) in
+    ap (map f) (take_all (length d - n) (drop n d) few) ∙ later_of f d entries n told (ap (map f) same ∙ are) counted

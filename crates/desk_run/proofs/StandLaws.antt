@@ -1,14 +1,14 @@
 -- What is told of how a desk stands.
-use Rattle.std.proofs.Common.{◌≡◌, ◌∙◌, ◌-◌, ℕ, Bool, true, false, List, ◌++◌, Option, Some, None, ap, refl, sym, subst, length}
+use Rattle.std.proofs.Common.{◌≡◌, ◌∙◌, ◌-◌, ℕ, Bool, List, ◌++◌, Option, Some, None, ap, refl, sym, subst, length}
 use Rattle.express_words.specs.Streams.{Took}
 use Rattle.desk_entries.specs.declared.entry.Entry.{Entry}
 use Rattle.desk_entries.specs.Letters.{letters_of, shown_of}
 use Rattle.desk_ledger.specs.declared.pair.Pair.{Pair}
 use Rattle.desk_ledger.specs.Ledgers.{LedgerState}
 use Rattle.desk_run.specs.Printing.{Prints}
-use Rattle.desk_run.specs.Standings.{IsDone, TellsDesk, TellsWork, boxes_lines, hundredths, no_desk, outbox_line, pair_line, work_text}
+use Rattle.desk_run.specs.Standings.{IsDone, TellsDesk, TellsWork, boxes_lines, hundredths, no_desk, pair_line, work_text}
 use Rattle.desk_run.specs.Words.{StatusBy}
-use Rattle.desk_run.proofs.PrintLaws.{took_nothing, took_three}
+use Rattle.desk_run.proofs.PrintLaws.{took_three}
 
 pub tells_work : {D : Type 0} (l : LedgerState D) (is_done : Bool) (letters new full : ℕ) (text : List ℕ) → IsDone l is_done
     → letters ≡ length (letters_of l.entries) → new ≡ letters - shown_of l.entries
@@ -45,10 +45,3 @@ status_none found old new is took =
     subst (λ (f : Option (LedgerState _)). Prints (StatusBy f) old new) (sym is) (no_desk, refl, took)
 
 -- ---- a letter that is on its way
-
-pub sending_said : (is_sending : Bool) (old new : Option (List ℕ)) → is_sending ≡ true → Took old new (outbox_line true)
-    → Took old new (outbox_line is_sending)
-sending_said is_sending old new is took = subst (λ (b : Bool). Took old new (outbox_line b)) (sym is) took
-
-pub sending_none : (is_sending : Bool) (old : Option (List ℕ)) → is_sending ≡ false → Took old old (outbox_line is_sending)
-sending_none is_sending old is = subst (λ (b : Bool). Took old old (outbox_line b)) (sym is) (took_nothing old)

@@ -1,9 +1,10 @@
 -- The statuses of words.
-use Rattle.std.proofs.Common.{◌≡◌, ◌≢◌, ◌⊎◌, inl, inr, ℕ, zero, suc, arith, Result, Bool, true, false, if◌then◌else◌, List, [], ◌∷◌, All, Contains, Option, Some, None, Ok, Err, IfErr, lit<, refl, sym, subst}
+use Rattle.std.proofs.Common.{◌≡◌, ◌≢◌, ◌⊎◌, inl, inr, ℕ, zero, suc, arith, Result, Bool, true, false, if◌then◌else◌, List, [], ◌∷◌, All, Contains, Option, Ok, Err, IfErr, lit<, refl, sym, subst}
 use Rattle.std.proofs.lemmas.List.Elements.{All-contains, All-from_recursion}
 use denote.Bor.{Bor}
 use Rattle.desk_tries.specs.declared.sending.LetterEnd as letters
 use Rattle.desk_tries.specs.declared.sending.LetterEnd.TheVariants as letter
+use Rattle.desk_texts.specs.declared.day.Day.{Day}
 use Rattle.desk_words.specs.declared.task.DeskTask.{DeskTask}
 use Rattle.desk_words.specs.declared.task.DeskTask.TheVariants as task
 use Rattle.desk_run.specs.declared.ending.WordEnd.{WordEnd}
@@ -17,28 +18,32 @@ use Rattle.desk_run.specs.Statuses.{IsInUse, MayEnd, statuses_of}
 has_done : (t : DeskTask) → Contains (statuses_of t) 0
 unfolding statuses_of
 has_done (task.Open pair) = (0, lit< tt, refl)
-has_done (task.Box name count) = (0, lit< tt, refl)
+has_done (task.Box name count until) = (0, lit< tt, refl)
 has_done (task.Card name) = (0, lit< tt, refl)
 has_done (task.Letters out) = (0, lit< tt, refl)
 has_done (task.Send card file) = (0, lit< tt, refl)
 has_done task.Resume = (0, lit< tt, refl)
-has_done (task.Retire name) = (0, lit< tt, refl)
+has_done (task.Retire name now) = (0, lit< tt, refl)
 has_done task.Forget = (0, lit< tt, refl)
 has_done task.Status = (0, lit< tt, refl)
 has_done task.Help = (0, lit< tt, refl)
+has_done (task.Discard number) = (0, lit< tt, refl)
+has_done task.Adopt = (0, lit< tt, refl)
 
 has_undone : (t : DeskTask) → Contains (statuses_of t) 1
 unfolding statuses_of
 has_undone (task.Open pair) = (1, lit< tt, refl)
-has_undone (task.Box name count) = (1, lit< tt, refl)
+has_undone (task.Box name count until) = (1, lit< tt, refl)
 has_undone (task.Card name) = (1, lit< tt, refl)
 has_undone (task.Letters out) = (1, lit< tt, refl)
 has_undone (task.Send card file) = (1, lit< tt, refl)
 has_undone task.Resume = (1, lit< tt, refl)
-has_undone (task.Retire name) = (1, lit< tt, refl)
+has_undone (task.Retire name now) = (1, lit< tt, refl)
 has_undone task.Forget = (1, lit< tt, refl)
 has_undone task.Status = (1, lit< tt, refl)
 has_undone task.Help = (1, lit< tt, refl)
+has_undone (task.Discard number) = (1, lit< tt, refl)
+has_undone task.Adopt = (1, lit< tt, refl)
 
 may_zero : (t : DeskTask) → MayEnd t 0
 unfolding MayEnd
@@ -78,9 +83,13 @@ send_three : (card : Bor (List ℕ)) (file : Option (Bor (List ℕ))) → MayEnd
 unfolding statuses_of MayEnd
 send_three card file = (2, lit< tt, refl)
 
-box_two : (name : Bor (List ℕ)) (count : ℕ) → MayEnd (task.Box name count) 2
+box_two : (name : Bor (List ℕ)) (count : ℕ) (until : Option Day) → MayEnd (task.Box name count until) 2
 unfolding statuses_of MayEnd
-box_two name count = (2, lit< tt, refl)
+box_two name count until = (2, lit< tt, refl)
+
+discard_two : (number : Option ℕ) → MayEnd (task.Discard number) 2
+unfolding statuses_of MayEnd
+discard_two number = (2, lit< tt, refl)
 
 one_or : (t : DeskTask) (n other : ℕ) → MayEnd t other → (n ≡ 1) ⊎ (n ≡ other) → MayEnd t n
 one_or t n other may (inl is) = may_undone t n is
@@ -96,10 +105,15 @@ pub send_ends : (card : Bor (List ℕ)) (file : Option (Bor (List ℕ))) (r : Re
 send_ends card file r trouble not_met = by_end (task.Send card file) r
     (λ e is. one_or (task.Send card file) (status_by e) 3 (send_three card file) (err_in IsOfPaper r e trouble is)) not_met
 
-pub box_ends : (name : Bor (List ℕ)) (count : ℕ) (r : Result WordEnd Trouble) → IfErr r IsOfName → r ≢ Ok end.Met
-    → MayEnd (task.Box name count) (status_of r)
-box_ends name count r trouble not_met = by_end (task.Box name count) r
-    (λ e is. one_or (task.Box name count) (status_by e) 2 (box_two name count) (err_in IsOfName r e trouble is)) not_met
+pub box_ends : (name : Bor (List ℕ)) (count : ℕ) (until : Option Day) (r : Result WordEnd Trouble) → IfErr r IsOfName
+    → r ≢ Ok end.Met → MayEnd (task.Box name count until) (status_of r)
+box_ends name count until r trouble not_met = by_end (task.Box name count until) r
+    (λ e is. one_or (task.Box name count until) (status_by e) 2 (box_two name count until) (err_in IsOfName r e trouble is)) not_met
+
+pub discard_ends : (number : Option ℕ) (r : Result WordEnd Trouble) → IfErr r IsOfName → r ≢ Ok end.Met
+    → MayEnd (task.Discard number) (status_of r)
+discard_ends number r trouble not_met = by_end (task.Discard number) r
+    (λ e is. one_or (task.Discard number) (status_by e) 2 (discard_two number) (err_in IsOfName r e trouble is)) not_met
 
 -- ---- words that show letters
 
@@ -113,9 +127,9 @@ letters_five : (out : Option (Bor (List ℕ))) → MayEnd (task.Letters out) 5
 unfolding statuses_of MayEnd
 letters_five out = (2, lit< tt, refl)
 
-retire_five : (name : Bor (List ℕ)) → MayEnd (task.Retire name) 5
+retire_five : (name : Bor (List ℕ)) (now : Bool) → MayEnd (task.Retire name now) 5
 unfolding statuses_of MayEnd
-retire_five name = (2, lit< tt, refl)
+retire_five name now = (2, lit< tt, refl)
 
 forget_five : MayEnd task.Forget 5
 unfolding statuses_of MayEnd
@@ -125,9 +139,9 @@ pub letters_ends : (out : Option (Bor (List ℕ))) (r : Result WordEnd Trouble) 
     → MayEnd (task.Letters out) (status_of r)
 letters_ends out r undone = any_end (task.Letters out) r (letters_five out) undone
 
-pub retire_ends : (name : Bor (List ℕ)) (r : Result WordEnd Trouble) → IfErr r IsUndone
-    → MayEnd (task.Retire name) (status_of r)
-retire_ends name r undone = any_end (task.Retire name) r (retire_five name) undone
+pub retire_ends : (name : Bor (List ℕ)) (now : Bool) (r : Result WordEnd Trouble) → IfErr r IsUndone
+    → MayEnd (task.Retire name now) (status_of r)
+retire_ends name now r undone = any_end (task.Retire name now) r (retire_five name now) undone
 
 pub forget_ends : (r : Result WordEnd Trouble) → IfErr r IsUndone → MayEnd task.Forget (status_of r)
 forget_ends r undone = any_end task.Forget r forget_five undone
@@ -146,15 +160,17 @@ NotFour n = n ≡ 4 → ⊥
 none_four : (t : DeskTask) → All NotFour (statuses_of t)
 unfolding statuses_of
 none_four (task.Open pair) = All-from_recursion NotFour (0 ∷ 1 ∷ 3 ∷ []) ((λ e. cc), ((λ e. cc), ((λ e. cc), tt)))
-none_four (task.Box name count) = All-from_recursion NotFour (0 ∷ 1 ∷ 2 ∷ []) ((λ e. cc), ((λ e. cc), ((λ e. cc), tt)))
+none_four (task.Box name count until) = All-from_recursion NotFour (0 ∷ 1 ∷ 2 ∷ []) ((λ e. cc), ((λ e. cc), ((λ e. cc), tt)))
 none_four (task.Card name) = All-from_recursion NotFour (0 ∷ 1 ∷ []) ((λ e. cc), ((λ e. cc), tt))
 none_four (task.Letters out) = All-from_recursion NotFour (0 ∷ 1 ∷ 5 ∷ []) ((λ e. cc), ((λ e. cc), ((λ e. cc), tt)))
 none_four (task.Send card file) = All-from_recursion NotFour (0 ∷ 1 ∷ 3 ∷ []) ((λ e. cc), ((λ e. cc), ((λ e. cc), tt)))
 none_four task.Resume = All-from_recursion NotFour (0 ∷ 1 ∷ []) ((λ e. cc), ((λ e. cc), tt))
-none_four (task.Retire name) = All-from_recursion NotFour (0 ∷ 1 ∷ 5 ∷ []) ((λ e. cc), ((λ e. cc), ((λ e. cc), tt)))
+none_four (task.Retire name now) = All-from_recursion NotFour (0 ∷ 1 ∷ 5 ∷ []) ((λ e. cc), ((λ e. cc), ((λ e. cc), tt)))
 none_four task.Forget = All-from_recursion NotFour (0 ∷ 1 ∷ 5 ∷ []) ((λ e. cc), ((λ e. cc), ((λ e. cc), tt)))
 none_four task.Status = All-from_recursion NotFour (0 ∷ 1 ∷ []) ((λ e. cc), ((λ e. cc), tt))
 none_four task.Help = All-from_recursion NotFour (0 ∷ 1 ∷ []) ((λ e. cc), ((λ e. cc), tt))
+none_four (task.Discard number) = All-from_recursion NotFour (0 ∷ 1 ∷ 2 ∷ []) ((λ e. cc), ((λ e. cc), ((λ e. cc), tt)))
+none_four task.Adopt = All-from_recursion NotFour (0 ∷ 1 ∷ []) ((λ e. cc), ((λ e. cc), tt))
 
 pub not_four : (t : DeskTask) (n : ℕ) → MayEnd t n → n ≡ 4 → ⊥
 unfolding MayEnd
@@ -206,9 +222,9 @@ word_not_met letter.Written is = cc
 word_not_met letter.NotWritten is = cc
 word_not_met letter.MaybeWritten is = cc
 
-pub resume_not_met : (e : Option letters.LetterEnd) → resume_end e ≡ end.Met → ⊥
-resume_not_met None is = cc
-resume_not_met (Some e) is = word_not_met e is
+pub resume_not_met : (all_written : Bool) → resume_end all_written ≡ end.Met → ⊥
+resume_not_met true is = cc
+resume_not_met false is = cc
 
 -- ---- faults
 

@@ -1,26 +1,32 @@
 -- What a word has done.
-use Rattle.std.proofs.Common.{◌≡◌, ◌≢◌, inl, inr, ℕ, Bool, if◌then◌else◌, false, List, [], ◌∷◌, ◌++◌, Option, Result, Ok, Err, ap, refl, sym, ◌∙◌, subst}
-use Rattle.std.specs.Prelude.{IfOk, OnOk, codes}
+use Rattle.std.proofs.Common.{◌≡◌, ◌≢◌, inl, inr, ℕ, Bool, if◌then◌else◌, List, [], ◌∷◌, ◌++◌, Option, Result, Ok, Err, ap, refl, sym, ◌∙◌, subst}
+use Rattle.std.specs.Prelude.{IfOk, IfSome, OnOk, codes}
 use Rattle.std.specs.List.{list_any}
 use denote.Bor.{Bor}
 use Rattle.express_words.specs.Calls.{Call}
 use Rattle.express_words.specs.Streams.{Took}
-use Rattle.desk_outside.specs.Calls.{Adds, FolderCall, Held}
+use Rattle.desk_outside.specs.Calls.{FolderCall}
 use Rattle.express_words.specs.Seen.{Seen}
 use Rattle.node_journal.specs.Disk.{DiskSeen}
 use Rattle.desk_entries.specs.declared.entry.Entry.{Entry}
 use Rattle.desk_entries.specs.declared.entry.Reading.{Reading}
 use Rattle.desk_ledger.specs.Ledgers.{LedgerState}
+use Rattle.desk_ledger.specs.Tags.{tag_of}
+use Rattle.desk_texts.specs.Days.{IsDay}
+use Rattle.desk_texts.specs.declared.day.Day.{Day}
 use Rattle.desk_words.specs.declared.task.DeskTask.{DeskTask}
 use Rattle.desk_words.specs.declared.task.DeskTask.TheVariants as task
+use Rattle.desk_run.specs.declared.boxes.Wanted.{Wanted}
 use Rattle.desk_run.specs.declared.ending.WordEnd.{WordEnd}
 use Rattle.desk_run.specs.declared.ending.WordEnd.TheVariants as end
 use Rattle.desk_run.specs.declared.trouble.Trouble.{Trouble}
 use Rattle.desk_run.specs.declared.trouble.Trouble.TheVariants as trouble
-use Rattle.desk_run.specs.Carried.{HasNothingLeft, Resumes}
-use Rattle.desk_run.specs.Changes.{NotesShown, Renews, TellsCard, TellsNewAnd, WantsBoxes, WantsRetired, advice, forgotten_line, retired_line}
+use Rattle.desk_run.specs.Carried.{ComesBack, HasNothingLeft, Resumes}
+use Rattle.desk_run.specs.Changes.{NotesShown, NotesTold, Renews, TellsCard, TellsNewAnd, WantsBoxes, WantsRetired, advice, forgotten_line, retired_line}
 use Rattle.desk_run.specs.Ends.{status_by, status_of}
+use Rattle.desk_run.specs.Holds.{Clears, IsTaken}
 use Rattle.desk_run.specs.Printing.{Prints, PrintsSome}
+use Rattle.desk_run.specs.Rooms.{IsNearlyFull}
 use Rattle.desk_run.specs.Scenes.{Scene}
 use Rattle.desk_run.specs.Shown.{Each, IsCardFor, ShowsEach, is_met, new_letters, none}
 use Rattle.desk_run.specs.Told.{TellsEach, TellsLetters, TellsOne, end_of, told_of}
@@ -77,10 +83,12 @@ ok_written outs (Ok e) was now same = ap (λ out. (outs out).written) same
 ok_written outs (Err why) was now same = tt
 
 pub alone : {D : Type 0} (shows : D → DiskSeen) (counts : D → Seen) (t : DeskTask) (r : Result WordEnd Trouble) (old new : Scene D)
-    (held : Option (List (FolderCall D))) → Adds old.files held (Held false)
-    → IfOk r (λ e. Does shows counts t e (record old { files = held }) new) → IfOk r (λ e. DoesAlone shows counts t e old new)
-alone shows counts t (Ok e) old new held takes does = record { held = held; takes = takes; does = does }
-alone shows counts t (Err why) old new held takes does = tt
+    (held : Option (List (FolderCall D))) → IsTaken old.files held t → (cleared : Option (List (FolderCall D)))
+    → Clears held 8 cleared
+    → IfOk r (λ e. Does shows counts t e (record old { files = cleared }) new) → IfOk r (λ e. DoesAlone shows counts t e old new)
+alone shows counts t (Ok e) old new held takes cleared clears does =
+    record { held = held; takes = takes; cleared = cleared; clears = clears; does = does }
+alone shows counts t (Err why) old new held takes cleared clears does = tt
 
 word_does : {D : Type 0} (shows : D → DiskSeen) (counts : D → Seen) (t : DeskTask) (e : WordEnd) (old new : Scene D)
     → (t ≡ task.Help → ⊥) → DoesAlone shows counts t e old new → DoesWord shows counts t e old new
@@ -126,18 +134,19 @@ none_each : (One : Reading → List ℕ → Type 0) (rs : List Reading) (text : 
 none_each One [] text is none = refl
 none_each One (r ∷ rs) text is each = absurd (cc is)
 
-pub tells_none : (out : Option (Bor (List ℕ))) (entries : List Entry) (old mid new : Option (List ℕ)) → told_of out entries ≡ []
-    → Prints (TellsEach out entries) old mid → Took mid new (codes "no new letters\n") → Prints (TellsLetters out entries) old new
-tells_none out entries old mid new nothing p line =
-    let blank = none_each (TellsOne out entries) (told_of out entries) p.0 nothing p.1 in (
+pub tells_none : (out : Option (Bor (List ℕ))) (tag : ℕ) (entries : List Entry) (old mid new : Option (List ℕ))
+    → told_of out entries ≡ []
+    → Prints (TellsEach out tag entries) old mid → Took mid new (codes "no new letters\n") → Prints (TellsLetters out tag entries) old new
+tells_none out tag entries old mid new nothing p line =
+    let blank = none_each (TellsOne out tag entries) (told_of out entries) p.0 nothing p.1 in (
       codes "no new letters\n",
       inl (nothing, refl),
       took_both old mid new [] (codes "no new letters\n") (subst (λ (t : List ℕ). Took old mid t) blank p.2) line,
     )
 
-pub tells_some : (out : Option (Bor (List ℕ))) (entries : List Entry) (old new : Option (List ℕ)) → told_of out entries ≢ []
-    → Prints (TellsEach out entries) old new → Prints (TellsLetters out entries) old new
-tells_some out entries old new some p = (p.0, inr (some, p.1), p.2)
+pub tells_some : (out : Option (Bor (List ℕ))) (tag : ℕ) (entries : List Entry) (old new : Option (List ℕ)) → told_of out entries ≢ []
+    → Prints (TellsEach out tag entries) old new → Prints (TellsLetters out tag entries) old new
+tells_some out tag entries old new some p = (p.0, inr (some, p.1), p.2)
 
 pub end_none : (rs : List Reading) → rs ≡ [] → end.Done ≡ end_of rs
 end_none [] is = refl
@@ -159,54 +168,64 @@ tells_card l name old mid new p next =
 
 -- ---- words of an owner
 
--- what was printed once the desk was resumed is all that was printed
+-- what was printed behind a scene in which nothing was is all that was printed
+behind : (Form : List ℕ → Type 0) (old mid new : Option (List ℕ)) → mid ≡ old → Prints Form mid new → Prints Form old new
+behind Form old mid new silent p = subst (λ (w : Option (List ℕ)). Prints Form w new) silent p
+
+-- the same once the desk was resumed
 behind_resumed : {D : Type 0} (shows : D → DiskSeen) (Form : List ℕ → Type 0) (old mid new : Scene D) (l : LedgerState D)
     → Resumes shows old mid l → Prints Form mid.written new.written → Prints Form old.written new.written
 behind_resumed shows Form old mid new l r p =
-    subst (λ (w : Option (List ℕ)). Prints Form w new.written) r.silent p
+    behind Form old.written mid.written new.written r.silent p
 
 pub fetches : {D : Type 0} (shows : D → DiskSeen) (out : Option (Bor (List ℕ))) (e : WordEnd) (old mid new : Scene D)
-    (resumed now : LedgerState D) (calls : Option (List Call)) → Resumes shows old mid resumed
+    (resumed now noted : LedgerState D) (calls : Option (List Call)) → NotesTold out now noted → Resumes shows old mid resumed
     → ReadsLive resumed now mid.calls calls → new.calls ≡ calls → new.files ≡ mid.files
-    → Prints (TellsLetters out now.entries) mid.written new.written → e ≡ end_of (told_of out now.entries)
+    → Prints (TellsLetters out (tag_of now.client.opening.seed) now.entries) mid.written new.written → e ≡ end_of (told_of out now.entries)
     → FetchesLetters shows out e old new
-fetches shows out e old mid new resumed now calls resumes reads same files told ends = record {
+fetches shows out e old mid new resumed now noted calls notes resumes reads same files told ends = record {
   resumed = resumed;
   mid = mid;
   resumes = resumes;
   now = now;
   reads = subst (λ (x : Option (List Call)). ReadsLive resumed now mid.calls x) (sym same) reads;
   files = files;
-  told = behind_resumed shows (TellsLetters out now.entries) old mid new resumed resumes told;
+  told = behind_resumed shows (TellsLetters out (tag_of now.client.opening.seed) now.entries) old mid new resumed resumes told;
+  noted = noted;
+  notes = notes;
   ends = ends;
 }
 
-pub opens_boxes : {D : Type 0} (shows : D → DiskSeen) (name : List ℕ) (count : ℕ) (old mid new : Scene D)
-    (resumed noted now : LedgerState D) → Resumes shows old mid resumed → WantsBoxes name count resumed noted
+pub opens_boxes : {D : Type 0} (shows : D → DiskSeen) (wanted : Wanted) (day : Day) (old mid new : Scene D)
+    (resumed noted now : LedgerState D) → IfSome wanted.until (λ named. IsDay named → day ≡ named) → Resumes shows old mid resumed → (IsNearlyFull resumed.client.journal.end → ⊥) → WantsBoxes wanted.name.now wanted.count day resumed noted
     → Goes noted mid.calls now new.calls → HasNothingLeft now → new.files ≡ mid.files
-    → Prints (TellsCard now name) mid.written new.written → OpensBoxes shows name count old new
-opens_boxes shows name count old mid new resumed noted now resumes wants goes left files told = record {
+    → Prints (TellsCard now wanted.name.now) mid.written new.written → OpensBoxes shows wanted old new
+opens_boxes shows wanted day old mid new resumed noted now named resumes room wants goes left files told = record {
+  day = day;
+  named = named;
   resumed = resumed;
   mid = mid;
   resumes = resumes;
+  room = room;
   noted = noted;
   wants = wants;
   now = now;
   goes = goes;
   nothing_left = left;
   files = files;
-  told = behind_resumed shows (TellsCard now name) old mid new resumed resumes told;
+  told = behind_resumed shows (TellsCard now wanted.name.now) old mid new resumed resumes told;
 }
 
 pub retires : {D : Type 0} (shows : D → DiskSeen) (name : List ℕ) (e : WordEnd) (old mid new : Scene D)
-    (resumed noted now : LedgerState D) → Resumes shows old mid resumed → WantsRetired name resumed noted
+    (resumed noted now : LedgerState D) → Resumes shows old mid resumed → (IsNearlyFull resumed.client.journal.end → ⊥) → WantsRetired name resumed noted
     → Goes noted mid.calls now new.calls → HasNothingLeft now → new.files ≡ mid.files
     → Prints (TellsNewAnd (retired_line name) now.entries) mid.written new.written → e ≡ end_of (new_letters now.entries)
     → RetiresBoxes shows name e old new
-retires shows name e old mid new resumed noted now resumes wants goes left files told ends = record {
+retires shows name e old mid new resumed noted now resumes room wants goes left files told ends = record {
   resumed = resumed;
   mid = mid;
   resumes = resumes;
+  room = room;
   noted = noted;
   wants = wants;
   now = now;
@@ -218,17 +237,17 @@ retires shows name e old mid new resumed noted now resumes wants goes left files
 }
 
 pub forgets : {D : Type 0} (shows : D → DiskSeen) (e : WordEnd) (old mid new : Scene D) (resumed noted : LedgerState D)
-    → Resumes shows old mid resumed → NotesShown resumed noted → Renews shows noted mid.files new.files → new.calls ≡ mid.calls
+    → ComesBack shows old mid resumed → NotesShown resumed noted → Renews shows noted mid.files new.files → new.calls ≡ mid.calls
     → Prints (TellsNewAnd forgotten_line resumed.entries) mid.written new.written → e ≡ end_of (new_letters resumed.entries)
     → ForgetsLetters shows e old new
-forgets shows e old mid new resumed noted resumes notes renews calls told ends = record {
+forgets shows e old mid new resumed noted comes notes renews calls told ends = record {
   resumed = resumed;
   mid = mid;
-  resumes = resumes;
+  comes = comes;
   noted = noted;
   notes = notes;
   renews = renews;
   calls = calls;
-  told = behind_resumed shows (TellsNewAnd forgotten_line resumed.entries) old mid new resumed resumes told;
+  told = behind (TellsNewAnd forgotten_line resumed.entries) old.written mid.written new.written comes.silent told;
   ends = ends;
 }

@@ -7,7 +7,7 @@ use Rattle.desk_outside.specs.Calls.{Adds, Looked}
 use Rattle.desk_outside.specs.declared.folder.DeskFile.TheVariants.{Ledger}
 use Rattle.desk_run.specs.Opens.{Opens}
 use Rattle.desk_run.specs.Scenes.{Scene}
-use Rattle.desk_run.specs.Works.{Goes}
+use Rattle.desk_run.specs.Works.{Goes, Settles}
 
 -- no box is left to be registered or retired; a client has fewer than 2^32
 abbrev pub HasNothingLeft : {D : Type 0} → LedgerState D → Type 0
@@ -26,6 +26,18 @@ abbrev pub ResumesIf : {D : Type 0} → (D → DiskSeen) → (old new : Scene D)
 ResumesIf shows old new None = Adds old.files new.files (Looked Ledger (Some false)) × (new.calls ≡ old.calls)
     × (new.written ≡ old.written)
 ResumesIf shows old new (Some l) = Resumes shows old new l
+
+-- The folder's ledger is opened, and the request that was under way is settled; nothing is printed.
+pub record ComesBack {D : Type 0} (shows : D → DiskSeen) (old new : Scene D) (l : LedgerState D) : Type 0 where
+  pub start : LedgerState D
+  pub opens : Opens shows old.files new.files start
+  pub settles : Settles None start l old.calls new.calls
+  pub silent : new.written ≡ old.written
+
+-- R, of each scene from which the desk came back as this ledger and at mid
+abbrev pub OnceBack : {D : Type 0} → (D → DiskSeen) → LedgerState D → (mid : Scene D)
+    → (Scene D → Type 0) → Type 0
+OnceBack shows l mid R = (old : Scene _) → ComesBack shows old mid l → R old
 
 -- R, of each scene from which the desk was resumed to this ledger and to mid
 abbrev pub OnceResumed : {D : Type 0} → (D → DiskSeen) → LedgerState D → (mid : Scene D)

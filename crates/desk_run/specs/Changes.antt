@@ -1,29 +1,32 @@
 -- How the words of an owner change the ledger.
 use Rattle.std.specs.Prelude.{◌≡◌, ◌⊎◌, ◌≤◌, ℕ, List, [], ◌++◌, Option, Some, None, length, is_some}
-use Rattle.std.specs.Prelude.{true, false, codes}
+use Rattle.std.specs.Prelude.{max, true, false, codes}
 use Rattle.std.specs.List.{filter}
+use denote.Bor.{Bor}
 use Rattle.node_journal.specs.Disk.{DiskSeen}
 use Rattle.desk_entries.specs.declared.entry.Entry.{Entry}
 use Rattle.desk_entries.specs.declared.entry.Entry.TheVariants as entry
 use Rattle.desk_entries.specs.Desks.{is_retiring, named}
 use Rattle.desk_entries.specs.Forgetting.{kept}
-use Rattle.desk_entries.specs.Letters.{letters_of, shown_of}
+use Rattle.desk_entries.specs.Letters.{letters_of, shown_of, unseen_of, written_of}
 use Rattle.desk_ledger.specs.Forgetting.{next_opening}
 use Rattle.desk_ledger.specs.Ledgers.{AddsEntry, EntriesOnly, LedgerState}
 use Rattle.desk_ledger.specs.Tasks.{fault_at, is_live}
 use Rattle.desk_outside.specs.Calls.{Adds, FolderCall, Opened, Placed, Removed}
 use Rattle.desk_outside.specs.declared.folder.DeskFile.{DeskFile}
 use Rattle.desk_outside.specs.declared.folder.DeskFile.TheVariants.{Ledger, NextLedger}
+use Rattle.desk_texts.specs.declared.day.Day.{Day}
 use Rattle.desk_run.specs.Shown.{IsCardFor, ShowsEach, new_letters}
 
 -- ---- names
 
--- Nothing speaks against the name, and so many addresses have it now, and wait for their boxes.
-pub record Names {D : Type 0} (name : List ℕ) (count : ℕ) (old new : LedgerState D) : Type 0 where
+-- Nothing speaks against the name, and so many addresses have it now, and wait for their boxes; its card has this last
+-- day.
+pub record Names {D : Type 0} (name : List ℕ) (count : ℕ) (day : Day) (old new : LedgerState D) : Type 0 where
   pub addresses : List ℕ
   pub many : length addresses ≡ count
   pub free : fault_at old name addresses ≡ None
-  pub noted : AddsEntry (entry.Named (record { name = name; addresses = addresses })) old new
+  pub noted : AddsEntry (entry.Named (record { name = name; addresses = addresses; until = Some day })) old new
   pub only : EntriesOnly old new
 
 -- The name is used already, and nothing changes.
@@ -31,8 +34,8 @@ pub record IsUsed {D : Type 0} (name : List ℕ) (old new : LedgerState D) : Typ
   pub used : is_some (named old.entries name) ≡ true
   pub same : new ≡ old
 
-abbrev pub WantsBoxes : {D : Type 0} → List ℕ → ℕ → (old new : LedgerState D) → Type 0
-WantsBoxes name count old new = IsUsed name old new ⊎ Names name count old new
+abbrev pub WantsBoxes : {D : Type 0} → List ℕ → ℕ → Day → (old new : LedgerState D) → Type 0
+WantsBoxes name count day old new = IsUsed name old new ⊎ Names name count day old new
 
 -- The boxes of the name are to be retired now, where they weren't before.
 pub record WantsRetired {D : Type 0} (name : List ℕ) (old new : LedgerState D) : Type 0 where
@@ -48,6 +51,18 @@ pub record NotesShown {D : Type 0} (old new : LedgerState D) : Type 0 where
   pub noted : (new.entries ≡ old.entries)
       ⊎ AddsEntry (entry.Shown (length (letters_of old.entries))) old new
   pub only : EntriesOnly old new
+
+-- So many letters are noted as written and as shown, where not so many were yet, and no more; nothing else changes.
+pub record NotesWritten {D : Type 0} (count : ℕ) (old new : LedgerState D) : Type 0 where
+  pub written : written_of new.entries ≡ max count (written_of old.entries)
+  pub shown : shown_of new.entries ≡ max count (shown_of old.entries)
+  pub letters : letters_of new.entries ≡ letters_of old.entries
+  pub only : EntriesOnly old new
+
+-- All letters are noted as shown, with a folder as written and shown.
+abbrev pub NotesTold : {D : Type 0} → Option (Bor (List ℕ)) → (old new : LedgerState D) → Type 0
+NotesTold None old new = NotesShown old new
+NotesTold (Some folder) old new = NotesWritten (length (letters_of old.entries)) old new
 
 -- ---- a ledger in the place of another
 
@@ -74,6 +89,7 @@ pub record Renews {D : Type 0} (shows : D → DiskSeen) (ledger : LedgerState D)
   pub mid : Option (List (FolderCall D))
   pub made : MakesFile NextLedger disk old mid
   pub empty : (c : List ℕ) → (shows disk).reads c → c ≡ []
+  pub seen : unseen_of ledger.entries ≡ 0
   pub next : LedgerState D
   pub follows : FollowsLedger ledger next
   pub placed : Adds mid new (Placed NextLedger Ledger false)

@@ -9,10 +9,16 @@ use Rattle.desk_run.specs.declared.trouble.Trouble.TheVariants as trouble
 -- the status of a word that ends by a trouble
 abbrev pub status_by : Trouble → ℕ
 status_by (trouble.Name fault) = 2
+status_by trouble.NoLetters = 2
+status_by (trouble.NoLetterAt number) = 2
+status_by trouble.WhichLetter = 2
 status_by (trouble.BadLine path line) = 3
 status_by (trouble.NoPairFile path) = 3
+status_by (trouble.OtherWidth path) = 3
+status_by (trouble.FewLanes path server lanes) = 3
 status_by (trouble.NoCard path) = 3
 status_by (trouble.NoLetter fault) = 3
+status_by (trouble.Old day) = 3
 status_by trouble.InUse = 4
 status_by _ = 1
 
@@ -38,7 +44,7 @@ pub record IsCause (t : Trouble) : Type 0 where
 abbrev pub IsOfPaper : Trouble → Type 0
 IsOfPaper t = (status_by t ≡ 1) ⊎ (status_by t ≡ 3)
 
--- the word isn't done, or the name isn't taken
+-- the word isn't done, or the name isn't taken, or no letter is of the number
 abbrev pub IsOfName : Trouble → Type 0
 IsOfName t = (status_by t ≡ 1) ⊎ (status_by t ≡ 2)
 

@@ -1,5 +1,5 @@
 -- What is printed of what boxes held.
-use Rattle.std.specs.Prelude.{◌≡◌, ℕ, Bool, true, false, List, [], ◌∷◌, ◌++◌, drop, length, map, codes}
+use Rattle.std.specs.Prelude.{Option, ◌≡◌, ℕ, Bool, true, false, List, [], ◌∷◌, ◌++◌, drop, length, map, codes}
 use Rattle.std.specs.Fmt.{decimal}
 use Rattle.std.specs.Str.{IsUtf8}
 use denote.Bor.{Bor}
@@ -7,7 +7,8 @@ use Rattle.desk_entries.specs.declared.entry.Entry.{Entry}
 use Rattle.desk_entries.specs.declared.entry.Held.{Held}
 use Rattle.desk_entries.specs.declared.entry.Held.TheVariants as held
 use Rattle.desk_entries.specs.declared.entry.Reading.{Reading}
-use Rattle.desk_entries.specs.Desks.{name_of}
+use Rattle.desk_entries.specs.Desks.{last_day, name_of}
+use Rattle.desk_texts.specs.declared.day.Day.{Day}
 use Rattle.desk_entries.specs.Letters.{letters_of, shown_of}
 use Rattle.desk_ledger.specs.declared.pair.Pair.{Pair}
 use Rattle.desk_ledger.specs.Cards.{IsCardOf, card_addresses}
@@ -85,12 +86,12 @@ new_letters entries = drop (shown_of entries) (letters_of entries)
 
 -- ---- a card
 
--- the text of the card of a name
-pub record IsCardText (pair : Pair) (addresses text : List ℕ) : Type 0 where
+-- the text of the card of a name, with its last day
+pub record IsCardText (pair : Pair) (addresses : List ℕ) (until : Option Day) (text : List ℕ) : Type 0 where
   pub card : Sheet
-  pub is_of : IsCardOf pair addresses card
+  pub is_of : IsCardOf pair addresses until card
   pub is : text ≡ printed card
 
 -- that of a ledger's name, with its live boxes
 abbrev pub IsCardFor : {D : Type 0} → LedgerState D → (name text : List ℕ) → Type 0
-IsCardFor l name = IsCardText l.pair (card_addresses l.entries name)
+IsCardFor l name = IsCardText l.pair (card_addresses l.entries name) (last_day l.entries name)

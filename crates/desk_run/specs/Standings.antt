@@ -1,6 +1,6 @@
 -- What is told of how a desk stands.
 use Rattle.std.specs.Prelude.{◌≡◌, ◌≤◌, ◌^◌, ℕ, ◌*◌, ◌/◌, ◌-◌, ◌&&◌, min, Bool, true, false, List, [], ◌++◌}
-use Rattle.std.specs.Prelude.{Option, Some, length, is_none, codes}
+use Rattle.std.specs.Prelude.{length, is_none, codes}
 use Rattle.std.specs.Fmt.{decimal}
 use Rattle.std.specs.List.{filter, flat_map}
 use Rattle.desk_entries.specs.declared.entry.Entry.{Entry}
@@ -13,9 +13,7 @@ use Rattle.desk_entries.specs.Standings.{stands}
 use Rattle.desk_ledger.specs.declared.pair.Pair.{Pair}
 use Rattle.desk_ledger.specs.Ledgers.{LedgerState}
 use Rattle.desk_ledger.specs.Tasks.{next_task}
-use Rattle.express_words.specs.Streams.{Took}
-use Rattle.desk_outside.specs.Calls.{Adds, FolderCall, Looked}
-use Rattle.desk_outside.specs.declared.folder.DeskFile.TheVariants.{Outbox}
+use Rattle.desk_run.specs.Closing.{closed_line}
 
 unfoldable pub pair_line : Pair → List ℕ
 pair_line p = codes "servers: " ++ p.leader ++ codes " and " ++ p.helper ++ codes "\n"
@@ -29,10 +27,11 @@ boxes_line name live waiting retired =
     codes "box " ++ name ++ codes ": " ++ decimal live ++ codes " in use, " ++ decimal waiting
     ++ codes " to be made yet, " ++ decimal retired ++ codes " retired\n"
 
--- of an entry that gives boxes a name, how many there are
+-- of an entry that gives boxes a name, how many there are; of one that closes them, since when
 abbrev pub line_of : List Entry → Entry → List ℕ
 line_of entries (entry.Named n) =
     boxes_line n.name (count_of entries n Live) (count_of entries n Waiting) (count_of entries n Retired)
+line_of entries (entry.Closed c) = closed_line c.name c.day
 line_of entries other = []
 
 abbrev pub boxes_lines : List Entry → List ℕ
@@ -79,15 +78,3 @@ pub record TellsDesk {D : Type 0} (l : LedgerState D) (text : List ℕ) : Type 0
 
 abbrev pub no_desk : List ℕ
 no_desk = codes "there is no desk here\n"
-
--- whether a letter is on its way
-abbrev pub outbox_line : Bool → List ℕ
-outbox_line true = codes "a letter of yours is on its way: run resume\n"
-outbox_line false = []
-
--- The folder is asked whether one is, and that is told.
-pub record SaysOutbox {D : Type 0} (old_files new_files : Option (List (FolderCall D)))
-    (old new : Option (List ℕ)) : Type 0 where
-  pub is_sending : Bool
-  pub looked : Adds old_files new_files (Looked Outbox (Some is_sending))
-  pub said : Took old new (outbox_line is_sending)

@@ -7,6 +7,7 @@ ghost use Rattle.desk_run.specs.Printing.{Prints};
 ghost use Rattle.desk_run.specs.Shown.{IsCardFor};
 ghost use Rattle.desk_run.specs.Ends.{IsUndone, Unfailed};
 ghost use Rattle.desk_run.specs.Words.{ShowsCard};
+ghost use Rattle.desk_run.specs.FolderSteps.{FolderStepsOn};
 
 use crate::ending::WordEnd;
 use crate::ledgers::desk_in;
@@ -65,6 +66,7 @@ pub(crate) fn card<'a, F: Folder, K: Sink>(
     ensures undone { IfErr result IsUndone }
     ensures not_met { result ≢ Ok WordEnd.Met }
     ensures sink { Unfailed (K.seen out.old).faults (K.seen out.new).faults result }
+    ensures steps { FolderStepsOn F.File.disk F.File.Counted.seen (F.calls folder.old) (F.calls folder.new) }
 {
     let ledger = desk_in(alloc, folder)?;
     let shown = show_card(alloc, &ledger, name, out);

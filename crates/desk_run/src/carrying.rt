@@ -1,9 +1,9 @@
 //! What is left to be done, carried on.
-ghost use Rattle.std.specs.Prelude.{◌≡◌, Err, IfErr, OnOk};
+ghost use Rattle.std.specs.Prelude.{◌≡◌, ℕ, Err, IfErr, IfOk, OnOk};
 ghost use Rattle.desk_run.specs.Carried.{HasNothingLeft};
 ghost use Rattle.desk_run.specs.Ends.{IsCause, IsUndone, Unfailed};
 ghost use Rattle.desk_run.specs.Sends.{SendsOn};
-ghost use Rattle.desk_run.specs.Works.{DoesTask, Goes, OnSettled, Settles, StoresAll};
+ghost use Rattle.desk_run.specs.Works.{DoesTask, Goes, OnSettled, Settles, StoresAll, is_noted, refused_by};
 
 use crate::ledgers::is_full;
 use crate::trouble::{Trouble, halted};
@@ -18,7 +18,9 @@ use node_journal::Disk;
 const MOST_TASKS: u32 = 16_384;
 
 // Of a box that gets no place, and of one that is gone, the ledger tells.
-fn is_noted(stored: &Stored) -> bool {
+fn is_noted(stored: &Stored) -> bool
+    ensures { result ≡ is_noted stored.now }
+{
     match (stored.errand, stored.refusal) {
         (_, None) => true,
         (Errand::Register(_), Some(Refusal::Taken(_))) => true,
@@ -29,7 +31,9 @@ fn is_noted(stored: &Stored) -> bool {
 }
 
 // The last refusal that leaves no entry.
-fn last_refused(before: Option<Refusal>, stored: &Stored) -> Option<Refusal> {
+fn last_refused(before: Option<Refusal>, stored: &Stored) -> Option<Refusal>
+    ensures { result ≡ refused_by before stored.now }
+{
     if is_noted(stored) {
         before
     } else {
@@ -37,12 +41,12 @@ fn last_refused(before: Option<Refusal>, stored: &Stored) -> Option<Refusal> {
     }
 }
 
-// Stores what the ended requests came to; the last refusal that leaves no entry is given.
-fn store_all<'a, D: Disk>(
+/// Stores what the ended requests came to; the last refusal that leaves no entry is given.
+pub(crate) fn store_all<'a, D: Disk>(
     ledger: &mut Ledger<D>,
     seconds: u64,
 ) -> Result<Option<Refusal>, Trouble<'a>>
-    ensures stores { OnOk result (StoresAll ledger.old ledger.new) }
+    ensures stores { IfOk result (StoresAll ledger.old ledger.new) }
     ensures cause { IfErr result IsCause }
 {
     let mut refused = None;
@@ -67,9 +71,11 @@ pub(crate) fn settle<'a, D: Disk, N: Net, C: Clock>(
     ensures sends { SendsOn D.disk D.Counted.seen (N.seen net.old).calls (N.seen net.new).calls }
     ensures refused { (r : Refusal) → result ≡ Err (Trouble.Refused r)
         → (N.seen net.new).faults ≡ (N.seen net.old).faults }
+    ensures behind { (n : ℕ) → result ≡ Err (Trouble.Behind n)
+        → (N.seen net.new).faults ≡ (N.seen net.old).faults }
     // Also where a server refused the request.
-    ensures settles { OnSettled result
-        (Settles ledger.old ledger.new (N.seen net.old).calls (N.seen net.new).calls) }
+    ensures settles { OnSettled result (λ refused.
+        Settles refused ledger.old ledger.new (N.seen net.old).calls (N.seen net.new).calls) }
 {
     if let Err(halt) = ledger.work(net) {
         return Err(halted(halt, ledger.server()));
@@ -95,8 +101,10 @@ pub(crate) fn do_task<'a, D: Disk, N: Net, C: Clock>(
     ensures sends { SendsOn D.disk D.Counted.seen (N.seen net.old).calls (N.seen net.new).calls }
     ensures refused { (r : Refusal) → result ≡ Err (Trouble.Refused r)
         → (N.seen net.new).faults ≡ (N.seen net.old).faults }
-    ensures does { OnSettled result
-        (DoesTask task ledger.old ledger.new (N.seen net.old).calls (N.seen net.new).calls) }
+    ensures behind { (n : ℕ) → result ≡ Err (Trouble.Behind n)
+        → (N.seen net.new).faults ≡ (N.seen net.old).faults }
+    ensures does { OnSettled result (λ refused.
+        DoesTask task refused ledger.old ledger.new (N.seen net.old).calls (N.seen net.new).calls) }
 {
     if is_full(ledger.used()) {
         return Err(Trouble::Full);

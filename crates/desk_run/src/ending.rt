@@ -26,10 +26,16 @@ fn status_by(trouble: &Trouble<'_>) -> u8
 {
     match *trouble {
         Trouble::Name(_) => 2,
+        Trouble::NoLetters => 2,
+        Trouble::NoLetterAt(_) => 2,
+        Trouble::WhichLetter => 2,
         Trouble::BadLine(_, _) => 3,
         Trouble::NoPairFile(_) => 3,
+        Trouble::OtherWidth(_) => 3,
+        Trouble::FewLanes(_, _, _) => 3,
         Trouble::NoCard(_) => 3,
         Trouble::NoLetter(_) => 3,
+        Trouble::Old(_) => 3,
         Trouble::InUse => 4,
         _ => 1,
     }

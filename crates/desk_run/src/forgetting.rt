@@ -1,18 +1,19 @@
 //! The word `forget`.
 ghost use Rattle.std.specs.Prelude.{◌≡◌, IfErr, IfOk, Ok, OnOk, is_err};
 ghost use Rattle.desk_outside.specs.Calls.{Adds, Placed};
-ghost use Rattle.desk_run.specs.Carried.{OnceResumed};
+ghost use Rattle.desk_run.specs.Carried.{OnceBack};
 ghost use Rattle.desk_run.specs.Changes.{FollowsLedger, Renews};
 ghost use Rattle.desk_run.specs.Ends.{IsUndone, Unfailed};
 ghost use Rattle.desk_run.specs.Scenes.{Between, scene};
 ghost use Rattle.desk_run.specs.Words.{ForgetsLetters};
 ghost use Rattle.desk_run.specs.Sends.{SendsOn};
 ghost use Rattle.desk_run.specs.Printing.{Prints, TellsMet};
+ghost use Rattle.desk_run.specs.FolderSteps.{FolderStepsOn};
 
 use crate::around::Around;
 use crate::ending::{WordEnd, end_by};
-use crate::ledgers::{LIMIT, empty_file};
-use crate::resuming::desk_resumed;
+use crate::ledgers::{LIMIT, empty_file, put_ledger};
+use crate::resuming::desk_settled;
 use crate::saying::say;
 use crate::showing::show_new;
 use crate::trouble::Trouble;
@@ -21,13 +22,15 @@ use desk_outside::{Clock, DeskFile, Folder, Papers};
 use express_words::outside::{Net, Sink, Source};
 use std::alloc::Global;
 
-fn trouble_of<'a>(fault: ForgetFault) -> Trouble<'a>
+/// What is told where no ledger is made of another one.
+pub(crate) fn trouble_of<'a>(fault: ForgetFault) -> Trouble<'a>
     ensures { IsUndone result }
 {
     match fault {
         ForgetFault::Busy => Trouble::Later,
         ForgetFault::Spent => Trouble::Spent,
         ForgetFault::NoRoom => Trouble::Full,
+        ForgetFault::Unseen => Trouble::Unseen,
         ForgetFault::Keep(fault) => Trouble::from(fault),
     }
 }
@@ -42,11 +45,9 @@ fn replace<'a, F: Folder>(
     ensures undone { IfErr result IsUndone }
     ensures placed { Adds (F.calls folder.old) (F.calls folder.new)
         (Placed DeskFile.NextLedger DeskFile.Ledger (is_err result)) }
+    ensures steps { FolderStepsOn F.File.disk F.File.Counted.seen (F.calls folder.old) (F.calls folder.new) }
 {
-    match folder.put_in_place(DeskFile::NextLedger, DeskFile::Ledger) {
-        Ok(()) => Ok(()),
-        Err(_) => Err(Trouble::Folder),
-    }
+    put_ledger(next, folder)
 }
 
 // Puts a ledger without letters in the place of this one.
@@ -54,6 +55,7 @@ fn replace<'a, F: Folder>(
 fn renew<'a, F: Folder>(ledger: &Ledger<F::File>, folder: &mut F) -> Result<(), Trouble<'a>>
     ensures renews { OnOk result (Renews F.File.disk ledger.now (F.calls folder.old) (F.calls folder.new)) }
     ensures undone { IfErr result IsUndone }
+    ensures steps { FolderStepsOn F.File.disk F.File.Counted.seen (F.calls folder.old) (F.calls folder.new) }
 {
     let disk = empty_file(folder, DeskFile::NextLedger)?;
     match ledger.forget(disk, LIMIT) {
@@ -66,13 +68,13 @@ fn renew<'a, F: Folder>(ledger: &Ledger<F::File>, folder: &mut F) -> Result<(), 
     }
 }
 
-// Shows what is new at a desk that was resumed, and forgets its letters.
+// Shows what is new at a desk that is settled, and forgets its letters.
 fn show_and_renew<'a, S: Source, K: Sink, N: Net, F: Folder, P: Papers, C: Clock>(
     alloc: Global,
     ledger: &mut Ledger<F::File>,
     around: &mut Around<S, K, N, F, P, C>,
 ) -> Result<WordEnd, Trouble<'a>>
-    ensures done { IfOk result (λ end. OnceResumed F.File.disk ledger.old
+    ensures done { IfOk result (λ end. OnceBack F.File.disk ledger.old
         (scene K.seen N.seen F.calls around.old) (λ old. ForgetsLetters F.File.disk end old
         (scene K.seen N.seen F.calls around.new))) }
     ensures undone { IfErr result IsUndone }
@@ -80,6 +82,8 @@ fn show_and_renew<'a, S: Source, K: Sink, N: Net, F: Folder, P: Papers, C: Clock
         → Prints TellsMet (K.seen around.old.out).written (K.seen around.new.out).written }
     ensures sink { Unfailed (K.seen around.old.out).faults (K.seen around.new.out).faults result }
     ensures net { around.new.net ≡ around.old.net }
+    ensures steps { FolderStepsOn F.File.disk F.File.Counted.seen
+        (F.calls around.old.folder) (F.calls around.new.folder) }
 {
     let shown = show_new(alloc, ledger, &mut around.out)?;
     renew(ledger, &mut around.folder)?;
@@ -90,7 +94,8 @@ fn show_and_renew<'a, S: Source, K: Sink, N: Net, F: Folder, P: Papers, C: Clock
     Ok(end_by(shown.met))
 }
 
-/// The word `forget`: forgets letters and old requests, once each letter was shown.
+/// The word `forget`: forgets letters and old requests, once each letter was shown. What is left to be done at the desk
+/// isn't begun, so that a full desk can be emptied too; it waits.
 pub(crate) fn forget<'a, S: Source, K: Sink, N: Net, F: Folder, P: Papers, C: Clock>(
     alloc: Global,
     around: &mut Around<S, K, N, F, P, C>,
@@ -104,8 +109,10 @@ pub(crate) fn forget<'a, S: Source, K: Sink, N: Net, F: Folder, P: Papers, C: Cl
     ensures net { Unfailed (N.seen around.old.net).faults (N.seen around.new.net).faults result }
     ensures sends { SendsOn F.File.disk F.File.Counted.seen
         (N.seen around.old.net).calls (N.seen around.new.net).calls }
+    ensures steps { FolderStepsOn F.File.disk F.File.Counted.seen
+        (F.calls around.old.folder) (F.calls around.new.folder) }
 {
-    let mut ledger = desk_resumed(alloc, around)?;
+    let mut ledger = desk_settled(alloc, around)?;
     let end = show_and_renew(alloc, &mut ledger, around);
     drop(ledger);
     end

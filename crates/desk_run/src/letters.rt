@@ -1,7 +1,9 @@
 //! The word `letters`.
-ghost use Rattle.std.specs.Prelude.{◌≡◌, ◌≢◌, [], IfErr, IfOk, Ok, OnOk, false, true};
+ghost use Rattle.std.specs.Prelude.{◌≡◌, ◌≢◌, [], IfErr, IfOk, IfSome, None, Ok, OnOk, Some, false, true};
 ghost use Rattle.std.specs.List.{list_any};
+ghost use Rattle.desk_ledger.specs.Tags.{tag_of};
 ghost use Rattle.desk_run.specs.Carried.{OnceResumed};
+ghost use Rattle.desk_run.specs.Changes.{NotesTold};
 ghost use Rattle.desk_run.specs.Ends.{IsUndone, Unfailed};
 ghost use Rattle.desk_run.specs.Sends.{SendsOn};
 ghost use Rattle.desk_run.specs.Printing.{Prints, TellsMet};
@@ -10,6 +12,7 @@ ghost use Rattle.desk_run.specs.Shown.{is_met};
 ghost use Rattle.desk_run.specs.Told.{TellsEach, told_of};
 ghost use Rattle.desk_run.specs.Words.{FetchesLetters};
 ghost use Rattle.desk_run.specs.Works.{DoesTask, ReadsLive};
+ghost use Rattle.desk_run.specs.FolderSteps.{FolderStepsOn};
 
 use crate::around::Around;
 use crate::carrying::do_task;
@@ -33,8 +36,8 @@ fn read_one<'a, D: Disk, N: Net, C: Clock>(
     net: &mut N,
     clock: &mut C,
 ) -> Result<Option<Refusal>, Trouble<'a>>
-    ensures reads { OnOk result
-        (DoesTask (Task.Read own) ledger.old ledger.new (N.seen net.old).calls (N.seen net.new).calls) }
+    ensures reads { IfOk result (λ refused.
+        DoesTask (Task.Read own) refused ledger.old ledger.new (N.seen net.old).calls (N.seen net.new).calls) }
     ensures undone { IfErr result IsUndone }
     ensures net { Unfailed (N.seen net.old).faults (N.seen net.new).faults result }
     ensures sends { SendsOn D.disk D.Counted.seen (N.seen net.old).calls (N.seen net.new).calls }
@@ -43,6 +46,17 @@ fn read_one<'a, D: Disk, N: Net, C: Clock>(
         Ok(()) => Ok(None),
         Err(Trouble::Refused(refusal)) => Ok(Some(refusal)),
         Err(trouble) => Err(trouble),
+    }
+}
+
+// The last refusal of two.
+fn last_of(answer: Option<Refusal>, before: Option<Refusal>) -> Option<Refusal>
+    ensures none { result ≡ None → (answer ≡ None) × (before ≡ None) }
+    ensures some { IfSome answer (λ refusal. result ≡ Some refusal) }
+{
+    match answer {
+        Some(_) => answer,
+        None => before,
     }
 }
 
@@ -62,7 +76,7 @@ fn fetch<'a, D: Disk, N: Net, C: Clock>(
     let mut refused = None;
     'boxes: for own in live.iter() {
         let answer = read_one(ledger, *own, net, clock)?;
-        refused = answer.or(refused);
+        refused = last_of(answer, refused);
     }
     match refused {
         Some(refusal) => Err(Trouble::Refused(refusal)),
@@ -77,7 +91,7 @@ fn show<'a, S: Source, K: Sink, N: Net, F: Folder, P: Papers, C: Clock>(
     ledger: &mut Ledger<F::File>,
     around: &mut Around<S, K, N, F, P, C>,
 ) -> Result<ShownLetters, Trouble<'a>>
-    ensures told { OnOk result (Prints (TellsEach folder.entry ledger.old.entries)
+    ensures told { OnOk result (Prints (TellsEach folder.entry (tag_of ledger.old.client.opening.seed) ledger.old.entries)
         (K.seen around.old.out).written (K.seen around.new.out).written) }
     ensures none { IfOk result (λ shown. shown.any ≡ false → told_of folder.entry ledger.old.entries ≡ []) }
     ensures some { IfOk result (λ shown. shown.any ≡ true → told_of folder.entry ledger.old.entries ≢ []) }
@@ -85,10 +99,13 @@ fn show<'a, S: Source, K: Sink, N: Net, F: Folder, P: Papers, C: Clock>(
         shown.met ≡ list_any is_met (told_of folder.entry ledger.old.entries)) }
     ensures tells { IfOk result (λ shown. shown.met ≡ true
         → Prints TellsMet (K.seen around.old.out).written (K.seen around.new.out).written) }
+    ensures notes { OnOk result (NotesTold folder.entry ledger.old ledger.new) }
     ensures undone { IfErr result IsUndone }
     ensures sink { Unfailed (K.seen around.old.out).faults (K.seen around.new.out).faults result }
     ensures net { around.new.net ≡ around.old.net }
     ensures folder { around.new.folder ≡ around.old.folder }
+    ensures steps { FolderStepsOn F.File.disk F.File.Counted.seen
+        (F.calls around.old.folder) (F.calls around.new.folder) }
 {
     match folder {
         None => show_new(alloc, ledger, &mut around.out),
@@ -113,6 +130,8 @@ fn fetch_and_show<'a, S: Source, K: Sink, N: Net, F: Folder, P: Papers, C: Clock
     ensures net { Unfailed (N.seen around.old.net).faults (N.seen around.new.net).faults result }
     ensures sends { SendsOn F.File.disk F.File.Counted.seen
         (N.seen around.old.net).calls (N.seen around.new.net).calls }
+    ensures steps { FolderStepsOn F.File.disk F.File.Counted.seen
+        (F.calls around.old.folder) (F.calls around.new.folder) }
 {
     let fetched = fetch(ledger, &mut around.net, &mut around.clock);
     let shown = show(alloc, folder, ledger, around)?;
@@ -139,6 +158,8 @@ pub(crate) fn letters<'a, S: Source, K: Sink, N: Net, F: Folder, P: Papers, C: C
     ensures net { Unfailed (N.seen around.old.net).faults (N.seen around.new.net).faults result }
     ensures sends { SendsOn F.File.disk F.File.Counted.seen
         (N.seen around.old.net).calls (N.seen around.new.net).calls }
+    ensures steps { FolderStepsOn F.File.disk F.File.Counted.seen
+        (F.calls around.old.folder) (F.calls around.new.folder) }
 {
     let mut ledger = desk_resumed(alloc, around)?;
     let end = fetch_and_show(alloc, folder, &mut ledger, around);

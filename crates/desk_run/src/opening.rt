@@ -1,11 +1,15 @@
 //! The word `open`.
-ghost use Rattle.std.specs.Prelude.{◌≡◌, ◌≢◌, IfErr, IfOk, Ok};
+ghost use Rattle.std.specs.Prelude.{◌≡◌, ◌≢◌, IfErr, IfOk, Ok, OnOk};
 ghost use Rattle.desk_texts.specs.Spelling.{IsSheet};
 ghost use Rattle.desk_run.specs.Ends.{IsOfPaper, IsUndone, Unfailed};
+ghost use Rattle.desk_run.specs.Fits.{ChecksPair};
+ghost use Rattle.desk_run.specs.Sends.{SendsOn};
+ghost use Rattle.desk_run.specs.FolderSteps.{FolderStepsOn};
 
 use crate::around::Around;
 use crate::ending::WordEnd;
-use crate::ledgers::{LIMIT, empty_file, ledger_in, trouble_of};
+use crate::fitting::check_pair;
+use crate::ledgers::{LIMIT, empty_file, ledger_in, put_ledger, trouble_of};
 use crate::reading::{Unread, read_all};
 use crate::saying::say;
 use crate::trouble::Trouble;
@@ -65,17 +69,18 @@ fn make<'a, F: Folder>(
     draws: &mut Draws,
     folder: &mut F,
 ) -> Result<(), Trouble<'a>>
-    ensures { IfErr result IsOfPaper }
+    ensures trouble { IfErr result IsOfPaper }
+    ensures steps { FolderStepsOn F.File.disk F.File.Counted.seen (F.calls folder.old) (F.calls folder.new) }
 {
     let disk = empty_file(folder, DeskFile::NextLedger)?;
     match Ledger::open(alloc, text, draws.seed(), disk, LIMIT) {
-        Ok(ledger) => drop(ledger),
-        Err((OpenFault::NoPairFile, _)) => return Err(Trouble::NoPairFile(path)),
-        Err((fault, _)) => return Err(trouble_of(fault)),
-    }
-    match folder.put_in_place(DeskFile::NextLedger, DeskFile::Ledger) {
-        Ok(()) => Ok(()),
-        Err(_) => Err(Trouble::Folder),
+        Ok(ledger) => {
+            let placed = put_ledger(&ledger, folder);
+            drop(ledger);
+            placed
+        }
+        Err((OpenFault::NoPairFile, _)) => Err(Trouble::NoPairFile(path)),
+        Err((fault, _)) => Err(trouble_of(fault)),
     }
 }
 
@@ -88,7 +93,8 @@ fn make_or_keep<'a, F: Folder>(
     draws: &mut Draws,
     folder: &mut F,
 ) -> Result<(), Trouble<'a>>
-    ensures { IfErr result IsOfPaper }
+    ensures trouble { IfErr result IsOfPaper }
+    ensures steps { FolderStepsOn F.File.disk F.File.Counted.seen (F.calls folder.old) (F.calls folder.new) }
 {
     let Some(ledger) = ledger_in(alloc, folder)? else {
         return make(alloc, path, text, draws, folder);
@@ -102,7 +108,8 @@ fn make_or_keep<'a, F: Folder>(
     }
 }
 
-/// The word `open`: makes a desk for the pair of servers of a pair file, where there is none. One for the same pair that is there stays.
+/// The word `open`: asks both servers whether they are as the pair file says, and makes a desk for them, where there is
+/// none. One for the same pair that is there stays.
 pub(crate) fn open<'a, S: Source, K: Sink, N: Net, F: Folder, P: Papers, C: Clock>(
     alloc: Global,
     path: &'a str,
@@ -112,12 +119,17 @@ pub(crate) fn open<'a, S: Source, K: Sink, N: Net, F: Folder, P: Papers, C: Cloc
     ensures trouble { IfErr result IsOfPaper }
     ensures not_met { result ≢ Ok WordEnd.Met }
     ensures sink { Unfailed (K.seen around.old.out).faults (K.seen around.new.out).faults result }
-    ensures net { around.new.net ≡ around.old.net }
+    ensures net { Unfailed (N.seen around.old.net).faults (N.seen around.new.net).faults result }
+    ensures checks { OnOk result (ChecksPair (N.seen around.old.net).calls (N.seen around.new.net).calls) }
+    ensures sends { SendsOn F.File.disk F.File.Counted.seen
+        (N.seen around.old.net).calls (N.seen around.new.net).calls }
+    ensures steps { FolderStepsOn F.File.disk F.File.Counted.seen
+        (F.calls around.old.folder) (F.calls around.new.folder) }
 {
     let text = paper_at(alloc, &mut around.papers, path)?;
     let sheet = sheet_in(alloc, path, &text)?;
-    match sheet.head {
-        Head::Pair(_) => {}
+    match &sheet.head {
+        Head::Pair(head) => check_pair(path, &sheet, head, around)?,
         Head::Card(_) => return Err(Trouble::NoPairFile(path)),
     }
     make_or_keep(alloc, path, &text, &sheet, draws, &mut around.folder)?;

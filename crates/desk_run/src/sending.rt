@@ -1,26 +1,30 @@
 //! The word `send`.
-ghost use Rattle.std.specs.Prelude.{◌≡◌, ◌≢◌, IfErr, IfOk, Ok, OnOk};
+ghost use Rattle.std.specs.Prelude.{◌≡◌, ◌≢◌, IfErr, IfOk, IfSome, Ok, OnOk};
+ghost use Rattle.desk_texts.specs.Days.{IsDay};
 ghost use Rattle.desk_outbox.specs.Outboxes.{IsCardSheet};
 ghost use Rattle.desk_run.specs.Ends.{IsOfPaper, IsUndone, Unfailed};
+ghost use Rattle.desk_run.specs.LastDays.{IsOver, last_day};
+ghost use Rattle.desk_run.specs.LetterEnds.{word_end};
+ghost use Rattle.desk_run.specs.Leaving.{BeginsAnew, IsBegun, LeavesLetter, StartsAt, StartsFree};
 ghost use Rattle.desk_run.specs.Scenes.{Between};
 ghost use Rattle.desk_run.specs.Sends.{SendsOn};
-ghost use Rattle.desk_run.specs.Tries.{IsFirstTry, IsOfLetter};
-ghost use Rattle.desk_run.specs.Words.{LeavesLetter};
-ghost use Rattle.desk_run.specs.Printing.{PrintsSome};
-ghost use Rattle.desk_run.specs.LetterEnds.{word_end};
+ghost use Rattle.desk_run.specs.FolderSteps.{FolderStepsOn};
 
 use crate::around::Around;
 use crate::ending::WordEnd;
+use crate::finding::OnItsWay;
 use crate::ledgers::empty_file;
+use crate::making_way::make_way;
 use crate::opening::{paper_at, sheet_in};
-use crate::outboxes::{is_of, outbox_in, place, tell_end, trouble_of, work_off};
+use crate::outboxes::{finish, place, trouble_of};
 use crate::reading::{Unread, read_all};
+use crate::searching::{free_slot, search};
 use crate::trouble::Trouble;
 use desk_draws::Draws;
 use desk_letters::{SealFault, room};
 use desk_outbox::Outbox;
-use desk_outside::{Clock, DeskFile, Folder, Papers};
-use desk_texts::{Head, Sheet};
+use desk_outside::{Clock, DeskFile, Folder, Papers, Slot};
+use desk_texts::{Day, Head, Sheet};
 use desk_tries::LetterEnd;
 use express_words::outside::{Net, Sink, Source};
 use std::alloc::Global;
@@ -80,22 +84,64 @@ fn check_text<'a>(card: &Sheet, text: &[u8]) -> Result<(), Trouble<'a>>
     Ok(())
 }
 
+// The last day of a card, if it has one.
+fn last_day(card: &Sheet) -> Option<Day>
+    requires card { IsCardSheet card.now }
+    ensures value { result ≡ last_day card.now }
+    ensures day { IfSome result IsDay }
+{
+    match card.head {
+        Head::Card(card) => card.until,
+        Head::Pair(_) => None,
+    }
+}
+
+// Refuses a card whose last day was over at this moment, in seconds since 1970.
+fn check_last<'a>(last: Day, seconds: u64) -> Result<(), Trouble<'a>>
+    requires day { IsDay last }
+    ensures in_time { OnOk result (IsOver last seconds → ⊥) }
+    ensures over { IfErr result (λ t. (t ≡ Trouble.Old last) × IsOver last seconds) }
+{
+    if Day::of(seconds).is_after(&last) {
+        Err(Trouble::Old(last))
+    } else {
+        Ok(())
+    }
+}
+
+// Refuses a card whose last day is over.
+fn check_day<'a, C: Clock>(card: &Sheet, clock: &mut C) -> Result<(), Trouble<'a>>
+    requires card { IsCardSheet card.now }
+    ensures trouble { IfErr result IsOfPaper }
+{
+    let Some(last) = last_day(card) else {
+        return Ok(());
+    };
+    match clock.now() {
+        Ok(seconds) => check_last(last, seconds),
+        Err(_) => Err(Trouble::Clock),
+    }
+}
+
 // The first try of a letter, in its place.
 fn start<'a, F: Folder>(
     alloc: Global,
+    slot: Slot,
     card: &Sheet,
     text: &[u8],
     draws: &mut Draws,
     folder: &mut F,
-) -> Result<Outbox<F::File>, Trouble<'a>>
+) -> Result<OnItsWay<F::File>, Trouble<'a>>
     requires card { IsCardSheet card.now }
-    ensures first { IfOk result (λ o. IsFirstTry F.File.disk card.now text.now o) }
+    ensures starts { IfOk result (StartsAt F.File.disk card.now text.now slot
+        (F.calls folder.old) (F.calls folder.new)) }
     ensures trouble { IfErr result IsOfPaper }
+    ensures steps { FolderStepsOn F.File.disk F.File.Counted.seen (F.calls folder.old) (F.calls folder.new) }
 {
-    let disk = empty_file(folder, DeskFile::NextOutbox)?;
+    let disk = empty_file(folder, DeskFile::NextOutbox(slot))?;
     match Outbox::start(alloc, card, text, draws, disk) {
-        Ok(outbox) => match place(folder) {
-            Ok(()) => Ok(outbox),
+        Ok(outbox) => match place(slot, &outbox, folder) {
+            Ok(()) => Ok(OnItsWay { slot, outbox }),
             Err(trouble) => {
                 drop(outbox);
                 Err(trouble)
@@ -105,56 +151,71 @@ fn start<'a, F: Folder>(
     }
 }
 
-// Works another letter off that is on its way, and tells what became of it.
-fn make_way<'a, S: Source, K: Sink, N: Net, F: Folder, P: Papers, C: Clock>(
+// The first try of a letter, in the first free place.
+fn start_free<'a, F: Folder>(
     alloc: Global,
-    outbox: Outbox<F::File>,
+    card: &Sheet,
+    text: &[u8],
+    draws: &mut Draws,
+    folder: &mut F,
+) -> Result<OnItsWay<F::File>, Trouble<'a>>
+    requires card { IsCardSheet card.now }
+    ensures starts { IfOk result (StartsFree F.File.disk card.now text.now (F.calls folder.old) (F.calls folder.new)) }
+    ensures trouble { IfErr result IsOfPaper }
+    ensures steps { FolderStepsOn F.File.disk F.File.Counted.seen (F.calls folder.old) (F.calls folder.new) }
+{
+    match free_slot(alloc, folder)? {
+        Some(slot) => start(alloc, slot, card, text, draws, folder),
+        None => Err(Trouble::ManyLetters),
+    }
+}
+
+// A first try of a letter with a card that is in time, once other letters on their way with that card are worked off.
+fn begin_anew<'a, S: Source, K: Sink, N: Net, F: Folder, P: Papers, C: Clock>(
+    alloc: Global,
+    card: &Sheet,
+    text: &[u8],
     draws: &mut Draws,
     around: &mut Around<S, K, N, F, P, C>,
-) -> Result<(), Trouble<'a>>
-    ensures printed { OnOk result
-        (PrintsSome (K.seen around.old.out).written (K.seen around.new.out).written) }
-    ensures undone { IfErr result IsUndone }
+) -> Result<OnItsWay<F::File>, Trouble<'a>>
+    requires card { IsCardSheet card.now }
+    ensures begins { IfOk result (Between K.seen N.seen F.calls around.old around.new
+        (BeginsAnew F.File.disk F.File.Counted.seen card.now text.now)) }
+    ensures trouble { IfErr result IsOfPaper }
     ensures sink { Unfailed (K.seen around.old.out).faults (K.seen around.new.out).faults result }
     ensures net { Unfailed (N.seen around.old.net).faults (N.seen around.new.net).faults result }
     ensures sends { SendsOn F.File.disk F.File.Counted.seen
         (N.seen around.old.net).calls (N.seen around.new.net).calls }
+    ensures steps { FolderStepsOn F.File.disk F.File.Counted.seen
+        (F.calls around.old.folder) (F.calls around.new.folder) }
 {
-    let end = work_off(alloc, outbox, draws, &mut around.folder, &mut around.net)?;
-    tell_end(
-        "your earlier letter: ",
-        end,
-        &mut around.folder,
-        &mut around.out,
-    )
+    check_day(card, &mut around.clock)?;
+    make_way(alloc, card, draws, around)?;
+    start_free(alloc, card, text, draws, &mut around.folder)
 }
 
-// The letter itself, where it is on its way already, or else a first try of it. Another letter that is on its way is
-// worked off before.
+// The letter itself, where it is on its way already, or else a first try of it.
 fn begin<'a, S: Source, K: Sink, N: Net, F: Folder, P: Papers, C: Clock>(
     alloc: Global,
     card: &Sheet,
     text: &[u8],
     draws: &mut Draws,
     around: &mut Around<S, K, N, F, P, C>,
-) -> Result<Outbox<F::File>, Trouble<'a>>
+) -> Result<OnItsWay<F::File>, Trouble<'a>>
     requires card { IsCardSheet card.now }
-    ensures letter { IfOk result (λ o. IsOfLetter F.File.disk card.now text.now o) }
-    ensures printed { OnOk result
-        (PrintsSome (K.seen around.old.out).written (K.seen around.new.out).written) }
+    ensures begun { IfOk result (Between K.seen N.seen F.calls around.old around.new
+        (IsBegun F.File.disk F.File.Counted.seen card.now text.now)) }
     ensures trouble { IfErr result IsOfPaper }
     ensures sink { Unfailed (K.seen around.old.out).faults (K.seen around.new.out).faults result }
     ensures net { Unfailed (N.seen around.old.net).faults (N.seen around.new.net).faults result }
     ensures sends { SendsOn F.File.disk F.File.Counted.seen
         (N.seen around.old.net).calls (N.seen around.new.net).calls }
+    ensures steps { FolderStepsOn F.File.disk F.File.Counted.seen
+        (F.calls around.old.folder) (F.calls around.new.folder) }
 {
-    match outbox_in(alloc, &mut around.folder)? {
-        Some(outbox) if is_of(&outbox, card, text) => Ok(outbox),
-        Some(outbox) => {
-            make_way(alloc, outbox, draws, around)?;
-            start(alloc, card, text, draws, &mut around.folder)
-        }
-        None => start(alloc, card, text, draws, &mut around.folder),
+    match search(alloc, card, text, &mut around.folder)? {
+        Some(letter) => Ok(letter),
+        None => begin_anew(alloc, card, text, draws, around),
     }
 }
 
@@ -186,10 +247,11 @@ fn leave<'a, S: Source, K: Sink, N: Net, F: Folder, P: Papers, C: Clock>(
     ensures net { Unfailed (N.seen around.old.net).faults (N.seen around.new.net).faults result }
     ensures sends { SendsOn F.File.disk F.File.Counted.seen
         (N.seen around.old.net).calls (N.seen around.new.net).calls }
+    ensures steps { FolderStepsOn F.File.disk F.File.Counted.seen
+        (F.calls around.old.folder) (F.calls around.new.folder) }
 {
-    let outbox = begin(alloc, card, text, draws, around)?;
-    let end = work_off(alloc, outbox, draws, &mut around.folder, &mut around.net)?;
-    tell_end("", end, &mut around.folder, &mut around.out)?;
+    let letter = begin(alloc, card, text, draws, around)?;
+    let end = finish(alloc, "", letter, draws, around)?;
     Ok(end_of(end))
 }
 
@@ -209,6 +271,8 @@ pub(crate) fn send<'a, S: Source, K: Sink, N: Net, F: Folder, P: Papers, C: Cloc
     ensures net { Unfailed (N.seen around.old.net).faults (N.seen around.new.net).faults result }
     ensures sends { SendsOn F.File.disk F.File.Counted.seen
         (N.seen around.old.net).calls (N.seen around.new.net).calls }
+    ensures steps { FolderStepsOn F.File.disk F.File.Counted.seen
+        (F.calls around.old.folder) (F.calls around.new.folder) }
 {
     let card = card_at(alloc, &mut around.papers, path)?;
     let text = text_of(alloc, file, &mut around.input, &mut around.papers)?;

@@ -4,16 +4,19 @@ ghost use Rattle.express_words.specs.Streams.{Took};
 ghost use Rattle.desk_entries.specs.Letters.{letters_of, shown_of};
 ghost use Rattle.desk_run.specs.Ends.{IsUndone, Unfailed};
 ghost use Rattle.desk_run.specs.Printing.{Prints};
-ghost use Rattle.desk_run.specs.Standings.{IsDone, SaysOutbox, TellsDesk, TellsWork, boxes_line, boxes_lines, count_of, full_line, hundredths, letters_line, line_of, outbox_line, pair_line, work_text, work_words};
+ghost use Rattle.desk_run.specs.Standings.{IsDone, TellsDesk, TellsWork, boxes_line, boxes_lines, count_of, full_line, hundredths, letters_line, line_of, pair_line, work_text, work_words};
 ghost use Rattle.desk_run.specs.Words.{ShowsStatus, StatusBy};
+ghost use Rattle.desk_run.specs.FolderSteps.{FolderStepsOn};
 
+use crate::closing::closed_text;
 use crate::ending::WordEnd;
 use crate::ledgers::{hundredths, ledger_in};
+use crate::listing::say_letters;
 use crate::saying::say;
 use crate::trouble::Trouble;
 use desk_entries::{Entry, NamedBoxes, Standing, addresses};
 use desk_ledger::{Ledger, Pair};
-use desk_outside::{DeskFile, Folder};
+use desk_outside::{DeskFile, Folder, Slot};
 use express_words::NoMemory;
 use express_words::outside::Sink;
 use node_journal::Disk;
@@ -66,12 +69,13 @@ fn boxes_text(alloc: Global, entries: &[Entry], named: &NamedBoxes) -> Result<St
     counts_text(alloc, named.name.as_str(), live, waiting, retired)
 }
 
-// What is told of an entry: of one that gives boxes a name how many there are.
+// What is told of an entry: of one that gives boxes a name how many there are, of one that closes them since when.
 fn entry_text(alloc: Global, entries: &[Entry], entry: &Entry) -> Result<String, NoMemory>
     ensures { IfOk result (λ text. string_bytes text ≡ line_of entries.now entry.now) }
 {
     match entry {
         Entry::Named(named) => boxes_text(alloc, entries, named),
+        Entry::Closed(closed) => closed_text(alloc, closed.name.as_str(), &closed.day),
         _ => Ok(String::new(alloc)),
     }
 }
@@ -220,33 +224,7 @@ fn say_desk<'a, D: Disk, K: Sink>(
     }
 }
 
-fn say_sending<'a, K: Sink>(is_sending: bool, out: &mut K) -> Result<(), Trouble<'a>>
-    ensures said { OnOk result
-        (Took (K.seen out.old).written (K.seen out.new).written (outbox_line is_sending)) }
-    ensures undone { IfErr result IsUndone }
-    ensures sink { Unfailed (K.seen out.old).faults (K.seen out.new).faults result }
-{
-    if is_sending {
-        say(out, "a letter of yours is on its way: run resume\n")
-    } else {
-        Ok(())
-    }
-}
-
-// Tells whether a letter is on its way.
-fn say_outbox<'a, F: Folder, K: Sink>(folder: &mut F, out: &mut K) -> Result<(), Trouble<'a>>
-    ensures said { OnOk result (SaysOutbox (F.calls folder.old) (F.calls folder.new)
-        (K.seen out.old).written (K.seen out.new).written) }
-    ensures undone { IfErr result IsUndone }
-    ensures sink { Unfailed (K.seen out.old).faults (K.seen out.new).faults result }
-{
-    match folder.is_there(DeskFile::Outbox) {
-        Ok(is_sending) => say_sending(is_sending, out),
-        Err(_) => Err(Trouble::Folder),
-    }
-}
-
-/// The word `status`: tells how the desk stands, and whether a letter is on its way.
+/// The word `status`: tells how the desk stands, and which letters are on their way.
 pub(crate) fn status<'a, F: Folder, K: Sink>(
     alloc: Global,
     folder: &mut F,
@@ -257,11 +235,12 @@ pub(crate) fn status<'a, F: Folder, K: Sink>(
     ensures undone { IfErr result IsUndone }
     ensures not_met { result ≢ Ok WordEnd.Met }
     ensures sink { Unfailed (K.seen out.old).faults (K.seen out.new).faults result }
+    ensures steps { FolderStepsOn F.File.disk F.File.Counted.seen (F.calls folder.old) (F.calls folder.new) }
 {
     let ledger = ledger_in(alloc, folder)?;
     let said = say_desk(alloc, &ledger, out);
     drop(ledger);
     said?;
-    say_outbox(folder, out)?;
+    say_letters(alloc, folder, out)?;
     Ok(WordEnd::Done)
 }

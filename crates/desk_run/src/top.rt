@@ -1,5 +1,5 @@
 //! The top call.
-ghost use Rattle.std.specs.Prelude.{◌≡◌, ◌≢◌, ◌⊎◌, ◌∷◌, [], Contains, IfErr, IfOk, OnOk, Ok, false, true};
+ghost use Rattle.std.specs.Prelude.{◌≡◌, ◌≢◌, ◌⊎◌, ◌∷◌, [], Contains, IfErr, IfOk, OnOk, Ok, Some, true};
 ghost use Rattle.desk_outside.specs.Calls.{Adds, Held};
 ghost use Rattle.desk_words.specs.CommandLine.{AskSome, words_in};
 ghost use Rattle.desk_run.specs.Ends.{IsUndone, Unfailed, status_by, status_of};
@@ -10,42 +10,32 @@ ghost use Rattle.desk_run.specs.Rests.{IsAtHome};
 ghost use Rattle.desk_run.specs.Scenes.{Between};
 ghost use Rattle.desk_run.specs.Statuses.{EndsAsAsked, IsInUse, MayEnd};
 ghost use Rattle.desk_run.specs.Words.{Does, DoesAlone, DoesWord, DoneBy, DoneIfAsked};
+ghost use Rattle.desk_run.specs.FolderSteps.{FolderSteps, FolderStepsOn};
 
+use crate::adopting::adopt;
 use crate::around::Around;
-use crate::boxes::open_boxes;
+use crate::boxes::{Wanted, open_boxes};
 use crate::cards::card;
+use crate::discarding::discard;
 use crate::ending::{WordEnd, status_of};
 use crate::forgetting::forget;
+use crate::holding::{clear_all, hold};
 use crate::letters::letters;
 use crate::opening::open;
 use crate::resuming::resume;
-use crate::retiring::retire;
+use crate::retiring::give_up;
 use crate::saying::{say, tell};
 use crate::sending::send;
 use crate::standing::status;
 use crate::trouble::Trouble;
 use desk_draws::Draws;
 use desk_outside::{Clock, Folder, Hold, Papers};
-use desk_words::{DeskTask, HELP, asked_of};
+use desk_words::{Asked, DeskTask, HELP, asked_of};
 use express_words::outside::{Net, Sink, Source};
 use std::alloc::Global;
 
 /// What is told of wrong words.
 const USAGE: &str = "these are no words of express-desk; express-desk --help shows them\n";
-
-// Takes the folder for this process alone.
-fn hold<'a, F: Folder>(folder: &mut F) -> Result<(), Trouble<'a>>
-    ensures call { IfErr result (λ t. status_by t ≡ 4
-        → Adds (F.calls folder.old) (F.calls folder.new) (Held false)) }
-    ensures held { OnOk result (Adds (F.calls folder.old) (F.calls folder.new) (Held false)) }
-    ensures trouble { IfErr result (λ t. (status_by t ≡ 1) ⊎ (status_by t ≡ 4)) }
-{
-    match folder.hold() {
-        Ok(Hold::Held) => Ok(()),
-        Ok(Hold::InUse) => Err(Trouble::InUse),
-        Err(_) => Err(Trouble::Folder),
-    }
-}
 
 // The word `help`.
 fn help<'a, K: Sink>(out: &mut K) -> Result<WordEnd, Trouble<'a>>
@@ -74,15 +64,23 @@ fn in_folder<'a, S: Source, K: Sink, N: Net, F: Folder, P: Papers, C: Clock>(
     ensures sends { SendsOn F.File.disk F.File.Counted.seen
         (N.seen around.old.net).calls (N.seen around.new.net).calls }
     ensures quiet { is_quiet task.entry ≡ true → around.new.net ≡ around.old.net }
+    ensures steps { FolderStepsOn F.File.disk F.File.Counted.seen
+        (F.calls around.old.folder) (F.calls around.new.folder) }
 {
     match task {
         DeskTask::Open { pair } => open(alloc, pair, draws, around),
-        DeskTask::Box { name, count } => open_boxes(alloc, name, count, draws, around),
+        DeskTask::Box { name, count, until } => {
+            open_boxes(alloc, Wanted { name, count, until }, draws, around)
+        }
         DeskTask::Card { name } => card(alloc, name, &mut around.folder, &mut around.out),
         DeskTask::Letters { out } => letters(alloc, out, around),
         DeskTask::Send { card, file } => send(alloc, card, file, draws, around),
         DeskTask::Resume => resume(alloc, draws, around),
-        DeskTask::Retire { name } => retire(alloc, name, around),
+        DeskTask::Retire { name, now } => give_up(alloc, name, now, around),
+        DeskTask::Discard { number } => {
+            discard(alloc, number, &mut around.folder, &mut around.out)
+        }
+        DeskTask::Adopt => adopt(alloc, draws, around),
         DeskTask::Forget => forget(alloc, around),
         DeskTask::Status => status(alloc, &mut around.folder, &mut around.out),
         DeskTask::Help => help(&mut around.out),
@@ -93,53 +91,58 @@ fn in_folder<'a, S: Source, K: Sink, N: Net, F: Folder, P: Papers, C: Clock>(
 #[tactic(auto, using(crate::proofs::StatusLaws::may_undone))]
 fn with_folder<'a, S: Source, K: Sink, N: Net, F: Folder, P: Papers, C: Clock>(
     alloc: Global,
-    task: DeskTask<'a>,
+    asked: Asked<'a>,
     seed: &[u8; 32],
     around: &mut Around<S, K, N, F, P, C>,
 ) -> Result<WordEnd, Trouble<'a>>
-    ensures ends { MayEnd task.entry (status_of result) ⊎ (status_of result ≡ 4) }
+    ensures ends { MayEnd asked.entry.task (status_of result) ⊎ (status_of result ≡ 4) }
     ensures in_use { status_of result ≡ 4 → IsAtHome around.old around.new }
     ensures held { status_of result ≡ 4
-        → Adds (F.calls around.old.folder) (F.calls around.new.folder) (Held false) }
+        → Adds (F.calls around.old.folder) (F.calls around.new.folder) (Held (Some Hold.InUse)) }
     ensures done { IfOk result (Between K.seen N.seen F.calls around.old around.new
-        (DoesAlone F.File.disk F.File.Counted.seen task.entry)) }
+        (DoesAlone F.File.disk F.File.Counted.seen asked.entry.task)) }
     ensures met { result ≡ Ok WordEnd.Met
         → Prints TellsMet (K.seen around.old.out).written (K.seen around.new.out).written }
     ensures sink { Unfailed (K.seen around.old.out).faults (K.seen around.new.out).faults result }
     ensures net { Unfailed (N.seen around.old.net).faults (N.seen around.new.net).faults result }
     ensures sends { SendsOn F.File.disk F.File.Counted.seen
         (N.seen around.old.net).calls (N.seen around.new.net).calls }
-    ensures quiet { is_quiet task.entry ≡ true → around.new.net ≡ around.old.net }
+    ensures quiet { is_quiet asked.entry.task ≡ true → around.new.net ≡ around.old.net }
+    ensures steps { FolderStepsOn F.File.disk F.File.Counted.seen
+        (F.calls around.old.folder) (F.calls around.new.folder) }
 {
-    hold(&mut around.folder)?;
+    hold(&asked, &mut around.folder)?;
+    clear_all(&mut around.folder)?;
     let mut draws = Draws::from_seed(seed);
-    in_folder(alloc, task, &mut draws, around)
+    in_folder(alloc, asked.task, &mut draws, around)
 }
 
 // What the task comes to.
 fn do_task<'a, S: Source, K: Sink, N: Net, F: Folder, P: Papers, C: Clock>(
     alloc: Global,
-    task: DeskTask<'a>,
+    asked: Asked<'a>,
     seed: &[u8; 32],
     around: &mut Around<S, K, N, F, P, C>,
 ) -> Result<WordEnd, Trouble<'a>>
-    ensures ends { MayEnd task.entry (status_of result) ⊎ IsInUse task.entry (status_of result) }
+    ensures ends { MayEnd asked.entry.task (status_of result) ⊎ IsInUse asked.entry.task (status_of result) }
     ensures in_use { status_of result ≡ 4 → IsAtHome around.old around.new }
     ensures held { status_of result ≡ 4
-        → Adds (F.calls around.old.folder) (F.calls around.new.folder) (Held false) }
+        → Adds (F.calls around.old.folder) (F.calls around.new.folder) (Held (Some Hold.InUse)) }
     ensures does { IfOk result (Between K.seen N.seen F.calls around.old around.new
-        (DoesWord F.File.disk F.File.Counted.seen task.entry)) }
+        (DoesWord F.File.disk F.File.Counted.seen asked.entry.task)) }
     ensures met { result ≡ Ok WordEnd.Met
         → Prints TellsMet (K.seen around.old.out).written (K.seen around.new.out).written }
     ensures sink { Unfailed (K.seen around.old.out).faults (K.seen around.new.out).faults result }
     ensures net { Unfailed (N.seen around.old.net).faults (N.seen around.new.net).faults result }
     ensures sends { SendsOn F.File.disk F.File.Counted.seen
         (N.seen around.old.net).calls (N.seen around.new.net).calls }
-    ensures quiet { is_quiet task.entry ≡ true → around.new.net ≡ around.old.net }
+    ensures quiet { is_quiet asked.entry.task ≡ true → around.new.net ≡ around.old.net }
+    ensures steps { FolderStepsOn F.File.disk F.File.Counted.seen
+        (F.calls around.old.folder) (F.calls around.new.folder) }
 {
-    match task {
+    match asked.task {
         DeskTask::Help => help(&mut around.out),
-        _ => with_folder(alloc, task, seed, around),
+        _ => with_folder(alloc, asked, seed, around),
     }
 }
 
@@ -160,25 +163,27 @@ fn finish<K: Sink>(alloc: Global, outcome: Result<WordEnd, Trouble<'_>>, out: &m
 // Does the task, and tells what it comes to where that isn't told yet.
 fn run_task<'a, S: Source, K: Sink, N: Net, F: Folder, P: Papers, C: Clock>(
     alloc: Global,
-    task: DeskTask<'a>,
+    asked: Asked<'a>,
     seed: &[u8; 32],
     around: &mut Around<S, K, N, F, P, C>,
 ) -> u8
-    ensures ends { MayEnd task.entry result ⊎ IsInUse task.entry result }
+    ensures ends { MayEnd asked.entry.task result ⊎ IsInUse asked.entry.task result }
     ensures in_use { result ≡ 4 → IsAtHome around.old around.new }
     ensures held { result ≡ 4
-        → Adds (F.calls around.old.folder) (F.calls around.new.folder) (Held false) }
+        → Adds (F.calls around.old.folder) (F.calls around.new.folder) (Held (Some Hold.InUse)) }
     ensures done { Between K.seen N.seen F.calls around.old around.new
-        (DoneBy F.File.disk F.File.Counted.seen task.entry) result }
+        (DoneBy F.File.disk F.File.Counted.seen asked.entry.task) result }
     ensures met { result ≡ 5
         → Prints TellsMet (K.seen around.old.out).written (K.seen around.new.out).written }
     ensures sink { result ≢ 1 → (K.seen around.new.out).faults ≡ (K.seen around.old.out).faults }
     ensures net { result ≢ 1 → (N.seen around.new.net).faults ≡ (N.seen around.old.net).faults }
     ensures sends { SendsOn F.File.disk F.File.Counted.seen
         (N.seen around.old.net).calls (N.seen around.new.net).calls }
-    ensures quiet { is_quiet task.entry ≡ true → around.new.net ≡ around.old.net }
+    ensures quiet { is_quiet asked.entry.task ≡ true → around.new.net ≡ around.old.net }
+    ensures steps { FolderStepsOn F.File.disk F.File.Counted.seen
+        (F.calls around.old.folder) (F.calls around.new.folder) }
 {
-    let outcome = do_task(alloc, task, seed, around);
+    let outcome = do_task(alloc, asked, seed, around);
     finish(alloc, outcome, &mut around.out)
 }
 
@@ -214,7 +219,7 @@ pub fn run_desk<S: Source, K: Sink, N: Net, F: Folder, P: Papers, C: Clock>(
     // Nor is it where another process has the desk; its folder is asked for, and that doesn't fail.
     ensures in_use { result ≡ 4 → IsAtHome around.old around.new }
     ensures held { result ≡ 4
-        → Adds (F.calls around.old.folder) (F.calls around.new.folder) (Held false) }
+        → Adds (F.calls around.old.folder) (F.calls around.new.folder) (Held (Some Hold.InUse)) }
     // A word that needs no server makes no call on the net.
     ensures quiet { (AskServers (words_in words.now) → ⊥) → around.new.net ≡ around.old.net }
     // With status 0 or 5 the word has done what it is to do, row by row.
@@ -228,9 +233,11 @@ pub fn run_desk<S: Source, K: Sink, N: Net, F: Folder, P: Papers, C: Clock>(
     ensures net { result ≢ 1 → (N.seen around.new.net).faults ≡ (N.seen around.old.net).faults }
     ensures sends { Sends F.File.disk F.File.Counted.seen
         (N.seen around.old.net).calls (N.seen around.new.net).calls }
+    ensures steps { FolderSteps F.File.disk F.File.Counted.seen
+        (F.calls around.old.folder) (F.calls around.new.folder) }
 {
     match asked_of(alloc, words) {
-        Ok(Some(asked)) => run_task(alloc, asked.task, seed, around),
+        Ok(Some(asked)) => run_task(alloc, asked, seed, around),
         Ok(None) => refuse(&mut around.out),
         Err(_) => finish(alloc, Err(Trouble::NoMemory), &mut around.out),
     }

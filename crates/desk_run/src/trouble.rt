@@ -1,10 +1,13 @@
 //! Why a word isn't done.
-ghost use Rattle.std.specs.Prelude.{◌≡◌};
+ghost use Rattle.std.specs.Prelude.{◌≡◌, ◌≢◌, ℕ};
 ghost use Rattle.desk_run.specs.Ends.{IsCause};
+ghost use Rattle.desk_run.specs.Laters.{later_trouble};
 
 use client_restart::NoteFault;
 use desk_ledger::NameFault;
 use desk_letters::SealFault;
+use desk_outside::{DeskFile, FolderFault, Slot};
+use desk_texts::Day;
 use express_words::{NoMemory, Refusal};
 use kept_errands::Halt;
 use node_client::Stop;
@@ -46,6 +49,10 @@ pub enum Trouble<'a> {
     NoMemory,
     /// The standard input failed.
     Input,
+    /// The desk's folder can't be used: the one that the words name, else the usual one.
+    Home(Option<&'a str>, FolderFault),
+    /// A file in the desk's folder can't be used.
+    File(DeskFile, FolderFault),
     /// The desk's folder, or a file in it, failed.
     Folder,
     Clock,
@@ -55,10 +62,16 @@ pub enum Trouble<'a> {
     Unwritten(&'a str),
     /// Another process has the desk's folder.
     InUse,
+    /// What stands in the desk's folder was copied from another one.
+    Copied,
     /// The file's first bad line, counted from 1.
     BadLine(&'a str, u32),
     /// The file is no pair file.
     NoPairFile(&'a str),
+    /// The messages of the pair's servers have another width than the pair file says.
+    OtherWidth(&'a str),
+    /// The pair file names lanes that a server doesn't have, which has so many.
+    FewLanes(&'a str, ServerName, u16),
     /// The file is no card.
     NoCard(&'a str),
     /// The text makes no letter.
@@ -75,9 +88,11 @@ pub enum Trouble<'a> {
     Name(NameFault),
     /// A file of the desk isn't what was written into it.
     Damaged,
+    /// A letter is no text, and isn't in a file: nobody has seen it.
+    Unseen,
     /// The ledger is full.
     Full,
-    /// The lane's last number was used.
+    /// The desk has used its lane's last number.
     Spent,
     /// The server wasn't reached, or the connection broke off.
     Unreached(ServerName),
@@ -85,10 +100,26 @@ pub enum Trouble<'a> {
     NoAnswer(ServerName),
     /// A server asks to come again later.
     Later,
+    /// Somebody else has used the desk's lane up to this number, which is above the desk's own.
+    Behind(u32),
+    /// Somebody else has used the lane's last number.
+    UsedUp,
     /// A server refused the request.
     Refused(Refusal),
     /// The numbers of the card's lanes are used up.
     NoLane,
+    /// The card's last day is over.
+    Old(Day),
+    /// As many letters as can be are on their way.
+    ManyLetters,
+    /// What stands at this place of a letter on its way can't be read.
+    BadLetter(Slot),
+    /// No letter is on its way.
+    NoLetters,
+    /// No letter of this number is on its way.
+    NoLetterAt(u32),
+    /// Several letters are on their way, and none of them is named.
+    WhichLetter,
 }
 
 impl From<NoMemory> for Trouble<'_> {
@@ -101,32 +132,54 @@ impl From<NoMemory> for Trouble<'_> {
     }
 }
 
+// What is told where nothing could be noted on a disk.
+fn unnoted<'a>(fault: NoteFault) -> Trouble<'a>
+    ensures cause { IsCause result }
+    ensures not_behind { (number : ℕ) → result ≢ Trouble.Behind number }
+{
+    match fault {
+        NoteFault::NoMemory => Trouble::NoMemory,
+        NoteFault::Journal(JournalFault::Full(_)) => Trouble::Full,
+        NoteFault::Journal(JournalFault::Disk(_)) => Trouble::Folder,
+        NoteFault::Journal(JournalFault::Closed) => Trouble::Folder,
+        NoteFault::Journal(JournalFault::NotEmpty) => Trouble::Damaged,
+        NoteFault::Journal(JournalFault::Damaged(_)) => Trouble::Damaged,
+        NoteFault::Foreign(_) => Trouble::Damaged,
+    }
+}
+
 impl From<NoteFault> for Trouble<'_> {
     ghost use Rattle.desk_run.specs.Ends.{IsCause};
 
     ghost from_gives = { λ _ trouble. IsCause trouble };
 
     fn from(fault: NoteFault) -> Self {
-        match fault {
-            NoteFault::NoMemory => Trouble::NoMemory,
-            NoteFault::Journal(JournalFault::Full(_)) => Trouble::Full,
-            NoteFault::Journal(JournalFault::Disk(_)) => Trouble::Folder,
-            NoteFault::Journal(JournalFault::Closed) => Trouble::Folder,
-            NoteFault::Journal(JournalFault::NotEmpty) => Trouble::Damaged,
-            NoteFault::Journal(JournalFault::Damaged(_)) => Trouble::Damaged,
-            NoteFault::Foreign(_) => Trouble::Damaged,
-        }
+        unnoted(fault)
+    }
+}
+
+// What is told where a server would take the request later, or under another number.
+fn later<'a>(refusal: Refusal) -> Trouble<'a>
+    ensures { result ≡ later_trouble refusal }
+{
+    match refusal {
+        Refusal::Stale(u32::MAX) => Trouble::UsedUp,
+        Refusal::Stale(number) => Trouble::Behind(number),
+        _ => Trouble::Later,
     }
 }
 
 /// What is told of a halt at a step that goes to this server.
 pub(crate) fn halted<'a>(halt: Halt, server: Option<u8>) -> Trouble<'a>
-    ensures { IsCause result }
+    ensures cause { IsCause result }
+    // That the lane was used by others is told only where a server said so.
+    ensures behind { (number : ℕ) → result ≡ Trouble.Behind number
+        → (refusal : Refusal) × (halt ≡ Halt.Stop (Stop.Later refusal)) }
 {
     match halt {
-        Halt::Keep(fault) => Trouble::from(fault),
+        Halt::Keep(fault) => unnoted(fault),
         Halt::Stop(Stop::Answer) => Trouble::NoAnswer(ServerName::of(server)),
-        Halt::Stop(Stop::Later(_)) => Trouble::Later,
+        Halt::Stop(Stop::Later(refusal)) => later(refusal),
         Halt::Stop(Stop::Spent) => Trouble::Spent,
         Halt::Stop(Stop::Full) => Trouble::Full,
         Halt::Stop(Stop::Fault(_)) => Trouble::Unreached(ServerName::of(server)),

@@ -16,6 +16,6 @@ returns-in-Err-Used-clause-wants g c =
     let refused = rw c.in-Err-Used.is at c.in_ok-add_name.ensures.refused in
     inl (record {
       used = used_name c.args.ledger.now.client.opening.capacity c.args.ledger.now.client.core.boxes c.args.ledger.now.entries
-          c.args.name.now c.deref.result.now (refused ∙ ap (λ f. Some f) c.in-Err-Used.field-0-is);
+          c.args.wanted.now.name.now c.deref.result.now (refused ∙ ap (λ f. Some f) c.in-Err-Used.field-0-is);
       same = rw c.in-Err-Used.is at c.in_ok-add_name.ensures.refused_stays;
     })

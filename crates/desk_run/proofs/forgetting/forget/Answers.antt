@@ -4,7 +4,7 @@ use Rattle.desk_run.specs.Printing.{Prints, TellsMet}
 use Rattle.desk_run.proofs.forgetting.forget.Goals as goal
 
 pub returns-clause-done : goal.returns-clause-done
-returns-clause-done g c = IfOk-weaker c.show_and_renew-end.result _ _ (λ end does. does _ c.in_ok-ledger.ensures.resumed) c.show_and_renew-end.ensures.done
+returns-clause-done g c = IfOk-weaker c.show_and_renew-end.result _ _ (λ end does. does _ c.in_ok-ledger.ensures.settled) c.show_and_renew-end.ensures.done
 
 pub returns-clause-met : goal.returns-clause-met
 returns-clause-met g c is =

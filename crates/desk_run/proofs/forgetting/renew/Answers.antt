@@ -10,6 +10,7 @@ returns-in-Ok-clause-renews g c =
       mid = _;
       made = c.in_ok-disk.ensures.made;
       empty = c.in-Ok.ensures.empty;
+      seen = c.in-Ok.ensures.seen;
       next = c.in-Ok.next;
       follows = follows _ _ c.in-Ok.ensures.opening c.in-Ok.ensures.serial c.in-Ok.ensures.boxes c.in-Ok.ensures.entries
           c.in-Ok.ensures.pair c.in-Ok.ensures.idle;

@@ -16,7 +16,7 @@ returns-clause-done g c old resumes =
     let line = subst (λ (t : List ℕ). Took (g.K.Counted.seen c.show_new.new.out).written (g.K.Counted.seen c.say.new.out).written t)
     (c.as_str.ensures.value ∙ c.in_ok-text.ensures) c.in_ok-say.ensures.said in
     retires g.F.File.Disk.disk c.args.name.now c.end_by.result old _ _ c.args.ledger.now c.retire_name.new.self
-    c.carry_on-done.new.ledger resumes
+    c.carry_on-done.new.ledger resumes c.in_ok-check_room.ensures.room
     (record {
       retiring = c.in_ok-retire_name.ensures.retiring c.if-not-branch.false;
       noted = c.in_ok-retire_name.ensures.noted;

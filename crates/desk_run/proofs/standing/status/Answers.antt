@@ -7,5 +7,5 @@ returns-clause-done g c = record {
   finds = c.in_ok-ledger.ensures.told;
   mid = _;
   tells = c.in_ok-said.ensures.told;
-  outbox = c.in_ok-say_outbox.ensures.said;
+  letters = c.in_ok-say_letters.ensures.said;
 }

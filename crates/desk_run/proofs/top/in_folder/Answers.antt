@@ -1,12 +1,12 @@
 use Rattle.std.proofs.Common.{refl}
-use Rattle.desk_run.proofs.Asked.{loud}
-use Rattle.desk_run.proofs.StatusLaws.{box_ends, ends_as, forget_ends, letters_ends, open_ends, quiet_ends, retire_ends, send_ends}
+use Rattle.desk_run.proofs.Asked.{closes, loud}
+use Rattle.desk_run.proofs.StatusLaws.{box_ends, discard_ends, ends_as, forget_ends, letters_ends, open_ends, quiet_ends, retire_ends, send_ends}
 use Rattle.desk_run.proofs.WordLaws.{does_as, says_nothing}
 use Rattle.desk_run.proofs.top.in_folder.Goals as goal
 
 pub returns-in-Open-clause-done : goal.returns-in-Open-clause-done
 returns-in-Open-clause-done g c =
-    does_as g.F.File.Disk.disk g.F.File.Counted.seen c.args.task _ _ _ _ c.in-Open.is (says_nothing c.open.result)
+    does_as g.F.File.Disk.disk g.F.File.Counted.seen c.args.task _ _ _ _ c.in-Open.is c.open.ensures.checks
 
 pub returns-in-Box-clause-done : goal.returns-in-Box-clause-done
 returns-in-Box-clause-done g c =
@@ -26,11 +26,11 @@ returns-in-Send-clause-done g c =
 
 pub returns-in-Resume-clause-done : goal.returns-in-Resume-clause-done
 returns-in-Resume-clause-done g c =
-    does_as g.F.File.Disk.disk g.F.File.Counted.seen c.args.task _ _ _ _ c.in-Resume.is (says_nothing c.resume.result)
+    does_as g.F.File.Disk.disk g.F.File.Counted.seen c.args.task _ _ _ _ c.in-Resume.is c.resume.ensures.done
 
 pub returns-in-Retire-clause-done : goal.returns-in-Retire-clause-done
 returns-in-Retire-clause-done g c =
-    does_as g.F.File.Disk.disk g.F.File.Counted.seen c.args.task _ _ _ _ c.in-Retire.is c.retire.ensures.done
+    does_as g.F.File.Disk.disk g.F.File.Counted.seen c.args.task _ _ _ _ c.in-Retire.is c.give_up.ensures.done
 
 pub returns-in-Forget-clause-done : goal.returns-in-Forget-clause-done
 returns-in-Forget-clause-done g c =
@@ -50,7 +50,7 @@ returns-in-Open-clause-ends g c =
 
 pub returns-in-Box-clause-ends : goal.returns-in-Box-clause-ends
 returns-in-Box-clause-ends g c =
-    ends_as c.args.task _ _ c.in-Box.is (box_ends _ _ c.open_boxes.result c.open_boxes.ensures.trouble c.open_boxes.ensures.not_met)
+    ends_as c.args.task _ _ c.in-Box.is (box_ends _ _ _ c.open_boxes.result c.open_boxes.ensures.trouble c.open_boxes.ensures.not_met)
 
 pub returns-in-Card-clause-ends : goal.returns-in-Card-clause-ends
 returns-in-Card-clause-ends g c = quiet_ends c.args.task c.card.result c.card.ensures.undone c.card.ensures.not_met
@@ -68,7 +68,7 @@ returns-in-Resume-clause-ends g c = quiet_ends c.args.task c.resume.result c.res
 
 pub returns-in-Retire-clause-ends : goal.returns-in-Retire-clause-ends
 returns-in-Retire-clause-ends g c =
-    ends_as c.args.task _ _ c.in-Retire.is (retire_ends _ c.retire.result c.retire.ensures.undone)
+    ends_as c.args.task _ _ c.in-Retire.is (retire_ends _ _ c.give_up.result c.give_up.ensures.undone)
 
 pub returns-in-Forget-clause-ends : goal.returns-in-Forget-clause-ends
 returns-in-Forget-clause-ends g c =
@@ -79,6 +79,9 @@ returns-in-Status-clause-ends g c = quiet_ends c.args.task c.status.result c.sta
 
 pub returns-in-Help-clause-ends : goal.returns-in-Help-clause-ends
 returns-in-Help-clause-ends g c = quiet_ends c.args.task c.help.result c.help.ensures.undone c.help.ensures.not_met
+
+pub returns-in-Open-clause-quiet : goal.returns-in-Open-clause-quiet
+returns-in-Open-clause-quiet g c so = loud c.args.task _ c.in-Open.is refl so
 
 pub returns-in-Box-clause-quiet : goal.returns-in-Box-clause-quiet
 returns-in-Box-clause-quiet g c so = loud c.args.task _ c.in-Box.is refl so
@@ -93,7 +96,7 @@ pub returns-in-Resume-clause-quiet : goal.returns-in-Resume-clause-quiet
 returns-in-Resume-clause-quiet g c so = loud c.args.task _ c.in-Resume.is refl so
 
 pub returns-in-Retire-clause-quiet : goal.returns-in-Retire-clause-quiet
-returns-in-Retire-clause-quiet g c so = loud c.args.task _ c.in-Retire.is refl so
+returns-in-Retire-clause-quiet g c so = c.give_up.ensures.quiet (closes c.args.task _ _ c.in-Retire.is so)
 
 pub returns-in-Forget-clause-quiet : goal.returns-in-Forget-clause-quiet
 returns-in-Forget-clause-quiet g c so = loud c.args.task _ c.in-Forget.is refl so
@@ -118,3 +121,27 @@ returns-in-Status-clause-met g c is = absurd (c.status.ensures.not_met is)
 
 pub returns-in-Help-clause-met : goal.returns-in-Help-clause-met
 returns-in-Help-clause-met g c is = absurd (c.help.ensures.not_met is)
+
+pub returns-in-Discard-clause-done : goal.returns-in-Discard-clause-done
+returns-in-Discard-clause-done g c =
+    does_as g.F.File.Disk.disk g.F.File.Counted.seen c.args.task _ _ _ _ c.in-Discard.is c.discard.ensures.done
+
+pub returns-in-Adopt-clause-done : goal.returns-in-Adopt-clause-done
+returns-in-Adopt-clause-done g c =
+    does_as g.F.File.Disk.disk g.F.File.Counted.seen c.args.task _ _ _ _ c.in-Adopt.is (says_nothing c.adopt.result)
+
+pub returns-in-Discard-clause-ends : goal.returns-in-Discard-clause-ends
+returns-in-Discard-clause-ends g c =
+    ends_as c.args.task _ _ c.in-Discard.is (discard_ends _ c.discard.result c.discard.ensures.trouble c.discard.ensures.not_met)
+
+pub returns-in-Adopt-clause-ends : goal.returns-in-Adopt-clause-ends
+returns-in-Adopt-clause-ends g c = quiet_ends c.args.task c.adopt.result c.adopt.ensures.undone c.adopt.ensures.not_met
+
+pub returns-in-Adopt-clause-quiet : goal.returns-in-Adopt-clause-quiet
+returns-in-Adopt-clause-quiet g c so = loud c.args.task _ c.in-Adopt.is refl so
+
+pub returns-in-Discard-clause-met : goal.returns-in-Discard-clause-met
+returns-in-Discard-clause-met g c is = absurd (c.discard.ensures.not_met is)
+
+pub returns-in-Adopt-clause-met : goal.returns-in-Adopt-clause-met
+returns-in-Adopt-clause-met g c is = absurd (c.adopt.ensures.not_met is)

@@ -1,6 +1,8 @@
 use Rattle.desk_run.proofs.Asked.{asked_none, asked_some, done, done_undone, ends, ends_undone, not_refused, quiet, refused_one}
 use Rattle.desk_run.specs.Sends.{nothing}
+use Rattle.desk_run.specs.FolderSteps.{still}
 use Rattle.desk_run.proofs.SendLaws.{sends_all}
+use Rattle.desk_run.proofs.StepLaws.{steps_all}
 use Rattle.desk_run.proofs.StatusLaws.{only_one}
 use Rattle.desk_run.proofs.top.run_desk.Goals as goal
 
@@ -31,6 +33,9 @@ returns-in-Ok-Some-clause-done g c some =
     done g.F.File.Disk.disk g.F.File.Counted.seen _ _ _ _ _ (rw c.in-Ok-Some.field-0-is at c.in-Ok-Some.ensures.task)
     c.run_task.ensures.done
 
+pub returns-in-Ok-Some-clause-steps : goal.returns-in-Ok-Some-clause-steps
+returns-in-Ok-Some-clause-steps g c = steps_all g.F.File.Disk.disk g.F.File.Counted.seen _ _ c.run_task.ensures.steps
+
 pub returns-in-Ok-Some-clause-sends : goal.returns-in-Ok-Some-clause-sends
 returns-in-Ok-Some-clause-sends g c = sends_all g.F.File.Disk.disk g.F.File.Counted.seen _ _ c.run_task.ensures.sends
 
@@ -47,6 +52,9 @@ returns-in-Ok-None-clause-done g c some = absurd (asked_none _ (rw c.in-Ok-None.
 
 pub returns-in-Ok-None-clause-met : goal.returns-in-Ok-None-clause-met
 returns-in-Ok-None-clause-met g c five = absurd (not_refused 5 _ (λ e. cc) (λ e. cc) c.refuse.ensures.either five)
+
+pub returns-in-Ok-None-clause-steps : goal.returns-in-Ok-None-clause-steps
+returns-in-Ok-None-clause-steps g c = still
 
 pub returns-in-Ok-None-clause-sends : goal.returns-in-Ok-None-clause-sends
 returns-in-Ok-None-clause-sends g c = nothing
@@ -68,6 +76,9 @@ returns-in-Err-clause-done g c some =
 
 pub returns-in-Err-clause-met : goal.returns-in-Err-clause-met
 returns-in-Err-clause-met g c five = let one = only_one _ c.finish.ensures.status in cc
+
+pub returns-in-Err-clause-steps : goal.returns-in-Err-clause-steps
+returns-in-Err-clause-steps g c = still
 
 pub returns-in-Err-clause-sends : goal.returns-in-Err-clause-sends
 returns-in-Err-clause-sends g c = nothing

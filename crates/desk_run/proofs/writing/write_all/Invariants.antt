@@ -10,7 +10,7 @@ invariant-readings g l =
     record {
       faults : (g.K.Counted.seen l.out).faults ≡ (g.K.Counted.seen l.fn.out).faults;
       met : list_any is_met (map (λ r. r.now) l.readings) ≡ (l.met || list_any is_met (map (λ r. r.now) l.rest));
-      shown : ShownSo (TellsReading l.folder l.ledger.entries) (map (λ r. r.now) l.readings) (map (λ r. r.now) l.rest)
+      shown : ShownSo (TellsReading l.target.folder.now l.target.tag l.ledger.entries) (map (λ r. r.now) l.readings) (map (λ r. r.now) l.rest)
           (g.K.Counted.seen l.fn.out).written (g.K.Counted.seen l.out).written;
     }
 

@@ -1,0 +1,10 @@
+use Rattle.desk_run.proofs.StepLaws.{on_letter}
+use Rattle.desk_run.proofs.outboxes.place.Goals as goal
+
+pub returns-in-Ok-clause-steps : goal.returns-in-Ok-clause-steps
+returns-in-Ok-clause-steps g c =
+    on_letter g.F.File.Disk.disk g.F.File.Counted.seen c.args.slot c.args.next.now _ _ _ c.requires.next c.put_in_place.ensures.call
+
+pub returns-in-Err-clause-steps : goal.returns-in-Err-clause-steps
+returns-in-Err-clause-steps g c =
+    on_letter g.F.File.Disk.disk g.F.File.Counted.seen c.args.slot c.args.next.now _ _ _ c.requires.next c.put_in_place.ensures.call
