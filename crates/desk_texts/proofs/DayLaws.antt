@@ -99,7 +99,7 @@ after_so b d e h x y = rw h (at_order (cases_date (date_of d x) (date_of e y)))
 
 -- ---- numbers in digits
 
--- what is printed of a hole that is filled up with zeros
+-- what is printed of a number with zeros in front, to its width
 pub pads : (width n : ℕ) → padded_integral (format_spec 32 0 4 width (2 ^ 64 - 1)) false [] (decimal n) ≡ zero_filled width n
 unfolding padded_integral char_count
 pads width n =
