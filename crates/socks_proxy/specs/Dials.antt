@@ -1,6 +1,6 @@
 -- The calls on a net below that a dial makes.
-use Rattle.std.specs.Prelude.{◌≡◌, ◌⊎◌, ℕ, ◌-◌, ◌^◌, Bool, true, false, List, [], ◌∷◌, ◌++◌, codes, Option, Some, None}
-use Rattle.std.specs.Prelude.{Result, OnOk, OnErr, IfOk, IsErr, is_err}
+use Rattle.std.specs.Prelude.{◌≡◌, ◌⊎◌, ℕ, ◌-◌, ◌^◌, Bool, true, false, List, [], ◌∷◌, ◌++◌, codes}
+use Rattle.std.specs.Prelude.{Option, Some, None, Result, OnOk, OnErr, IfOk, IsErr, is_err}
 use Rattle.express_words.specs.Calls.{Call, Dialled, Closed, Adds, AddsClose}
 use Rattle.express_words.specs.Causes.{next}
 use Rattle.express_words.specs.Seen.{Seen}
@@ -41,8 +41,8 @@ Reaches places calls =
 abbrev pub ReachesOn : List (List ℕ) → Option (List Call) → Option (List Call) → Type 0
 ReachesOn places old new = (calls : List Call) × Makes old new calls × Reaches places calls
 
--- The calls of a dial through a proxy that gave no connection: none at all; or no place was reached; or one was, and
--- its connection, which took no more than a front of what is said to a proxy, was closed.
+-- The calls of a dial through a proxy that gave no connection: none at all; or no place was reached; or one
+-- was, and its connection, which took no more than a front of what is said to a proxy, was closed.
 abbrev pub IsRefused : List (List ℕ) → (said : List ℕ) → List Call → Type 0
 IsRefused places said calls =
     (calls ≡ []) ⊎ ((calls ≡ unreached places)
@@ -52,8 +52,8 @@ IsRefused places said calls =
 abbrev pub RefusedOn : List (List ℕ) → (said : List ℕ) → Option (List Call) → Option (List Call) → Type 0
 RefusedOn places said old new = (calls : List Call) × Makes old new calls × IsRefused places said calls
 
--- A connection of a net that tells its calls took what is said to a proxy and nothing more, and gave a yes and
--- nothing more.
+-- A connection of a net that tells its calls took what is said to a proxy and nothing more, and gave a yes
+-- and nothing more.
 abbrev pub IsOpened : Option (List Call) → Seen → (said : List ℕ) → Type 0
 IsOpened None conn said = Unit {0}
 IsOpened (Some calls) conn said =

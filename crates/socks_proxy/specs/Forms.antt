@@ -1,5 +1,5 @@
--- The messages of SOCKS 5 (RFC 1928) and of its user names and passwords (RFC 1929). A number of one byte stands
--- for itself; a port has two, the high one first.
+-- The messages of SOCKS 5 (RFC 1928) and of its user names and passwords (RFC 1929). A number of one byte
+-- stands for itself; a port has two, the high one first.
 use Rattle.std.specs.Prelude.{◌≡◌, ℕ, List, [], ◌∷◌, ◌++◌, length}
 use Rattle.std.specs.Int.{w16, to_be_bytes}
 

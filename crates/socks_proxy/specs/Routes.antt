@@ -1,6 +1,7 @@
 -- How a place is reached.
 use Rattle.std.specs.Prelude.{◌≡◌, ℕ, ◌+◌, ◌≤◌, nat_le, ◌==◌, ◌||◌, ◌&&◌, if◌then◌else◌, Bool, false}
-use Rattle.std.specs.Prelude.{List, [], ◌∷◌, length, take, drop, codes, position, Option, Some, None, option_map}
+use Rattle.std.specs.Prelude.{List, [], ◌∷◌, length, take, drop, codes, position}
+use Rattle.std.specs.Prelude.{Option, Some, None, option_map}
 use Rattle.std.specs.Char.{is_ascii_lowercase}
 use Rattle.std.specs.List.{list_all}
 use Rattle.std.specs.Str.{bytes_eq, str_eq_ignore_ascii_case}
@@ -63,8 +64,8 @@ abbrev pub route_to : Option PlainTarget → PlainRoute
 route_to (Some target) = Through target
 route_to None = Wrong
 
--- Where .onion stands in a place it is one of an onion service, or wrong. Another is dialled directly, or where a
--- proxy is named through that.
+-- Where .onion stands in a place it is one of an onion service, or wrong. Another is dialled directly, or
+-- where a proxy is named through that.
 abbrev pub route_of : List ℕ → (is_named : Bool) → PlainRoute
 route_of place is_named =
     if names_onion place then route_to (onion_of place)

@@ -62,7 +62,8 @@ IsReplyCause (fault.Refused code) front =
     (code ≢ 0) × ((kind : ℕ) × (first : ℕ) × (front ≡ 5 ∷ (code ∷ (0 ∷ (kind ∷ (first ∷ []))))))
 IsReplyCause other front = ⊥
 
--- why the whole talk isn't granted: by the choice, or behind the right one by the status, or behind both by the reply
+-- why the whole talk isn't granted: by the choice, or behind the right one by the status, or behind both by
+-- the reply
 abbrev pub IsTalkCause : ProxyFault → List ℕ → Type 0
 IsTalkCause why answer =
     IsChoiceCause why answer
