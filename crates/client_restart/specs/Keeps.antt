@@ -13,7 +13,10 @@ use Rattle.client_restart.specs.declared.fault.NoteFault.TheVariants.{Journal, N
 use Rattle.client_restart.specs.declared.opening.ClientOpening.{ClientOpening}
 use Rattle.client_restart.specs.Faults.{Counts, IsOkOrDiskFault}
 use Rattle.client_restart.specs.Cores.{TakesMemory}
-use Rattle.client_restart.specs.Notes.{Noted, note_record, size_of}
+use Rattle.client_core.specs.Requests.{plain_request}
+use Rattle.client_core.specs.declared.request.Request.{Request as Given}
+use Rattle.client_restart.specs.Hears.{IsTaken}
+use Rattle.client_restart.specs.Notes.{Noted, asked_note, note_record, size_of}
 use Rattle.client_restart.specs.Steps.{CoreState, step_of}
 use Rattle.client_restart.specs.Kept.{ClientState, HoldsNotes, LeavesNotes, StandsByNotes}
 
@@ -82,3 +85,9 @@ pub record KeepsNote {T : Type 0} (note : Noted) (old new : Sight) (r : Result T
 abbrev pub CallKeeps : {D T : Type 0} → (D → DiskSeen) → (D → Seen) → Noted → (old new : ClientState D)
     → Result T NoteFault → Type 0
 CallKeeps shows seen note old new r = KeepsNote note (sight shows seen old) (sight shows seen new) r
+
+-- the same of a request that the client takes
+abbrev pub KeepsIfTaken : {D T : Type 0} → (D → DiskSeen) → (D → Seen) → Given → (old new : ClientState D)
+    → Result T NoteFault → Type 0
+KeepsIfTaken shows seen request old new r =
+    IsTaken old.core (plain_request request) → CallKeeps shows seen (asked_note request) old new r

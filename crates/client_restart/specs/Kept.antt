@@ -36,7 +36,8 @@ abbrev pub HoldsNoNotes : (List ℕ → Type 0) → Type 0
 HoldsNoNotes reads = (o : ClientOpening) (notes : List Noted) (c : List ℕ) → reads c → IsClientOpening o
     → AllNotes notes → HoldsNotes o notes reads → ⊥
 
--- The disk's content is the records of an opening and of notes, and under this limit nothing of it is damaged.
+-- The disk's content is the records of an opening and of notes, and under this limit nothing of it is
+-- damaged.
 pub record HoldsWholeNotes (limit : ℕ) (reads : List ℕ → Type 0) : Type 0 where
   pub opening : ClientOpening
   pub is_opening : IsClientOpening opening

@@ -8,7 +8,8 @@ use Rattle.node_journal.specs.Journal.{JournalState, IsInPlace}
 use Rattle.node_journal.specs.declared.fault.JournalFault.TheVariants.{Damaged}
 use Rattle.client_restart.specs.declared.fault.NoteFault.{NoteFault}
 use Rattle.client_restart.specs.declared.note.Note.{Note}
-use Rattle.client_restart.specs.Cores.{TakesMemory}
+use Rattle.client_restart.specs.declared.standing.ClientCore.{ClientCore}
+use Rattle.client_restart.specs.Cores.{TakesMemory, core_in}
 use Rattle.client_restart.specs.Steps.{CoreState, step_of, fold_from}
 use Rattle.client_restart.specs.Notes.{Noted, IsNote, IsNoNote, note_record}
 use Rattle.client_restart.specs.Records.{AllNotes}
@@ -39,6 +40,10 @@ pub record StepsOnce (limit start end : ℕ) (before now : CoreState) (reads : L
   pub note : Noted
   pub stands : StandsNote limit note start end reads
   pub step : now ≡ step_of before note
+
+-- the same from where a journal stood to where it stands
+abbrev pub StepsFrom : (old new : JournalState) → (before now : ClientCore) → (List ℕ → Type 0) → Type 0
+StepsFrom old new before now reads = StepsOnce old.limit old.end new.end (core_in before) (core_in now) reads
 
 -- Notes stand from this byte to the end, and their steps were taken.
 abbrev pub StepsToEnd : ℕ → (before now : CoreState) → (List ℕ → Type 0) → Type 0

@@ -11,7 +11,7 @@ ghost use Rattle.node_journal.specs.Records.{content, GivesNoByte, IsUndamaged};
 ghost use Rattle.client_restart.specs.Cores.{ended_in};
 ghost use Rattle.client_restart.specs.Faults.{OnForeign, OnDamaged, OnNotEmpty, OnFull, OnNoMemory, OnStill, IsOfCreate, IsOfReopen, CountsFault};
 ghost use Rattle.client_restart.specs.Hears.{IsTaken, makes_step_at};
-ghost use Rattle.client_restart.specs.Notes.{FitsRecord, GivenUp, Heard, IsNote, Owned, Remark, Told, asked_note, plain_note};
+ghost use Rattle.client_restart.specs.Notes.{FitsRecord, GivenUp, Heard, IsNote, Owned, Remark, Told, plain_note};
 ghost use Rattle.client_restart.specs.Openings.{IsClientOpening};
 ghost use Rattle.client_restart.specs.Records.{IsForeign};
 ghost use Rattle.client_restart.specs.Steps.{fold};
@@ -54,7 +54,7 @@ impl<D: Disk> Model for KeptClient<D> {
 
 impl<D: Disk> KeptClient<D> {
     ghost use Rattle.client_restart.specs.Kept.{HoldsNoNotes, HoldsNotes, HoldsWholeNotes, IsDamagedBehindNotes, IsSoundFirst, IsToldBy, MakesOnly, OnDisk, StandsByNotes};
-    ghost use Rattle.client_restart.specs.Keeps.{CallKeeps};
+    ghost use Rattle.client_restart.specs.Keeps.{CallKeeps, KeepsIfTaken};
 
     /// A client before its first request, on a disk with no byte. No more than `limit` bytes of the disk will
     /// be used.
@@ -193,8 +193,7 @@ impl<D: Disk> KeptClient<D> {
         ensures taken { IfOk result
             (λ taken. OnOk taken (IsTaken self.old.core (plain_request request.now))) }
         ensures not_kept { OnErr result (IsTaken self.old.core (plain_request request.now)) }
-        ensures keeps { IsTaken self.old.core (plain_request request.now)
-            → CallKeeps D.disk D.Counted.seen (asked_note request.now) self.old self.new result }
+        ensures keeps { KeepsIfTaken D.disk D.Counted.seen request.now self.old self.new result }
         ensures stays { OnStill result (self.new ≡ self.old) }
     {
         match self.core.client.fault_at(request) {

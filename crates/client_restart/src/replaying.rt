@@ -9,7 +9,7 @@ ghost use Rattle.client_restart.specs.Kept.{IsSoundFirst};
 ghost use Rattle.client_restart.specs.Notes.{plain_note};
 ghost use Rattle.client_restart.specs.Records.{LacksOpening};
 ghost use Rattle.client_restart.specs.Faults.{IfForeign, IfDamaged, IsOfRecords, IsOfReopen, Counts};
-ghost use Rattle.client_restart.specs.Replays.{IsReadingNotes, IfNote, StandsNote, StepsOnce, StepsToEnd, StandsForeign, StandsDamaged, StandsWanting, EndsForeign, EndsDamaged, EndsWanting};
+ghost use Rattle.client_restart.specs.Replays.{IsReadingNotes, IfNote, StandsNote, StepsFrom, StepsToEnd, StandsForeign, StandsDamaged, StandsWanting, EndsForeign, EndsDamaged, EndsWanting};
 ghost use Rattle.client_restart.specs.declared.fault.NoteFault.TheVariants.{NoMemory};
 
 use crate::fault::NoteFault;
@@ -94,8 +94,8 @@ fn replay_next<D: Disk>(
 ) -> Result<bool, NoteFault>
     requires reading { IsReadingNotes journal.old.limit journal.old (D.disk disk.old) }
     requires is { IsCore core.old }
-    ensures stepped { result ≡ Ok true → StepsOnce journal.old.limit journal.old.end journal.new.end
-        (core_in core.old) (core_in core.new) (D.disk disk.old).reads }
+    ensures stepped { result ≡ Ok true
+        → StepsFrom journal.old journal.new core.old core.new (D.disk disk.old).reads }
     ensures ended { result ≡ Ok false
         → (core_in core.new ≡ core_in core.old) × (journal.new ≡ at_end journal.old) }
     ensures no_more { result ≡ Ok false → HasNoMore journal.old.end (D.disk disk.old).reads }
