@@ -10,7 +10,7 @@ use Rattle.client_core.specs.declared.progress.Progress.{Progress}
 use Rattle.client_core.specs.declared.progress.Progress.TheVariants as progress
 use Rattle.client_restart.specs.declared.fault.NoteFault.{NoteFault}
 use Rattle.client_restart.specs.declared.opening.ClientOpening.{ClientOpening}
-use Rattle.client_restart.specs.Hears.{makes_step}
+use Rattle.client_restart.specs.Hears.{makes_step, makes_step_at}
 use Rattle.client_restart.specs.Keeps.{KeepsNote, sight}
 use Rattle.client_restart.specs.Kept.{ClientState, StandsByNotes}
 use Rattle.client_restart.specs.Notes.{Heard, Noted}
@@ -25,7 +25,7 @@ use Rattle.node_client.specs.Steps.{Done, said, said_of, stop_at}
 use Rattle.kept_errands.specs.declared.halt.Halt.{Halt}
 use Rattle.kept_errands.specs.declared.halt.Halt.TheVariants as halt
 use Rattle.kept_errands.specs.Steps.{halt_at, halted, Hears, HearsBy, Talked, Stepped, NetFaultBy, DiskFaultBy}
-use Rattle.kept_errands.specs.Works.{heard}
+use Rattle.kept_errands.specs.Works.{heard, AnswersStep, HaltsAtReply, MissesReply}
 
 -- what a step's answer did, by what is told of it
 abbrev pub CameBy : Result Progress Halt → (old new : CoreState) → Result (List ℕ) Broken → Type 0
@@ -35,7 +35,7 @@ CameBy (Ok (progress.Finished o)) old new answer =
 CameBy (Ok (progress.Later refusal)) old new answer = (said old.client answer ≡ Err (stop.Later refusal)) × (new ≡ old)
 CameBy (Ok progress.Ignored) old new answer = (said old.client answer ≡ Err stop.Answer) × (new ≡ old)
 CameBy (Err (halt.Stop why)) old new answer = (said old.client answer ≡ Err why) × (new ≡ old)
-CameBy (Err (halt.Keep fault)) old new answer = new ≡ old
+CameBy (Err (halt.Keep fault)) old new answer = AnswersStep old answer × (new ≡ old)
 
 abbrev pub Comes : {D : Type 0} → (old new : ClientState D) → Result Progress Halt → Result (List ℕ) Broken → Type 0
 Comes old new result answer = CameBy result old.core new.core answer × (new.opening ≡ old.opening)
@@ -57,8 +57,10 @@ took shows counts old new bytes (Ok x) (steps.Later refusal) e is still keeps =
 took shows counts old new bytes (Ok x) steps.Ignored e is still keeps =
     let same = (still refl).1 in
     (subst (λ (y : Progress). CameBy (Ok y) old.core new.core (Ok bytes)) (sym is) (ap said_of e, ap (λ k. k.core) same), ap (λ k. k.opening) same)
-took shows counts old new bytes (Err fault) steps.Next e is still keeps = let k = keeps refl in (k.no_step, k.opening)
-took shows counts old new bytes (Err fault) (steps.Finished outcome) e is still keeps = let k = keeps refl in (k.no_step, k.opening)
+took shows counts old new bytes (Err fault) steps.Next e is still keeps =
+    let k = keeps refl in ((ap (λ (p : steps.Progress). makes_step (progress_in p)) e, k.no_step), k.opening)
+took shows counts old new bytes (Err fault) (steps.Finished outcome) e is still keeps =
+    let k = keeps refl in ((ap (λ (p : steps.Progress). makes_step (progress_in p)) e, k.no_step), k.opening)
 took shows counts old new bytes (Err fault) (steps.Later refusal) e is still keeps = absurd (cc (still refl).0)
 took shows counts old new bytes (Err fault) steps.Ignored e is still keeps = absurd (cc (still refl).0)
 
@@ -70,6 +72,34 @@ comes shows counts old new result (Ok bytes) h =
 comes shows counts old new result (Err why) (same, told) =
     subst (λ (r : Result Progress Halt). Comes old new r (Err why)) (sym told)
     ((refl, ap (λ k. k.core) same), ap (λ k. k.opening) same)
+
+-- ---- a note that the disk doesn't take
+
+misses : {D : Type 0} (shows : D → DiskSeen) (counts : D → Seen) (old new : ClientState D) (bytes : List ℕ) (kept : Result Progress NoteFault) (fault : NoteFault) (b : Bool)
+    → makes_step_at old.core bytes ≡ b → Err (halt.Keep fault) ≡ halted kept
+    → (b ≡ false → IsOk kept × (new ≡ old)) → (b ≡ true → KeepsNote (Heard bytes) (sight shows counts old) (sight shows counts new) kept)
+    → MissesReply shows counts new fault
+misses shows counts old new bytes (Ok p) fault b e told still keeps = absurd (cc told)
+misses shows counts old new bytes (Err f) fault false e told still keeps = absurd (cc (still refl).0)
+misses shows counts old new bytes (Err f) fault true e told still keeps =
+    let same : f ≡ fault = cc told in
+    record {
+      last = old;
+      bytes = bytes;
+      step = e;
+      keeps = subst (λ (x : NoteFault). KeepsNote {T = Progress} (Heard bytes) (sight shows counts old) (sight shows counts new) (Err x)) same (keeps refl);
+    }
+
+missed : {D : Type 0} (shows : D → DiskSeen) (counts : D → Seen) (old new : ClientState D) (fault : NoteFault) (answer : Result (List ℕ) Broken)
+    → HearsBy shows counts answer old new (Err (halt.Keep fault)) → MissesReply shows counts new fault
+missed shows counts old new fault (Ok bytes) h = misses shows counts old new bytes h.kept fault _ refl h.told h.no_step h.keeps
+missed shows counts old new fault (Err why) (same, told) = absurd (cc told)
+
+-- where a step halts the work at a note, this is one that the disk doesn't take
+pub halts_at : {D : Type 0} (shows : D → DiskSeen) (counts : D → Seen) (old new : ClientState D) (why : Halt) (answer : Result (List ℕ) Broken)
+    → HearsBy shows counts answer old new (Err why) → HaltsAtReply shows counts new why
+halts_at shows counts old new (halt.Keep fault) answer h = missed shows counts old new fault answer h
+halts_at shows counts old new (halt.Stop why) answer h = tt
 
 -- ---- a step on a net
 

@@ -23,7 +23,7 @@ use Rattle.node_client.proofs.TurnLaws.{steps_left}
 use Rattle.kept_errands.specs.declared.halt.Halt.{Halt}
 use Rattle.kept_errands.specs.declared.halt.Halt.TheVariants as halt
 use Rattle.kept_errands.specs.Steps.{Stepped}
-use Rattle.kept_errands.specs.Works.{heard, GoesOn, none, then, EndsBy, Works, WorkedOff, IsEnded}
+use Rattle.kept_errands.specs.Works.{heard, GoesOn, none, then, EndsBy, Works, WorkedOff, IsEnded, AnswersStep}
 use Rattle.kept_errands.proofs.OnwardLaws.{Onward, onward, goes_on, nearer, ends, step_sends, sends_busy}
 use Rattle.kept_errands.proofs.StepLaws.{CameBy, comes}
 
@@ -144,4 +144,4 @@ halts_so peers shows counts start old new (halt.Keep fault) a b c s t =
     let came = comes shows counts old new (Err (halt.Keep fault)) t.answer t.hears in
     let talk = t.talked.talk in
     stopped peers start old new _ a b c s talk t.talked.is_step (talks_more peers s.made talk a b c s.calls t.talked.calls)
-    came.0 came.0 came.1
+    (subst (AnswersStep old.core) (sym t.talked.answered) came.0.0, came.0.1) came.0.1 came.1

@@ -1,11 +1,19 @@
 -- A request of a client that remembers, worked off step by step.
-use Rattle.std.specs.Prelude.{◌≡◌, ℕ, List, [], ◌∷◌, ◌++◌, Option, Some, None, Result, Ok, Err}
+use Rattle.std.specs.Prelude.{◌≡◌, ℕ, true, List, [], ◌∷◌, ◌++◌, Option, Some, None, Result, Ok, Err}
 use Rattle.express_words.specs.Calls.{Call}
+use Rattle.express_words.specs.Seen.{Seen}
 use Rattle.step_rules.specs.Client.{Client, Current, Outcome}
+use Rattle.client_core.specs.declared.progress.Progress.{Progress}
+use Rattle.client_restart.specs.declared.fault.NoteFault.{NoteFault}
+use Rattle.client_restart.specs.Hears.{makes_step_at}
+use Rattle.client_restart.specs.Keeps.{CallKeeps}
+use Rattle.client_restart.specs.Kept.{ClientState}
+use Rattle.client_restart.specs.Notes.{Heard}
 use Rattle.client_restart.specs.Steps as kept
 use Rattle.client_restart.specs.Steps.{CoreState, boxes_with, ended}
 use Rattle.step_rules.specs.Client as steps
 use Rattle.node_exchange.specs.declared.exchanging.Broken.{Broken}
+use Rattle.node_journal.specs.Disk.{DiskSeen}
 use Rattle.node_client.specs.declared.peers.Peers.{Peers}
 use Rattle.node_client.specs.Steps.{Ending, Done, IsStep, said}
 use Rattle.node_client.specs.Talks.{Talk, TalksOn}
@@ -24,13 +32,31 @@ pub data GoesOn (start : CoreState) : CoreState → List Talk → Type 0 where
       GoesOn start k made → IsStep k.client t → said k.client t.exchange.answer ≡ Ok None →
       GoesOn start (heard k t.exchange.answer) (made ++ t ∷ [])
 
--- The last step ended the request, or had no answer that ends it. Or its reply isn't on the disk: then it
--- wasn't heard.
+-- a reply came, and it makes a step
+abbrev pub AnswersStep : CoreState → Result (List ℕ) Broken → Type 0
+AnswersStep k (Ok bytes) = makes_step_at k bytes ≡ true
+AnswersStep k (Err why) = ⊥
+
+-- The last step ended the request, or had no answer that ends it. Or it was answered by a reply that makes a
+-- step and isn't on the disk: then it wasn't heard.
 abbrev pub EndsBy : (last new : CoreState) → Result (List ℕ) Broken → Result Unit Halt → Type 0
 EndsBy last new answer (Ok done) =
     ((outcome : Outcome) × (said last.client answer ≡ Ok (Some (Done outcome)))) × (new ≡ heard last answer)
 EndsBy last new answer (Err (halt.Stop why)) = (said last.client answer ≡ Err why) × (new ≡ last)
-EndsBy last new answer (Err (halt.Keep fault)) = new ≡ last
+EndsBy last new answer (Err (halt.Keep fault)) = AnswersStep last answer × (new ≡ last)
+
+-- A reply that makes a step was to be noted, and this is the fault of it.
+pub record MissesReply {D : Type 0} (shows : D → DiskSeen) (counts : D → Seen) (new : ClientState D)
+    (fault : NoteFault) : Type 0 where
+  pub last : ClientState D
+  pub bytes : List ℕ
+  pub step : makes_step_at last.core bytes ≡ true
+  pub keeps : CallKeeps {T = Progress} shows counts (Heard bytes) last new (Err fault)
+
+-- so it is, where a note is what halts the work
+abbrev pub HaltsAtReply : {D : Type 0} → (D → DiskSeen) → (D → Seen) → ClientState D → Halt → Type 0
+HaltsAtReply shows counts new (halt.Keep fault) = MissesReply shows counts new fault
+HaltsAtReply shows counts new (halt.Stop why) = Unit {0}
 
 -- the steps of a request, up to the one that ended it or halted the work
 pub record Works (start new : CoreState) (made : List Talk) (result : Result Unit Halt) : Type 0 where

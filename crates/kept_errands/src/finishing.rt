@@ -1,9 +1,9 @@
 //! A request, worked off to its end.
-ghost use Rattle.std.specs.Prelude.{◌≡◌, ◌≢◌, None, false, OnOk};
+ghost use Rattle.std.specs.Prelude.{◌≡◌, ◌≢◌, None, false, IfErr, OnOk};
 ghost use Rattle.client_restart.specs.Kept.{StandsByNotes};
 ghost use Rattle.node_exchange.specs.Exchanging.{EarlyAtEnd};
 ghost use Rattle.kept_errands.specs.Steps.{DiskFaultBy, NetFaultBy};
-ghost use Rattle.kept_errands.specs.Works.{IsEnded, WorkedOff};
+ghost use Rattle.kept_errands.specs.Works.{HaltsAtReply, IsEnded, WorkedOff};
 
 use crate::halt::Halt;
 use crate::stepping::one_step;
@@ -23,6 +23,7 @@ pub fn finish<D: Disk, N: Net>(
     requires busy { client.old.core.client.current ≢ None }
     ensures works { WorkedOff peers.now client.old.core client.new.core result
         (N.seen net.old).calls (N.seen net.new).calls }
+    ensures keeps { IfErr result (HaltsAtReply D.disk D.Counted.seen client.new) }
     ensures ended { OnOk result (IsEnded client.old.core client.new.core) }
     ensures remarks { client.new.core.remarks ≡ client.old.core.remarks }
     ensures opening { client.new.opening ≡ client.old.opening }

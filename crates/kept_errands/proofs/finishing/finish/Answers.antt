@@ -1,6 +1,6 @@
 use Rattle.std.proofs.Common.{refl, ◌∙◌}
 use Rattle.client_core.specs.declared.progress.Progress.{Progress}
-use Rattle.kept_errands.proofs.StepLaws.{net_from, disk_from}
+use Rattle.kept_errands.proofs.StepLaws.{halts_at, net_from, disk_from}
 use Rattle.kept_errands.proofs.WorkLaws.{standing, stands_more, ends_so, later_so, ignored_so, halts_so}
 use Rattle.kept_errands.proofs.finishing.finish.Goals as goal
 
@@ -77,6 +77,10 @@ returns-in-Ok-Ignored-clause-opening g c =
 pub returns-in-Err-clause-works : goal.returns-in-Err-clause-works
 returns-in-Err-clause-works g c =
     (halts_so _ g.D.Disk.disk g.D.Counted.seen _ _ _ _ _ _ _ c.steps.invariant.stands c.in-Err.ensures.step).worked
+
+pub returns-in-Err-clause-keeps : goal.returns-in-Err-clause-keeps
+returns-in-Err-clause-keeps g c =
+    let t = c.in-Err.ensures.step in halts_at g.D.Disk.disk g.D.Counted.seen _ _ _ t.answer t.hears
 
 pub returns-in-Err-clause-remarks : goal.returns-in-Err-clause-remarks
 returns-in-Err-clause-remarks g c =
