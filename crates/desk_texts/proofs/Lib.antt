@@ -7,5 +7,6 @@ mod LoopLaws
 mod PlaceLaws
 mod PrintLaws
 mod SheetLaws
+mod SizeLaws
 mod TextLaws
 mod TrimLaws

@@ -123,9 +123,10 @@ fn text_of(alloc: Global, sheet: &Sheet) -> Result<Vec<u8>, NoMemory>
     Ok(text)
 }
 
-/// The text of a sheet. Where the sheet keeps its rules, reading the text gives it again.
+/// The text of a sheet. Where the sheet keeps its rules, reading the text gives it again, and it has 4,096 bytes at most.
 pub fn print(alloc: Global, sheet: &Sheet) -> Result<Vec<u8>, NoMemory>
     ensures text { IfOk result (λ text. text.items ≡ printed sheet.now) }
+    ensures few { IsSheet sheet.now → IfOk result (λ text. length text.items ≤ 4096) }
     ensures again { IsSheet sheet.now → IfOk result (λ text. sheet_of (lines_in text.items) ≡ Ok sheet.now) }
 {
     let text = text_of(alloc, sheet)?;
