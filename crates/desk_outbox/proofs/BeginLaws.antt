@@ -1,5 +1,5 @@
 -- A try that begins.
-use Rattle.std.proofs.Common.{◌≡◌, ◌^◌, ℕ, Bool, true, false, List, [], ◌∷◌, ◌++◌, Option, Some, None, Result, Ok, Err, refl, sym, ap, ◌∙◌, subst, length}
+use Rattle.std.proofs.Common.{◌≡◌, ◌^◌, ℕ, Bool, true, false, List, Option, Some, None, Result, Ok, Err, refl, sym, ap, ◌∙◌, subst, length}
 use Rattle.std.proofs.lemmas.Bool.{lt-leb, eq-eqb}
 use Rattle.std.specs.Prelude.{nat_le, ◌==◌, cond, slice_get, IsOk}
 use Rattle.express_words.specs.Seen.{Seen}
@@ -10,15 +10,14 @@ use Rattle.step_rules.specs.ClientAsks.{asked_with, fault_at, own_fault, with_re
 use Rattle.client_restart.specs.declared.opening.ClientOpening.{ClientOpening}
 use Rattle.client_restart.specs.Keeps.{KeepsNote, sight}
 use Rattle.client_restart.specs.Kept.{HoldsNotes, ClientState}
-use Rattle.client_restart.specs.Notes.{Asked, Noted, Remark}
+use Rattle.client_restart.specs.Notes.{Asked}
 use Rattle.client_restart.specs.Openings.{IsClientOpening}
 use Rattle.client_restart.specs.Steps.{CoreState, client_or, fold, opened, step_of}
 use Rattle.node_journal.specs.Disk.{DiskSeen}
 use Rattle.desk_texts.specs.declared.sheet.Sheet.{Sheet}
-use Rattle.desk_texts.specs.Printing.{printed}
-use Rattle.desk_outbox.specs.Begun.{IsBegun, IsNoted}
+use Rattle.desk_outbox.specs.Begun.{HasNoted, IsBegun, IsNoted, front_notes}
 use Rattle.desk_outbox.specs.Outboxes.{IsTry}
-use Rattle.desk_outbox.specs.Places.{address_at, place_record}
+use Rattle.desk_outbox.specs.Places.{address_at}
 use Rattle.desk_outbox.specs.Trying.{Begins, begun_notes}
 use Rattle.desk_outbox.specs.declared.place.Place.{Place}
 
@@ -56,52 +55,28 @@ never_refused o target message c f is fit same e =
     no_fault (opened o).client (Write target message) f (opened_asks o target message is fit)
     (ap (λ (x : Client). asks.asked x (Write target message)) (sym same) ∙ e)
 
--- ---- three notes
+-- ---- the last note
 
-record Behind {D : Type 0} (shows : D → DiskSeen) (o : ClientOpening) (notes : List Noted) (k : ClientState D) : Type 0 where
-  opening : k.opening ≡ o
-  core : k.core ≡ fold o notes
-  held : HoldsNotes o notes (shows k.disk).reads
+pub front_client : {D : Type 0} (shows : D → DiskSeen) (o : ClientOpening) (card : Sheet) (place : Place) (most : ℕ) (k : ClientState D)
+    → HasNoted shows o (front_notes card place) most k → k.core.client ≡ (opened o).client
+front_client shows o card place most k has = ap (λ (c : CoreState). c.client) has.core
 
-one_more : {D T : Type 0} (shows : D → DiskSeen) (counts : D → Seen) (o : ClientOpening) (notes : List Noted) (n : Noted) (old new : ClientState D) (x : T)
-    → ((k : CoreState) → k ≡ fold o notes → step_of k n ≡ fold o (notes ++ n ∷ [])) → Behind shows o notes old
-    → KeepsNote {T = T} n (sight shows counts old) (sight shows counts new) (Ok x) → Behind shows o (notes ++ n ∷ []) new
-one_more shows counts o notes n old new x folds b keeps = record {
-  opening = keeps.opening ∙ b.opening;
-  core = keeps.step ∙ folds old.core b.core;
-  held = subst (λ (w : ClientOpening). HoldsNotes w notes (shows old.disk).reads → HoldsNotes w (notes ++ n ∷ []) (shows new.disk).reads) b.opening (keeps.added notes) b.held;
-}
-
-pub remarked_client : {D T : Type 0} (shows : D → DiskSeen) (counts : D → Seen) (words : List ℕ) (old new : ClientState D) (x : T)
-    → KeepsNote {T = T} (Remark words) (sight shows counts old) (sight shows counts new) (Ok x) → new.core.client ≡ old.core.client
-remarked_client shows counts words old new x keeps = ap (λ (k : CoreState). k.client) keeps.step
-
-pub noted : {D T U V : Type 0} (shows : D → DiskSeen) (counts : D → Seen) (card : Sheet) (place : Place) (o : ClientOpening) (target : ℕ) (message text words : List ℕ)
-    (k0 k1 k2 k3 : ClientState D) (x : T) (y : U) (z : V) → IsBegun card place o message → text ≡ printed card → words ≡ place_record place
-    → k0.opening ≡ o → k0.core ≡ fold o [] → HoldsNotes o [] (shows k0.disk).reads
-    → KeepsNote {T = T} (Remark text) (sight shows counts k0) (sight shows counts k1) (Ok x)
-    → KeepsNote {T = U} (Remark words) (sight shows counts k1) (sight shows counts k2) (Ok y)
+pub noted : {D V : Type 0} (shows : D → DiskSeen) (counts : D → Seen) (card : Sheet) (place : Place) (o : ClientOpening) (target : ℕ) (message : List ℕ) (most : ℕ)
+    (k2 k3 : ClientState D) (z : V) → IsBegun card place o message → HasNoted shows o (front_notes card place) most k2
     → KeepsNote {T = V} (Asked (Write target message)) (sight shows counts k2) (sight shows counts k3) (Ok z)
     → slice_get card.addresses (address_at (length card.addresses) place) ≡ Some target
     → IsNoted shows card place o message k3
-noted {D} {T} {U} {V} shows counts card place o target message text words k0 k1 k2 k3 x y z begun text_is words_is opening core held first second third there =
-    let a : KeepsNote {T = T} (Remark (printed card)) (sight shows counts k0) (sight shows counts k1) (Ok x)
-    = subst (λ (t : List ℕ). KeepsNote {T = T} (Remark t) (sight shows counts k0) (sight shows counts k1) (Ok x)) text_is first in
-    let b : KeepsNote {T = U} (Remark (place_record place)) (sight shows counts k1) (sight shows counts k2) (Ok y)
-    = subst (λ (t : List ℕ). KeepsNote {T = U} (Remark t) (sight shows counts k1) (sight shows counts k2) (Ok y)) words_is second in
-    let b0 : Behind shows o [] k0 = record { opening = opening; core = core; held = held } in
-    let b1 = one_more shows counts o [] (Remark (printed card)) k0 k1 x (λ k e. ap (λ (c : CoreState). step_of c (Remark (printed card))) e) b0 a in
-    let b2 = one_more shows counts o (Remark (printed card) ∷ []) (Remark (place_record place)) k1 k2 y (λ k e. ap (λ (c : CoreState). step_of c (Remark (place_record place))) e) b1 b in
-    let b3 = one_more shows counts o (Remark (printed card) ∷ Remark (place_record place) ∷ []) (Asked (Write target message)) k2 k3 z
-    (λ k e. ap (λ (c : CoreState). step_of c (Asked (Write target message))) e) b2 third in
+noted {D} {V} shows counts card place o target message most k2 k3 z begun has third there =
+    let core : k3.core ≡ fold o (begun_notes card place target message)
+    = third.step ∙ ap (λ (c : CoreState). step_of c (Asked (Write target message))) has.core in
     let current : k3.core.client.current ≡ Some (record { request = Write target message; step = Deposits })
-    = ap (λ (k : CoreState). k.client.current) b3.core ∙ asked_write (opened o).client (Write target message) (opened_asks o target message begun.is_opening begun.fits) in
+    = ap (λ (k : CoreState). k.client.current) core ∙ asked_write (opened o).client (Write target message) (opened_asks o target message begun.is_opening begun.fits) in
     record {
-      opening = b3.opening;
+      opening = third.opening ∙ has.opening;
       target = target;
       there = there;
-      core = b3.core;
-      held = b3.held;
+      core = core;
+      held = subst (λ (w : ClientOpening). HoldsNotes w (front_notes card place) (shows k2.disk).reads → HoldsNotes w (begun_notes card place target message) (shows k3.disk).reads) has.opening (third.added (front_notes card place)) has.held;
       write = record { target = target; message = message; step = Deposits; is = current; fits = begun.fits };
     }
 

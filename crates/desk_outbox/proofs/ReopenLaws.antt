@@ -4,11 +4,13 @@ use Rattle.std.specs.Prelude.{IfOk, IfErr}
 use Rattle.step_rules.specs.Client.{Current}
 use Rattle.std.specs.Prelude.{Option, Some}
 use Rattle.mailbox_rules.specs.Requests.{Write}
+use Rattle.node_journal.specs.Disk.{DiskSeen, IsUntouched}
+use Rattle.node_journal.specs.Records.{IsUndamaged}
 use Rattle.client_restart.specs.declared.fault.NoteFault.{NoteFault}
 use Rattle.client_restart.specs.declared.fault.NoteFault.TheVariants.{Foreign, Journal, NoMemory}
 use Rattle.client_restart.specs.declared.opening.ClientOpening.{ClientOpening}
-use Rattle.client_restart.specs.Faults.{CountsFault, IsNoMemoryOrForeign, OnForeign}
-use Rattle.client_restart.specs.Kept.{HoldsNotes}
+use Rattle.client_restart.specs.Faults.{CountsFault, IsNoMemoryOrForeign, OnForeign, OnNoMemory}
+use Rattle.client_restart.specs.Kept.{HoldsNotes, HoldsWholeNotes, StandsByNotes}
 use Rattle.client_restart.specs.Notes.{Noted}
 use Rattle.client_restart.specs.Openings.{IsClientOpening}
 use Rattle.client_restart.specs.Records.{AllNotes}
@@ -128,3 +130,25 @@ pub still_counts : (f : NoteFault) (before now : ℕ) → IsNoMemoryOrForeign f 
 still_counts NoMemory before now of same = same
 still_counts (Foreign n) before now of same = same
 still_counts (Journal why) before now of same = absurd of
+
+-- ---- a want of memory
+
+pub whole_notes : (limit : ℕ) (o : ClientOpening) (k : CoreState) (before now : DiskSeen) → IsClientOpening o → StandsByNotes o k before.reads
+    → ((c : List ℕ) → now.reads c → IsUndamaged limit 0 c) → IsUntouched before now → HoldsWholeNotes limit before.reads
+whole_notes limit o k before now is stands sound same = record {
+  opening = o;
+  is_opening = is;
+  notes = stands.notes;
+  whole = stands.whole;
+  held = stands.held;
+  undamaged = λ c read. sound c (same.still c read);
+}
+
+on_memory : (P : Type 0) (f : NoteFault) → P → OnNoMemory f P
+on_memory P NoMemory is = is
+on_memory P (Foreign n) is = tt
+on_memory P (Journal why) is = tt
+
+pub wants_memory : {X D : Type 0} (r : Result X (NoteFault × D)) (P : Type 0) → P → IfErr r (λ x. OnNoMemory x.0 P)
+wants_memory (Ok x) P is = tt
+wants_memory (Err x) P is = on_memory P x.0 is

@@ -1,5 +1,6 @@
 -- What is drawn for a try, one draw behind the other.
-use Rattle.std.specs.Prelude.{◌≡◌, ◌≢◌, ◌<◌, ◌==◌, nat_lt, if◌then◌else◌, ℕ, ◌+◌, ◌-◌, ◌%◌, ◌^◌, List, max, Option, Some, None}
+use Rattle.std.specs.Prelude.{◌≡◌, ◌≢◌, ◌<◌, ◌==◌, nat_lt, if◌then◌else◌, ℕ, ◌+◌, ◌-◌, ◌%◌, ◌^◌, max}
+use Rattle.std.specs.Prelude.{List, Option, Some, None}
 use Rattle.rand_core.specs.Stream.{Stream, fill_bytes, next_u32, next_u64}
 use Rattle.client_restart.specs.declared.opening.ClientOpening.{ClientOpening}
 use Rattle.express_words.specs.declared.refusal.Refusal.TheVariants as refusal
@@ -33,6 +34,10 @@ serial_in s = 1 + (next_u32 (behind next_u64 s)).0 % 2 ^ 16
 
 abbrev pub behind_letter : Stream → Stream
 behind_letter s = behind next_u64 (behind next_u64 (behind_seed s))
+
+-- what is left once a lane and serial are drawn too
+abbrev pub behind_first : Stream → Stream
+behind_first s = behind next_u32 (behind next_u64 (behind_letter s))
 
 -- how a first try's client is opened
 abbrev pub first_opening : CardHead → Stream → ClientOpening
@@ -74,11 +79,30 @@ abbrev pub same_in : CardHead → (last known : ℕ) → Stream → Option (ℕ 
 same_in h last known s = if nat_lt (known + short_in s) (2 ^ 32) then Some (last, known + short_in s)
     else other_in h last (behind next_u32 s)
 
--- The lane and serial that are drawn behind a try of this lane and serial, whose last answer named a serial or none.
+-- The lane and serial that are drawn behind a try of this lane and serial, whose last answer named a serial or
+-- none.
 abbrev pub next_in : CardHead → (last serial : ℕ) → Option ℕ → Stream → Option (ℕ × ℕ)
 next_in h last serial named s = if next_lane_in h last named s == last
     then same_in h last (known_of serial named) (behind next_u64 s)
     else Some (next_lane_in h last named s, short_in (behind next_u64 s))
+
+-- ---- what is left behind them
+
+abbrev pub behind_other : CardHead → (last : ℕ) → Stream → Stream
+behind_other h last s = if other_lane h.from h.to last (next_u64 s).0 == last then behind next_u64 s
+    else behind next_u32 (behind next_u64 s)
+
+abbrev pub behind_same : CardHead → (last known : ℕ) → Stream → Stream
+behind_same h last known s = if nat_lt (known + short_in s) (2 ^ 32) then behind next_u32 s
+    else behind_other h last (behind next_u32 s)
+
+-- A lane and a serial were drawn, and where none was left on the lane another lane.
+abbrev pub behind_next : CardHead → (last serial : ℕ) → Option ℕ → Stream → Stream
+behind_next h last serial named s = if next_lane_in h last named s == last
+    then behind_same h last (known_of serial named) (behind next_u64 s)
+    else behind next_u32 (behind next_u64 s)
+
+-- ---- what is known of them
 
 -- Behind a try of this lane and serial, whose last answer named a serial or none: on the same lane the next
 -- serial is above all that are known. Where none was named it is another lane, if there is one.

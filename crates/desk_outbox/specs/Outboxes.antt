@@ -1,5 +1,5 @@
 -- A try, and its card.
-use Rattle.std.specs.Prelude.{◌≡◌, ◌<◌, ◌≤◌, ℕ, List, [], Option, Some, None, length}
+use Rattle.std.specs.Prelude.{◌≡◌, ◌<◌, ◌≤◌, ℕ, List, [], Option, Some, None, length, Result, MatchResult}
 use Rattle.mailbox_rules.specs.Requests.{Request, Register, Write, Read, Retire}
 use Rattle.step_rules.specs.Client.{Current, Step}
 use Rattle.client_restart.specs.declared.opening.ClientOpening.{ClientOpening}
@@ -15,6 +15,10 @@ pub record OutboxState (D : Type 0) : Type 0 where
   pub kept : ClientState D
   pub card : Sheet
   pub place : Place
+
+-- P of the disk that comes back, in a try or beside a fault
+abbrev pub OnDisk : {D E : Type 0} → Result (OutboxState D) (E × D) → (D → Type 0) → Type 0
+OnDisk result P = MatchResult result (λ o. P o.kept.disk) (λ x. P x.1)
 
 -- a card and no pair file
 pub record IsCardSheet (s : Sheet) : Type 0 where

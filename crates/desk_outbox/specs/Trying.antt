@@ -1,5 +1,5 @@
 -- How a try begins.
-use Rattle.std.specs.Prelude.{◌≡◌, ◌≤◌, ◌≢◌, ℕ, List, [], ◌∷◌, Option, Some, length, slice_get}
+use Rattle.std.specs.Prelude.{◌≡◌, ◌≤◌, ◌≢◌, ℕ, List, [], ◌∷◌, Option, Some, None, length, slice_get}
 use Rattle.mailbox_rules.specs.Requests.{Write}
 use Rattle.node_journal.specs.Disk.{DiskSeen}
 use Rattle.client_restart.specs.Kept.{HoldsNotes}
@@ -10,8 +10,10 @@ use Rattle.desk_letters.specs.Opening.{fault_of}
 use Rattle.desk_texts.specs.declared.sheet.CardHead.{CardHead}
 use Rattle.desk_texts.specs.declared.sheet.Sheet.{Sheet}
 use Rattle.desk_texts.specs.Printing.{printed}
-use Rattle.rand_core.specs.Stream.{Stream}
-use Rattle.desk_outbox.specs.Drawing.{behind_seed, first_in, first_opening, id_in, next_in, seed_in, Follows}
+use Rattle.rand_core.specs.Stream.{Stream, next_u64}
+use Rattle.desk_draws.specs.Streams.{behind}
+use Rattle.desk_outbox.specs.Drawing.{behind_first, behind_next, behind_seed, first_in, first_opening, id_in}
+use Rattle.desk_outbox.specs.Drawing.{next_in, seed_in, Follows}
 use Rattle.desk_outbox.specs.Outboxes.{OutboxState, message_in}
 use Rattle.desk_outbox.specs.Places.{address_at, first_place, next_place, place_record}
 use Rattle.desk_outbox.specs.declared.fault.StartFault.{StartFault}
@@ -55,12 +57,27 @@ OnLetter other width text P = Unit {0}
 abbrev pub IsOfStart : StartFault → Type 0
 IsOfStart why = why ≢ fault.Spent
 
+-- what is left of the draws, where it isn't begun: of a text that makes no letter but a seed and an id were drawn
+abbrev pub left_by : StartFault → Stream → Stream
+left_by (fault.Letter why) s = behind next_u64 (behind_seed s)
+left_by fault.Spent s = behind_first s
+left_by (fault.Keep why) s = behind_first s
+
 -- ---- a next try
 
 -- the lane and serial that are drawn for it, behind its seed
 abbrev pub drawn_for : {D : Type 0} → CardHead → OutboxState D → Stream → Option (ℕ × ℕ)
 drawn_for h old s =
     next_in h old.kept.opening.lane old.kept.opening.first_serial old.place.named (behind_seed s)
+
+-- what is left behind these
+abbrev pub left_for : {D : Type 0} → CardHead → OutboxState D → Stream → Stream
+left_for h old s =
+    behind_next h old.kept.opening.lane old.kept.opening.first_serial old.place.named (behind_seed s)
+
+-- no lane and serial are left
+abbrev pub OnSpent : {D : Type 0} → CardHead → OutboxState D → Stream → StartFault → Type 0
+OnSpent h old s why = why ≡ fault.Spent → drawn_for h old s ≡ None
 
 -- the same bytes at the place's address, under a fresh seed, on a lane and serial that no try before had
 pub record Retries {D E : Type 0} (shows : E → DiskSeen) (h : CardHead) (old : OutboxState D) (s : Stream)

@@ -1,9 +1,9 @@
 //! The lane and the first serial of a try.
 ghost use Rattle.std.specs.Prelude.{◌≡◌, ◌≢◌, ◌≤◌, ◌<◌, ◌+◌, ◌%◌, ◌^◌, IfSome, None};
-ghost use Rattle.rand_core.specs.Stream.{next_u32};
+ghost use Rattle.rand_core.specs.Stream.{next_u32, next_u64};
 ghost use Rattle.desk_draws.specs.Streams.{behind, stream_from};
 ghost use Rattle.desk_texts.specs.Spelling.{IsCard};
-ghost use Rattle.desk_outbox.specs.Drawing.{known_of, lane_in, next_in, other_in, serial_in, short_in};
+ghost use Rattle.desk_outbox.specs.Drawing.{behind_next, behind_other, known_of, lane_in, next_in, other_in, serial_in, short_in};
 
 use desk_draws::Draws;
 use desk_texts::CardHead;
@@ -13,6 +13,7 @@ use express_words::Refusal;
 // A serial on a lane of which none is known.
 fn first_serial(draws: &mut Draws) -> u32
     ensures value { result ≡ short_in (stream_from draws.old) }
+    ensures behind { stream_from draws.new ≡ behind next_u32 (stream_from draws.old) }
     ensures least { 1 ≤ result }
 {
     match serial_above(0, draws.short()) {
@@ -26,6 +27,7 @@ pub fn first_lane(head: &CardHead, draws: &mut Draws) -> (u16, u32)
     requires { IsCard head.now }
     ensures lane { result.0 ≡ lane_in head.now (stream_from draws.old) }
     ensures serial { result.1 ≡ serial_in (stream_from draws.old) }
+    ensures behind { stream_from draws.new ≡ behind next_u32 (behind next_u64 (stream_from draws.old)) }
     ensures from { head.now.from ≤ result.0 }
     ensures to { result.0 ≤ head.now.to }
     ensures least { 1 ≤ result.1 }
@@ -39,6 +41,7 @@ fn other_lane(head: &CardHead, last: u16, draws: &mut Draws) -> Option<(u16, u32
     requires from { head.now.from ≤ last }
     requires to { last ≤ head.now.to }
     ensures value { result ≡ other_in head.now last (stream_from draws.old) }
+    ensures behind { stream_from draws.new ≡ behind_other head.now last (stream_from draws.old) }
     ensures lane { IfSome result (λ r. (head.now.from ≤ r.0) × (r.0 ≤ head.now.to)) }
     ensures serial { IfSome result (λ r. 1 ≤ r.1) }
     ensures other { IfSome result (λ r. r.0 ≢ last) }
@@ -62,6 +65,7 @@ pub fn next_lane_and_serial(
     requires from { head.now.from ≤ last }
     requires to { last ≤ head.now.to }
     ensures value { result ≡ next_in head.now last serial named (stream_from draws.old) }
+    ensures behind { stream_from draws.new ≡ behind_next head.now last serial named (stream_from draws.old) }
     ensures lane { IfSome result (λ r. (head.now.from ≤ r.0) × (r.0 ≤ head.now.to)) }
     ensures serial { IfSome result (λ r. 1 ≤ r.1) }
     ensures above { IfSome result (λ r. r.0 ≡ last → known_of serial named < r.1) }

@@ -2,8 +2,8 @@
 ghost use Rattle.std.specs.Prelude.{◌≡◌, ◌≢◌, ◌≤◌, ◌↔◌, ℕ, List, None, IfOk, IfErr, IfSome, IsTrue, length, map};
 ghost use Rattle.node_journal.specs.Disk.{IsUntouched};
 ghost use Rattle.node_journal.specs.Records.{IsUndamaged};
-ghost use Rattle.client_restart.specs.Faults.{CountsFault, IsNoMemoryOrForeign, IsOfReopen, OnDamaged, OnForeign};
-ghost use Rattle.client_restart.specs.Kept.{StandsByNotes};
+ghost use Rattle.client_restart.specs.Faults.{CountsFault, IsNoMemoryOrForeign, IsOfReopen, OnDamaged, OnForeign, OnNoMemory};
+ghost use Rattle.client_restart.specs.Kept.{HoldsWholeNotes, StandsByNotes};
 ghost use Rattle.client_restart.specs.Openings.{IsClientOpening};
 ghost use Rattle.client_restart.specs.declared.fault.NoteFault.TheVariants.{NoMemory};
 ghost use Rattle.desk_texts.specs.Spelling.{IsSheet, SpellsSheet};
@@ -154,6 +154,9 @@ impl<D: Disk> Outbox<D> {
         ensures foreign { IfErr result (λ x. OnForeign x.0 (λ n. HoldsOnly IsNoWhole (D.disk disk).reads)) }
         ensures damaged { IfErr result (λ x. OnDamaged x.0 (λ n. (c : List ℕ) → (D.disk disk).reads c
             → IsUndamaged 65536 0 c → ⊥)) }
+        // A want of memory hides nothing that is wrong with the records.
+        ensures no_memory { IfErr result
+            (λ x. OnNoMemory x.0 (HoldsWholeNotes 65536 (D.disk disk).reads)) }
         ensures cause { IfErr result (λ x. IsOfReopen x.0) }
         ensures untouched_whole { IfOk result
             (IfWhole (λ o. IsUntouched (D.disk disk) (D.disk o.kept.disk))) }

@@ -1,18 +1,17 @@
 //! How a try begins.
-ghost use Rattle.std.specs.Prelude.{◌≡◌, ◌≢◌, ◌≤◌, [], None, Some, IfOk, IfErr, IfSome, OnOk, length, slice_get};
-ghost use Rattle.client_restart.specs.Kept.{HoldsNotes};
-ghost use Rattle.client_restart.specs.Openings.{IsClientOpening};
-ghost use Rattle.client_restart.specs.Steps.{fold};
+ghost use Rattle.std.specs.Prelude.{◌≡◌, ◌≤◌, [], Some, IfOk, IfErr, OnOk, length, slice_get};
+ghost use Rattle.node_journal.specs.Records.{GivesNoByte};
+ghost use Rattle.client_restart.specs.Faults.{Counts, CountsFault};
 ghost use Rattle.desk_draws.specs.Streams.{stream_from};
 ghost use Rattle.desk_texts.specs.Printing.{printed};
 ghost use Rattle.desk_texts.specs.Spelling.{IsSheet};
 ghost use Rattle.desk_texts.specs.declared.sheet.CardHead.{CardHead};
 ghost use Rattle.desk_texts.specs.declared.sheet.Head.TheVariants.{Card};
-ghost use Rattle.desk_outbox.specs.Begun.{IsBegun, IsNoted};
-ghost use Rattle.desk_outbox.specs.Outboxes.{IsCardSheet};
+ghost use Rattle.desk_outbox.specs.Begun.{BeginsOnly, CountsStart, HasNoted, IsBegun, IsNoted, IsOfNoting, LeavesNoted, OnBeginning, OnKeep, RetriesOnly, StartsOnly, front_notes};
+ghost use Rattle.desk_outbox.specs.Drawing.{behind_first};
+ghost use Rattle.desk_outbox.specs.Outboxes.{IsCardSheet, OnDisk};
 ghost use Rattle.desk_outbox.specs.Places.{address_at};
-ghost use Rattle.desk_outbox.specs.Trying.{Begins, IsOfNext, IsOfStart, MakesLetter, OnLetter, Retries, Starts, drawn_for};
-ghost use Rattle.desk_outbox.specs.declared.fault.StartFault.TheVariants as fault;
+ghost use Rattle.desk_outbox.specs.Trying.{Begins, IsOfNext, IsOfStart, MakesLetter, OnLetter, OnSpent, Retries, Starts, left_by, left_for};
 
 use crate::drawing::{first_lane, next_lane_and_serial};
 use crate::fault::StartFault;
@@ -23,12 +22,11 @@ use client_restart::{ClientOpening, KeptClient, NoteFault};
 use desk_draws::Draws;
 use desk_letters::seal;
 use desk_texts::{CardHead, Head, Sheet, print, read_sheet};
+use express_texts::TextFault;
 use express_words::NoMemory;
 use express_words::limits::MOST_WIDTH;
-use node_journal::{Disk, JournalFault};
+use node_journal::Disk;
 use std::alloc::Global;
-
-const WORDS_MAX: usize = 8213;
 
 /// What a try is: a card, a place on it, how its client is opened, and the box's bytes.
 #[derive(Clone, Copy)]
@@ -45,11 +43,14 @@ fn copied(alloc: Global, card: &Sheet) -> Result<(Sheet, Vec<u8>), NoMemory>
     requires { IsSheet card.now }
     ensures card { IfOk result (λ r. r.0 ≡ card.now) }
     ensures text { IfOk result (λ r. r.1.items ≡ printed card.now) }
+    ensures few { IfOk result (λ r. length r.1.items ≤ 4096) }
 {
     let text = print(alloc, card)?;
     match read_sheet(alloc, &text) {
         Ok(card) => Ok((card, text)),
-        Err(_) => Err(NoMemory),
+        Err(TextFault::NoMemory) => Err(NoMemory),
+        Err(TextFault::Wrong(_)) => unreachable!(),
+        Err(TextFault::WrongKey(_)) => unreachable!(),
     }
 }
 
@@ -73,6 +74,29 @@ fn target_of(card: &Sheet, place: &Place) -> u128
     addresses[at]
 }
 
+// The card's text and where the try stands are on its disk.
+fn note_place<D: Disk>(
+    client: &mut KeptClient<D>,
+    text: &[u8],
+    begun: &TryParts<'_>,
+) -> Result<(), NoteFault>
+    requires text { text.now ≡ printed begun.now.card.now }
+    requires few { length text.now ≤ 4096 }
+    requires made { HasNoted D.disk begun.now.opening [] 52 client.old }
+    ensures placed { OnOk result (HasNoted D.disk begun.now.opening
+        (front_notes begun.now.card.now begun.now.place) 4170 client.new) }
+    ensures fault { IfErr result IsOfNoting }
+    ensures counts { Counts (D.Counted.seen client.old.disk).faults
+        (D.Counted.seen client.new.disk).faults result }
+    ensures leaves { LeavesNoted begun.now.card.now begun.now.place begun.now.opening begun.now.message.now
+        (D.disk client.old.disk) (D.disk client.new.disk) }
+{
+    match client.remark(text) {
+        Ok(()) => client.remark(&begun.place.record()),
+        Err(fault) => Err(fault),
+    }
+}
+
 // All that a try needs is on its disk: the card's text, where it stands, and last its request.
 fn note_try<D: Disk>(
     client: &mut KeptClient<D>,
@@ -81,17 +105,20 @@ fn note_try<D: Disk>(
 ) -> Result<(), NoteFault>
     requires begun { IsBegun begun.now.card.now begun.now.place begun.now.opening begun.now.message.now }
     requires text { text.now ≡ printed begun.now.card.now }
-    requires opening { client.old.opening ≡ begun.now.opening }
-    requires core { client.old.core ≡ fold begun.now.opening [] }
-    requires held { HoldsNotes begun.now.opening [] (D.disk client.old.disk).reads }
-    ensures { OnOk result (IsNoted D.disk begun.now.card.now begun.now.place begun.now.opening
+    requires few { length text.now ≤ 4096 }
+    requires made { HasNoted D.disk begun.now.opening [] 52 client.old }
+    ensures noted { OnOk result (IsNoted D.disk begun.now.card.now begun.now.place begun.now.opening
         begun.now.message.now client.new) }
+    ensures fault { IfErr result IsOfNoting }
+    ensures counts { Counts (D.Counted.seen client.old.disk).faults
+        (D.Counted.seen client.new.disk).faults result }
+    ensures leaves { LeavesNoted begun.now.card.now begun.now.place begun.now.opening begun.now.message.now
+        (D.disk client.old.disk) (D.disk client.new.disk) }
 {
-    if text.len() > WORDS_MAX {
-        return Err(NoteFault::Journal(JournalFault::Full(client.used())));
+    match note_place(client, text, begun) {
+        Ok(()) => {}
+        Err(fault) => return Err(fault),
     }
-    client.remark(text)?;
-    client.remark(&begun.place.record())?;
     let request = Request::Write {
         target: target_of(begun.card, &begun.place),
         message: begun.message,
@@ -107,6 +134,14 @@ fn begin<D: Disk>(alloc: Global, begun: &TryParts<'_>, disk: D) -> Result<Outbox
     requires { IsBegun begun.now.card.now begun.now.place begun.now.opening begun.now.message.now }
     ensures begins { IfOk result (Begins D.disk begun.now.card.now begun.now.place begun.now.message.now) }
     ensures opening { IfOk result (λ o. o.kept.opening ≡ begun.now.opening) }
+    ensures empty { OnOk result (GivesNoByte (D.disk disk).reads) }
+    ensures keep { IfErr result (λ x. OnBeginning (D.disk disk).reads x.0) }
+    ensures counts_ok { IfOk result
+        (λ o. (D.Counted.seen o.kept.disk).faults ≡ (D.Counted.seen disk).faults) }
+    ensures counts { IfErr result
+        (λ x. CountsFault (D.Counted.seen disk).faults (D.Counted.seen x.1).faults x.0) }
+    ensures any_moment { OnDisk result (λ d. BeginsOnly begun.now.card.now begun.now.place begun.now.opening
+        begun.now.message.now (D.disk disk) (D.disk d)) }
 {
     let Ok((card, text)) = copied(alloc, begun.card) else {
         return Err((NoteFault::NoMemory, disk));
@@ -164,6 +199,18 @@ impl<D: Disk> Outbox<D> {
         ensures no_letter { (h : CardHead) → card.now.head ≡ Card h
             → IfErr result (λ x. OnLetter x.0 h.width text.now (x.1 ≡ disk)) }
         ensures cause { IfErr result (λ x. IsOfStart x.0) }
+        ensures empty { OnOk result (GivesNoByte (D.disk disk).reads) }
+        // Memory and the disk apart, a try that fits is begun on a disk with no byte.
+        ensures keep { IfErr result (λ x. OnKeep (D.disk disk).reads x.0) }
+        ensures counts_ok { IfOk result
+            (λ o. (D.Counted.seen o.kept.disk).faults ≡ (D.Counted.seen disk).faults) }
+        ensures counts { IfErr result
+            (λ x. CountsStart (D.Counted.seen disk).faults (D.Counted.seen x.1).faults x.0) }
+        // What was drawn isn't drawn again.
+        ensures drawn { OnOk result (stream_from draws.new ≡ behind_first (stream_from draws.old)) }
+        ensures left { IfErr result (λ x. stream_from draws.new ≡ left_by x.0 (stream_from draws.old)) }
+        ensures any_moment { (h : CardHead) → card.now.head ≡ Card h → OnDisk result
+            (λ d. StartsOnly card.now h text.now (stream_from draws.old) (D.disk disk) (D.disk d)) }
     {
         let head = head_of(card);
         let seed = draws.seed();
@@ -197,8 +244,18 @@ impl<D: Disk> Outbox<D> {
         ensures retries { (h : CardHead) → self.now.card.head ≡ Card h
             → IfOk result (Retries E.disk h self.now (stream_from draws.old)) }
         ensures cause { IfErr result (λ x. IsOfNext x.0) }
-        ensures spent { (h : CardHead) → self.now.card.head ≡ Card h → IfErr result (λ x. x.0 ≡ StartFault.Spent
-            → drawn_for h self.now (stream_from draws.old) ≡ None) }
+        ensures spent { (h : CardHead) → self.now.card.head ≡ Card h
+            → IfErr result (λ x. OnSpent h self.now (stream_from draws.old) x.0) }
+        ensures empty { OnOk result (GivesNoByte (E.disk disk).reads) }
+        ensures keep { IfErr result (λ x. OnKeep (E.disk disk).reads x.0) }
+        ensures counts_ok { IfOk result
+            (λ o. (E.Counted.seen o.kept.disk).faults ≡ (E.Counted.seen disk).faults) }
+        ensures counts { IfErr result
+            (λ x. CountsStart (E.Counted.seen disk).faults (E.Counted.seen x.1).faults x.0) }
+        ensures drawn { (h : CardHead) → self.now.card.head ≡ Card h
+            → stream_from draws.new ≡ left_for h self.now (stream_from draws.old) }
+        ensures any_moment { (h : CardHead) → self.now.card.head ≡ Card h → OnDisk result
+            (λ d. RetriesOnly h self.now (stream_from draws.old) (E.disk disk) (E.disk d)) }
     {
         let last = *self.client.opening();
         let head = head_of(&self.card);
