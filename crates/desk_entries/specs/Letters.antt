@@ -1,5 +1,6 @@
 -- The letters of a desk.
-use Rattle.std.specs.Prelude.{◌≡◌, ℕ, ◌+◌, ◌-◌, ◌==◌, ◌||◌, not, if◌then◌else◌, Bool, true, false, List, [], ◌∷◌}
+use Rattle.std.specs.Prelude.{◌≡◌, ◌≤◌, ℕ, ◌+◌, ◌-◌, ◌==◌, ◌||◌, not, if◌then◌else◌, Bool, true, false}
+use Rattle.std.specs.Prelude.{List, [], ◌∷◌}
 use Rattle.std.specs.Prelude.{◌++◌, count_by, drop, length, take}
 use Rattle.std.specs.List.{fold, list_any}
 use Rattle.std.specs.Str.{is_utf8}
@@ -76,6 +77,11 @@ unseen_among shown letters = count_by has_no_text (take shown letters) + length 
 abbrev pub unseen_of : List Entry → ℕ
 unseen_of entries =
     unseen_among (shown_of entries - written_of entries) (drop (written_of entries) (letters_of entries))
+
+-- Where all letters were shown, and each is a text, none is unseen.
+abbrev pub ShownAreSeen : List Entry → Type 0
+ShownAreSeen entries = length (letters_of entries) ≤ shown_of entries
+    → count_by has_no_text (letters_of entries) ≡ 0 → unseen_of entries ≡ 0
 
 -- they aren't one letter: no id is both's
 abbrev pub Differ : Reading → Reading → Type 0

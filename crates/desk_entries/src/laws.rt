@@ -1,7 +1,7 @@
 //! The laws of entries. The functions are empty: their contracts are the laws.
-ghost use Rattle.std.specs.Prelude.{◌≡◌, ◌≤◌, ◌++◌, ◌∷◌, [], List, count_by, length, map};
+ghost use Rattle.std.specs.Prelude.{◌≡◌, ◌≤◌, ◌++◌, ◌∷◌, [], List, length, map};
 ghost use Rattle.std.specs.List.{AllPairs};
-ghost use Rattle.desk_entries.specs.Letters.{Differ, has_no_text, letters_of, shown_of, told_with, unseen_of, written_of};
+ghost use Rattle.desk_entries.specs.Letters.{Differ, ShownAreSeen, letters_of, told_with, unseen_of, written_of};
 ghost use Rattle.desk_entries.specs.Records.{AreEntries, IsEntry, entry_record};
 ghost use Rattle.desk_entries.specs.declared.entry.Entry.{Entry};
 
@@ -24,6 +24,5 @@ pub fn letters_are_told_once()
 pub fn letters_are_seen_at_last()
     ensures written { (entries : List Entry) → length (letters_of entries) ≤ written_of entries
         → unseen_of entries ≡ 0 }
-    ensures shown { (entries : List Entry) → length (letters_of entries) ≤ shown_of entries
-        → count_by has_no_text (letters_of entries) ≡ 0 → unseen_of entries ≡ 0 }
+    ensures shown { (entries : List Entry) → ShownAreSeen entries }
 {}
