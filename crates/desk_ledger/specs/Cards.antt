@@ -4,11 +4,12 @@ use Rattle.std.specs.List.{filter}
 use Rattle.desk_entries.specs.declared.entry.Entry.{Entry}
 use Rattle.desk_entries.specs.declared.entry.NamedBoxes.{NamedBoxes}
 use Rattle.desk_entries.specs.declared.standing.Standing.TheVariants.{Live}
-use Rattle.desk_entries.specs.Desks.{named}
+use Rattle.desk_entries.specs.Desks.{last_day, named}
 use Rattle.desk_entries.specs.Standings.{stands}
 use Rattle.desk_texts.specs.declared.day.Day.{Day}
 use Rattle.desk_texts.specs.declared.sheet.Head.TheVariants.{Card}
 use Rattle.desk_texts.specs.declared.sheet.Sheet.{Sheet}
+use Rattle.desk_ledger.specs.Ledgers.{LedgerState}
 use Rattle.desk_ledger.specs.declared.pair.Pair.{Pair}
 
 abbrev pub live_of : List Entry → Option NamedBoxes → List ℕ
@@ -33,3 +34,7 @@ pub record IsCardOf (p : Pair) (standing : List ℕ) (until : Option Day) (s : S
   })
   pub leader : s.leader ≡ p.leader
   pub helper : s.helper ≡ p.helper
+
+-- the card of a name, of a ledger's live boxes, with the last day that is noted
+abbrev pub IsCardAt : {D : Type 0} → LedgerState D → (name : List ℕ) → Sheet → Type 0
+IsCardAt l name s = IsCardOf l.pair (card_addresses l.entries name) (last_day l.entries name) s

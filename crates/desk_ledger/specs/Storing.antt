@@ -110,6 +110,10 @@ MissesBy false boxes seconds e found = Leaves boxes seconds e found
 abbrev pub Misses : List Entry → List OwnedBox → ℕ → EndedRequest → Option Entry → Type 0
 Misses entries boxes seconds e found = MissesBy (has_outcome entries e.serial) boxes seconds e found
 
+-- the same of a ledger's entries and boxes
+abbrev pub MissesAt : {D : Type 0} → LedgerState D → ℕ → EndedRequest → Option Entry → Type 0
+MissesAt l seconds e found = Misses l.entries l.client.core.boxes seconds e found
+
 -- ---- storing
 
 -- P, of the oldest outcome that wasn't told, if there is one

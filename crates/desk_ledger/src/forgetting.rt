@@ -5,7 +5,7 @@ ghost use Rattle.desk_entries.specs.Forgetting.{kept};
 ghost use Rattle.desk_entries.specs.Letters.{unseen_of};
 ghost use Rattle.desk_entries.specs.Records.{AreEntries};
 ghost use Rattle.desk_ledger.specs.Forgetting.{IsOfFollowing, IsOfJudging, IsOfSeeing, IsSpent, OnBusy, OnSpent, OnUnseen, OnUntold, live_boxes, next_opening, opening_at, opening_from, serial_from};
-ghost use Rattle.desk_ledger.specs.Handing.{OnMaking};
+ghost use Rattle.desk_ledger.specs.Handing.{OnFollowing};
 ghost use Rattle.desk_ledger.specs.Ledgers.{IsOfPair};
 
 use crate::fault::ForgetFault;
@@ -146,8 +146,8 @@ impl<D: Disk> Ledger<D> {
         ensures busy { IfErr result (λ x. OnBusy self.now.client.core x.0) }
         ensures unseen { IfErr result (λ x. OnUnseen self.now.entries x.0) }
         ensures spent { IfErr result (λ x. OnSpent self.now.client.core.client.serial x.0) }
-        ensures making { IfErr result (λ x. OnMaking self.now.client.opening.capacity limit
-            (E.disk disk).reads (live_boxes self.now) (kept self.now.entries) x.0) }
+        ensures making { IfErr result
+            (λ x. OnFollowing limit (E.disk disk).reads self.now (kept self.now.entries) x.0) }
     {
         match self.without_letters() {
             Ok(Start { opening, entries }) => self.make_next(&opening, entries, disk, limit),
@@ -181,8 +181,8 @@ impl<D: Disk> Ledger<D> {
         ensures busy { IfErr result (λ x. OnUntold self.now.client.core x.0) }
         ensures spent { IfErr result (λ x. OnSpent (serial_from first self.now.client.core) x.0) }
         ensures seen { IfErr result (λ x. x.0 ≢ ForgetFault.Unseen) }
-        ensures making { IfErr result (λ x. OnMaking self.now.client.opening.capacity limit
-            (E.disk disk).reads (live_boxes self.now) self.now.entries x.0) }
+        ensures making { IfErr result
+            (λ x. OnFollowing limit (E.disk disk).reads self.now self.now.entries x.0) }
     {
         match self.from_serial(first) {
             Ok(Start { opening, entries }) => self.make_next(&opening, entries, disk, limit),

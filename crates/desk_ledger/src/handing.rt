@@ -1,15 +1,16 @@
 //! What a new client takes over of an older one.
-ghost use Rattle.std.specs.Prelude.{◌≡◌, ◌+◌, ◌≤◌, ◌^◌, ◌++◌, ◌∷◌, [], List as Listed, ℕ, false, map, None, IfOk, IfErr, OnOk, length};
+ghost use Rattle.std.specs.Prelude.{◌≡◌, ◌≤◌, ◌^◌, ◌++◌, ◌∷◌, [], List as Listed, ℕ, false, map, None, IfOk, IfErr, OnOk};
 ghost use Rattle.std.specs.List.{filter, sum_by};
 ghost use Rattle.client_restart.specs.Openings.{IsClientOpening};
 ghost use Rattle.desk_entries.specs.Records.{AreEntries, IsEntry, entry_record};
 ghost use Rattle.desk_ledger.specs.Forgetting.{GoesOn, live_boxes};
-ghost use Rattle.desk_ledger.specs.Handing.{IsOfHandOver, LacksRoom, OnMaking, TakesOver, box_bytes, entry_bytes};
+ghost use Rattle.desk_ledger.specs.Handing.{IsOfHandOver, LacksRoom, LacksRoomForAll, LacksRoomForLive, OnMaking, TakesLive, TakesOver, box_bytes, entry_bytes};
 ghost use Rattle.desk_ledger.specs.Ledgers.{IsOfPair};
 ghost use Rattle.desk_ledger.specs.Tasks.{is_live};
 
+use crate::asking::is_live;
 use crate::fault::ForgetFault;
-use crate::ledger::{Ledger, copy_of, is_live};
+use crate::ledger::{Ledger, copy_of};
 use crate::pair::Pair;
 use client_restart::{ClientOpening, KeptClient, NoteFault, OwnedBox};
 use desk_entries::Entry;
@@ -44,13 +45,11 @@ fn own_if_live<D: Disk>(
     requires idle { client.old.core.client.current ≡ None }
     requires still_open { client.old.journal.closed ≡ false }
     ensures goes_on { OnOk result (GoesOn D.disk client.old client.new) }
-    ensures takes { OnOk result (TakesOver (length (filter (is_live entries.now) (owned.now ∷ [])))
-        (sum_by box_bytes (filter (is_live entries.now) (owned.now ∷ []))) client.old client.new) }
+    ensures takes { OnOk result (TakesLive entries.now (owned.now ∷ []) client.old client.new) }
     ensures boxes { OnOk result (client.new.core.boxes
         ≡ client.old.core.boxes ++ filter (is_live entries.now) (owned.now ∷ [])) }
     ensures remarks { OnOk result (client.new.core.remarks ≡ client.old.core.remarks) }
-    ensures fault { IfErr result (LacksRoom (length (filter (is_live entries.now) (owned.now ∷ [])))
-        (sum_by box_bytes (filter (is_live entries.now) (owned.now ∷ []))) client.old) }
+    ensures fault { IfErr result (LacksRoomForLive entries.now (owned.now ∷ []) client.old) }
 {
     if is_live(entries, owned) {
         own_one(client, owned)
@@ -69,13 +68,11 @@ fn own_live<D: Disk>(
     requires idle { client.old.core.client.current ≡ None }
     requires still_open { client.old.journal.closed ≡ false }
     ensures goes_on { OnOk result (GoesOn D.disk client.old client.new) }
-    ensures takes { OnOk result (TakesOver (length (filter (is_live entries.now) boxes.now))
-        (sum_by box_bytes (filter (is_live entries.now) boxes.now)) client.old client.new) }
+    ensures takes { OnOk result (TakesLive entries.now boxes.now client.old client.new) }
     ensures boxes { OnOk result (client.new.core.boxes
         ≡ client.old.core.boxes ++ filter (is_live entries.now) boxes.now) }
     ensures remarks { OnOk result (client.new.core.remarks ≡ client.old.core.remarks) }
-    ensures fault { IfErr result (LacksRoom (length (filter (is_live entries.now) boxes.now))
-        (sum_by box_bytes (filter (is_live entries.now) boxes.now)) client.old) }
+    ensures fault { IfErr result (LacksRoomForLive entries.now boxes.now client.old) }
 {
     let mut rest = boxes;
     while let [owned, behind @ ..] = rest {
@@ -157,8 +154,7 @@ impl<D: Disk> Ledger<D> {
         ensures boxes { OnOk result (client.new.core.boxes ≡ client.old.core.boxes ++ live_boxes self.now) }
         ensures remarks { OnOk result (client.new.core.remarks
             ≡ client.old.core.remarks ++ map entry_record entries.now) }
-        ensures fault { IfErr result (LacksRoom (length (live_boxes self.now))
-            (sum_by box_bytes (live_boxes self.now) + sum_by entry_bytes entries.now) client.old) }
+        ensures fault { IfErr result (LacksRoomForAll (live_boxes self.now) entries.now client.old) }
     {
         own_live(client, &self.entries, self.client.boxes())?;
         note_all(self.alloc, client, entries)

@@ -1,11 +1,16 @@
 //! An owner's desk on a disk: a client that remembers, whose remarks are the desk's entries.
 #![tactic(auto)]
 
+mod asking;
+mod cards;
 mod fault;
 mod forgetting;
 mod handing;
 mod ledger;
+mod letters;
+mod naming;
 mod opening;
+mod outcomes;
 mod pair;
 mod reaching;
 mod starting;

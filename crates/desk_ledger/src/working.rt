@@ -1,6 +1,6 @@
 //! A request of a desk, worked off.
-ghost use Rattle.std.specs.Prelude.{◌≡◌, ◌≢◌, None, Ok, OnOk};
-ghost use Rattle.kept_errands.specs.Works.{IsEnded};
+ghost use Rattle.std.specs.Prelude.{◌≡◌, ◌≢◌, None, Ok, IfErr, OnOk};
+ghost use Rattle.kept_errands.specs.Works.{HaltsAtReply, IsEnded};
 ghost use Rattle.kept_errands.specs.Steps.{DiskFaultBy, NetFaultBy};
 ghost use Rattle.desk_ledger.specs.Works.{WorksIfBusy};
 
@@ -18,6 +18,7 @@ impl<D: Disk> Ledger<D> {
         ensures idle { self.old.client.core.client.current ≡ None
             → (result ≡ Ok (tt {0})) × (self.new ≡ self.old) × (net.new ≡ net.old) }
         ensures works { WorksIfBusy self.old self.new result (N.seen net.old).calls (N.seen net.new).calls }
+        ensures keeps { IfErr result (HaltsAtReply D.disk D.Counted.seen self.new.client) }
         ensures ended { self.old.client.core.client.current ≢ None
             → OnOk result (IsEnded self.old.client.core self.new.client.core) }
         ensures entries { self.new.entries ≡ self.old.entries }

@@ -1,6 +1,6 @@
 use Rattle.std.proofs.Common.{◌≡◌, ◌++◌, length}
 use Rattle.desk_entries.specs.Entries.{AreAddresses}
-use Rattle.desk_ledger.proofs.ledger.copy_of_addresses.Given as goal
+use Rattle.desk_ledger.proofs.naming.copy_of_addresses.Given as goal
 
 abbrev pub invariant-loop-rest : goal.invariant-loop-rest
 invariant-loop-rest l =

@@ -1,6 +1,6 @@
 use Rattle.std.proofs.Common.{◌≡◌, Option, subst}
 use Rattle.std.specs.Prelude.{IfSome}
-use Rattle.desk_ledger.specs.declared.ledger.Oldest.{Oldest}
+use Rattle.desk_ledger.specs.declared.outcomes.Oldest.{Oldest}
 use Rattle.desk_ledger.specs.Storing.{Misses, stored_of}
 use Rattle.desk_ledger.proofs.StoreLaws.{stores_found}
 use Rattle.desk_ledger.proofs.ledger.Ledger.store.Goals as goal
