@@ -16,6 +16,7 @@ use Rattle.client_restart.specs.declared.opening.ClientOpening.{ClientOpening}
 use Rattle.desk_letters.specs.Letters.{letter_of}
 use Rattle.desk_texts.specs.Printing.{printed}
 use Rattle.desk_texts.specs.declared.sheet.CardHead.{CardHead}
+use Rattle.desk_texts.specs.declared.sheet.Head.TheVariants.{Card}
 use Rattle.desk_texts.specs.declared.sheet.Sheet.{Sheet}
 use Rattle.desk_outbox.specs.Drawing.{first_in, first_opening, id_in, seed_in}
 use Rattle.desk_outbox.specs.Outboxes.{IsOnCard, IsWrite, OutboxState, message_in}
@@ -120,8 +121,9 @@ BeginsOnly card place o message old new = (target : ℕ)
     → LeavesNoByte old.may_leave → LeavesOnly old new (LeavesFirst o (begun_notes card place target message))
 
 -- of a first try
-abbrev pub StartsOnly : Sheet → CardHead → (text : List ℕ) → Stream → (old new : DiskSeen) → Type 0
-StartsOnly card h text s old new = BeginsOnly card (first_place (first_in h.addresses s)) (first_opening h s)
+abbrev pub StartsOnly : Sheet → (text : List ℕ) → Stream → (old new : DiskSeen) → Type 0
+StartsOnly card text s old new = (h : CardHead) → card.head ≡ Card h
+    → BeginsOnly card (first_place (first_in h.addresses s)) (first_opening h s)
     (letter_of h.width (id_in s) text) old new
 
 -- how a next try's client is opened
@@ -135,7 +137,8 @@ opening_behind o s lane serial = record {
 }
 
 -- of a next try, where a lane and a serial are drawn for it
-abbrev pub RetriesOnly : {D : Type 0} → CardHead → OutboxState D → Stream → (old new : DiskSeen) → Type 0
-RetriesOnly h last s old new = (lane serial : ℕ) → drawn_for h last s ≡ Some (lane, serial)
+abbrev pub RetriesOnly : {D : Type 0} → OutboxState D → Stream → (old new : DiskSeen) → Type 0
+RetriesOnly last s old new = (h : CardHead) (lane serial : ℕ) → last.card.head ≡ Card h
+    → drawn_for h last s ≡ Some (lane, serial)
     → BeginsOnly last.card (next_place last.place) (opening_behind last.kept.opening s lane serial)
     (message_in last.kept.core.client.current) old new

@@ -209,8 +209,8 @@ impl<D: Disk> Outbox<D> {
         // What was drawn isn't drawn again.
         ensures drawn { OnOk result (stream_from draws.new ≡ behind_first (stream_from draws.old)) }
         ensures left { IfErr result (λ x. stream_from draws.new ≡ left_by x.0 (stream_from draws.old)) }
-        ensures any_moment { (h : CardHead) → card.now.head ≡ Card h → OnDisk result
-            (λ d. StartsOnly card.now h text.now (stream_from draws.old) (D.disk disk) (D.disk d)) }
+        ensures any_moment { OnDisk result
+            (λ d. StartsOnly card.now text.now (stream_from draws.old) (D.disk disk) (D.disk d)) }
     {
         let head = head_of(card);
         let seed = draws.seed();
@@ -254,8 +254,8 @@ impl<D: Disk> Outbox<D> {
             (λ x. CountsStart (E.Counted.seen disk).faults (E.Counted.seen x.1).faults x.0) }
         ensures drawn { (h : CardHead) → self.now.card.head ≡ Card h
             → stream_from draws.new ≡ left_for h self.now (stream_from draws.old) }
-        ensures any_moment { (h : CardHead) → self.now.card.head ≡ Card h → OnDisk result
-            (λ d. RetriesOnly h self.now (stream_from draws.old) (E.disk disk) (E.disk d)) }
+        ensures any_moment { OnDisk result
+            (λ d. RetriesOnly self.now (stream_from draws.old) (E.disk disk) (E.disk d)) }
     {
         let last = *self.client.opening();
         let head = head_of(&self.card);
