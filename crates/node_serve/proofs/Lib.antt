@@ -4,5 +4,8 @@ pub mod ReachLaws
 pub mod RespondLaws
 pub mod CallLaws
 pub mod VisitLaws
+pub mod OwnLaws
+pub mod MetLaws
+pub mod ReplyLaws
 pub mod HostLaws
 pub mod FirstFaults

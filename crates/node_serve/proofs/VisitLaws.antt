@@ -15,11 +15,12 @@ use Rattle.node_serve.specs.Draining.{FaultIn}
 use Rattle.node_serve.specs.Logs.{Log}
 use Rattle.node_serve.specs.Moved.{moved, calls_of}
 use Rattle.node_serve.specs.Outcomes.{NothingMoves, ServeEnds}
-use Rattle.node_serve.specs.Serving.{AnswersOn, Brings, IsCut, WritesTold, StopsShort}
+use Rattle.node_serve.specs.Serving.{Answers, AnswersOn, Brings, IsCut, WritesTold, StopsShort}
 use Rattle.node_serve.specs.declared.node.Served.{Served}
 use Rattle.node_serve.specs.declared.node.Served.TheVariants as served
 use Rattle.node_serve.specs.Visits.{Contact, Visit, Standing, standing, Shown, IsContact, IsCutOff, IsStepped, ClosesWith, IsVisit, IsRefusedVisit, ClosedAs}
 use Rattle.node_serve.proofs.RespondLaws.{helper_alone, helper_stops}
+use Rattle.node_serve.proofs.ReplyLaws.{own_reply}
 use Rattle.node_serve.proofs.CallLaws.{makes_same, own_calls, left_in, stream, contact_made, link_at_end}
 
 pub is_short_or_not : (r : Result (PlainFrame × ℕ) FrameFault) → (r ≡ Err Short) ⊎ (r ≢ Err Short)
@@ -148,15 +149,17 @@ visited {S = S} {N = N} log peer nets shows old new answer a b c d s conn held u
           let own = own_calls peer step.end.made (calls_of (moved (nets b) (nets c))) step.reaches.made in
           let fresh : WritesTold answer s.written t.written 0 t.faults step.reply = subst (λ n. WritesTold answer s.written t.written n t.faults step.reply) accept.whole step.writes in
           let written : Wrote answer s.written t.written t.faults step.reply = wrote answer s.written t.written t.faults step.reply accept.blank fresh in
+          let told : Answers log peer (gathered [] given) (moved old new) (moved (Some []) (Some own.0)) (nets c).faults answer (WritesTold answer (Some []) (Some written.0) 0 t.faults) = record {
+            end = step.end;
+            reaches = record { core = step.reaches.core; takes = step.reaches.takes; made = own.2 };
+            reply = step.reply;
+            responds = step.responds;
+            writes = written.1;
+          } in
           let stepped : IsStepped log peer (record { contact = contact given written.0 own.0 t; answer = answer; frames = step.end.frames }) (moved old new) (nets c).faults = record {
-            answers = record {
-              end = step.end;
-              reaches = record { core = step.reaches.core; takes = step.reaches.takes; made = own.2 };
-              reply = step.reply;
-              responds = step.responds;
-              writes = written.1;
-            };
+            answers = told;
             frames = refl;
+            own = own_reply log peer (gathered [] given) (moved old new) (moved (Some []) (Some own.0)) (nets c).faults answer (Some []) (Some written.0) 0 t.faults told;
             alone = λ help. own.3 (helper_alone (log.core old) (gathered [] given) step.end (nets c).faults answer step.reply help step.responds);
           } in
           seen written.0 own.0 step.end.frames gave wanted early fault doors accept close written.2 own.1 step.reaches.takes (λ e. absurd (enough e)) (λ e. stepped)

@@ -11,3 +11,4 @@ pub mod KeptOpening
 pub mod Visits
 pub mod Tallies
 pub mod Hosting
+pub mod Own

@@ -15,6 +15,7 @@ use Rattle.node_serve.specs.Draining.{FaultIn}
 use Rattle.node_serve.specs.Handing.{IsHelp}
 use Rattle.node_serve.specs.Logs.{Log}
 use Rattle.node_serve.specs.Moved.{Moved, Calls, moved}
+use Rattle.node_serve.specs.Own.{TellsOwn}
 use Rattle.node_serve.specs.Serving.{IsCut, WritesTold, Answers, StopsShort}
 use Rattle.node_serve.specs.declared.node.Served.{Served}
 use Rattle.node_serve.specs.declared.node.Served.TheVariants as served
@@ -105,13 +106,15 @@ pub record IsCutOff {S : Type 0} (v : Visit) (old new : S) : Type 0 where
   pub calls : v.contact.calls ≡ []
   pub untold : v.contact.taken ≡ []
 
--- the server took its step with what it was handed, and its reply was written; count is the net's count of
--- faults then
+-- The server took its step with what it was handed, and its reply was written, which answers that very frame;
+-- count is the net's count of faults then.
 pub record IsStepped {S F : Type 0} (log : Log S F) (peer : List ℕ) (v : Visit) (server : Moved S) (count : ℕ)
     : Type 0 where
   pub answers : Answers log peer (handed v.contact) server (meanwhile v.contact) count v.answer
       (WritesTold v.answer (Some []) (Some v.contact.taken) 0 v.contact.faults)
   pub frames : v.frames ≡ answers.end.frames
+  pub own : TellsOwn (log.core server.old) (handed v.contact) (meanwhile v.contact)
+      (moved (Some []) (Some v.contact.taken))
   pub alone : IsHelp (log.core server.old) → v.contact.calls ≡ []
 
 -- the net's count rises at the close of a connection that failed, and only then

@@ -1,5 +1,5 @@
 //! One connection is served by a server whose frames go nowhere, or to its journal.
-ghost use Rattle.std.specs.Prelude.{◌≡◌, Err, IfOk, OnErr};
+ghost use Rattle.std.specs.Prelude.{◌≡◌, Err, IfOk, OnErr, OnOk};
 ghost use Rattle.frame_rules.specs.Reading.{decoded};
 ghost use Rattle.frame_rules.specs.declared.fault.FrameFault.TheVariants.{Short};
 ghost use Rattle.node_restart.specs.Faults.{Counts};
@@ -8,7 +8,9 @@ ghost use Rattle.node_exchange.specs.Exchanging.{EarlyAtEnd};
 ghost use Rattle.node_serve.specs.Handing.{IsHelp};
 ghost use Rattle.node_serve.specs.JournalLog.{journal_log};
 ghost use Rattle.node_serve.specs.Moved.{shown};
+ghost use Rattle.node_serve.specs.NoLog.{core_of};
 ghost use Rattle.node_serve.specs.Outcomes.{NothingMoves, ServeEnds};
+ghost use Rattle.node_serve.specs.Own.{TellsOwnOn};
 ghost use Rattle.node_serve.specs.Serving.{Brings, Completes, IsCut, IsHelper, NodeServes};
 
 use crate::never::Never;
@@ -48,6 +50,10 @@ pub fn serve_one<C: Conn, N: Net>(
     // Else the server takes its step, and its reply is written.
     ensures serves { NodeServes gather.new result node.old node.new
         (shown N.seen net.old net.new) (shown C.seen conn.old conn.new) }
+    // What is written is a front of what answers that very frame, and nothing else; and what a leader took of its
+    // helper in between answers the commands that it sent, or the link is told to be down.
+    ensures own { TellsOwnOn (core_of node.old) gather.new (shown N.seen net.old net.new)
+        (shown C.seen conn.old conn.new) }
     // LinkBad for an answer that ended early comes only where its connection has nothing left.
     ensures early { result ≡ Served.LinkBad → EarlyAtEnd (N.seen net.new).calls N.Conn.seen }
     ensures helper_rests { IsHelper node.old → net.new ≡ net.old }
@@ -87,6 +93,10 @@ pub fn serve_kept<C: Conn, N: Net, D: Disk>(
     // each before its step. Or one wasn't kept: then it took no step at it, and nothing is written.
     ensures serves { ServeEnds (journal_log D.disk) peer.now gather.new result kept.old kept.new
         (shown N.seen net.old net.new) (shown C.seen conn.old conn.new) }
+
+    // What is written is a front of what answers that very frame, as in `serve_one`.
+    ensures own { OnOk result (TellsOwnOn kept.old.core gather.new (shown N.seen net.old net.new)
+        (shown C.seen conn.old conn.new)) }
 
     // LinkBad for an answer that ended early comes only where its connection has nothing left.
     ensures early { IfOk result (λ why. why ≡ Served.LinkBad → EarlyAtEnd (N.seen net.new).calls N.Conn.seen) }

@@ -1,5 +1,5 @@
 //! One connection is served, over whatever log.
-ghost use Rattle.std.specs.Prelude.{◌≡◌, ◌≢◌, Err, IfOk, OnErr};
+ghost use Rattle.std.specs.Prelude.{◌≡◌, ◌≢◌, Err, IfOk, OnErr, OnOk};
 ghost use Rattle.express_words.specs.Causes.{Rose};
 ghost use Rattle.express_words.specs.Streams.{IsAtEnd};
 ghost use Rattle.frame_rules.specs.Reading.{decoded};
@@ -10,6 +10,7 @@ ghost use Rattle.node_serve.specs.Handing.{IsHelp};
 ghost use Rattle.node_serve.specs.Logs.{CountsLog};
 ghost use Rattle.node_serve.specs.Moved.{shown};
 ghost use Rattle.node_serve.specs.Outcomes.{NothingMoves, ServeEnds};
+ghost use Rattle.node_serve.specs.Own.{TellsOwnOn};
 ghost use Rattle.node_serve.specs.Serving.{Brings};
 ghost use Rattle.node_exchange.specs.Taking.{EndsBy};
 
@@ -60,6 +61,11 @@ pub fn serve<C: Conn, N: Net, S: Logged>(
     // the way: it took no step at it, and nothing is written.
     ensures serves { ServeEnds S.log peer.now gather.new result server.old server.new
         (shown N.seen net.old net.new) (shown C.seen conn.old conn.new) }
+
+    // What is written is a front of what answers that very frame, and nothing else; and what a leader took of its
+    // helper in between answers the commands that it sent, or the link is told to be down.
+    ensures own { OnOk result (TellsOwnOn (S.log.core server.old) gather.new (shown N.seen net.old net.new)
+        (shown C.seen conn.old conn.new)) }
 
     // LinkBad for an answer that ended early comes only where its connection has nothing left.
     ensures early { IfOk result (λ why. why ≡ Served.LinkBad → EarlyAtEnd (N.seen net.new).calls N.Conn.seen) }
