@@ -1,6 +1,7 @@
 -- Requests that carry, one after another, and the one that breaks off.
-use Rattle.std.proofs.Common.{◌≡◌, ℕ, ◌+◌, ◌≤◌, true, false, List, [], ◌∷◌, ◌++◌, take, drop, length, Option, Err, refl, sym, ap, ◌∙◌, subst, arith}
-use Rattle.std.proofs.lemmas.List.{take-append-drop, length-append}
+use Rattle.std.specs.Prelude.{OnErr}
+use Rattle.std.proofs.Common.{◌≡◌, ℕ, ◌+◌, ◌≤◌, Bool, true, false, List, [], ◌∷◌, ◌++◌, take, drop, length, Option, Result, Ok, Err, refl, sym, ap, ◌∙◌, subst, arith}
+use Rattle.std.proofs.lemmas.List.{append-nil, take-append-drop, length-append}
 use Rattle.std.proofs.lemmas.List.Elements.{All-nil, All-same, All-push}
 use Rattle.express_words.specs.Calls.{Call}
 use Rattle.mailbox_rules.specs.Requests.{Request}
@@ -14,7 +15,8 @@ use Rattle.node_client.specs.Talks.{Talk, TalksOn}
 use Rattle.node_client.specs.Work.{line}
 use Rattle.node_client.proofs.WorkLaws.{Working}
 use Rattle.client_run.specs.declared.carrying.CarryHalt.TheVariants.{Broken}
-use Rattle.client_run.specs.Carrying.{AllCarry, CarriesOff}
+use Rattle.client_run.specs.declared.carrying.CarriedOff.{CarriedOff}
+use Rattle.client_run.specs.Carrying.{AllCarry, CarriesOff, CarriesOn, CarriesPart}
 use Rattle.client_run.specs.Telling.{carries, IsLast}
 use Rattle.client_run.specs.Carries.{is_message, AreWhole}
 
@@ -63,3 +65,64 @@ breaks peers start new requests number place finished f message told a b w of br
       finished = refl;
     } in
     (w.made, (last, ap (λ (x : Finished). carries x.told) of ∙ broken), w.calls)
+
+-- ---- where memory was wanting
+
+pub on_err : {T E : Type 0} (r : Result T E) (P : Type 0) → P → OnErr r P
+on_err (Ok x) P p = tt
+on_err (Err e) P p = p
+
+-- with the last line, which isn't told
+part : (peers : Peers) (start new : Client) (requests : List Request) (number place : ℕ) (finished : List Finished) (message : List ℕ) (told : Told) (a b : Option (List Call)) (goes : Bool) → carries told ≡ goes
+    → Working peers start requests number new (finished ++ line place message told ∷ []) a b → AllCarry finished → CarriesPart peers start requests a b
+part peers start new requests number place finished message told a b true goes w all = record {
+  asked = take number requests;
+  behind = drop number requests;
+  all = sym (take-append-drop number requests);
+  client = new;
+  finished = finished ++ line place message told ∷ [];
+  made = w.made;
+  end = Ok tt;
+  carries = w.works;
+  carried = one_carries finished _ (line place message told) place message told refl goes refl all;
+  calls = w.calls;
+}
+part peers start new requests number place finished message told a b false goes w all =
+    let last : IsLast start (take number requests) (record { client = new; finished = finished ++ line place message told ∷ []; made = w.made }) finished (line place message told) = record {
+      asked = take number requests;
+      behind = [];
+      all = sym (append-nil (take number requests));
+      works = w.works;
+      finished = refl;
+    } in
+    record {
+      asked = take number requests;
+      behind = drop number requests;
+      all = sym (take-append-drop number requests);
+      client = new;
+      finished = finished;
+      made = w.made;
+      end = Err (Broken (line place message told));
+      carries = (last, goes);
+      carried = all;
+      calls = w.calls;
+    }
+
+pub untold_part : (peers : Peers) (start new : Client) (requests : List Request) (number place : ℕ) (finished : List Finished) (message : List ℕ) (told : Told) (a b : Option (List Call))
+    → Working peers start requests number new (finished ++ line place message told ∷ []) a b → AllCarry finished → CarriesPart peers start requests a b
+untold_part peers start new requests number place finished message told a b w all = part peers start new requests number place finished message told a b (carries told) refl w all
+
+-- with all that was carried, which isn't told
+pub whole_part : (peers : Peers) (start new : Client) (requests : List Request) (c : CarriedOff) (a b : Option (List Call)) → CarriesOn peers start requests new a b c → AllCarry c.finished.items → CarriesPart peers start requests a b
+whole_part peers start new requests c a b (made, carries, calls) all = record {
+  asked = requests;
+  behind = [];
+  all = sym (append-nil requests);
+  client = new;
+  finished = c.finished.items;
+  made = made;
+  end = c.end;
+  carries = carries;
+  carried = all;
+  calls = calls;
+}

@@ -24,12 +24,13 @@ use Rattle.client_run.specs.declared.ran.RunEnd.TheVariants.{Done}
 use Rattle.client_run.specs.declared.telling.Until.{Until}
 use Rattle.client_run.specs.declared.telling.Until.TheVariants as until
 use Rattle.client_run.specs.Accounts.{AreAt}
-use Rattle.client_run.specs.Carrying.{CarriesOff, AllCarry}
-use Rattle.client_run.specs.Carries.{CarryRuns, CarryComes, ComesBy, Fetches, FetchComes, SendComes, carry_plan, carry_text, send_end}
+use Rattle.client_run.specs.Carrying.{CarriesOff, CarriesPart, AllCarry}
+use Rattle.client_run.specs.Carries.{CarryRuns, CarryComes, ComesBy, Fetches, FetchedPart, FetchComes, SendComes, carry_plan, carry_text, send_end}
 use Rattle.client_run.specs.Runs.{EndSaid, Plan, IsNext, between, outcome, ended, CameTo, EndsWith, BreaksInLine, Comes, ClientEnded, ClientComes, client_plan, plan_at, end_of}
 use Rattle.client_run.specs.Saying.{said, whole_text, SaidSo}
 use Rattle.client_run.specs.Telling.{Moment, Passed, PassedPart, TellsOff, IsLast, lines_of}
 use Rattle.client_run.specs.Texts.{outcome_line, end_line}
+use Rattle.client_run.proofs.CarryLaws.{none_carry}
 use Rattle.client_run.proofs.PassedLaws.{took_nothing}
 
 -- ---- a text that wasn't told
@@ -165,18 +166,35 @@ fetched settings seed peers start requests ran a b is_start is_requests at job f
 
 -- ---- a carrier for which memory was wanting
 
+-- no box was read yet
+nothing_read : (plan : Plan) (peers : Peers) (calls : Option (List Call)) → CarriesPart peers plan.start plan.requests calls calls
+nothing_read plan peers calls = record {
+  asked = [];
+  behind = plan.requests;
+  all = refl;
+  client = plan.start;
+  finished = [];
+  made = [];
+  end = Ok tt;
+  carries = none;
+  carried = none_carry [] refl;
+  calls = refl;
+}
+
 wants_by : (job : CarryJob) (settings : CarrySettings) (seed : List ℕ) (peers : Peers) (a : Moment) → AreAt peers settings.leader settings.helper
     → ComesBy job settings seed (Err untold.NoMemory) a a
 wants_by (Send id file addresses) settings seed peers a at = first_wants (carry_plan settings seed) _ peers a at
-wants_by Fetch settings seed peers a at = refl
+wants_by Fetch settings seed peers a at = ((peers, at, nothing_read (carry_plan settings seed) peers a.calls), refl)
 
 pub carry_wants : (settings : CarrySettings) (seed : List ℕ) (peers : Peers) (result : Result Ran Untold) (a : Moment)
     → AreAt peers settings.leader settings.helper → IsErrAnd result (λ why. why ≡ untold.NoMemory) → CarryComes settings seed result a a
 carry_wants settings seed peers result a at wants =
     subst (λ (r : Result Ran Untold). CarryComes settings seed r a a) (sym (wants_memory result wants)) (wants_by settings.job settings seed peers a at)
 
-pub fetch_wants : (settings : CarrySettings) (seed : List ℕ) (result : Result Ran Untold) (a b : Moment)
-    → settings.job ≡ Fetch → b.written ≡ a.written → IsErrAnd result (λ why. why ≡ untold.NoMemory) → CarryComes settings seed result a b
-fetch_wants settings seed result a b job still wants =
+pub fetch_wants : (settings : CarrySettings) (seed : List ℕ) (peers : Peers) (start : Client) (requests : List Request) (result : Result Ran Untold) (a b : Moment)
+    → start ≡ (carry_plan settings seed).start → requests ≡ (carry_plan settings seed).requests → AreAt peers settings.leader settings.helper → settings.job ≡ Fetch
+    → FetchedPart (plan_at peers start requests) a.calls b.calls → b.written ≡ a.written → IsErrAnd result (λ why. why ≡ untold.NoMemory) → CarryComes settings seed result a b
+fetch_wants settings seed peers start requests result a b is_start is_requests at job part still wants =
+    let plan : plan_at peers start requests ≡ carry_plan settings seed = plan_same _ _ _ _ _ _ _ _ is_start is_requests at.leads at.helps in
     subst (λ (r : Result Ran Untold). CarryComes settings seed r a b) (sym (wants_memory result wants))
-    (subst (λ (j : CarryJob). ComesBy j settings seed (Err untold.NoMemory) a b) (sym job) still)
+    (subst (λ (j : CarryJob). ComesBy j settings seed (Err untold.NoMemory) a b) (sym job) (subst (λ (p : Plan). FetchedPart p a.calls b.calls) plan part, still))

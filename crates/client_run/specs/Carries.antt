@@ -21,7 +21,7 @@ use Rattle.client_run.specs.declared.ran.RunEnd.{RunEnd}
 use Rattle.client_run.specs.declared.carrying.CarryHalt.{CarryHalt}
 use Rattle.client_run.specs.declared.carrying.CarryHalt.TheVariants.{Broken, Stopped}
 use Rattle.client_run.specs.Accounts.{opened, request_of, AreAt}
-use Rattle.client_run.specs.Carrying.{carry_account, askings_of, AllCarry, CarriesOff, carry_end}
+use Rattle.client_run.specs.Carrying.{carry_account, askings_of, AllCarry, CarriesOff, CarriesPart, carry_end}
 use Rattle.client_run.specs.declared.cut.Untold.{Untold}
 use Rattle.client_run.specs.declared.cut.Untold.TheVariants as untold
 use Rattle.client_run.specs.declared.ran.Ran.{Ran}
@@ -123,11 +123,18 @@ SendEnded count plan s told text end =
 abbrev pub SendComes : ℕ → Plan → Result Ran Untold → Moment → Moment → Type 0
 SendComes count plan result before now = Comes plan (SendEnded count plan) result before now
 
--- A fetch tells nothing before its last text; where it found no memory, nothing is said of its work.
+-- a part of a plan's requests was worked off, from the first on, and no other call was made on the net
+abbrev pub FetchedPart : Plan → (before now : Option (List Call)) → Type 0
+FetchedPart plan before now = (peers : Peers) × AreAt peers plan.leader plan.helper
+    × CarriesPart peers plan.start plan.requests before now
+
+-- A fetch tells nothing before its last text. Where it found no memory, the boxes of a part of the work were
+-- read, which the calls show.
 abbrev pub FetchComes : CarrySettings → List ℕ → Result Ran Untold → Moment → Moment → Type 0
 FetchComes settings seed (Ok ran) before now =
     CarryRuns settings seed before.calls now.calls ran.text ran.end × (now.written ≡ before.written)
-FetchComes settings seed (Err untold.NoMemory) before now = now.written ≡ before.written
+FetchComes settings seed (Err untold.NoMemory) before now =
+    FetchedPart (carry_plan settings seed) before.calls now.calls × (now.written ≡ before.written)
 FetchComes settings seed (Err untold.Unwritten) before now = ⊥
 
 -- by the job

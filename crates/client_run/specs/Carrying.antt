@@ -79,6 +79,21 @@ abbrev pub CarriesOn : Peers → Client → List Request → Client → (before 
 CarriesOn peers start requests new before now c = (made : List Talk)
     × CarriesOff start requests new c.finished.items made c.end × TalksOn peers made before now
 
+-- So far a carrier came that found no memory to go on, or to tell it: it worked off a part of its requests,
+-- from the first on, by exchanges with its servers and no other call on the net.
+pub record CarriesPart (peers : Peers) (start : Client) (requests : List Request)
+    (before now : Option (List Call)) : Type 0 where
+  pub asked : List Request
+  pub behind : List Request
+  pub all : requests ≡ asked ++ behind
+  pub client : Client
+  pub finished : List Finished
+  pub made : List Talk
+  pub end : Result Unit CarryHalt
+  pub carries : CarriesOff start asked client finished made end
+  pub carried : AllCarry finished
+  pub calls : TalksOn peers made before now
+
 -- a run ends by a fault of the net where that stopped the work
 abbrev pub carry_end : Result Unit CarryHalt → RunEnd
 carry_end (Err (Stopped why)) = end_of (Err why)

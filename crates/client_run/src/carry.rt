@@ -1,11 +1,11 @@
 //! The run of a carrier.
-ghost use Rattle.std.specs.Prelude.{◌≡◌, ◌≤◌, ◌⊎◌, length, All, IfOk};
+ghost use Rattle.std.specs.Prelude.{◌≡◌, ◌≤◌, ◌⊎◌, length, All, IfOk, OnErr};
 ghost use Rattle.client_core.specs.Requests.{plain_request};
 ghost use Rattle.node_exchange.specs.Exchanging.{EarlyAtEnd};
 ghost use Rattle.node_client.specs.Work.{Fits};
 ghost use Rattle.settings_text.specs.declared.carry.CarryJob.TheVariants.{Fetch};
 ghost use Rattle.client_run.specs.Carrying.{IsCarrier, carry_end};
-ghost use Rattle.client_run.specs.Carries.{AreWhole, Fetches, SendComes, CarryComes, fetch_text};
+ghost use Rattle.client_run.specs.Carries.{AreWhole, Fetches, FetchedPart, SendComes, CarryComes, fetch_text};
 ghost use Rattle.client_run.specs.Runs.{RunFault, plan_of};
 ghost use Rattle.client_run.specs.Telling.{moment, IsReady, PutSink};
 
@@ -69,6 +69,8 @@ fn fetch<N: Net>(
     requires fits { All (λ r. Fits worker.old.client.width (plain_request r)) requests.now }
     ensures fetches { IfOk result (λ ran. Fetches (plan_of worker.old requests.now) ran
         (N.seen net.old).calls (N.seen net.new).calls) }
+    ensures wants { OnErr result (FetchedPart (plan_of worker.old requests.now)
+        (N.seen net.old).calls (N.seen net.new).calls) }
     ensures fault { IfOk result (λ ran. RunFault ran.end (N.seen net.old).faults (N.seen net.new).faults) }
     ensures early { (net.new ≡ net.old) ⊎ EarlyAtEnd (N.seen net.new).calls N.Conn.seen }
     ensures door { (N.seen net.new).doors ≡ (N.seen net.old).doors }
@@ -115,6 +117,9 @@ fn send<K: Sink, N: Net>(
 /// is put before the last text, which is `file HEX`, or `missing I` and a line `box K HEX` for each box that was
 /// read, then `end`; or the outcome of the request that broke off, the boxes that were read, and `stopped
 /// outcome`. The other `stopped` lines and `net fault` are those of `run_client`, behind the boxes that were read.
+///
+/// A box that is read is cleared. So where memory is wanting in a fetch, what was read is gone; the calls on the net
+/// are then those of a part of the work, from the first request on.
 pub fn run_carry<K: Sink, N: Net>(
     alloc: Global,
     settings: &CarrySettings,

@@ -1,9 +1,9 @@
 //! A carrier's requests, worked off up to the first that doesn't carry.
-ghost use Rattle.std.specs.Prelude.{◌≡◌, ◌≤◌, ◌⊎◌, None, length, map, All, IfOk};
+ghost use Rattle.std.specs.Prelude.{◌≡◌, ◌≤◌, ◌⊎◌, None, length, map, All, IfOk, OnErr};
 ghost use Rattle.node_exchange.specs.Exchanging.{EarlyAtEnd};
 ghost use Rattle.client_core.specs.Requests.{plain_request};
 ghost use Rattle.node_client.specs.Work.{Fits};
-ghost use Rattle.client_run.specs.Carrying.{AllCarry, CarriesOn, carry_end};
+ghost use Rattle.client_run.specs.Carrying.{AllCarry, CarriesOn, CarriesPart, carry_end};
 ghost use Rattle.client_run.specs.Carries.{AreWhole};
 ghost use Rattle.client_run.specs.Runs.{RunFault};
 
@@ -45,6 +45,9 @@ pub fn carry_off<N: Net>(
     requires width { length message.old ≡ client.old.width }
     requires fits { All (λ r. Fits client.old.width (plain_request r)) requests.now }
     ensures works { IfOk result (CarriesOn peers.now client.old (map plain_request requests.now) client.new
+        (N.seen net.old).calls (N.seen net.new).calls) }
+    // Where memory was wanting a part of them was worked off, and nothing else was done.
+    ensures wants { OnErr result (CarriesPart peers.now client.old (map plain_request requests.now)
         (N.seen net.old).calls (N.seen net.new).calls) }
     ensures carried { IfOk result (λ c. AllCarry c.finished.items) }
     ensures whole { IfOk result (λ c. AreWhole client.old.width c.finished.items) }

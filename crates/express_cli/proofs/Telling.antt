@@ -95,12 +95,12 @@ pub job_ends : (job : CarryJob) (settings : CarrySettings) {Leaves : Type 0} (ne
 job_ends (Send id file addresses) settings net run old mid comes fault sink said left = plan_ends (SendEnded (length addresses)) (carry_plan settings net.seed) net run old mid comes fault sink said left
 job_ends Fetch settings net (Ok ran) old mid {new} {end} (runs, still) fault same said left = record {
   comes = says (JobMay Fetch settings net) (end_by ran.end) ran.text [] old mid new end (λ e t is. rw is.1 (inl (ran.end, runs, fault, is.0))) (took_none old mid still) same said;
-  in_time = λ failed. inr tt;
+  in_time = λ failed. inr (inl (ran.text, ran.end, runs, said_part (end_by ran.end) ran.text [] old mid new end (took_none old mid still) said failed));
   leaves = left;
 }
-job_ends Fetch settings net (Err untold.NoMemory) old mid {new} {end} still fault same said left = record {
-  comes = says (JobMay Fetch settings net) ends.OutOfMemory out_of_memory_text [] old mid new end (λ e t is. inr is) (took_none old mid still) same said;
-  in_time = λ failed. inr tt;
+job_ends Fetch settings net (Err untold.NoMemory) old mid {new} {end} (part, still) fault same said left = record {
+  comes = says (JobMay Fetch settings net) ends.OutOfMemory out_of_memory_text [] old mid new end (λ e t is. inr (part, is)) (took_none old mid still) same said;
+  in_time = λ failed. inr (inr (part, said_part ends.OutOfMemory out_of_memory_text [] old mid new end (took_none old mid still) said failed));
   leaves = left;
 }
 job_ends Fetch settings net (Err untold.Unwritten) old mid never fault sink said left = absurd never

@@ -85,7 +85,8 @@ pub record Ran (words : List Text) (streams : Streams) (net : Around) (status : 
       × ((end : End) × (text : List ℕ) × RunMay words streams net end text
       × TookPrefix streams.out.written streams.out_now.written text)
   -- Of a client's requests, and of the parts that a carrier sends, all were told by then but the last that
-  -- came to its end: the line of each is out before the next is asked. A server that had made more calls
+  -- came to its end: the line of each is out before the next is asked. A fetch had worked its requests off,
+  -- or a part of them, from the first on, and a front of its text went out. A server that had made more calls
   -- than its listen had told that it listens: that is out before a connection is accepted.
   pub told_in_time : status ≡ 5 → IsStill net ⊎ MayBreak words streams net
   -- An answer that a client or a carrier took for one that ended early had ended: its connection had nothing

@@ -1,5 +1,5 @@
 -- What comes of a command over a net, by the settings that are its input.
-use Rattle.std.specs.Prelude.{◌≡◌, ◌⊎◌, ℕ, Bool, List, ◌++◌, length}
+use Rattle.std.specs.Prelude.{◌≡◌, ◌⊎◌, ℕ, Bool, List, [], ◌++◌, length}
 use Rattle.std.specs.Prelude.{Result, Ok, Err}
 use Rattle.express_words.specs.Calls.{Listened, Adds}
 use Rattle.express_words.specs.Streams.{Took}
@@ -24,7 +24,7 @@ use Rattle.node_client.specs.Talks.{TalksOn}
 use Rattle.node_client.specs.Work.{WorkState}
 use Rattle.client_run.specs.Accounts.{AreAt}
 use Rattle.client_run.specs.Runs.{RunFault, Plan, EndSaid, CameTo, ClientEnded, client_plan}
-use Rattle.client_run.specs.Carries.{CarryRuns, SendEnded, carry_plan}
+use Rattle.client_run.specs.Carries.{CarryRuns, FetchedPart, SendEnded, carry_plan}
 use Rattle.client_run.specs.Telling.{TookPart, lines_of}
 use Rattle.client_run.specs.declared.cut.Untold.{Untold}
 use Rattle.client_run.specs.declared.cut.Untold.TheVariants as untold
@@ -196,19 +196,29 @@ client = record {
 
 -- ---- a carrier
 
--- To send is told as a client's requests are; of a fetch nothing is told before its end.
+-- To send is told as a client's requests are. Of a fetch nothing is told before its end: where memory was
+-- wanting, the boxes of a part of its work were read, in order, and that is all that was done.
 abbrev pub JobMay : CarryJob → CarrySettings → Around → End → List ℕ → Type 0
 JobMay (Send id file addresses) settings net end text =
     PlanMay (SendEnded (length addresses)) (carry_plan settings net.seed) net end text
 JobMay Fetch settings net end text =
     ((by : RunEnd) × CarryRuns settings net.seed net.before.calls net.now.calls text by
     × RunFault by net.before.faults net.now.faults × (end ≡ end_by by))
-    ⊎ SaidWanting end text
+    ⊎ (FetchedPart (carry_plan settings net.seed) net.before.calls net.now.calls × SaidWanting end text)
+
+-- The sink failed after a front of the text of what was fetched; or of that memory was wanting for it, when a
+-- part of the work was done.
+abbrev pub FetchBreaks : CarrySettings → Around → (old new : Seen) → Type 0
+FetchBreaks settings net old new =
+    ((text : List ℕ) × (by : RunEnd) × CarryRuns settings net.seed net.before.calls net.now.calls text by
+    × TookPart [] text old.written new.written)
+    ⊎ (FetchedPart (carry_plan settings net.seed) net.before.calls net.now.calls
+    × TookPart [] out_of_memory_text old.written new.written)
 
 abbrev pub JobBreaks : CarryJob → CarrySettings → Around → (old new : Seen) → Type 0
 JobBreaks (Send id file addresses) settings net old new =
     PlanBreaks (SendEnded (length addresses)) (carry_plan settings net.seed) net old new
-JobBreaks Fetch settings net old new = Unit {0}
+JobBreaks Fetch settings net old new = FetchBreaks settings net old new
 
 -- what may come of a carrier of these settings
 abbrev pub CarryMay : CarrySettings → Around → End → List ℕ → Type 0

@@ -2,7 +2,7 @@ use Rattle.std.proofs.Common.{◌≡◌, length, refl, inl, sym, ap, ◌∙◌, 
 use Rattle.node_exchange.specs.Exchanging.{EarlyAtEnd}
 use Rattle.node_client.proofs.EarlyLaws.{still_or}
 use Rattle.node_client.proofs.WorkLaws.{working, request_at, works_more, works_stop}
-use Rattle.client_run.proofs.CarryLaws.{none_carry, none_whole, one_carries, one_whole, one_more_told, breaks}
+use Rattle.client_run.proofs.CarryLaws.{none_carry, none_whole, one_carries, one_whole, one_more_told, breaks, on_err, untold_part}
 use Rattle.client_run.proofs.carrying.carry_off.Goals as goal
 
 pub loop-number-init : goal.loop-number-init
@@ -62,3 +62,15 @@ returns-then-not-carries-clause-early g c = still_or (λ net. EarlyAtEnd (g.N.Co
 
 pub returns-in_err-push-clause-early : goal.returns-in_err-push-clause-early
 returns-in_err-push-clause-early g c = still_or (λ net. EarlyAtEnd (g.N.Counted.seen net).calls g.N.Conn.Counted.seen) _ _ _ c.loop-number.invariant.early c.one_request.ensures.early
+
+pub returns-in_err-one-clause-wants : goal.returns-in_err-one-clause-wants
+returns-in_err-one-clause-wants g c =
+    let at = request_at c.args.requests.now c.loop-number.number _ c.loop-number-test.true in
+    let more = works_more _ _ _ _ _ _ _ _ _ _ c.one_request.new.message c.in-Ok.told _ _ _ c.loop-number.invariant.working at.0 at.1 c.in-Ok.ensures.came refl refl in
+    on_err _ _ (untold_part _ _ _ _ _ c.loop-number.number _ c.one_request.new.message c.in-Ok.told _ _ more c.loop-number.invariant.carried)
+
+pub returns-in_err-push-clause-wants : goal.returns-in_err-push-clause-wants
+returns-in_err-push-clause-wants g c =
+    let at = request_at c.args.requests.now c.loop-number.number _ c.loop-number-test.true in
+    let more = works_more _ _ _ _ _ _ _ _ _ _ c.one_request.new.message c.in-Ok.told _ _ _ c.loop-number.invariant.working at.0 at.1 c.in-Ok.ensures.came refl refl in
+    on_err _ _ (untold_part _ _ _ _ _ c.loop-number.number _ c.one_request.new.message c.in-Ok.told _ _ more c.loop-number.invariant.carried)
