@@ -19,6 +19,7 @@ use Rattle.run_hiding.specs.Flow.{OutcomesStayBeside, RunsFitBeside, SchedulesFi
 use Rattle.run_hiding.specs.Laws.{DistinctRunsStay, ForeignOrdersStay, ForeignRepliesAreIdeal, IdealsStay}
 use Rattle.run_hiding.specs.Laws.{LettersAreIdeal, MasksApart, RealIsIdeal, ResultsStay, RunsFitOtherAims}
 use Rattle.run_hiding.specs.Laws.{RunsHaveForm, RunsReturn, SightsStay, WritesAddUp}
+use Rattle.log_laws.specs.Journals.{LogsAreARun}
 use Rattle.run_laws.specs.Draws.{DrawsAreApart}
 use Rattle.run_laws.specs.Owners.{OwnersKeepTheirs}
 use Rattle.run_laws.specs.Shown.{FramesAreShown}
@@ -126,6 +127,10 @@ pub record Laws : Type 0 where
   -- What a leader writes has the lane and serial of the frame, or of the oldest command, that it answers.
   pub turns_are_own : TurnsAreOwn
   pub acks_are_own : AcksAreOwn
+  -- Two servers' journals are a run: where each frame of the link in a leader's and a helper's journal is one
+  -- that the other server had written, there are events whose run over bytes ends at the two servers that the
+  -- journals give.
+  pub logs_are_a_run : LogsAreARun
   -- Each `show` shows the frame of its number as it was sent, if it was, and nothing else is shown.
   pub frames_are_shown : FramesAreShown
   -- At the end each request that a client was asked before a `finish` of it has its outcome.

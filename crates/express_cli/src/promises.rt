@@ -3,6 +3,7 @@ ghost use Rattle.express_cli.specs.Laws.{Laws};
 
 use batch_audit::{few_values_pass, sorts_are_one};
 use file_carry::{answers_join, unwritten_is_missing};
+use log_laws::logs_are_a_run;
 use replay_world::{
     accepted_writes_pass, clients_get_answers, frames_are_heeded, histories_hold, mills_count,
     replies_are_one, requests_are_told, rows_are_awaited, runs_follow_protocol, schedules_fit,
@@ -44,6 +45,7 @@ pub fn laws()
     refusals_have_causes();
     lanes_go_on();
     answers_are_own();
+    logs_are_a_run();
     owners_keep_theirs();
     frames_are_shown();
     accepted_writes_pass();

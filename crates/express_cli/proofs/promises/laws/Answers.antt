@@ -54,6 +54,7 @@ returns c =
       requests_go_on = c.lanes_go_on.ensures.client;
       turns_are_own = c.answers_are_own.ensures.turns;
       acks_are_own = c.answers_are_own.ensures.acks;
+      logs_are_a_run = c.logs_are_a_run.ensures;
       frames_are_shown = c.frames_are_shown.ensures;
       finishes_answer = c.requests_are_told.ensures.finished;
       finishes_drain = c.requests_are_told.ensures.drained;
