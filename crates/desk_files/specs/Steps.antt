@@ -30,10 +30,10 @@ pub data FolderStep : Type 0 where
   Unlinked : DeskFile → Result (Unit {0}) Trouble → FolderStep
   Synced : Result (Unit {0}) Trouble → FolderStep
 
--- A call on papers, with its answer: a folder was made where it wasn't there; what stands under a name was compared
--- with these bytes; these bytes were written beside the name that they are for, and the disk has them; they were
--- given the name, which nothing had, or not; what stands beside the name was taken away; the disk has the folder's
--- names.
+-- A call on papers, with its answer: a folder was made where it wasn't there; what stands under a name was
+-- compared with these bytes; these bytes were written beside the name that they are for, and the disk has
+-- them; they were given the name, which nothing had, or not; what stands beside the name was taken away; the
+-- disk has the folder's names.
 pub data PaperStep : Type 0 where
   FolderMade : List ℕ → Result (Unit {0}) Trouble → PaperStep
   Found : List ℕ → List ℕ → List ℕ → Result Stands Trouble → PaperStep
@@ -75,8 +75,17 @@ FailsToHold fault before calls = (calls ≡ added (Made (Err fault)) before)
     ⊎ (calls ≡ added (FoundBare (Err fault)) (added (Marked (Ok Absent)) (locked_behind before true)))
     ⊎ (calls ≡ added (MarkSet (Err fault)) (unmarked_behind before true))
 
--- Behind these calls this stood under a name of a folder, nothing was left beside it, and the disk had the folder's
--- names.
+-- the same behind a lock that this process got
+abbrev pub HoldsBehindLock : Hold → (locked calls : Option (List FolderStep)) → Type 0
+HoldsBehindLock hold locked calls =
+    (before : Option (List FolderStep)) → locked ≡ locked_behind before true → IsHoldOf hold before calls
+
+abbrev pub FailsBehindLock : FolderFault → (locked calls : Option (List FolderStep)) → Type 0
+FailsBehindLock fault locked calls =
+    (before : Option (List FolderStep)) → locked ≡ locked_behind before true → FailsToHold fault before calls
+
+-- Behind these calls this stood under a name of a folder, nothing was left beside it, and the disk had the
+-- folder's names.
 abbrev pub FoundBehind : (before calls : Option (List PaperStep)) → (folder name bytes : List ℕ) → Stands
     → Type 0
 FoundBehind before calls folder name bytes stands =

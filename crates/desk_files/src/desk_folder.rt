@@ -1,11 +1,11 @@
 //! A desk's folder over the system's calls.
-ghost use Rattle.std.specs.Prelude.{◌≡◌, ◌≤◌, List, None, Option, Ok, IfErr, IfOk, OnOk, true};
+ghost use Rattle.std.specs.Prelude.{◌≡◌, ◌≤◌, None, Ok, IfErr, IfOk, OnOk, true};
 ghost use Rattle.express_words.specs.Seen.{silent};
 ghost use Rattle.express_words.specs.Causes.{HasCause, CountsFault, next};
 ghost use Rattle.express_outside.specs.Calls.{added};
 ghost use Rattle.desk_files.specs.Disks.{IsOnlyRead, MayBeWritten};
-ghost use Rattle.desk_files.specs.Steps.{FolderStep, Looked, Renamed, Unlinked, Synced, HandedOut, MarkSet};
-ghost use Rattle.desk_files.specs.Steps.{IsHoldOf, FailsToHold, locked_behind};
+ghost use Rattle.desk_files.specs.Steps.{Looked, Renamed, Unlinked, Synced, HandedOut, MarkSet};
+ghost use Rattle.desk_files.specs.Steps.{IsHoldOf, FailsToHold, HoldsBehindLock, FailsBehindLock};
 
 use crate::folder_calls::{FolderCalls, Mark};
 use desk_outside::{DeskFile, Folder, FolderFault, Hold};
@@ -38,12 +38,10 @@ impl<C: FolderCalls> DeskFolder<C> {
     // What the mark says of a folder whose lock this process has. One in which nothing stands gets its mark.
     fn marked(&mut self) -> Result<Hold, FolderFault>
         ensures faults { self.new.faults ≡ self.old.faults }
-        ensures hold { (before : Option (List FolderStep))
-            → C.calls self.old.system ≡ locked_behind before true
-            → IfOk result (λ hold. IsHoldOf hold before (C.calls self.new.system)) }
-        ensures fails { (before : Option (List FolderStep))
-            → C.calls self.old.system ≡ locked_behind before true
-            → IfErr result (λ fault. FailsToHold fault before (C.calls self.new.system)) }
+        ensures hold { IfOk result
+            (λ hold. HoldsBehindLock hold (C.calls self.old.system) (C.calls self.new.system)) }
+        ensures fails { IfErr result
+            (λ fault. FailsBehindLock fault (C.calls self.old.system) (C.calls self.new.system)) }
     {
         match self.system.mark()? {
             Mark::This => Ok(Hold::Held),

@@ -19,7 +19,8 @@ given (Err why) = None
 
 -- From old to new one call was made. A folder that tells its calls now told them before; of one that doesn't
 -- tell them now nothing is said.
-abbrev pub Adds : {D : Type 0} → Option (List (FolderCall D)) → Option (List (FolderCall D)) → FolderCall D → Type 0
+abbrev pub Adds : {D : Type 0} → Option (List (FolderCall D)) → Option (List (FolderCall D)) → FolderCall D
+    → Type 0
 Adds old None call = Unit {0}
 Adds None (Some new) call = ⊥
 Adds (Some old) (Some new) call = new ≡ old ++ call ∷ []

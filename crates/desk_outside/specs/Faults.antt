@@ -1,7 +1,8 @@
 -- Why a desk's folder can't be used, as text.
 use Rattle.std.specs.Prelude.{ℕ, List, codes}
 use Rattle.desk_outside.specs.declared.folder_fault.FolderFault.{FolderFault}
-use Rattle.desk_outside.specs.declared.folder_fault.FolderFault.TheVariants.{NotPrivate, Link, OtherKind, NoParent, NotYours, Broken}
+use Rattle.desk_outside.specs.declared.folder_fault.FolderFault.TheVariants.{NotPrivate, Link, OtherKind}
+use Rattle.desk_outside.specs.declared.folder_fault.FolderFault.TheVariants.{NoParent, NotYours, Broken}
 
 abbrev pub fault_text : FolderFault → List ℕ
 fault_text NotPrivate = codes "others than you may look into it"
