@@ -18,7 +18,8 @@ use Rattle.pair_check.specs.Questions.{IsQuestion}
 use Rattle.frame_rules.specs.Frames.{PlainFrame}
 
 -- One request of a client that remembers after another, each at the servers of a pair or, for a try of a
--- letter, of its card; and questions, of which the server at a place says what it is, and which change nothing there.
+-- letter, of its card; and questions, of which the server at a place says what it is, and which change no box,
+-- lane or serial there.
 pub data Sends {D : Type 0} (shows : D → DiskSeen) (counts : D → Seen) (before : Option (List Call))
     : Option (List Call) → Type 0 where
   nothing : Sends shows counts before before

@@ -1,5 +1,5 @@
 //! What a pair of servers says of its width and its lanes: each server is asked by one frame that it refuses, and that
-//! changes nothing at it.
+//! changes no box, lane or serial at it.
 #![tactic(auto)]
 
 mod asking;
