@@ -14,7 +14,7 @@ GROUPS = [
      "file_carry desk_letters desk_texts desk_tries"),
     ("stores", "#e2e8f0", "block_region lane_table link_order share_store box_registry server_boxes"),
     ("servers and client", "#fbdcd3", "helper_core leader_core client_core"),
-    ("on sockets and disks", "#cfeff2", "node_journal node_restart node_serve node_client client_run"),
+    ("on sockets and disks", "#cfeff2", "node_journal kept_machine node_restart node_serve node_client client_run"),
 ]
 TALL, DEEP, WIDE, GAP, THIN = 30, 78, 112, 14, 12
 SWEEPS, MARGIN, TOP = 40, 24, 62

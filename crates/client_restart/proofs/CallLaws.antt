@@ -10,9 +10,9 @@ use Rattle.step_rules.specs.Client.{Client, Fault}
 use Rattle.step_rules.specs.ClientAsks.{asked, asked_with, fault_at}
 use Rattle.step_rules.specs.ClientReplies.{if_whole, on_reply}
 use Rattle.client_core.specs.Answers.{progress_in}
-use Rattle.client_restart.specs.declared.fault.NoteFault.{NoteFault}
-use Rattle.client_restart.specs.declared.fault.NoteFault.TheVariants.{Journal, NoMemory, Foreign}
-use Rattle.client_restart.specs.Faults.{IsOkOrDiskFault}
+use Rattle.kept_machine.specs.declared.fault.KeepFault.{KeepFault}
+use Rattle.kept_machine.specs.declared.fault.KeepFault.TheVariants.{Journal, NoMemory, Foreign}
+use Rattle.kept_machine.specs.Faults.{IsOkOrDiskFault}
 use Rattle.client_restart.specs.Hears.{makes_step}
 use Rattle.client_restart.specs.Keeps.{KeepsNote, Sight}
 use Rattle.client_restart.specs.Notes.{Noted}
@@ -46,14 +46,14 @@ one_answer (Err e) f ok err = cc ok
 
 -- ---- a fault
 
-fault_of : (T : Type 0) (f g : NoteFault) → IsErrOf {T = T} (Err f) g → f ≡ g
+fault_of : (T : Type 0) (f g : KeepFault) → IsErrOf {T = T} (Err f) g → f ≡ g
 fault_of T f g e = cc
 
 -- whatever a call would answer else
-pub same_fault : (T U : Type 0) (f g : NoteFault) → IsErrOf {T = T} (Err f) g → IsErrOf {T = U} (Err f) g
-same_fault T U f g e = ap (λ (x : NoteFault). Err x) (fault_of T f g e)
+pub same_fault : (T U : Type 0) (f g : KeepFault) → IsErrOf {T = T} (Err f) g → IsErrOf {T = U} (Err f) g
+same_fault T U f g e = ap (λ (x : KeepFault). Err x) (fault_of T f g e)
 
-either : (T U : Type 0) (f : NoteFault) → IsOkOrDiskFault {T = T} (Err f) → IsOkOrDiskFault {T = U} (Err f)
+either : (T U : Type 0) (f : KeepFault) → IsOkOrDiskFault {T = T} (Err f) → IsOkOrDiskFault {T = U} (Err f)
 either T U (Journal (Disk faults)) ok = tt
 either T U (Journal Closed) ok = absurd ok
 either T U (Journal NotEmpty) ok = absurd ok
@@ -63,10 +63,10 @@ either T U NoMemory ok = absurd ok
 either T U (Foreign n) ok = absurd ok
 
 -- a fault keeps the same, whatever a call would answer else
-pub keeps_err : (T U : Type 0) (n : Noted) (old new : Sight) (f : NoteFault) → KeepsNote {T = T} n old new (Err f) → KeepsNote {T = U} n old new (Err f)
+pub keeps_err : (T U : Type 0) (n : Noted) (old new : Sight) (f : KeepFault) → KeepsNote {T = T} n old new (Err f) → KeepsNote {T = U} n old new (Err f)
 keeps_err T U n old new f k =
-    let over : (g : NoteFault) → IsErrOf {T = T} (Err f) g → IsErrOf {T = U} (Err f) g = λ g e. same_fault T U f g e in
-    let back : (g : NoteFault) → IsErrOf {T = U} (Err f) g → IsErrOf {T = T} (Err f) g = λ g e. same_fault U T f g e in
+    let over : (g : KeepFault) → IsErrOf {T = T} (Err f) g → IsErrOf {T = U} (Err f) g = λ g e. same_fault T U f g e in
+    let back : (g : KeepFault) → IsErrOf {T = U} (Err f) g → IsErrOf {T = T} (Err f) g = λ g e. same_fault U T f g e in
     record {
       opening = k.opening;
       step = tt;

@@ -1,13 +1,10 @@
 pub mod CallLaws
 pub mod CoreLaws
-pub mod FaultLaws
 pub mod HistoryLaws
-pub mod JudgeLaws
 pub mod KeptLaws
-pub mod MakingLaws
+pub mod MachineLaws
 pub mod NoteLaws
 pub mod OpeningLaws
-pub mod ReplayLaws
 pub mod StepLaws
 pub mod TurnLaws
 pub mod Turns

@@ -1,42 +1,21 @@
 -- What a call does that notes something before its step.
 use Rattle.std.specs.Prelude.{◌≡◌, ℕ, List, [], ◌∷◌, ◌++◌, true, false}
-use Rattle.std.specs.Prelude.{Option, Some, None, Result, IsErrOf, OnOk, OnErr}
+use Rattle.std.specs.Prelude.{Result, IsErrOf, OnOk, OnErr}
 use Rattle.express_words.specs.Seen.{Seen}
 use Rattle.node_journal.specs.Disk.{DiskSeen, LeavesOnly, Within}
-use Rattle.node_journal.specs.Records.{Appended}
-use Rattle.node_journal.specs.Journal.{JournalState, HasSpace, LacksSpace, IsOkOrDisk, LeavesWithOrWithout}
-use Rattle.node_journal.specs.Journal.{longer, broken}
-use Rattle.node_journal.specs.declared.fault.JournalFault.{JournalFault}
-use Rattle.node_journal.specs.declared.fault.JournalFault.TheVariants.{Closed, NotEmpty, Full, Disk, Damaged}
-use Rattle.client_restart.specs.declared.fault.NoteFault.{NoteFault}
-use Rattle.client_restart.specs.declared.fault.NoteFault.TheVariants.{Journal, NoMemory}
+use Rattle.node_journal.specs.Journal.{JournalState, HasSpace, LacksSpace, longer, broken}
+use Rattle.node_journal.specs.declared.fault.JournalFault.TheVariants.{Closed, Full}
+use Rattle.kept_machine.specs.declared.fault.KeepFault.{KeepFault}
+use Rattle.kept_machine.specs.declared.fault.KeepFault.TheVariants.{Journal, NoMemory}
 use Rattle.client_restart.specs.declared.opening.ClientOpening.{ClientOpening}
-use Rattle.client_restart.specs.Faults.{Counts, IsOkOrDiskFault}
+use Rattle.kept_machine.specs.Faults.{Counts, IsOkOrDiskFault}
 use Rattle.client_restart.specs.Cores.{TakesMemory}
 use Rattle.client_core.specs.Requests.{plain_request}
 use Rattle.client_core.specs.declared.request.Request.{Request as Given}
 use Rattle.client_restart.specs.Hears.{IsTaken}
-use Rattle.client_restart.specs.Notes.{Noted, asked_note, note_record, size_of}
+use Rattle.client_restart.specs.Notes.{Noted, asked_note, size_of}
 use Rattle.client_restart.specs.Steps.{CoreState, step_of}
 use Rattle.client_restart.specs.Kept.{ClientState, HoldsNotes, LeavesNotes, StandsByNotes}
-
--- why a note won't be written, judged before anything is: none where its record is then appended
-abbrev pub IsFaultBefore : Noted → JournalState → Option JournalFault → Type 0
-IsFaultBefore note j (Some Closed) = j.closed ≡ true
-IsFaultBefore note j (Some (Full end)) = (j.closed ≡ false) × LacksSpace j (size_of note) × (end ≡ j.end)
-IsFaultBefore note j (Some NotEmpty) = ⊥
-IsFaultBefore note j (Some (Disk faults)) = ⊥
-IsFaultBefore note j (Some (Damaged at)) = ⊥
-IsFaultBefore note j None = (j.closed ≡ false) × HasSpace j (size_of note)
-
--- The record of a note goes behind the end of a journal that has space for it.
-pub record WritesNote {D : Type 0} (shows : D → DiskSeen) (note : Noted) (old new : JournalState)
-    (disk disk_new : D) (r : Result (Unit {0}) JournalFault) : Type 0 where
-  pub fits : IsOkOrDisk r × OnErr r (new ≡ broken old)
-  pub longer : OnOk r (new ≡ longer (size_of note) old)
-  pub added : OnOk r ((c : List ℕ) → (shows disk_new).reads c
-      → Appended (shows disk).reads (note_record note) c)
-  pub any_moment : LeavesWithOrWithout old.limit (shows disk) (shows disk_new) (note_record note)
 
 -- what is seen of a kept client
 pub record Sight : Type 1 where
@@ -57,7 +36,7 @@ sight shows counts k = record {
 
 -- The faults of a note, in the order in which they are judged: what the journal won't write is never told
 -- as a want of memory.
-pub record IsJudged {T : Type 0} (note : Noted) (j now : JournalState) (r : Result T NoteFault) : Type 0 where
+pub record IsJudged {T : Type 0} (note : Noted) (j now : JournalState) (r : Result T KeepFault) : Type 0 where
   pub closed : j.closed ≡ true → IsErrOf r (Journal Closed)
   pub full : j.closed ≡ false → LacksSpace j (size_of note) → IsErrOf r (Journal (Full j.end))
   pub memory : IsErrOf r NoMemory → TakesMemory note
@@ -66,7 +45,7 @@ pub record IsJudged {T : Type 0} (note : Noted) (j now : JournalState) (r : Resu
 
 -- Where the answer is Ok the note is on the disk and its step was taken, and where it is a fault no step was
 -- taken. A crash at any moment of the call leaves the notes from before it, with this one or without.
-pub record KeepsNote {T : Type 0} (note : Noted) (old new : Sight) (r : Result T NoteFault) : Type 0 where
+pub record KeepsNote {T : Type 0} (note : Noted) (old new : Sight) (r : Result T KeepFault) : Type 0 where
   pub opening : new.opening ≡ old.opening
   pub step : OnOk r (new.core ≡ step_of old.core note)
   pub no_step : OnErr r (new.core ≡ old.core)
@@ -83,11 +62,11 @@ pub record KeepsNote {T : Type 0} (note : Noted) (old new : Sight) (r : Result T
 
 -- from the one client to the other a call does it
 abbrev pub CallKeeps : {D T : Type 0} → (D → DiskSeen) → (D → Seen) → Noted → (old new : ClientState D)
-    → Result T NoteFault → Type 0
+    → Result T KeepFault → Type 0
 CallKeeps shows seen note old new r = KeepsNote note (sight shows seen old) (sight shows seen new) r
 
 -- the same of a request that the client takes
 abbrev pub KeepsIfTaken : {D T : Type 0} → (D → DiskSeen) → (D → Seen) → Given → (old new : ClientState D)
-    → Result T NoteFault → Type 0
+    → Result T KeepFault → Type 0
 KeepsIfTaken shows seen request old new r =
     IsTaken old.core (plain_request request) → CallKeeps shows seen (asked_note request) old new r

@@ -1,15 +1,16 @@
 -- A client with its journal, and what stands on its disk.
-use Rattle.std.specs.Prelude.{◌≡◌, ◌⊎◌, ℕ, ◌≤◌, List, [], ◌∷◌, ◌++◌, length, drop, true, false, Result, Err}
+use Rattle.std.specs.Prelude.{◌≡◌, ◌⊎◌, ℕ, ◌≤◌, List, [], ◌∷◌, ◌++◌, length, drop, Result, Err}
 use Rattle.std.specs.Prelude.{MatchResult}
 use Rattle.node_journal.specs.Disk.{DiskSeen, LeavesOnly}
 use Rattle.node_journal.specs.Records.{content, records_from, IsUndamaged, LeavesNoByte}
 use Rattle.node_journal.specs.Next.{found}
-use Rattle.node_journal.specs.Journal.{JournalState, IsInPlace}
+use Rattle.node_journal.specs.Journal.{JournalState}
 use Rattle.node_journal.specs.declared.fault.JournalFault.TheVariants.{Damaged}
-use Rattle.client_restart.specs.declared.fault.NoteFault.{NoteFault}
+use Rattle.kept_machine.specs.declared.fault.KeepFault.{KeepFault}
 use Rattle.client_restart.specs.declared.opening.ClientOpening.{ClientOpening}
-use Rattle.client_restart.specs.declared.standing.ClientCore.{ClientCore}
-use Rattle.client_restart.specs.Cores.{core_in, IsCore}
+use Rattle.kept_machine.specs.Kept as machine
+use Rattle.client_restart.specs.declared.machine.OpenedClient.{OpenedClient}
+use Rattle.client_restart.specs.Cores.{core_in}
 use Rattle.client_restart.specs.Openings.{IsClientOpening}
 use Rattle.client_restart.specs.Notes.{Noted}
 use Rattle.client_restart.specs.Records.{AllNotes, records_of}
@@ -21,6 +22,15 @@ pub record ClientState (D : Type 0) : Type 0 where
   pub core : CoreState
   pub journal : JournalState
   pub disk : D
+
+-- what is kept of a client, as its callers see it
+abbrev pub state_of : {D : Type 0} → machine.KeptState OpenedClient D → ClientState D
+state_of k = record {
+  opening = k.machine.opening;
+  core = core_in k.machine.core;
+  journal = k.journal;
+  disk = k.disk;
+}
 
 -- the disk's content is the records of the opening and of these notes
 abbrev pub HoldsNotes : ClientOpening → List Noted → (List ℕ → Type 0) → Type 0
@@ -75,17 +85,8 @@ unfoldable pub MakesOnly : ℕ → ClientOpening → (old new : DiskSeen) → Ty
 MakesOnly limit o old new = LeavesNoByte old.may_leave → LeavesOnly old new (LeavesOpening limit o)
 
 -- P of the disk that comes back, with the client or beside a fault
-abbrev pub OnDisk : {D : Type 0} → Result (ClientState D) (NoteFault × D) → (D → Type 0) → Type 0
+abbrev pub OnDisk : {D : Type 0} → Result (ClientState D) (KeepFault × D) → (D → Type 0) → Type 0
 OnDisk result P = MatchResult result (λ k. P k.disk) (λ x. P x.1)
-
--- until a call on the disk fails, the journal is in place and what stands on its disk gives the client
-pub record IsKeptClient (o : ClientOpening) (core : ClientCore) (journal : JournalState) (disk : DiskSeen)
-    : Type 0 where
-  pub is_opening : IsClientOpening o
-  pub is_core : IsCore core
-  pub ready : journal.ready ≡ true
-  pub in_place : journal.closed ≡ false → IsInPlace journal disk
-  pub stands : journal.closed ≡ false → StandsByNotes o (core_in core) disk.reads
 
 -- Records of the form stand before byte n.
 pub record HasNotesBefore (n : ℕ) (c : List ℕ) : Type 0 where

@@ -1,13 +1,12 @@
 pub mod Cores
-pub mod Faults
 pub mod Hears
 pub mod Histories
 pub mod Keeps
 pub mod Kept
 pub mod Laws
+pub mod MachineLaws
+pub mod Machines
 pub mod Notes
 pub mod Openings
 pub mod Records
-pub mod Replays
 pub mod Steps
-pub mod Texts

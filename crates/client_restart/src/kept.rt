@@ -9,7 +9,7 @@ ghost use Rattle.client_core.specs.LastProof.{at_last_proof};
 ghost use Rattle.node_journal.specs.Disk.{IsUntouched, Within};
 ghost use Rattle.node_journal.specs.Records.{content, GivesNoByte, IsUndamaged};
 ghost use Rattle.client_restart.specs.Cores.{ended_in};
-ghost use Rattle.client_restart.specs.Faults.{OnForeign, OnDamaged, OnNotEmpty, OnFull, OnNoMemory, OnStill, IsOfCreate, IsOfReopen, CountsFault};
+ghost use Rattle.kept_machine.specs.Faults.{OnForeign, OnDamaged, OnNotEmpty, OnFull, OnNoMemory, OnStill, IsOfCreate, IsOfReopen, CountsFault};
 ghost use Rattle.client_restart.specs.Hears.{IsTaken, makes_step_at};
 ghost use Rattle.client_restart.specs.Notes.{FitsRecord, GivenUp, Heard, IsNote, Owned, Remark, Told, plain_note};
 ghost use Rattle.client_restart.specs.Openings.{IsClientOpening};
@@ -17,39 +17,29 @@ ghost use Rattle.client_restart.specs.Records.{IsForeign};
 ghost use Rattle.client_restart.specs.Steps.{fold};
 
 use crate::ended::Ended;
-use crate::fault::NoteFault;
 use crate::hearing::{asked_note, is_one_frame, makes_step};
-use crate::keeping::NoteJournal;
+use crate::machine::OpenedClient;
 use crate::note::Note;
 use crate::opening::ClientOpening;
 use crate::owned_box::OwnedBox;
-use crate::reopening::{FoundClient, find};
-use crate::standing::ClientCore;
 use client_core::{AskFault, Progress, Request};
-use node_journal::{Disk, Journal};
+use kept_machine::{KeepFault, Kept};
+use node_journal::Disk;
 use std::alloc::Global;
 use std::marker::Model;
 
 /// A client with its journal and the journal's disk.
 #[derive(Drop)]
 pub struct KeptClient<D: Disk> {
-    alloc: Global,
-    opening: ClientOpening,
-    core: ClientCore,
-    journal: NoteJournal,
-    disk: D,
+    kept: Kept<OpenedClient, D>,
 }
 
 impl<D: Disk> Model for KeptClient<D> {
-    ghost use Rattle.client_restart.specs.Cores.{core_in};
-    ghost use Rattle.client_restart.specs.Kept.{ClientState, IsKeptClient};
+    ghost use Rattle.client_restart.specs.Kept.{ClientState, state_of};
 
     ghost Value = { ClientState D };
 
-    ghost view = { λ k.
-        record { opening = k.opening; core = core_in k.core; journal = k.journal; disk = k.disk } };
-
-    ghost invariant = { λ k. IsKeptClient k.opening k.core k.journal (D.disk k.disk) };
+    ghost view = { λ k. state_of k.kept };
 }
 
 impl<D: Disk> KeptClient<D> {
@@ -63,7 +53,7 @@ impl<D: Disk> KeptClient<D> {
         opening: &ClientOpening,
         disk: D,
         limit: u64,
-    ) -> Result<KeptClient<D>, (NoteFault, D)>
+    ) -> Result<KeptClient<D>, (KeepFault, D)>
         requires opening { IsClientOpening opening.now }
         requires limit { limit ≤ 2 ^ 62 }
         ensures opening { IfOk result (λ k. k.opening ≡ opening.now) }
@@ -94,24 +84,15 @@ impl<D: Disk> KeptClient<D> {
         // exactly the opening's.
         ensures any_moment { OnDisk result (λ d. MakesOnly limit opening.now (D.disk disk) (D.disk d)) }
     {
-        let Ok(core) = ClientCore::open(alloc, opening) else {
-            return Err((NoteFault::NoMemory, disk));
-        };
-        let mut disk = disk;
-        match Journal::create(&mut disk, limit, &opening.record()) {
-            Ok(journal) => Ok(KeptClient {
-                alloc,
-                opening: *opening,
-                core,
-                journal: NoteJournal::of(journal, limit),
-                disk,
-            }),
-            Err(fault) => Err((NoteFault::Journal(fault), disk)),
+        let first = opening.record();
+        match Kept::create(alloc, &first, disk, limit) {
+            Ok(kept) => Ok(KeptClient { kept }),
+            Err((fault, disk)) => Err((fault, disk)),
         }
     }
 
     /// The client that the records on a disk give: it stands at the step at which it stood.
-    pub fn reopen(alloc: Global, disk: D, limit: u64) -> Result<KeptClient<D>, (NoteFault, D)>
+    pub fn reopen(alloc: Global, disk: D, limit: u64) -> Result<KeptClient<D>, (KeepFault, D)>
         requires limit { limit ≤ 2 ^ 62 }
         // What stands on the disk is an opening and notes, and the client is their fold.
         ensures is_opening { IfOk result (λ k. IsClientOpening k.opening) }
@@ -142,51 +123,25 @@ impl<D: Disk> KeptClient<D> {
         ensures counts { IfErr result
             (λ x. CountsFault (D.Counted.seen disk).faults (D.Counted.seen x.1).faults x.0) }
     {
-        let mut disk = disk;
-        match find(alloc, &mut disk, limit) {
-            Ok(found) => {
-                let FoundClient {
-                    opening,
-                    core,
-                    journal,
-                } = found;
-                Ok(KeptClient {
-                    alloc,
-                    opening,
-                    core,
-                    journal,
-                    disk,
-                })
-            }
-            Err(fault) => Err((fault, disk)),
+        match Kept::reopen(alloc, disk, limit) {
+            Ok(kept) => Ok(KeptClient { kept }),
+            Err((fault, disk)) => Err((fault, disk)),
         }
     }
 
     // A note is on the disk before its step. What the journal won't write is told before memory is asked for.
-    fn take(&mut self, note: &Note<'_>) -> Result<(), NoteFault>
+    fn take(&mut self, note: &Note<'_>) -> Result<(), KeepFault>
         requires is_note { IsNote (plain_note note.now) }
         requires fits { FitsRecord (plain_note note.now) }
         ensures keeps { CallKeeps D.disk D.Counted.seen (plain_note note.now) self.old self.new result }
         ensures stays { OnStill result (self.new ≡ self.old) }
     {
-        if let Some(fault) = self.journal.fault_before(note) {
-            return Err(NoteFault::Journal(fault));
-        }
-        let Ok(room) = self.core.room_for(self.alloc, note) else {
-            return Err(NoteFault::NoMemory);
-        };
-        match self.journal.keep(&mut self.disk, note) {
-            Ok(()) => {
-                self.core.step(note, room);
-                Ok(())
-            }
-            Err(fault) => Err(NoteFault::Journal(fault)),
-        }
+        kept_machine::take(&mut self.kept, note, &mut [])
     }
 
     /// Takes a request, which is on the disk before its first frame can be had. `Ok(Err(_))` is the refusal
     /// of `Client::ask`, and then nothing is kept.
-    pub fn ask(&mut self, request: &Request<'_>) -> Result<Result<(), AskFault>, NoteFault>
+    pub fn ask(&mut self, request: &Request<'_>) -> Result<Result<(), AskFault>, KeepFault>
         ensures refused { IfOk result (λ taken. IfErr taken (λ fault.
             asked self.old.core.client (plain_request request.now) ≡ Err (fault_in fault))) }
         ensures refused_stays { IfOk result (λ taken. OnErr taken (self.new ≡ self.old)) }
@@ -196,7 +151,7 @@ impl<D: Disk> KeptClient<D> {
         ensures keeps { KeepsIfTaken D.disk D.Counted.seen request.now self.old self.new result }
         ensures stays { OnStill result (self.new ≡ self.old) }
     {
-        match self.core.client.fault_at(request) {
+        match self.kept.machine().core.client.fault_at(request) {
             Some(fault) => Ok(Err(fault)),
             None => match self.take(&asked_note(request)) {
                 Ok(()) => Ok(Ok(())),
@@ -222,13 +177,13 @@ impl<D: Disk> KeptClient<D> {
         ensures durable { self.now.journal.closed ≡ false
             → Within (D.disk self.now.disk).may_leave (D.disk self.now.disk).reads }
     {
-        self.core.client.send(out)
+        self.kept.machine().core.client.send(out)
     }
 
     /// Takes a server's bytes, which may be any, as a reply to the present step. A reply that makes a step is
     /// on the disk before it; one that is ignored or comes too early isn't kept, since it changes nothing. An
     /// outcome stands among those that weren't told from then on.
-    pub fn hear(&mut self, frame: &[u8]) -> Result<Progress, NoteFault>
+    pub fn hear(&mut self, frame: &[u8]) -> Result<Progress, KeepFault>
         ensures progress { IfOk result (λ p.
             p ≡ progress_in (on_reply self.old.core.client frame.now).progress) }
         ensures no_step { makes_step_at self.old.core frame.now ≡ false
@@ -237,7 +192,7 @@ impl<D: Disk> KeptClient<D> {
             → CallKeeps D.disk D.Counted.seen (Heard frame.now) self.old self.new result }
         ensures stays { OnStill result (self.new ≡ self.old) }
     {
-        let progress = self.core.client.progress_at(frame);
+        let progress = self.kept.machine().core.client.progress_at(frame);
         if !makes_step(&progress) {
             return Ok(progress);
         }
@@ -254,26 +209,26 @@ impl<D: Disk> KeptClient<D> {
     pub fn progress_at(&self, frame: &[u8]) -> Progress
         ensures { result ≡ progress_in (on_reply self.now.core.client frame.now).progress }
     {
-        self.core.client.progress_at(frame)
+        self.kept.machine().core.client.progress_at(frame)
     }
 
     /// Whether the present step is a write's last proof, the one to the leader.
     pub fn is_at_last_proof(&self) -> bool
         ensures { result ≡ at_last_proof self.now.core.client.current }
     {
-        self.core.client.is_at_last_proof()
+        self.kept.machine().core.client.is_at_last_proof()
     }
 
     /// The requests that have ended and weren't told yet, the oldest first.
     pub fn untold(&self) -> &[Ended]
         ensures { map ended_in result.now ≡ self.now.core.untold }
     {
-        &self.core.untold
+        &self.kept.machine().core.untold
     }
 
     /// The oldest of those that weren't told was told: it is with the user. Until then it is told again after
     /// each reopening.
-    pub fn told(&mut self) -> Result<(), NoteFault>
+    pub fn told(&mut self) -> Result<(), KeepFault>
         requires some { self.old.core.untold ≢ [] }
         ensures keeps { CallKeeps D.disk D.Counted.seen Told self.old self.new result }
         ensures stays { OnStill result (self.new ≡ self.old) }
@@ -282,7 +237,7 @@ impl<D: Disk> KeptClient<D> {
     }
 
     /// Gives up the current request, as one whose answer can't come any more. Its serial never comes again.
-    pub fn give_up(&mut self) -> Result<(), NoteFault>
+    pub fn give_up(&mut self) -> Result<(), KeepFault>
         requires busy { self.old.core.client.current ≢ None }
         ensures keeps { CallKeeps D.disk D.Counted.seen GivenUp self.old self.new result }
         ensures stays { OnStill result (self.new ≡ self.old) }
@@ -292,7 +247,7 @@ impl<D: Disk> KeptClient<D> {
 
     /// Owns the box of this number, which this serial registered in an earlier journal of the same seed and
     /// lane.
-    pub fn own(&mut self, number: u32, serial: u32) -> Result<(), NoteFault>
+    pub fn own(&mut self, number: u32, serial: u32) -> Result<(), KeepFault>
         requires idle { self.old.core.client.current ≡ None }
         requires room { nat_le self.old.core.client.capacity (length self.old.core.client.owned) ≡ false }
         ensures keeps { CallKeeps D.disk D.Counted.seen (Owned number serial) self.old self.new result }
@@ -302,7 +257,7 @@ impl<D: Disk> KeptClient<D> {
     }
 
     /// Keeps words of the program above, which mean nothing to the client.
-    pub fn remark(&mut self, words: &[u8]) -> Result<(), NoteFault>
+    pub fn remark(&mut self, words: &[u8]) -> Result<(), KeepFault>
         requires few { length words.now ≤ 8213 }
         ensures keeps { CallKeeps D.disk D.Counted.seen (Remark words.now) self.old self.new result }
         ensures stays { OnStill result (self.new ≡ self.old) }
@@ -314,14 +269,14 @@ impl<D: Disk> KeptClient<D> {
     pub fn remarks(&self) -> &[Vec<u8>]
         ensures { map (λ words. words.items) result.now ≡ self.now.core.remarks }
     {
-        &self.core.remarks
+        &self.kept.machine().core.remarks
     }
 
     /// The client's boxes, in the order in which it got them: a read of the own box k reads that at place k.
     pub fn boxes(&self) -> &[OwnedBox]
         ensures { result.now ≡ self.now.core.boxes }
     {
-        &self.core.boxes
+        &self.kept.machine().core.boxes
     }
 
     /// The current request.
@@ -329,21 +284,21 @@ impl<D: Disk> KeptClient<D> {
         ensures { option_map plain_request result
             ≡ option_map (λ now. now.request) self.now.core.client.current }
     {
-        self.core.client.request()
+        self.kept.machine().core.client.request()
     }
 
     /// Whether no request is current.
     pub fn is_idle(&self) -> bool
         ensures { result ≡ is_none self.now.core.client.current }
     {
-        self.core.client.is_idle()
+        self.kept.machine().core.client.is_idle()
     }
 
     /// Whether there is no room for another own box.
     pub fn is_full(&self) -> bool
         ensures { result ≡ nat_le self.now.core.client.capacity (length self.now.core.client.owned) }
     {
-        self.core.client.is_full()
+        self.kept.machine().core.client.is_full()
     }
 
     /// The serial of the current request, or else of the next one; 2^32 where all are spent. A journal that
@@ -351,14 +306,14 @@ impl<D: Disk> KeptClient<D> {
     pub fn serial(&self) -> u64
         ensures { result ≡ self.now.core.client.serial }
     {
-        self.core.client.serial()
+        self.kept.machine().core.client.serial()
     }
 
     /// How many bytes of the disk the records take. With the limit it tells how full the journal is.
     pub fn used(&self) -> u64
         ensures { result ≡ self.now.journal.end }
     {
-        self.journal.end()
+        self.kept.used()
     }
 
     /// How the client was opened.
@@ -366,20 +321,14 @@ impl<D: Disk> KeptClient<D> {
         ensures value { result.now ≡ self.now.opening }
         ensures is { IsClientOpening result.now }
     {
-        &self.opening
+        &self.kept.machine().opening
     }
 
     /// The disk, as the last call left it.
     pub fn into_disk(self) -> D
         ensures { result ≡ self.disk }
     {
-        let KeptClient {
-            alloc: _,
-            opening: _,
-            core: _,
-            journal: _,
-            disk,
-        } = self;
-        disk
+        let KeptClient { kept } = self;
+        kept.into_disk()
     }
 }

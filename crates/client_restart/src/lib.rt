@@ -4,24 +4,21 @@
 
 mod ended;
 mod errand;
-mod fault;
 mod hearing;
-mod judging;
-mod keeping;
 mod kept;
 mod laws;
+mod machine;
 mod note;
 mod opening;
 mod owned_box;
-mod reopening;
-mod replaying;
 mod standing;
 
 pub use ended::{Ended, KeptOutcome};
 pub use errand::Errand;
-pub use fault::NoteFault;
 pub use kept::KeptClient;
+pub use kept_machine::KeepFault;
 pub use laws::{client_remembers, records_tell};
+pub use machine::OpenedClient;
 pub use note::{NOTE_MAX, Note};
 pub use opening::{ClientOpening, OPENING_LEN};
 pub use owned_box::OwnedBox;

@@ -9,10 +9,10 @@ use Rattle.express_words.specs.Seen.{Seen}
 use Rattle.node_journal.specs.Disk.{DiskSeen}
 use Rattle.node_journal.specs.Journal.{JournalState}
 use Rattle.node_journal.specs.declared.fault.JournalFault.TheVariants.{Closed, NotEmpty, Full, Disk, Damaged}
-use Rattle.client_restart.specs.declared.fault.NoteFault.{NoteFault}
-use Rattle.client_restart.specs.declared.fault.NoteFault.TheVariants.{Journal, NoMemory, Foreign}
+use Rattle.kept_machine.specs.declared.fault.KeepFault.{KeepFault}
+use Rattle.kept_machine.specs.declared.fault.KeepFault.TheVariants.{Journal, NoMemory, Foreign}
 use Rattle.client_restart.specs.declared.owned_box.OwnedBox.{OwnedBox}
-use Rattle.client_restart.specs.Faults.{IsOfCreate, OnFull, OnNotEmpty}
+use Rattle.kept_machine.specs.Faults.{IsOfCreate, OnFull, OnNotEmpty}
 use Rattle.client_restart.specs.Keeps.{KeepsNote, sight}
 use Rattle.client_restart.specs.Kept.{ClientState}
 use Rattle.client_restart.specs.Notes.{Noted, Owned, Remark, size_of}
@@ -30,7 +30,7 @@ use Rattle.desk_ledger.proofs.ForgetLaws.{more_live, own_by, with_box}
 abbrev Keeps : {D : Type 0} → (D → DiskSeen) → (D → Seen) → Noted → (old new : ClientState D) → Type 0
 Keeps shows counts note old new = KeepsNote {T = Unit {0}} note (sight shows counts old) (sight shows counts new) (Ok (tt {0}))
 
-abbrev Fails : {D : Type 0} → (D → DiskSeen) → (D → Seen) → Noted → (old new : ClientState D) → NoteFault → Type 0
+abbrev Fails : {D : Type 0} → (D → DiskSeen) → (D → Seen) → Noted → (old new : ClientState D) → KeepFault → Type 0
 Fails shows counts note old new f = KeepsNote {T = Unit {0}} note (sight shows counts old) (sight shows counts new) (Err f)
 
 pub own_takes : {D : Type 0} (shows : D → DiskSeen) (counts : D → Seen) (b : OwnedBox) (old new : ClientState D)
@@ -68,14 +68,14 @@ pub no_room : {D : Type 0} (bytes : ℕ) (k : ClientState D) → nat_le k.core.c
     → LacksRoom 1 bytes k forget.NoRoom
 no_room bytes k full = grind (arith, nat_tests, full)
 
-abbrev failed : NoteFault → Result (Unit {0}) NoteFault
+abbrev failed : KeepFault → Result (Unit {0}) KeepFault
 failed f = Err f
 
-other : {P : Type 0} (f g : NoteFault) → (f ≡ g → ⊥) → failed f ≡ failed g → P
+other : {P : Type 0} (f g : KeepFault) → (f ≡ g → ⊥) → failed f ≡ failed g → P
 other f g differ same = let is : f ≡ g = cc same in absurd (differ is)
 
 -- the fault of a note that isn't kept in an open journal
-pub lacks_by : {D : Type 0} (shows : D → DiskSeen) (counts : D → Seen) (boxes bytes : ℕ) (note : Noted) (old new : ClientState D) (f : NoteFault)
+pub lacks_by : {D : Type 0} (shows : D → DiskSeen) (counts : D → Seen) (boxes bytes : ℕ) (note : Noted) (old new : ClientState D) (f : KeepFault)
     → Fails shows counts note old new f → old.journal.closed ≡ false → bytes ≡ 5 + size_of note → LacksRoom boxes bytes old (forget.Keep f)
 lacks_by shows counts boxes bytes note old new NoMemory fails still is = tt
 lacks_by shows counts boxes bytes note old new (Journal (Disk n)) fails still is = tt
@@ -98,12 +98,12 @@ lacks_by shows counts boxes bytes note old new (Foreign n) fails still is =
     let lacks = lt_of_not-le (λ has. (fails.judged.fits memory still has).0) in
     other _ _ (λ e. cc e) (fails.judged.full still lacks)
 
-pub own_lacks : {D : Type 0} (shows : D → DiskSeen) (counts : D → Seen) (b : OwnedBox) (old new : ClientState D) (f : NoteFault)
+pub own_lacks : {D : Type 0} (shows : D → DiskSeen) (counts : D → Seen) (b : OwnedBox) (old new : ClientState D) (f : KeepFault)
     → Fails shows counts (Owned b.number b.serial) old new f → old.journal.closed ≡ false → LacksRoom 1 (box_bytes b) old (forget.Keep f)
 own_lacks shows counts b old new f fails still =
     lacks_by shows counts 1 (box_bytes b) (Owned b.number b.serial) old new f fails still refl
 
-pub note_lacks : {D : Type 0} (shows : D → DiskSeen) (counts : D → Seen) (e : Entry) (words : List ℕ) (old new : ClientState D) (f : NoteFault)
+pub note_lacks : {D : Type 0} (shows : D → DiskSeen) (counts : D → Seen) (e : Entry) (words : List ℕ) (old new : ClientState D) (f : KeepFault)
     → words ≡ entry_record e → Fails shows counts (Remark words) old new f → old.journal.closed ≡ false
     → LacksRoom 0 (entry_bytes e) old (forget.Keep f)
 note_lacks shows counts e words old new f said fails still =
@@ -166,7 +166,7 @@ lacks_making capacity limit reads boxes entries made forget.Busy lacks c o l e =
 lacks_making capacity limit reads boxes entries made forget.Spent lacks c o l e = tt
 lacks_making capacity limit reads boxes entries made forget.Unseen lacks c o l e = tt
 
-pub create_keeping : (limit : ℕ) (reads : List ℕ → Type 0) (boxes : List OwnedBox) (entries : List Entry) (f : NoteFault)
+pub create_keeping : (limit : ℕ) (reads : List ℕ → Type 0) (boxes : List OwnedBox) (entries : List Entry) (f : KeepFault)
     → IsOfCreate f → OnNotEmpty f ((c : List ℕ) → reads c → c ≢ []) → (P : Type 0) → OnFull f (λ n. (n ≡ 0) × (limit < 53) × P)
     → OnKeeping limit reads boxes entries f
 create_keeping limit reads boxes entries NoMemory of empty P full = tt

@@ -3,10 +3,10 @@ use Rattle.std.proofs.Common.{◌≡◌, ℕ, suc, ◌≤◌, List, [], ◌∷�
 use Rattle.std.specs.Prelude.{slice_get}
 use Rattle.node_journal.specs.Disk.{DiskSeen}
 use Rattle.node_journal.specs.declared.fault.JournalFault.TheVariants.{Closed, NotEmpty, Full, Disk, Damaged}
-use Rattle.client_restart.specs.declared.fault.NoteFault.{NoteFault}
-use Rattle.client_restart.specs.declared.fault.NoteFault.TheVariants.{Journal, NoMemory, Foreign}
+use Rattle.kept_machine.specs.declared.fault.KeepFault.{KeepFault}
+use Rattle.kept_machine.specs.declared.fault.KeepFault.TheVariants.{Journal, NoMemory, Foreign}
 use Rattle.client_restart.specs.declared.opening.ClientOpening.{ClientOpening}
-use Rattle.client_restart.specs.Faults.{IsOfReopen, OnDamaged, OnForeign}
+use Rattle.kept_machine.specs.Faults.{IsOfReopen, OnDamaged, OnForeign}
 use Rattle.client_restart.specs.Kept.{HoldsNoNotes, IsDamagedBehindNotes, IsToldBy}
 use Rattle.client_restart.specs.Steps.{CoreState}
 use Rattle.desk_entries.specs.declared.entry.Entry.{Entry}
@@ -147,7 +147,7 @@ no_desk entries remarks open_fault.TooLong are told of = of
 pub of_disk : (limit : ℕ) (disk : DiskSeen) (opening : ClientOpening) (core : CoreState) (f : OpenFault) → IsToldBy disk.reads opening core
     → IsOfRemarks core.remarks f → IsOfReopening limit disk f
 of_disk limit disk opening core (open_fault.Keep fault) told of =
-    subst (λ (x : NoteFault). IsOfReopening limit disk (open_fault.Keep x)) (sym of) tt
+    subst (λ (x : KeepFault). IsOfReopening limit disk (open_fault.Keep x)) (sym of) tt
 of_disk limit disk opening core open_fault.NoPair told of = λ o notes c reads is all held.
     subst (λ (k : CoreState). IsNoDesk k.remarks) (told o notes c reads is all held).1 of
 of_disk limit disk opening core (open_fault.NoEntry n) told of = λ o notes c reads is all held.
@@ -157,7 +157,7 @@ of_disk limit disk opening core open_fault.NoPairFile told of = of
 of_disk limit disk opening core open_fault.TooLong told of = of
 
 -- a client that isn't opened again
-pub of_client : (limit : ℕ) (disk : DiskSeen) (f : NoteFault) → IsOfReopen f → OnForeign f (λ n. HoldsNoNotes disk.reads)
+pub of_client : (limit : ℕ) (disk : DiskSeen) (f : KeepFault) → IsOfReopen f → OnForeign f (λ n. HoldsNoNotes disk.reads)
     → OnDamaged f (λ n. (c : List ℕ) → disk.reads c → IsDamagedBehindNotes limit n c) → IsOfReopening limit disk (open_fault.Keep f)
 of_client limit disk NoMemory of foreign damaged = tt
 of_client limit disk (Foreign n) of foreign damaged = foreign

@@ -2,7 +2,7 @@
 use Rattle.std.proofs.Common.{◌≡◌, ◌⊎◌, inl, inr, ℕ, ◌++◌, drop, Option, Some, Result, Ok, Err, ◌∙◌, ap}
 use Rattle.std.specs.Prelude.{IfOk, OnErr, OnOk}
 use Rattle.std.specs.Option.{option_to_list}
-use Rattle.client_restart.specs.declared.fault.NoteFault.{NoteFault}
+use Rattle.kept_machine.specs.declared.fault.KeepFault.{KeepFault}
 use Rattle.client_restart.specs.Steps.{EndedRequest}
 use Rattle.desk_entries.specs.declared.entry.Entry.{Entry}
 use Rattle.desk_ledger.specs.declared.stored.Stored.{Stored}
@@ -16,7 +16,7 @@ either_adds : {D : Type 0} (seconds : ℕ) (e : EndedRequest) (old new : LedgerS
 either_adds seconds e old new found misses (inl same) = inl same
 either_adds seconds e old new found misses (inr added) = inr (found, misses, added)
 
-pub stores_found : {D : Type 0} (seconds : ℕ) (e : EndedRequest) (old new : LedgerState D) (r : Result (Option Stored) NoteFault) (stored : Stored) (found : Option Entry)
+pub stores_found : {D : Type 0} (seconds : ℕ) (e : EndedRequest) (old new : LedgerState D) (r : Result (Option Stored) KeepFault) (stored : Stored) (found : Option Entry)
     → stored ≡ stored_of e → Misses old.entries old.client.core.boxes seconds e found
     → IfOk r (λ s. s ≡ Some stored) → OnOk r (new.entries ≡ old.entries ++ option_to_list found)
     → OnErr r ((new.entries ≡ old.entries) ⊎ (new.entries ≡ old.entries ++ option_to_list found))

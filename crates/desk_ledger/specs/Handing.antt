@@ -2,8 +2,8 @@
 use Rattle.std.specs.Prelude.{◌≡◌, ◌≢◌, ℕ, ◌+◌, ◌<◌, List, [], false, length}
 use Rattle.std.specs.List.{filter, sum_by}
 use Rattle.node_journal.specs.declared.fault.JournalFault.TheVariants.{Closed, NotEmpty, Full, Disk, Damaged}
-use Rattle.client_restart.specs.declared.fault.NoteFault.{NoteFault}
-use Rattle.client_restart.specs.declared.fault.NoteFault.TheVariants.{Journal, NoMemory, Foreign}
+use Rattle.kept_machine.specs.declared.fault.KeepFault.{KeepFault}
+use Rattle.kept_machine.specs.declared.fault.KeepFault.TheVariants.{Journal, NoMemory, Foreign}
 use Rattle.client_restart.specs.declared.owned_box.OwnedBox.{OwnedBox}
 use Rattle.client_restart.specs.Kept.{ClientState}
 use Rattle.client_restart.specs.Notes.{Owned, Remark, size_of}
@@ -66,7 +66,7 @@ LacksRoomForAll boxes entries k fault =
 
 -- Why the journal of a ledger with these boxes and entries isn't made on a disk, of which no more than
 -- `limit` bytes may be used.
-abbrev pub OnKeeping : (limit : ℕ) → (List ℕ → Type 0) → List OwnedBox → List Entry → NoteFault → Type 0
+abbrev pub OnKeeping : (limit : ℕ) → (List ℕ → Type 0) → List OwnedBox → List Entry → KeepFault → Type 0
 OnKeeping limit reads boxes entries (Journal (Full end)) = limit < ledger_bytes boxes entries
 OnKeeping limit reads boxes entries (Journal NotEmpty) = (c : List ℕ) → reads c → c ≢ []
 OnKeeping limit reads boxes entries (Journal (Disk faults)) = Unit {0}

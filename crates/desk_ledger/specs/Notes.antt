@@ -2,8 +2,8 @@
 use Rattle.std.specs.Prelude.{◌≡◌, ◌⊎◌, [], ◌∷◌, ◌++◌, Result, IsErrOf, OnOk, OnErr}
 use Rattle.express_words.specs.Seen.{Seen}
 use Rattle.node_journal.specs.Disk.{DiskSeen}
-use Rattle.client_restart.specs.declared.fault.NoteFault.{NoteFault}
-use Rattle.client_restart.specs.declared.fault.NoteFault.TheVariants.{NoMemory}
+use Rattle.kept_machine.specs.declared.fault.KeepFault.{KeepFault}
+use Rattle.kept_machine.specs.declared.fault.KeepFault.TheVariants.{NoMemory}
 use Rattle.client_restart.specs.Keeps.{KeepsNote, sight}
 use Rattle.client_restart.specs.Notes.{Noted, Remark}
 use Rattle.desk_entries.specs.declared.entry.Entry.{Entry}
@@ -12,14 +12,14 @@ use Rattle.desk_ledger.specs.Ledgers.{LedgerState}
 
 -- the ledger's client keeps this note
 abbrev pub LedgerKeeps : {D T : Type 0} → (D → DiskSeen) → (D → Seen) → Noted → (old new : LedgerState D)
-    → Result T NoteFault → Type 0
+    → Result T KeepFault → Type 0
 LedgerKeeps shows counts note old new r =
     KeepsNote note (sight shows counts old.client) (sight shows counts new.client) r
 
 -- Where it answers Ok the entry is on the disk, and stands behind the others; where it answers a fault there
 -- is no entry more. For want of memory it may do nothing at all.
 pub record Notes {D T : Type 0} (shows : D → DiskSeen) (counts : D → Seen) (e : Entry)
-    (old new : LedgerState D) (r : Result T NoteFault) : Type 0 where
+    (old new : LedgerState D) (r : Result T KeepFault) : Type 0 where
   pub added : OnOk r (new.entries ≡ old.entries ++ e ∷ [])
   pub none_added : OnErr r (new.entries ≡ old.entries)
   pub pair : new.pair ≡ old.pair

@@ -2,7 +2,7 @@
 use Rattle.std.specs.Prelude.{◌≡◌, ◌<◌, ℕ, List, [], ◌∷◌, Option, Some, None, length, map, slice_get}
 use Rattle.node_journal.specs.Disk.{DiskSeen}
 use Rattle.node_journal.specs.declared.fault.JournalFault.TheVariants.{Closed, NotEmpty, Full, Disk, Damaged}
-use Rattle.client_restart.specs.declared.fault.NoteFault.TheVariants.{Journal, NoMemory, Foreign}
+use Rattle.kept_machine.specs.declared.fault.KeepFault.TheVariants.{Journal, NoMemory, Foreign}
 use Rattle.client_restart.specs.declared.opening.ClientOpening.{ClientOpening}
 use Rattle.client_restart.specs.Kept.{HoldsNoNotes, HoldsNotes, IsDamagedBehindNotes}
 use Rattle.client_restart.specs.Notes.{Noted}

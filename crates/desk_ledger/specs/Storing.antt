@@ -8,7 +8,7 @@ use Rattle.express_words.specs.declared.refusal.Refusal.TheVariants as refusal
 use Rattle.step_rules.specs.Client.{Outcome, Registered, Accepted, Message, Refused}
 use Rattle.client_restart.specs.declared.errand.Errand.{Errand}
 use Rattle.client_restart.specs.declared.errand.Errand.TheVariants as errand
-use Rattle.client_restart.specs.declared.fault.NoteFault.{NoteFault}
+use Rattle.kept_machine.specs.declared.fault.KeepFault.{KeepFault}
 use Rattle.client_restart.specs.declared.owned_box.OwnedBox.{OwnedBox}
 use Rattle.client_restart.specs.Steps.{EndedRequest}
 use Rattle.desk_letters.specs.Opening.{Content, Opens}
@@ -138,7 +138,7 @@ Adds seconds e old new =
 -- The oldest outcome's entry is there before the outcome is told to the client. Where a fault is answered it
 -- isn't told, whether the entry is there or not.
 pub record Stores {D : Type 0} (seconds : ℕ) (e : EndedRequest) (old new : LedgerState D)
-    (r : Result (Option Stored) NoteFault) : Type 0 where
+    (r : Result (Option Stored) KeepFault) : Type 0 where
   pub answer : IfOk r (λ stored. stored ≡ Some (stored_of e))
   pub entry : OnOk r (Adds seconds e old new)
   pub told : OnOk r (new.client.core.untold ≡ drop 1 old.client.core.untold)

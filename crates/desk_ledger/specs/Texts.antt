@@ -1,7 +1,7 @@
 -- The texts of faults.
 use Rattle.std.specs.Prelude.{ℕ, List, ◌++◌, codes}
 use Rattle.std.specs.Fmt.{decimal}
-use Rattle.client_restart.specs.Texts as keep
+use Rattle.kept_machine.specs.Texts as keep
 use Rattle.desk_ledger.specs.declared.fault.ForgetFault.{ForgetFault}
 use Rattle.desk_ledger.specs.declared.fault.ForgetFault.TheVariants as forget
 use Rattle.desk_ledger.specs.declared.fault.NameFault.{NameFault}

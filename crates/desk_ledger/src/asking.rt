@@ -2,7 +2,7 @@
 ghost use Rattle.std.specs.Prelude.{◌≡◌, ◌≤◌, ◌<◌, ◌^◌, ◌++◌, length, Some, None, Ok, Err, IfOk, IfErr, OnOk, OnErr};
 ghost use Rattle.client_core.specs.Requests.{fault_in};
 ghost use Rattle.step_rules.specs.ClientAsks.{asked};
-ghost use Rattle.client_restart.specs.Faults.{OnStill};
+ghost use Rattle.kept_machine.specs.Faults.{OnStill};
 ghost use Rattle.client_restart.specs.Notes.{Asked};
 ghost use Rattle.desk_ledger.specs.Notes.{LedgerKeeps};
 ghost use Rattle.desk_ledger.specs.Tasks.{TakesTask, is_leaving, is_live, live_places, next_task, place_if, place_of, request_of};
@@ -10,7 +10,7 @@ ghost use Rattle.desk_ledger.specs.Tasks.{TakesTask, is_leaving, is_live, live_p
 use crate::ledger::Ledger;
 use crate::task::Task;
 use client_core::AskFault;
-use client_restart::{NoteFault, OwnedBox};
+use client_restart::{KeepFault, OwnedBox};
 use desk_entries::{Entry, is_retired, is_retiring, name_of, waiting};
 use express_words::NoMemory;
 use node_journal::Disk;
@@ -69,7 +69,7 @@ impl<D: Disk> Ledger<D> {
 
     /// Asks the servers for something, which is on the disk before its first frame goes. `Ok(Err(_))` is the
     /// refusal of `KeptClient::ask`, and then nothing is kept.
-    pub fn ask(&mut self, task: Task) -> Result<Result<(), AskFault>, NoteFault>
+    pub fn ask(&mut self, task: Task) -> Result<Result<(), AskFault>, KeepFault>
         ensures refused { IfOk result (λ taken. IfErr taken (λ fault.
             asked self.old.client.core.client (request_of task) ≡ Err (fault_in fault))) }
         ensures refused_stays { IfOk result (λ taken. OnErr taken (self.new ≡ self.old)) }

@@ -2,7 +2,7 @@
 ghost use Rattle.std.specs.Prelude.{Some};
 ghost use Rattle.desk_ledger.specs.Texts.{forget_text, name_text, open_text};
 
-use client_restart::NoteFault;
+use client_restart::KeepFault;
 use std::fmt;
 
 /// Why no desk is opened.
@@ -15,7 +15,7 @@ pub enum OpenFault {
     /// The text has more than 8,212 bytes.
     TooLong,
     /// The ledger's journal fails.
-    Keep(NoteFault),
+    Keep(KeepFault),
     /// The ledger has no pair: it wasn't made to its end.
     NoPair,
     /// The remark of this number, counted from 0, is no entry.
@@ -78,7 +78,7 @@ pub enum ForgetFault {
     /// More boxes are live than a client has room for.
     NoRoom,
     /// The new ledger's journal fails.
-    Keep(NoteFault),
+    Keep(KeepFault),
 }
 
 impl fmt::Display for ForgetFault {

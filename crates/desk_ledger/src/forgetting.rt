@@ -10,7 +10,7 @@ ghost use Rattle.desk_ledger.specs.Ledgers.{IsOfPair};
 
 use crate::fault::ForgetFault;
 use crate::ledger::Ledger;
-use client_restart::{ClientOpening, NoteFault};
+use client_restart::{ClientOpening, KeepFault};
 use desk_entries::{Entry, copied, kept};
 use node_journal::Disk;
 
@@ -72,7 +72,7 @@ impl<D: Disk> Ledger<D> {
         match self.unseen() {
             Ok(0) => Ok(()),
             Ok(_) => Err(ForgetFault::Unseen),
-            Err(_) => Err(ForgetFault::Keep(NoteFault::NoMemory)),
+            Err(_) => Err(ForgetFault::Keep(KeepFault::NoMemory)),
         }
     }
 
@@ -100,7 +100,7 @@ impl<D: Disk> Ledger<D> {
         let opening = self.opening_at(self.client.serial())?;
         match kept(self.alloc, &self.entries) {
             Ok(entries) => Ok(Start { opening, entries }),
-            Err(_) => Err(ForgetFault::Keep(NoteFault::NoMemory)),
+            Err(_) => Err(ForgetFault::Keep(KeepFault::NoMemory)),
         }
     }
 
@@ -121,7 +121,7 @@ impl<D: Disk> Ledger<D> {
         let opening = self.opening_at(self.serial_from(first)?)?;
         match copied(self.alloc, &self.entries) {
             Ok(entries) => Ok(Start { opening, entries }),
-            Err(_) => Err(ForgetFault::Keep(NoteFault::NoMemory)),
+            Err(_) => Err(ForgetFault::Keep(KeepFault::NoMemory)),
         }
     }
 

@@ -12,7 +12,7 @@ use crate::asking::is_live;
 use crate::fault::ForgetFault;
 use crate::ledger::{Ledger, copy_of};
 use crate::pair::Pair;
-use client_restart::{ClientOpening, KeptClient, NoteFault, OwnedBox};
+use client_restart::{ClientOpening, KeepFault, KeptClient, OwnedBox};
 use desk_entries::Entry;
 use express_words::NoMemory;
 use node_journal::Disk;
@@ -98,7 +98,7 @@ fn note_one<D: Disk>(
     ensures fault { IfErr result (LacksRoom 0 (entry_bytes entry.now) client.old) }
 {
     let Ok(record) = entry.record(alloc) else {
-        return Err(ForgetFault::Keep(NoteFault::NoMemory));
+        return Err(ForgetFault::Keep(KeepFault::NoMemory));
     };
     match client.remark(&record) {
         Ok(()) => Ok(()),
@@ -186,7 +186,7 @@ impl<D: Disk> Ledger<D> {
             (live_boxes self.now) entries.items x.0) }
     {
         let Ok(pair) = copy_of_pair(self.alloc, &self.pair) else {
-            return Err((ForgetFault::Keep(NoteFault::NoMemory), disk));
+            return Err((ForgetFault::Keep(KeepFault::NoMemory), disk));
         };
         let mut client = match KeptClient::create(self.alloc, opening, disk, limit) {
             Ok(client) => client,

@@ -1,12 +1,12 @@
 //! An owner's desk on a disk.
 ghost use Rattle.std.specs.Prelude.{◌≡◌, false, map, Ok, Err, IfOk, is_none};
-ghost use Rattle.client_restart.specs.Faults.{OnStill};
+ghost use Rattle.kept_machine.specs.Faults.{OnStill};
 ghost use Rattle.desk_entries.specs.Desks.{name_of};
 ghost use Rattle.desk_entries.specs.Records.{AreEntries, IsEntry, entry_record};
 ghost use Rattle.desk_ledger.specs.Notes.{Notes};
 
 use crate::pair::Pair;
-use client_restart::{KeptClient, NoteFault};
+use client_restart::{KeepFault, KeptClient};
 use desk_entries::{Entry, name_of};
 use express_words::{NoMemory, Text};
 use node_journal::Disk;
@@ -38,16 +38,16 @@ impl<D: Disk> Model for Ledger<D> {
 
 impl<D: Disk> Ledger<D> {
     // An entry is on the disk before the desk has it.
-    pub(crate) fn note(&mut self, entry: Entry) -> Result<(), NoteFault>
+    pub(crate) fn note(&mut self, entry: Entry) -> Result<(), KeepFault>
         requires is { IsEntry entry }
         ensures notes { Notes D.disk D.Counted.seen entry self.old self.new result }
         ensures stays { OnStill result (self.new ≡ self.old) }
     {
         if self.entries.reserve(1).is_err() {
-            return Err(NoteFault::NoMemory);
+            return Err(KeepFault::NoMemory);
         }
         let Ok(record) = entry.record(self.alloc) else {
-            return Err(NoteFault::NoMemory);
+            return Err(KeepFault::NoMemory);
         };
         match self.client.remark(&record) {
             Ok(()) => {

@@ -1,13 +1,13 @@
 //! The letters of a desk.
 ghost use Rattle.std.specs.Prelude.{◌≡◌, map, IfOk, OnOk};
-ghost use Rattle.client_restart.specs.Faults.{OnStill};
+ghost use Rattle.kept_machine.specs.Faults.{OnStill};
 ghost use Rattle.desk_entries.specs.Letters.{letters_of, shown_of, unseen_of, written_of};
 ghost use Rattle.desk_entries.specs.Records.{entry_record};
 ghost use Rattle.desk_ledger.specs.Ledgers.{EntriesOnly, IsOnDisk};
 ghost use Rattle.desk_ledger.specs.Notes.{Notes};
 
 use crate::ledger::Ledger;
-use client_restart::NoteFault;
+use client_restart::KeepFault;
 use desk_entries::{Entry, Reading, letters_of, shown_of, unseen_of, written_of};
 use express_words::NoMemory;
 use node_journal::Disk;
@@ -32,7 +32,7 @@ impl<D: Disk> Ledger<D> {
 
     /// So many of the letters were shown.
     #[tactic(auto, using(crate::proofs::KeepLaws::entries_only))]
-    pub fn mark_shown(&mut self, count: u32) -> Result<(), NoteFault>
+    pub fn mark_shown(&mut self, count: u32) -> Result<(), KeepFault>
         ensures notes { Notes D.disk D.Counted.seen (Entry.Shown count) self.old self.new result }
         ensures only { EntriesOnly self.old self.new }
         ensures shown { OnOk result (shown_of self.new.entries ≡ count) }
@@ -50,7 +50,7 @@ impl<D: Disk> Ledger<D> {
 
     /// So many of the letters were written into files.
     #[tactic(auto, using(crate::proofs::KeepLaws::entries_only))]
-    pub fn mark_written(&mut self, count: u32) -> Result<(), NoteFault>
+    pub fn mark_written(&mut self, count: u32) -> Result<(), KeepFault>
         ensures notes { Notes D.disk D.Counted.seen (Entry.Written count) self.old self.new result }
         ensures only { EntriesOnly self.old self.new }
         ensures written { OnOk result (written_of self.new.entries ≡ count) }

@@ -1,6 +1,6 @@
 //! The names of a desk's boxes.
 ghost use Rattle.std.specs.Prelude.{◌≡◌, ◌⊎◌, ◌∷◌, ◌++◌, [], true, false, Some, None, Ok, Err, IfOk, IfErr, IfSome, OnOk, OnErr, is_some};
-ghost use Rattle.client_restart.specs.Faults.{OnStill};
+ghost use Rattle.kept_machine.specs.Faults.{OnStill};
 ghost use Rattle.desk_entries.specs.Desks.{closed_at, is_retiring, last_day, named};
 ghost use Rattle.desk_entries.specs.Entries.{AreAddresses};
 ghost use Rattle.desk_entries.specs.Names.{is_name};
@@ -11,7 +11,7 @@ ghost use Rattle.desk_ledger.specs.Tasks.{fault_at, room};
 
 use crate::fault::NameFault;
 use crate::ledger::Ledger;
-use client_restart::NoteFault;
+use client_restart::KeepFault;
 use desk_entries::{
     ClosedName, Entry, MOST_AT_ONCE, NamedBoxes, are_new, closed_at, is_name, is_retiring,
     last_day, named, waiting,
@@ -32,7 +32,7 @@ impl<D: Disk> Ledger<D> {
         name: &str,
         addresses: &[u128],
         until: Option<Day>,
-    ) -> Result<Result<(), NameFault>, NoteFault>
+    ) -> Result<Result<(), NameFault>, KeepFault>
         requires until { IfSome until IsDay }
         ensures refused { IfOk result (λ taken. IfErr taken (λ fault.
             fault_at self.old name.now addresses.now ≡ Some fault)) }
@@ -47,10 +47,10 @@ impl<D: Disk> Ledger<D> {
         match self.name_fault(name, addresses) {
             Ok(None) => {}
             Ok(Some(fault)) => return Ok(Err(fault)),
-            Err(_) => return Err(NoteFault::NoMemory),
+            Err(_) => return Err(KeepFault::NoMemory),
         }
         let Ok(named) = named_boxes(self.alloc, name, addresses, until) else {
-            return Err(NoteFault::NoMemory);
+            return Err(KeepFault::NoMemory);
         };
         match self.note(Entry::Named(named)) {
             Ok(()) => Ok(Ok(())),
@@ -97,7 +97,7 @@ impl<D: Disk> Ledger<D> {
     /// The boxes with a name are to be retired: `next_task` has the requests for it. `Ok(false)`, and nothing
     /// noted, where the desk has no such name; nothing is noted either where they are to be retired already.
     #[tactic(auto, using(crate::proofs::NameLaws::retiring_then, crate::proofs::KeepLaws::entries_only, crate::proofs::KeepLaws::entries_rest))]
-    pub fn retire_name(&mut self, name: &str) -> Result<bool, NoteFault>
+    pub fn retire_name(&mut self, name: &str) -> Result<bool, KeepFault>
         ensures unknown { is_some (named self.old.entries name.now) ≡ false
             → (result ≡ Ok false) × (self.new ≡ self.old) }
         ensures known { is_some (named self.old.entries name.now) ≡ true → is_name name.now ≡ true
@@ -122,7 +122,7 @@ impl<D: Disk> Ledger<D> {
                 Err(fault) => Err(fault),
             },
             Ok(None) => Ok(false),
-            Err(_) => Err(NoteFault::NoMemory),
+            Err(_) => Err(KeepFault::NoMemory),
         }
     }
 
@@ -130,7 +130,7 @@ impl<D: Disk> Ledger<D> {
     /// handed out any more. `Ok(false)`, and nothing noted, where the desk has no such name; nothing is noted
     /// either where they are closed already.
     #[tactic(auto, using(crate::proofs::CloseLaws::closed_then, crate::proofs::CloseLaws::stays_closed, crate::proofs::KeepLaws::entries_only, crate::proofs::KeepLaws::entries_rest))]
-    pub fn close_name(&mut self, name: &str, day: Day) -> Result<bool, NoteFault>
+    pub fn close_name(&mut self, name: &str, day: Day) -> Result<bool, KeepFault>
         requires day { IsDay day }
         ensures unknown { is_some (named self.old.entries name.now) ≡ false
             → (result ≡ Ok false) × (self.new ≡ self.old) }
@@ -156,7 +156,7 @@ impl<D: Disk> Ledger<D> {
                 Err(fault) => Err(fault),
             },
             Ok(None) => Ok(false),
-            Err(_) => Err(NoteFault::NoMemory),
+            Err(_) => Err(KeepFault::NoMemory),
         }
     }
 

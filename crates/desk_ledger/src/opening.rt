@@ -8,7 +8,7 @@ ghost use Rattle.desk_ledger.specs.Opening.{IsOfFirst, IsOfRemark, IsOfRemarks, 
 
 use crate::fault::OpenFault;
 use crate::pair::{Pair, pair_in};
-use client_restart::{ClientOpening, NoteFault};
+use client_restart::{ClientOpening, KeepFault};
 use desk_entries::Entry;
 use desk_texts::{PairHead, sheet_is_read_exactly};
 use std::alloc::Global;
@@ -37,17 +37,17 @@ fn entry_in(alloc: Global, remark: &[u8], number: usize) -> Result<Entry, OpenFa
     match Entry::of(alloc, remark) {
         Ok(Some(entry)) => Ok(entry),
         Ok(None) => Err(OpenFault::NoEntry(number)),
-        Err(_) => Err(OpenFault::Keep(NoteFault::NoMemory)),
+        Err(_) => Err(OpenFault::Keep(KeepFault::NoMemory)),
     }
 }
 
 fn push_entry(entries: &mut Vec<Entry>, entry: Entry) -> Result<(), OpenFault>
     ensures more { OnOk result (entries.new.items ≡ entries.old.items ++ entry ∷ []) }
-    ensures fault { IfErr result (λ f. f ≡ OpenFault.Keep NoteFault.NoMemory) }
+    ensures fault { IfErr result (λ f. f ≡ OpenFault.Keep KeepFault.NoMemory) }
 {
     match entries.push(entry) {
         Ok(()) => Ok(()),
-        Err(_) => Err(OpenFault::Keep(NoteFault::NoMemory)),
+        Err(_) => Err(OpenFault::Keep(KeepFault::NoMemory)),
     }
 }
 

@@ -9,7 +9,7 @@ ghost use Rattle.desk_ledger.specs.Storing.{Misses, MissesAt, OfOldest, Stores, 
 use crate::ledger::Ledger;
 use crate::stored::Stored;
 use crate::storing::entry_of;
-use client_restart::{Ended, NoteFault};
+use client_restart::{Ended, KeepFault};
 use desk_entries::{Entry, has_outcome};
 use express_words::NoMemory;
 use node_journal::Disk;
@@ -25,19 +25,19 @@ impl<D: Disk> Ledger<D> {
     /// Stores the oldest outcome that wasn't stored, at this time, in seconds since 1970 UTC. None where
     /// there is none. Only once its entry is on the disk is the outcome told to the client; where a crash
     /// came between, its serial tells that the entry is there.
-    pub fn store(&mut self, seconds: u64) -> Result<Option<Stored>, NoteFault>
+    pub fn store(&mut self, seconds: u64) -> Result<Option<Stored>, KeepFault>
         ensures none { self.old.client.core.untold ≡ [] → (result ≡ Ok None) × (self.new ≡ self.old) }
         ensures stores { OfOldest self.old (λ e. Stores seconds e self.old self.new result) }
     {
         match self.oldest(seconds) {
             Ok(Some(found)) => self.store_one(found),
             Ok(None) => Ok(None),
-            Err(_) => Err(NoteFault::NoMemory),
+            Err(_) => Err(KeepFault::NoMemory),
         }
     }
 
     // Its entry is there before the oldest outcome is told.
-    fn store_one(&mut self, found: Oldest) -> Result<Option<Stored>, NoteFault>
+    fn store_one(&mut self, found: Oldest) -> Result<Option<Stored>, KeepFault>
         requires is { IfSome found.entry IsEntry }
         requires some { self.old.client.core.untold ≢ [] }
         ensures answer { IfOk result (λ stored. stored ≡ Some found.stored) }
@@ -85,7 +85,7 @@ impl<D: Disk> Ledger<D> {
     }
 
     #[tactic(auto, using(crate::proofs::KeepLaws::entries_only, crate::proofs::KeepLaws::entries_rest))]
-    fn note_missing(&mut self, entry: Option<Entry>) -> Result<(), NoteFault>
+    fn note_missing(&mut self, entry: Option<Entry>) -> Result<(), KeepFault>
         requires is { IfSome entry IsEntry }
         ensures noted { OnOk result (self.new.entries ≡ self.old.entries ++ option_to_list entry) }
         ensures not_noted { OnErr result (self.new.entries ≡ self.old.entries) }

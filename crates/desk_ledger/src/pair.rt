@@ -5,7 +5,7 @@ ghost use Rattle.desk_ledger.specs.Ledgers.{SaysPair};
 ghost use Rattle.desk_ledger.specs.Opening.{IsOfText};
 
 use crate::fault::OpenFault;
-use client_restart::NoteFault;
+use client_restart::KeepFault;
 use desk_texts::{Head, PairHead, Sheet, read_sheet};
 use express_texts::TextFault;
 use express_words::Text;
@@ -42,7 +42,7 @@ fn sheet_in(alloc: Global, text: &[u8]) -> Result<Sheet, OpenFault>
         Ok(sheet) => Ok(sheet),
         Err(TextFault::Wrong(line)) => Err(OpenFault::BadLine(line)),
         Err(TextFault::WrongKey(_)) => unreachable!(),
-        Err(TextFault::NoMemory) => Err(OpenFault::Keep(NoteFault::NoMemory)),
+        Err(TextFault::NoMemory) => Err(OpenFault::Keep(KeepFault::NoMemory)),
     }
 }
 

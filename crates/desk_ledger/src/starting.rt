@@ -12,7 +12,7 @@ use crate::fault::OpenFault;
 use crate::ledger::Ledger;
 use crate::opening::{entries_in, opening_of};
 use crate::pair::pair_in;
-use client_restart::{KeptClient, NoteFault};
+use client_restart::{KeepFault, KeptClient};
 use desk_entries::{Entry, MOST_RECORD};
 use express_words::{List, NoMemory};
 use node_journal::Disk;
@@ -59,7 +59,7 @@ impl<D: Disk> Ledger<D> {
             Err(fault) => return Err((fault, disk)),
         };
         let Ok((entries, record)) = first_entry(alloc, text) else {
-            return Err((OpenFault::Keep(NoteFault::NoMemory), disk));
+            return Err((OpenFault::Keep(KeepFault::NoMemory), disk));
         };
         let mut client = match KeptClient::create(
             alloc,

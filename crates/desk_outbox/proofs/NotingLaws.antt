@@ -9,13 +9,13 @@ use Rattle.node_journal.specs.Disk.{DiskSeen, LeavesOnly, Within}
 use Rattle.node_journal.specs.Journal.{JournalState}
 use Rattle.node_journal.specs.Records.{content}
 use Rattle.node_journal.specs.declared.fault.JournalFault.TheVariants.{Closed, NotEmpty, Full, Disk, Damaged}
-use Rattle.client_restart.specs.Faults.{Counts, CountsFault, IsOfCreate, OnFull, OnNotEmpty}
+use Rattle.kept_machine.specs.Faults.{Counts, CountsFault, IsOfCreate, OnFull, OnNotEmpty}
 use Rattle.client_restart.specs.Keeps.{KeepsNote, sight}
 use Rattle.client_restart.specs.Kept.{ClientState, HoldsNotes, LeavesNotes, LeavesOpening, MakesOnly}
 use Rattle.client_restart.specs.Notes.{Asked, Noted, Remark, size_of}
 use Rattle.client_restart.specs.Steps.{CoreState, fold, step_of}
-use Rattle.client_restart.specs.declared.fault.NoteFault.{NoteFault}
-use Rattle.client_restart.specs.declared.fault.NoteFault.TheVariants.{Journal, NoMemory, Foreign}
+use Rattle.kept_machine.specs.declared.fault.KeepFault.{KeepFault}
+use Rattle.kept_machine.specs.declared.fault.KeepFault.TheVariants.{Journal, NoMemory, Foreign}
 use Rattle.client_restart.specs.declared.opening.ClientOpening.{ClientOpening}
 use Rattle.desk_texts.specs.Printing.{printed}
 use Rattle.desk_texts.specs.declared.sheet.Sheet.{Sheet}
@@ -98,7 +98,7 @@ noted_more shows counts o notes n most size old new x folds has fits keeps =
     }
 
 -- a crash in a call that notes one of them
-pub leaves_so : {D T : Type 0} (shows : D → DiskSeen) (counts : D → Seen) (o : ClientOpening) (all notes rest : List Noted) (n : Noted) (most : ℕ) (old new : ClientState D) (r : Result T NoteFault)
+pub leaves_so : {D T : Type 0} (shows : D → DiskSeen) (counts : D → Seen) (o : ClientOpening) (all notes rest : List Noted) (n : Noted) (most : ℕ) (old new : ClientState D) (r : Result T KeepFault)
     → all ≡ notes ++ n ∷ rest → HasNoted shows o notes most old → KeepsNote {T = T} n (sight shows counts old) (sight shows counts new) r
     → LeavesOnly (shows old.disk) (shows new.disk) (LeavesFirst o all)
 leaves_so {D} shows counts o all notes rest n most old new r is has keeps =
@@ -112,13 +112,13 @@ leaves_so {D} shows counts o all notes rest n most old new r is has keeps =
 
 -- ---- why a note fails
 
-abbrev failed : (T : Type 0) → NoteFault → Result T NoteFault
+abbrev failed : (T : Type 0) → KeepFault → Result T KeepFault
 failed T f = Err f
 
-other : (T : Type 0) (f : NoteFault) → (f ≡ NoMemory → ⊥) → failed T f ≡ failed T NoMemory → ⊥
+other : (T : Type 0) (f : KeepFault) → (f ≡ NoMemory → ⊥) → failed T f ≡ failed T NoMemory → ⊥
 other T f differ same = let is : f ≡ NoMemory = cc same in differ is
 
-pub fails_so : {D T : Type 0} (shows : D → DiskSeen) (counts : D → Seen) (o : ClientOpening) (notes : List Noted) (n : Noted) (most size : ℕ) (old new : ClientState D) (f : NoteFault)
+pub fails_so : {D T : Type 0} (shows : D → DiskSeen) (counts : D → Seen) (o : ClientOpening) (notes : List Noted) (n : Noted) (most size : ℕ) (old new : ClientState D) (f : KeepFault)
     → HasNoted shows o notes most old → size_of n ≤ size → most + size + 6 ≤ 65536
     → KeepsNote {T = T} n (sight shows counts old) (sight shows counts new) (Err f) → IsOfNoting f
 fails_so {D} {T} shows counts o notes n most size old new NoMemory has fits room keeps = tt
@@ -139,10 +139,10 @@ fails_so {D} {T} shows counts o notes n most size old new (Foreign at) has fits 
     let limit = has.limit in let end = has.end in
     (keeps.judged.fits (λ h. other T (Foreign at) (λ e. cc e) h) has.still (omega (arith, limit, end, fits, room))).0
 
-pub counts_from : (f : NoteFault) (first before now : ℕ) → before ≡ first → CountsFault before now f → CountsFault first now f
+pub counts_from : (f : KeepFault) (first before now : ℕ) → before ≡ first → CountsFault before now f → CountsFault first now f
 counts_from f first before now is c = subst (λ (x : ℕ). CountsFault x now f) is c
 
-pub counts_then : {T : Type 0} (r : Result T NoteFault) (first before now : ℕ) → before ≡ first → Counts before now r → Counts first now r
+pub counts_then : {T : Type 0} (r : Result T KeepFault) (first before now : ℕ) → before ≡ first → Counts before now r → Counts first now r
 counts_then r first before now is c = subst (λ (x : ℕ). Counts x now r) is c
 
 -- ---- sizes
@@ -168,11 +168,11 @@ write_size o card place target message begun =
 
 -- ---- a try's notes
 
-abbrev Does : {D T : Type 0} → (D → DiskSeen) → (D → Seen) → Noted → (old new : ClientState D) → Result T NoteFault → Type 0
+abbrev Does : {D T : Type 0} → (D → DiskSeen) → (D → Seen) → Noted → (old new : ClientState D) → Result T KeepFault → Type 0
 Does shows counts n old new r = KeepsNote n (sight shows counts old) (sight shows counts new) r
 
 -- the text's note, with what it says
-as_text : {D T : Type 0} (shows : D → DiskSeen) (counts : D → Seen) (a b : List ℕ) (old new : ClientState D) (r : Result T NoteFault) → a ≡ b
+as_text : {D T : Type 0} (shows : D → DiskSeen) (counts : D → Seen) (a b : List ℕ) (old new : ClientState D) (r : Result T KeepFault) → a ≡ b
     → Does shows counts (Remark a) old new r → Does shows counts (Remark b) old new r
 as_text shows counts a b old new r is keeps = subst (λ (t : List ℕ). Does shows counts (Remark t) old new r) is keeps
 
@@ -185,19 +185,19 @@ text_noted shows counts o card text k0 k1 said few has keeps =
     noted_more shows counts o [] (Remark (printed card)) 52 4097 k0 k1 tt (λ k e. ap (λ (c : CoreState). step_of c (Remark (printed card))) e) has size
     (as_text shows counts text (printed card) k0 k1 (Ok tt) said keeps)
 
-pub text_fails : {D : Type 0} (shows : D → DiskSeen) (counts : D → Seen) (o : ClientOpening) (text : List ℕ) (k0 k1 : ClientState D) (f : NoteFault)
+pub text_fails : {D : Type 0} (shows : D → DiskSeen) (counts : D → Seen) (o : ClientOpening) (text : List ℕ) (k0 k1 : ClientState D) (f : KeepFault)
     → length text ≤ 4096 → HasNoted shows o [] 52 k0 → Does {T = Unit {0}} shows counts (Remark text) k0 k1 (Err f) → IsOfNoting f
 text_fails shows counts o text k0 k1 f few has keeps =
     fails_so shows counts o [] (Remark text) 52 4097 k0 k1 f has (text_size text few) (omega arith) keeps
 
-pub text_leaves : {D : Type 0} (shows : D → DiskSeen) (counts : D → Seen) (o : ClientOpening) (card : Sheet) (place : Place) (message text : List ℕ) (k0 k1 : ClientState D) (r : Result Unit NoteFault)
+pub text_leaves : {D : Type 0} (shows : D → DiskSeen) (counts : D → Seen) (o : ClientOpening) (card : Sheet) (place : Place) (message text : List ℕ) (k0 k1 : ClientState D) (r : Result Unit KeepFault)
     → text ≡ printed card → HasNoted shows o [] 52 k0 → Does {T = Unit {0}} shows counts (Remark text) k0 k1 r → LeavesNoted card place o message (shows k0.disk) (shows k1.disk)
 text_leaves shows counts o card place message text k0 k1 r said has keeps target there =
     leaves_so shows counts o (begun_notes card place target message) [] (Remark (place_record place) ∷ Asked (Write target message) ∷ []) (Remark (printed card)) 52 k0 k1 r refl has
     (as_text shows counts text (printed card) k0 k1 r said keeps)
 
 -- and the place
-pub place_noted : {D : Type 0} (shows : D → DiskSeen) (counts : D → Seen) (o : ClientOpening) (card : Sheet) (place : Place) (words : List ℕ) (k1 k2 : ClientState D) (r : Result Unit NoteFault)
+pub place_noted : {D : Type 0} (shows : D → DiskSeen) (counts : D → Seen) (o : ClientOpening) (card : Sheet) (place : Place) (words : List ℕ) (k1 k2 : ClientState D) (r : Result Unit KeepFault)
     → words ≡ place_record place → HasNoted shows o (Remark (printed card) ∷ []) 4154 k1 → Does {T = Unit {0}} shows counts (Remark words) k1 k2 r
     → OnOk r (HasNoted shows o (front_notes card place) 4170 k2)
 place_noted shows counts o card place words k1 k2 (Ok x) said has keeps =
@@ -205,14 +205,14 @@ place_noted shows counts o card place words k1 k2 (Ok x) said has keeps =
     (as_text shows counts words (place_record place) k1 k2 (Ok x) said keeps)
 place_noted shows counts o card place words k1 k2 (Err f) said has keeps = tt
 
-pub place_fails : {D : Type 0} (shows : D → DiskSeen) (counts : D → Seen) (o : ClientOpening) (card : Sheet) (place : Place) (words : List ℕ) (k1 k2 : ClientState D) (r : Result Unit NoteFault)
+pub place_fails : {D : Type 0} (shows : D → DiskSeen) (counts : D → Seen) (o : ClientOpening) (card : Sheet) (place : Place) (words : List ℕ) (k1 k2 : ClientState D) (r : Result Unit KeepFault)
     → words ≡ place_record place → HasNoted shows o (Remark (printed card) ∷ []) 4154 k1 → Does {T = Unit {0}} shows counts (Remark words) k1 k2 r → IfErr r IsOfNoting
 place_fails shows counts o card place words k1 k2 (Ok x) said has keeps = tt
 place_fails shows counts o card place words k1 k2 (Err f) said has keeps =
     fails_so shows counts o (Remark (printed card) ∷ []) (Remark (place_record place)) 4154 11 k1 k2 f has (place_size place) (omega arith)
     (as_text shows counts words (place_record place) k1 k2 (Err f) said keeps)
 
-pub place_leaves : {D : Type 0} (shows : D → DiskSeen) (counts : D → Seen) (o : ClientOpening) (card : Sheet) (place : Place) (message words : List ℕ) (k1 k2 : ClientState D) (r : Result Unit NoteFault)
+pub place_leaves : {D : Type 0} (shows : D → DiskSeen) (counts : D → Seen) (o : ClientOpening) (card : Sheet) (place : Place) (message words : List ℕ) (k1 k2 : ClientState D) (r : Result Unit KeepFault)
     → words ≡ place_record place → HasNoted shows o (Remark (printed card) ∷ []) 4154 k1 → Does {T = Unit {0}} shows counts (Remark words) k1 k2 r
     → LeavesNoted card place o message (shows k1.disk) (shows k2.disk)
 place_leaves shows counts o card place message words k1 k2 r said has keeps target there =
@@ -220,7 +220,7 @@ place_leaves shows counts o card place message words k1 k2 r said has keeps targ
     (as_text shows counts words (place_record place) k1 k2 r said keeps)
 
 -- and the request
-pub asked_fails : {D T : Type 0} (shows : D → DiskSeen) (counts : D → Seen) (o : ClientOpening) (card : Sheet) (place : Place) (target : ℕ) (message : List ℕ) (k2 k3 : ClientState D) (f : NoteFault)
+pub asked_fails : {D T : Type 0} (shows : D → DiskSeen) (counts : D → Seen) (o : ClientOpening) (card : Sheet) (place : Place) (target : ℕ) (message : List ℕ) (k2 k3 : ClientState D) (f : KeepFault)
     → IsBegun card place o message → HasNoted shows o (front_notes card place) 4170 k2 → Does {T = T} shows counts (Asked (Write target message)) k2 k3 (Err f) → IsOfNoting f
 asked_fails shows counts o card place target message k2 k3 f begun has keeps =
     fails_so shows counts o (front_notes card place) (Asked (Write target message)) 4170 4113 k2 k3 f has (write_size o card place target message begun) (omega arith) keeps
@@ -228,7 +228,7 @@ asked_fails shows counts o card place target message k2 k3 f begun has keeps =
 one_target : (addresses : List ℕ) (at a b : ℕ) → slice_get addresses at ≡ Some a → slice_get addresses at ≡ Some b → a ≡ b
 one_target addresses at a b e f = let same : Some a ≡ Some b = sym e ∙ f in cc same
 
-pub asked_leaves : {D T : Type 0} (shows : D → DiskSeen) (counts : D → Seen) (o : ClientOpening) (card : Sheet) (place : Place) (target : ℕ) (message : List ℕ) (k2 k3 : ClientState D) (r : Result T NoteFault)
+pub asked_leaves : {D T : Type 0} (shows : D → DiskSeen) (counts : D → Seen) (o : ClientOpening) (card : Sheet) (place : Place) (target : ℕ) (message : List ℕ) (k2 k3 : ClientState D) (r : Result T KeepFault)
     → slice_get card.addresses (address_at (length card.addresses) place) ≡ Some target
     → HasNoted shows o (front_notes card place) 4170 k2 → Does {T = T} shows counts (Asked (Write target message)) k2 k3 r
     → LeavesNoted card place o message (shows k2.disk) (shows k3.disk)
@@ -242,7 +242,7 @@ then_leaves card place o message a b c first second target there = then_only a b
 
 -- ---- a try that isn't begun
 
-pub from_noting : (reads : List ℕ → Type 0) (f : NoteFault) → IsOfNoting f → OnBeginning reads f
+pub from_noting : (reads : List ℕ → Type 0) (f : KeepFault) → IsOfNoting f → OnBeginning reads f
 from_noting reads NoMemory is = tt
 from_noting reads (Journal (Disk count)) is = tt
 from_noting reads (Journal Closed) is = is
@@ -251,7 +251,7 @@ from_noting reads (Journal (Full at)) is = is
 from_noting reads (Journal (Damaged at)) is = is
 from_noting reads (Foreign at) is = is
 
-pub from_create : (reads : List ℕ → Type 0) (f : NoteFault) (P : Type 0) → IsOfCreate f → OnNotEmpty f ((c : List ℕ) → reads c → c ≢ []) → OnFull f (λ n. (n ≡ 0) × (65536 < 53) × P) → OnBeginning reads f
+pub from_create : (reads : List ℕ → Type 0) (f : KeepFault) (P : Type 0) → IsOfCreate f → OnNotEmpty f ((c : List ℕ) → reads c → c ≢ []) → OnFull f (λ n. (n ≡ 0) × (65536 < 53) × P) → OnBeginning reads f
 from_create reads NoMemory P is held full = tt
 from_create reads (Journal (Disk count)) P is held full = tt
 from_create reads (Journal NotEmpty) P is held full = held

@@ -6,10 +6,10 @@ use Rattle.std.specs.Prelude.{Option, Some}
 use Rattle.mailbox_rules.specs.Requests.{Write}
 use Rattle.node_journal.specs.Disk.{DiskSeen, IsUntouched}
 use Rattle.node_journal.specs.Records.{IsUndamaged}
-use Rattle.client_restart.specs.declared.fault.NoteFault.{NoteFault}
-use Rattle.client_restart.specs.declared.fault.NoteFault.TheVariants.{Foreign, Journal, NoMemory}
+use Rattle.kept_machine.specs.declared.fault.KeepFault.{KeepFault}
+use Rattle.kept_machine.specs.declared.fault.KeepFault.TheVariants.{Foreign, Journal, NoMemory}
 use Rattle.client_restart.specs.declared.opening.ClientOpening.{ClientOpening}
-use Rattle.client_restart.specs.Faults.{CountsFault, IsNoMemoryOrForeign, OnForeign, OnNoMemory}
+use Rattle.kept_machine.specs.Faults.{CountsFault, IsNoMemoryOrForeign, OnForeign, OnNoMemory}
 use Rattle.client_restart.specs.Kept.{HoldsNotes, HoldsWholeNotes, StandsByNotes}
 use Rattle.client_restart.specs.Notes.{Noted}
 use Rattle.client_restart.specs.Openings.{IsClientOpening}
@@ -93,7 +93,7 @@ abbrev pub Told : (List ℕ → Type 0) → ClientOpening → CoreState → Type
 Told reads o k = (other : ClientOpening) (notes : List Noted) (c : List ℕ) → reads c → IsClientOpening other → AllNotes notes → HoldsNotes other notes reads
     → (o ≡ other) × (k ≡ fold other notes)
 
-pub nothing_so : {D : Type 0} (reads : List ℕ → Type 0) (o : ClientOpening) (k : CoreState) (disk : D) (r : Result (Reopened D) (NoteFault × D)) → Told reads o k
+pub nothing_so : {D : Type 0} (reads : List ℕ → Type 0) (o : ClientOpening) (k : CoreState) (disk : D) (r : Result (Reopened D) (KeepFault × D)) → Told reads o k
     → IfOk r (IfNothing (λ d. (d ≡ disk) × IsNoTry k)) → IfOk r (IfNothing (λ d. HoldsOnly IsNoTryOf reads))
 nothing_so reads o k disk (Ok (Whole w)) told n = tt
 nothing_so reads o k disk (Ok (Nothing d)) told n = λ other notes c read is all held. subst IsNoTry (told other notes c read is all held).1 n.1
@@ -104,13 +104,13 @@ no_whole reads o k told n = λ other notes c read is all held.
     let same = told other notes c read is all held in
     subst (λ (w : ClientOpening). IsNoWhole w (fold other notes)) same.0 (subst (λ (x : CoreState). IsNoWhole o x) same.1 n)
 
-foreign_at : (reads : List ℕ → Type 0) (o : ClientOpening) (k : CoreState) (why : NoteFault) → Told reads o k
+foreign_at : (reads : List ℕ → Type 0) (o : ClientOpening) (k : CoreState) (why : KeepFault) → Told reads o k
     → (why ≢ NoMemory → IsNoWhole o k) → OnForeign why (λ n. HoldsOnly IsNoWhole reads)
 foreign_at reads o k (Foreign n) told f = no_whole reads o k told (f (λ e. absurd (cc e)))
 foreign_at reads o k NoMemory told f = tt
 foreign_at reads o k (Journal why) told f = tt
 
-pub foreign_so : {D : Type 0} (reads : List ℕ → Type 0) (o : ClientOpening) (k : CoreState) (r : Result (Reopened D) (NoteFault × D)) → Told reads o k
+pub foreign_so : {D : Type 0} (reads : List ℕ → Type 0) (o : ClientOpening) (k : CoreState) (r : Result (Reopened D) (KeepFault × D)) → Told reads o k
     → IfErr r (λ x. x.0 ≢ NoMemory → IsNoWhole o k) → IfErr r (λ x. OnForeign x.0 (λ n. HoldsOnly IsNoWhole reads))
 foreign_so reads o k (Ok x) told f = tt
 foreign_so reads o k (Err x) told f = foreign_at reads o k x.0 told f
@@ -126,7 +126,7 @@ tell_none text last remarks ends none card place t =
 -- ---- the disk's faults
 
 -- a want of memory, or a record of another form, is no fault of the disk
-pub still_counts : (f : NoteFault) (before now : ℕ) → IsNoMemoryOrForeign f → now ≡ before → CountsFault before now f
+pub still_counts : (f : KeepFault) (before now : ℕ) → IsNoMemoryOrForeign f → now ≡ before → CountsFault before now f
 still_counts NoMemory before now of same = same
 still_counts (Foreign n) before now of same = same
 still_counts (Journal why) before now of same = absurd of
@@ -144,11 +144,11 @@ whole_notes limit o k before now is stands sound same = record {
   undamaged = λ c read. sound c (same.still c read);
 }
 
-on_memory : (P : Type 0) (f : NoteFault) → P → OnNoMemory f P
+on_memory : (P : Type 0) (f : KeepFault) → P → OnNoMemory f P
 on_memory P NoMemory is = is
 on_memory P (Foreign n) is = tt
 on_memory P (Journal why) is = tt
 
-pub wants_memory : {X D : Type 0} (r : Result X (NoteFault × D)) (P : Type 0) → P → IfErr r (λ x. OnNoMemory x.0 P)
+pub wants_memory : {X D : Type 0} (r : Result X (KeepFault × D)) (P : Type 0) → P → IfErr r (λ x. OnNoMemory x.0 P)
 wants_memory (Ok x) P is = tt
 wants_memory (Err x) P is = on_memory P x.0 is

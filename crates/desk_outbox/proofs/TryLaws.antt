@@ -9,7 +9,7 @@ use Rattle.step_rules.specs.ClientReplies.{on_reply}
 use Rattle.client_core.specs.Answers.{progress_in}
 use Rattle.client_core.specs.declared.progress.Progress.{Progress}
 use Rattle.client_core.specs.declared.progress.Progress.TheVariants as progress
-use Rattle.client_restart.specs.declared.fault.NoteFault.{NoteFault}
+use Rattle.kept_machine.specs.declared.fault.KeepFault.{KeepFault}
 use Rattle.client_restart.specs.declared.opening.ClientOpening.{ClientOpening}
 use Rattle.client_restart.specs.Hears.{makes_step}
 use Rattle.client_restart.specs.Keeps.{KeepsNote, sight}
@@ -83,7 +83,7 @@ noted_try shows counts card p q words old new t first address keeps =
     same_try old.opening new.opening card q _ _ (moved _ card p q _ t first address) keeps.opening
     (ap (λ (k : CoreState). k.client.current) keeps.step)
 
-pub missed_try : {D T : Type 0} (shows : D → DiskSeen) (counts : D → Seen) (card : Sheet) (p : Place) (words : List ℕ) (old new : ClientState D) (f : NoteFault)
+pub missed_try : {D T : Type 0} (shows : D → DiskSeen) (counts : D → Seen) (card : Sheet) (p : Place) (words : List ℕ) (old new : ClientState D) (f : KeepFault)
     → IsTry old.opening card p old.core.client.current
     → KeepsNote {T = T} (Remark words) (sight shows counts old) (sight shows counts new) (Err f)
     → IsTry new.opening card p new.core.client.current
@@ -93,7 +93,7 @@ missed_try shows counts card p words old new f t keeps =
 pub steps_on : (p : Progress) → p ≡ progress.Next → makes_step p ≡ true
 steps_on p e = ap makes_step e
 
-pub heard_try : {D T : Type 0} (shows : D → DiskSeen) (counts : D → Seen) (card : Sheet) (p : Place) (bytes : List ℕ) (old new : ClientState D) (r : Result T NoteFault)
+pub heard_try : {D T : Type 0} (shows : D → DiskSeen) (counts : D → Seen) (card : Sheet) (p : Place) (bytes : List ℕ) (old new : ClientState D) (r : Result T KeepFault)
     → IsTry old.opening card p old.core.client.current → progress_in (on_reply old.core.client bytes).progress ≡ progress.Next
     → KeepsNote {T = T} (Heard bytes) (sight shows counts old) (sight shows counts new) r
     → IsTry new.opening card p new.core.client.current

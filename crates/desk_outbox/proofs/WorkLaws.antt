@@ -9,7 +9,7 @@ use Rattle.step_rules.specs.ClientReplies.{on_reply}
 use Rattle.client_core.specs.Answers.{progress_in}
 use Rattle.client_core.specs.declared.progress.Progress.{Progress}
 use Rattle.client_core.specs.declared.progress.Progress.TheVariants as progress
-use Rattle.client_restart.specs.declared.fault.NoteFault.{NoteFault}
+use Rattle.kept_machine.specs.declared.fault.KeepFault.{KeepFault}
 use Rattle.client_restart.specs.Keeps.{KeepsNote, sight}
 use Rattle.client_restart.specs.Notes.{Heard}
 use Rattle.client_restart.specs.Steps as kept
@@ -35,7 +35,7 @@ use Rattle.desk_outbox.proofs.AnswerLaws.{goes_on_only, lost_again}
 
 -- ---- the net's faults
 
-net_then : {T : Type 0} (n : Next) (done : Result T NoteFault) (a b : ℕ) → b ≡ a → NetFaultBy (then_next n done) a b
+net_then : {T : Type 0} (n : Next) (done : Result T KeepFault) (a b : ℕ) → b ≡ a → NetFaultBy (then_next n done) a b
 net_then n (Ok x) a b e = e
 net_then n (Err f) a b e = e
 
@@ -88,7 +88,7 @@ pub record WentOn {D : Type 0} (n : Next) (answer : Result (List ℕ) Broken) (o
   pub on : n ≡ next.GoOn
   pub core : new.kept.core ≡ kept.heard old.kept.core bytes
 
-not_then : {T : Type 0} (n : Next) (done : Result T NoteFault) → n ≢ next.GoOn → Ok next.GoOn ≡ then_next n done → ⊥
+not_then : {T : Type 0} (n : Next) (done : Result T KeepFault) → n ≢ next.GoOn → Ok next.GoOn ≡ then_next n done → ⊥
 not_then n (Ok x) other e = let same : next.GoOn ≡ n = cc e in other (sym same)
 not_then n (Err f) other e = absurd (cc e)
 
@@ -96,9 +96,9 @@ ended_not : {D : Type 0} (shows : D → DiskSeen) (counts : D → Seen) (n : Nex
     → Ends shows counts place old new (Ok next.GoOn) → ⊥
 ended_not shows counts n place old new is other d = not_then place.next d.noted (λ e. other (sym is ∙ e)) d.told
 
-on_core : {D : Type 0} (shows : D → DiskSeen) (counts : D → Seen) (bytes : List ℕ) (old new : OutboxState D) (done : Result Progress NoteFault)
+on_core : {D : Type 0} (shows : D → DiskSeen) (counts : D → Seen) (bytes : List ℕ) (old new : OutboxState D) (done : Result Progress KeepFault)
     → (g : GoesOn shows counts bytes old new (Ok next.GoOn)) → g.heard ≡ done → Ok next.GoOn ≡ then_next next.GoOn done → new.kept.core ≡ kept.heard old.kept.core bytes
-on_core shows counts bytes old new (Ok p) g is e = (subst (λ (x : Result Progress NoteFault). KeepsNote (Heard bytes) (sight shows counts old.kept) (sight shows counts new.kept) x) is g.keeps).step
+on_core shows counts bytes old new (Ok p) g is e = (subst (λ (x : Result Progress KeepFault). KeepsNote (Heard bytes) (sight shows counts old.kept) (sight shows counts new.kept) x) is g.keeps).step
 on_core shows counts bytes old new (Err f) g is e = absurd (cc e)
 
 went_on_by : {D : Type 0} (shows : D → DiskSeen) (counts : D → Seen) (answer : Result (List ℕ) Broken) (n : Next) (place : Place) (old new : OutboxState D)

@@ -4,14 +4,14 @@ use Rattle.rand_core.specs.Stream.{Stream}
 use Rattle.node_journal.specs.Disk.{DiskSeen, LeavesOnly}
 use Rattle.node_journal.specs.Records.{content, IsUndamaged, LeavesNoByte}
 use Rattle.node_journal.specs.declared.fault.JournalFault.TheVariants.{Closed, NotEmpty, Full, Disk, Damaged}
-use Rattle.client_restart.specs.Faults.{CountsFault}
+use Rattle.kept_machine.specs.Faults.{CountsFault}
 use Rattle.client_restart.specs.Kept.{HoldsNotes, ClientState}
 use Rattle.client_restart.specs.Notes.{Noted, Remark}
 use Rattle.client_restart.specs.Openings.{IsClientOpening}
 use Rattle.client_restart.specs.Records.{records_of}
 use Rattle.client_restart.specs.Steps.{fold}
-use Rattle.client_restart.specs.declared.fault.NoteFault.{NoteFault}
-use Rattle.client_restart.specs.declared.fault.NoteFault.TheVariants.{Journal, NoMemory, Foreign}
+use Rattle.kept_machine.specs.declared.fault.KeepFault.{KeepFault}
+use Rattle.kept_machine.specs.declared.fault.KeepFault.TheVariants.{Journal, NoMemory, Foreign}
 use Rattle.client_restart.specs.declared.opening.ClientOpening.{ClientOpening}
 use Rattle.desk_letters.specs.Letters.{letter_of}
 use Rattle.desk_texts.specs.Printing.{printed}
@@ -62,7 +62,7 @@ pub record IsNoted {D : Type 0} (shows : D → DiskSeen) (card : Sheet) (place :
 -- ---- why it isn't begun
 
 -- a call on the disk failed, or no memory was found
-abbrev pub IsOfNoting : NoteFault → Type 0
+abbrev pub IsOfNoting : KeepFault → Type 0
 IsOfNoting (Journal (Disk faults)) = Unit {0}
 IsOfNoting NoMemory = Unit {0}
 IsOfNoting (Journal Closed) = ⊥
@@ -72,7 +72,7 @@ IsOfNoting (Journal (Damaged at)) = ⊥
 IsOfNoting (Foreign n) = ⊥
 
 -- or a byte stood there before
-abbrev pub OnBeginning : (List ℕ → Type 0) → NoteFault → Type 0
+abbrev pub OnBeginning : (List ℕ → Type 0) → KeepFault → Type 0
 OnBeginning reads (Journal NotEmpty) = (c : List ℕ) → reads c → c ≢ []
 OnBeginning reads (Journal (Disk faults)) = Unit {0}
 OnBeginning reads NoMemory = Unit {0}

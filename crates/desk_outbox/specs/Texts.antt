@@ -1,6 +1,6 @@
 -- The texts of why no try is begun.
 use Rattle.std.specs.Prelude.{ℕ, List, codes}
-use Rattle.client_restart.specs.Texts as keep
+use Rattle.kept_machine.specs.Texts as keep
 use Rattle.desk_letters.specs.FaultText as letter
 use Rattle.desk_outbox.specs.declared.fault.StartFault.{StartFault}
 use Rattle.desk_outbox.specs.declared.fault.StartFault.TheVariants.{Letter, Spent, Keep}

@@ -5,7 +5,7 @@ use Rattle.express_words.specs.Calls.{Call}
 use Rattle.express_words.specs.Seen.{Seen}
 use Rattle.client_core.specs.LastProof.{at_last_proof}
 use Rattle.client_core.specs.declared.progress.Progress.{Progress}
-use Rattle.client_restart.specs.declared.fault.NoteFault.{NoteFault}
+use Rattle.kept_machine.specs.declared.fault.KeepFault.{KeepFault}
 use Rattle.client_restart.specs.Keeps.{KeepsNote, sight}
 use Rattle.client_restart.specs.Notes.{Heard, Remark}
 use Rattle.desk_texts.specs.declared.sheet.Sheet.{Sheet}
@@ -30,7 +30,7 @@ use Rattle.desk_outbox.specs.Places.{is_under_way, place_record, state_at}
 
 -- A place is on the disk before the try stands there.
 pub record Notes {D : Type 0} (shows : D → DiskSeen) (counts : D → Seen) (place : Place)
-    (old new : OutboxState D) (r : Result Unit NoteFault) : Type 0 where
+    (old new : OutboxState D) (r : Result Unit KeepFault) : Type 0 where
   pub card : new.card ≡ old.card
   pub there : OnOk r (new.place ≡ place)
   pub stays : OnErr r (new.place ≡ old.place)
@@ -38,7 +38,7 @@ pub record Notes {D : Type 0} (shows : D → DiskSeen) (counts : D → Seen) (pl
       (sight shows counts new.kept) r
 
 -- what is to be done next, once it is on the disk
-abbrev pub then_next : {T : Type 0} → Next → Result T NoteFault → Result Next Halt
+abbrev pub then_next : {T : Type 0} → Next → Result T KeepFault → Result Next Halt
 then_next n (Ok done) = Ok n
 then_next n (Err fault) = Err (halt.Keep fault)
 
@@ -50,12 +50,12 @@ with_proof p = record p { proof_out = true }
 
 -- Before a step's frame nothing is noted; but where it is the last proof, that this goes out is, once.
 pub record ReadiesFirst {D : Type 0} (shows : D → DiskSeen) (counts : D → Seen) (old new : OutboxState D)
-    (r : Result Unit NoteFault) : Type 0 where
+    (r : Result Unit KeepFault) : Type 0 where
   pub last : at_last_proof old.kept.core.client.current ≡ true
   pub notes : Notes shows counts (with_proof old.place) old new r
 
 abbrev pub Readies : {D : Type 0} → (D → DiskSeen) → (D → Seen) → (old new : OutboxState D)
-    → Result Unit NoteFault → Type 0
+    → Result Unit KeepFault → Type 0
 Readies shows counts old new r = ((r ≡ Ok tt) × (new ≡ old)) ⊎ ReadiesFirst shows counts old new r
 
 -- ---- behind an answer
@@ -92,14 +92,14 @@ pub record GoesOn {D : Type 0} (shows : D → DiskSeen) (counts : D → Seen) (b
     (old new : OutboxState D) (r : Result Next Halt) : Type 0 where
   pub card : new.card ≡ old.card
   pub place : new.place ≡ old.place
-  pub heard : Result Progress NoteFault
+  pub heard : Result Progress KeepFault
   pub keeps : KeepsNote (Heard bytes) (sight shows counts old.kept) (sight shows counts new.kept) heard
   pub told : r ≡ then_next next.GoOn heard
 
 -- the try has come to its end, which is on the disk before it is told
 pub record Ends {D : Type 0} (shows : D → DiskSeen) (counts : D → Seen) (place : Place)
     (old new : OutboxState D) (r : Result Next Halt) : Type 0 where
-  pub noted : Result Unit NoteFault
+  pub noted : Result Unit KeepFault
   pub notes : Notes shows counts place old new noted
   pub told : r ≡ then_next place.next noted
 
@@ -156,7 +156,7 @@ pub record Sends {D : Type 0} (shows : D → DiskSeen) (counts : D → Seen) (ol
 -- or the disk doesn't take that it goes out, and nothing is sent
 pub record Misses {D : Type 0} (shows : D → DiskSeen) (counts : D → Seen) (old new : OutboxState D)
     (r : Result Next Halt) (before now : Option (List Call)) : Type 0 where
-  pub fault : NoteFault
+  pub fault : KeepFault
   pub readied : ReadiesFirst shows counts old new (Err fault)
   pub told : r ≡ Err (halt.Keep fault)
   pub silent : now ≡ before

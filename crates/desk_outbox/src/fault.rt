@@ -3,7 +3,7 @@ ghost use Rattle.std.specs.Prelude.{◌≡◌, Some};
 ghost use Rattle.desk_outbox.specs.Texts.{fault_text};
 ghost use Rattle.desk_outbox.specs.declared.fault.StartFault.TheVariants as fault;
 
-use client_restart::NoteFault;
+use client_restart::KeepFault;
 use desk_letters::SealFault;
 use express_words::NoMemory;
 use std::fmt;
@@ -16,7 +16,7 @@ pub enum StartFault {
     /// No serial is left on the lane, and the card has no other.
     Spent,
     /// The try isn't on its disk.
-    Keep(NoteFault),
+    Keep(KeepFault),
 }
 
 impl From<SealFault> for StartFault {
@@ -29,24 +29,24 @@ impl From<SealFault> for StartFault {
     }
 }
 
-impl From<NoteFault> for StartFault {
+impl From<KeepFault> for StartFault {
     ghost use Rattle.desk_outbox.specs.declared.fault.StartFault.TheVariants as fault;
 
     ghost from_gives = { λ why start. start ≡ fault.Keep why };
 
-    fn from(why: NoteFault) -> Self {
+    fn from(why: KeepFault) -> Self {
         StartFault::Keep(why)
     }
 }
 
 impl From<NoMemory> for StartFault {
-    ghost use Rattle.client_restart.specs.declared.fault.NoteFault.TheVariants as keep;
+    ghost use Rattle.kept_machine.specs.declared.fault.KeepFault.TheVariants as keep;
     ghost use Rattle.desk_outbox.specs.declared.fault.StartFault.TheVariants as fault;
 
     ghost from_gives = { λ why start. start ≡ fault.Keep keep.NoMemory };
 
     fn from(_: NoMemory) -> Self {
-        StartFault::Keep(NoteFault::NoMemory)
+        StartFault::Keep(KeepFault::NoMemory)
     }
 }
 

@@ -2,10 +2,10 @@
 ghost use Rattle.std.specs.Prelude.{◌≡◌, ◌≢◌, ◌≤◌, ◌↔◌, ℕ, List, None, IfOk, IfErr, IfSome, IsTrue, length, map};
 ghost use Rattle.node_journal.specs.Disk.{IsUntouched};
 ghost use Rattle.node_journal.specs.Records.{IsUndamaged};
-ghost use Rattle.client_restart.specs.Faults.{CountsFault, IsNoMemoryOrForeign, IsOfReopen, OnDamaged, OnForeign, OnNoMemory};
+ghost use Rattle.kept_machine.specs.Faults.{CountsFault, IsNoMemoryOrForeign, IsOfReopen, OnDamaged, OnForeign, OnNoMemory};
 ghost use Rattle.client_restart.specs.Kept.{HoldsWholeNotes, StandsByNotes};
 ghost use Rattle.client_restart.specs.Openings.{IsClientOpening};
-ghost use Rattle.client_restart.specs.declared.fault.NoteFault.TheVariants.{NoMemory};
+ghost use Rattle.kept_machine.specs.declared.fault.KeepFault.TheVariants.{NoMemory};
 ghost use Rattle.desk_texts.specs.Spelling.{IsSheet, SpellsSheet};
 ghost use Rattle.desk_outbox.specs.Begun.{IsBegun};
 ghost use Rattle.desk_outbox.specs.Outboxes.{IsWrite};
@@ -14,7 +14,7 @@ ghost use Rattle.desk_outbox.specs.Reopening.{HasEnds, HoldsOnly, IfNothing, IfW
 use crate::outbox::{OUTBOX_LIMIT, Outbox};
 use crate::place::Place;
 use client_core::Request;
-use client_restart::{ClientOpening, KeptClient, NoteFault};
+use client_restart::{ClientOpening, KeepFault, KeptClient};
 use desk_texts::{Head, Sheet, read_sheet, sheet_is_read_exactly};
 use express_texts::TextFault;
 use node_journal::Disk;
@@ -47,7 +47,7 @@ fn ends_of(remarks: &[Vec<u8>]) -> Option<(&[u8], &[u8])>
 }
 
 // The card that a text spells.
-fn card_in(alloc: Global, text: &[u8]) -> Result<Sheet, NoteFault>
+fn card_in(alloc: Global, text: &[u8]) -> Result<Sheet, KeepFault>
     ensures card { IfOk result (λ card. SpellsSheet card text.now) }
     ensures none { IfErr result (λ why. why ≢ NoMemory → SpellsNoSheet text.now) }
     ensures cause { IfErr result IsNoMemoryOrForeign }
@@ -55,24 +55,24 @@ fn card_in(alloc: Global, text: &[u8]) -> Result<Sheet, NoteFault>
     sheet_is_read_exactly();
     match read_sheet(alloc, text) {
         Ok(card) => Ok(card),
-        Err(TextFault::NoMemory) => Err(NoteFault::NoMemory),
-        Err(TextFault::Wrong(_)) => Err(NoteFault::Foreign(CARD_AT)),
-        Err(TextFault::WrongKey(_)) => Err(NoteFault::Foreign(CARD_AT)),
+        Err(TextFault::NoMemory) => Err(KeepFault::NoMemory),
+        Err(TextFault::Wrong(_)) => Err(KeepFault::Foreign(CARD_AT)),
+        Err(TextFault::WrongKey(_)) => Err(KeepFault::Foreign(CARD_AT)),
     }
 }
 
 // The card and the place that the remarks tell.
-fn remembered(alloc: Global, remarks: &[Vec<u8>]) -> Result<(Sheet, Place), NoteFault>
+fn remembered(alloc: Global, remarks: &[Vec<u8>]) -> Result<(Sheet, Place), KeepFault>
     ensures told { IfOk result (λ r. Tells (map (λ words. words.items) remarks.now) r.0 r.1) }
     ensures foreign { IfErr result (λ why. why ≢ NoMemory
         → TellNothing (map (λ words. words.items) remarks.now)) }
     ensures cause { IfErr result IsNoMemoryOrForeign }
 {
     let Some((text, last)) = ends_of(remarks) else {
-        return Err(NoteFault::Foreign(CARD_AT));
+        return Err(KeepFault::Foreign(CARD_AT));
     };
     let Some(place) = Place::of(last) else {
-        return Err(NoteFault::Foreign(CARD_AT));
+        return Err(KeepFault::Foreign(CARD_AT));
     };
     match card_in(alloc, text) {
         Ok(card) => Ok((card, place)),
@@ -116,7 +116,7 @@ fn written_len<D: Disk>(client: &KeptClient<D>) -> Option<usize>
 }
 
 // The try that a client holds, if it is a whole one.
-fn held<D: Disk>(alloc: Global, client: KeptClient<D>) -> Result<Reopened<D>, (NoteFault, D)>
+fn held<D: Disk>(alloc: Global, client: KeptClient<D>) -> Result<Reopened<D>, (KeepFault, D)>
     ensures whole { IfOk result (IfWhole (λ o.
         (o.kept ≡ client) × Tells client.core.remarks o.card o.place)) }
     ensures nothing { IfOk result (IfNothing (λ disk. (disk ≡ client.disk) × IsNoTry client.core)) }
@@ -132,7 +132,7 @@ fn held<D: Disk>(alloc: Global, client: KeptClient<D>) -> Result<Reopened<D>, (N
         Err(fault) => Err((fault, client.into_disk())),
         Ok((card, place)) => {
             if !is_try(&card, &place, client.opening(), len) {
-                return Err((NoteFault::Foreign(CARD_AT), client.into_disk()));
+                return Err((KeepFault::Foreign(CARD_AT), client.into_disk()));
             }
             Ok(Reopened::Whole(Outbox {
                 client,
@@ -146,7 +146,7 @@ fn held<D: Disk>(alloc: Global, client: KeptClient<D>) -> Result<Reopened<D>, (N
 impl<D: Disk> Outbox<D> {
     /// The try that stands on a disk, as it stood.
     #[tactic(auto, using(crate::proofs::ReopenLaws::still_counts))]
-    pub fn reopen(alloc: Global, disk: D) -> Result<Reopened<D>, (NoteFault, D)>
+    pub fn reopen(alloc: Global, disk: D) -> Result<Reopened<D>, (KeepFault, D)>
         ensures stands { IfOk result (IfWhole (λ o. StandsByNotes o.kept.opening o.kept.core (D.disk disk).reads)) }
         ensures told { IfOk result (IfWhole (λ o. Tells o.kept.core.remarks o.card o.place)) }
         ensures nothing { IfOk result (IfNothing (λ d. HoldsOnly IsNoTryOf (D.disk disk).reads)) }
@@ -168,7 +168,7 @@ impl<D: Disk> Outbox<D> {
     {
         match KeptClient::reopen(alloc, disk, OUTBOX_LIMIT) {
             Ok(client) => held(alloc, client),
-            Err((NoteFault::Foreign(0), disk)) => Ok(Reopened::Nothing(disk)),
+            Err((KeepFault::Foreign(0), disk)) => Ok(Reopened::Nothing(disk)),
             Err((fault, disk)) => Err((fault, disk)),
         }
     }

@@ -1,7 +1,7 @@
 //! How a try begins.
 ghost use Rattle.std.specs.Prelude.{◌≡◌, ◌≤◌, [], Some, IfOk, IfErr, OnOk, length, slice_get};
 ghost use Rattle.node_journal.specs.Records.{GivesNoByte};
-ghost use Rattle.client_restart.specs.Faults.{Counts, CountsFault};
+ghost use Rattle.kept_machine.specs.Faults.{Counts, CountsFault};
 ghost use Rattle.desk_draws.specs.Streams.{stream_from};
 ghost use Rattle.desk_texts.specs.Printing.{printed};
 ghost use Rattle.desk_texts.specs.Spelling.{IsSheet};
@@ -18,7 +18,7 @@ use crate::fault::StartFault;
 use crate::outbox::{OUTBOX_LIMIT, Outbox};
 use crate::place::Place;
 use client_core::Request;
-use client_restart::{ClientOpening, KeptClient, NoteFault};
+use client_restart::{ClientOpening, KeepFault, KeptClient};
 use desk_draws::Draws;
 use desk_letters::seal;
 use desk_texts::{CardHead, Head, Sheet, print, read_sheet};
@@ -79,7 +79,7 @@ fn note_place<D: Disk>(
     client: &mut KeptClient<D>,
     text: &[u8],
     begun: &TryParts<'_>,
-) -> Result<(), NoteFault>
+) -> Result<(), KeepFault>
     requires text { text.now ≡ printed begun.now.card.now }
     requires few { length text.now ≤ 4096 }
     requires made { HasNoted D.disk begun.now.opening [] 52 client.old }
@@ -102,7 +102,7 @@ fn note_try<D: Disk>(
     client: &mut KeptClient<D>,
     text: &[u8],
     begun: &TryParts<'_>,
-) -> Result<(), NoteFault>
+) -> Result<(), KeepFault>
     requires begun { IsBegun begun.now.card.now begun.now.place begun.now.opening begun.now.message.now }
     requires text { text.now ≡ printed begun.now.card.now }
     requires few { length text.now ≤ 4096 }
@@ -130,7 +130,7 @@ fn note_try<D: Disk>(
     }
 }
 
-fn begin<D: Disk>(alloc: Global, begun: &TryParts<'_>, disk: D) -> Result<Outbox<D>, (NoteFault, D)>
+fn begin<D: Disk>(alloc: Global, begun: &TryParts<'_>, disk: D) -> Result<Outbox<D>, (KeepFault, D)>
     requires { IsBegun begun.now.card.now begun.now.place begun.now.opening begun.now.message.now }
     ensures begins { IfOk result (Begins D.disk begun.now.card.now begun.now.place begun.now.message.now) }
     ensures opening { IfOk result (λ o. o.kept.opening ≡ begun.now.opening) }
@@ -144,7 +144,7 @@ fn begin<D: Disk>(alloc: Global, begun: &TryParts<'_>, disk: D) -> Result<Outbox
         begun.now.message.now (D.disk disk) (D.disk d)) }
 {
     let Ok((card, text)) = copied(alloc, begun.card) else {
-        return Err((NoteFault::NoMemory, disk));
+        return Err((KeepFault::NoMemory, disk));
     };
     match KeptClient::create(alloc, &begun.opening, disk, OUTBOX_LIMIT) {
         Err((fault, disk)) => Err((fault, disk)),

@@ -4,7 +4,7 @@ ghost use Rattle.client_core.specs.LastProof.{at_last_proof};
 ghost use Rattle.client_core.specs.Answers.{progress_in};
 ghost use Rattle.client_core.specs.declared.progress.Progress.TheVariants as progress;
 ghost use Rattle.step_rules.specs.ClientReplies.{on_reply};
-ghost use Rattle.client_restart.specs.Faults.{Counts};
+ghost use Rattle.kept_machine.specs.Faults.{Counts};
 ghost use Rattle.desk_tries.specs.declared.sending.Next.TheVariants as next;
 ghost use Rattle.desk_tries.specs.Steps.{turn_of};
 ghost use Rattle.kept_errands.specs.Steps.{DiskFaultBy, NetFaultBy};
@@ -16,7 +16,7 @@ ghost use Rattle.desk_outbox.specs.Works.{Does, Ends, GoesOn, Notes, Readies, St
 use crate::answering::{answer_lost, answer_to, named_by, stop_to};
 use crate::outbox::Outbox;
 use crate::place::Place;
-use client_restart::NoteFault;
+use client_restart::KeepFault;
 use desk_tries::{Answer, LetterEnd, Next, Sending};
 use express_words::outside::Net;
 use frame_rules::FRAME_MAX;
@@ -58,7 +58,7 @@ impl<D: Disk> Outbox<D> {
 
     // A place is on the disk before the try stands there.
     #[tactic(auto, using(crate::proofs::TryLaws::noted_try, crate::proofs::TryLaws::missed_try))]
-    fn note(&mut self, place: Place) -> Result<(), NoteFault>
+    fn note(&mut self, place: Place) -> Result<(), KeepFault>
         requires first { place.first < length self.old.card.addresses }
         requires address { place.address < length self.old.card.addresses }
         ensures notes { Notes D.disk D.Counted.seen place self.old self.new result }
@@ -75,7 +75,7 @@ impl<D: Disk> Outbox<D> {
     }
 
     // Before the last proof goes out that is noted.
-    fn make_ready(&mut self) -> Result<(), NoteFault>
+    fn make_ready(&mut self) -> Result<(), KeepFault>
         ensures readies { Readies D.disk D.Counted.seen self.old self.new result }
         ensures proof { OnOk result (at_last_proof self.new.kept.core.client.current ≡ true
             → self.new.place.proof_out ≡ true) }

@@ -10,7 +10,7 @@ use Rattle.step_rules.specs.ClientAsks as asks
 use Rattle.client_restart.specs.Keeps.{KeepsNote, sight}
 use Rattle.client_restart.specs.Notes.{Asked}
 use Rattle.client_restart.specs.Steps.{EndedRequest}
-use Rattle.client_restart.specs.declared.fault.NoteFault.{NoteFault}
+use Rattle.kept_machine.specs.declared.fault.KeepFault.{KeepFault}
 use Rattle.kept_errands.specs.declared.halt.Halt.{Halt}
 use Rattle.kept_errands.specs.declared.halt.Halt.TheVariants as halt
 use Rattle.kept_errands.specs.Steps.{NetFaultBy}
@@ -32,31 +32,31 @@ use Rattle.desk_run.specs.Works as works
 -- ---- outcomes that are stored
 
 -- what a store says of the outcomes that weren't stored before it
-abbrev pub StoreSays : {D : Type 0} → ℕ → (old new : LedgerState D) → Result (Option Stored) NoteFault → Type 0
+abbrev pub StoreSays : {D : Type 0} → ℕ → (old new : LedgerState D) → Result (Option Stored) KeepFault → Type 0
 StoreSays seconds old new r =
     (e : EndedRequest) (rest : List EndedRequest) → old.client.core.untold ≡ e ∷ rest → Stores seconds e old new r
 
 -- and of a desk that has none
-abbrev pub NoneSays : {D : Type 0} → (old new : LedgerState D) → Result (Option Stored) NoteFault → Type 0
+abbrev pub NoneSays : {D : Type 0} → (old new : LedgerState D) → Result (Option Stored) KeepFault → Type 0
 NoneSays old new r = old.client.core.untold ≡ [] → (r ≡ Ok None) × (new ≡ old)
 
-step_by : {D : Type 0} (seconds : ℕ) (refused : Option Refusal) (start old new : LedgerState D) (s : Stored) (r : Result (Option Stored) NoteFault)
+step_by : {D : Type 0} (seconds : ℕ) (refused : Option Refusal) (start old new : LedgerState D) (s : Stored) (r : Result (Option Stored) KeepFault)
     (untold : List EndedRequest) → r ≡ Ok (Some s) → old.client.core.untold ≡ untold → StoresOn seconds start refused old
     → NoneSays old new r → StoreSays seconds old new r → StoresOn seconds start (refused_by refused s) new
 step_by seconds refused start old new s r [] was is on none says =
     let no = sym was ∙ (none is).0 in absurd (cc no)
 step_by seconds refused start old new s r (e ∷ rest) was is on none says =
     works.stored refused old new e rest s on is
-    (subst (λ (x : Result (Option Stored) NoteFault). Stores seconds e old new x) was (says e rest is))
+    (subst (λ (x : Result (Option Stored) KeepFault). Stores seconds e old new x) was (says e rest is))
 
 pub store_step : {D : Type 0} (seconds : ℕ) (refused : Option Refusal) (start old new : LedgerState D) (s : Stored)
-    (r : Result (Option Stored) NoteFault) → r ≡ Ok (Some s) → StoresOn seconds start refused old → NoneSays old new r
+    (r : Result (Option Stored) KeepFault) → r ≡ Ok (Some s) → StoresOn seconds start refused old → NoneSays old new r
     → StoreSays seconds old new r → StoresOn seconds start (refused_by refused s) new
 store_step seconds refused start old new s r was on none says =
     step_by seconds refused start old new s r old.client.core.untold was refl on none says
 
 end_by : {D : Type 0} (seconds : ℕ) (refused : Option Refusal) (start old new : LedgerState D)
-    (r : Result (Option Stored) NoteFault)
+    (r : Result (Option Stored) KeepFault)
     (untold : List EndedRequest) → r ≡ Ok None → old.client.core.untold ≡ untold → StoresOn seconds start refused old
     → NoneSays old new r → StoreSays seconds old new r → StoresAll start new refused
 end_by seconds refused start old new r [] was is on none says =
@@ -67,12 +67,12 @@ end_by seconds refused start old new r [] was is on none says =
       none_left = ap (λ (l : LedgerState _). l.client.core.untold) same ∙ is;
     }
 end_by seconds refused start old new r (e ∷ rest) was is on none says =
-    let stored = subst (λ (x : Result (Option Stored) NoteFault). Stores seconds e old new x) was (says e rest is) in
+    let stored = subst (λ (x : Result (Option Stored) KeepFault). Stores seconds e old new x) was (says e rest is) in
     let no : None ≡ Some (stored_of e) = stored.answer in
     absurd (cc no)
 
 pub store_end : {D : Type 0} (seconds : ℕ) (refused : Option Refusal) (start old new : LedgerState D)
-    (r : Result (Option Stored) NoteFault) → r ≡ Ok None → StoresOn seconds start refused old → NoneSays old new r
+    (r : Result (Option Stored) KeepFault) → r ≡ Ok None → StoresOn seconds start refused old → NoneSays old new r
     → StoreSays seconds old new r → StoresAll start new refused
 store_end seconds refused start old new r was on none says =
     end_by seconds refused start old new r old.client.core.untold was refl on none says

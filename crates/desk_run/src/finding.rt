@@ -6,7 +6,7 @@ ghost use Rattle.desk_run.specs.Finds.{Holds, IsAt, is_taken};
 ghost use Rattle.desk_run.specs.FolderSteps.{FolderStepsOn};
 
 use crate::trouble::Trouble;
-use client_restart::NoteFault;
+use client_restart::KeepFault;
 use desk_outbox::{Outbox, Reopened};
 use desk_outside::{DeskFile, Folder, Slot};
 use node_journal::{Disk, JournalFault};
@@ -45,8 +45,8 @@ fn held_on<'a, D: Disk + Drop>(alloc: Global, disk: D) -> Result<Found<D>, Troub
     match Outbox::reopen(alloc, disk) {
         Ok(Reopened::Whole(outbox)) => Ok(Found::Letter(outbox)),
         Ok(Reopened::Nothing(_)) => Ok(Found::Nothing),
-        Err((NoteFault::Foreign(_), _)) => Ok(Found::Unreadable),
-        Err((NoteFault::Journal(JournalFault::Damaged(_)), _)) => Ok(Found::Unreadable),
+        Err((KeepFault::Foreign(_), _)) => Ok(Found::Unreadable),
+        Err((KeepFault::Journal(JournalFault::Damaged(_)), _)) => Ok(Found::Unreadable),
         Err((fault, _)) => Err(Trouble::from(fault)),
     }
 }

@@ -3,7 +3,7 @@ ghost use Rattle.std.specs.Prelude.{◌≡◌, ◌≢◌, ℕ};
 ghost use Rattle.desk_run.specs.Ends.{IsCause};
 ghost use Rattle.desk_run.specs.Laters.{later_trouble};
 
-use client_restart::NoteFault;
+use client_restart::KeepFault;
 use desk_ledger::NameFault;
 use desk_letters::SealFault;
 use desk_outside::{DeskFile, FolderFault, Slot};
@@ -133,27 +133,27 @@ impl From<NoMemory> for Trouble<'_> {
 }
 
 // What is told where nothing could be noted on a disk.
-fn unnoted<'a>(fault: NoteFault) -> Trouble<'a>
+fn unnoted<'a>(fault: KeepFault) -> Trouble<'a>
     ensures cause { IsCause result }
     ensures not_behind { (number : ℕ) → result ≢ Trouble.Behind number }
 {
     match fault {
-        NoteFault::NoMemory => Trouble::NoMemory,
-        NoteFault::Journal(JournalFault::Full(_)) => Trouble::Full,
-        NoteFault::Journal(JournalFault::Disk(_)) => Trouble::Folder,
-        NoteFault::Journal(JournalFault::Closed) => Trouble::Folder,
-        NoteFault::Journal(JournalFault::NotEmpty) => Trouble::Damaged,
-        NoteFault::Journal(JournalFault::Damaged(_)) => Trouble::Damaged,
-        NoteFault::Foreign(_) => Trouble::Damaged,
+        KeepFault::NoMemory => Trouble::NoMemory,
+        KeepFault::Journal(JournalFault::Full(_)) => Trouble::Full,
+        KeepFault::Journal(JournalFault::Disk(_)) => Trouble::Folder,
+        KeepFault::Journal(JournalFault::Closed) => Trouble::Folder,
+        KeepFault::Journal(JournalFault::NotEmpty) => Trouble::Damaged,
+        KeepFault::Journal(JournalFault::Damaged(_)) => Trouble::Damaged,
+        KeepFault::Foreign(_) => Trouble::Damaged,
     }
 }
 
-impl From<NoteFault> for Trouble<'_> {
+impl From<KeepFault> for Trouble<'_> {
     ghost use Rattle.desk_run.specs.Ends.{IsCause};
 
     ghost from_gives = { λ _ trouble. IsCause trouble };
 
-    fn from(fault: NoteFault) -> Self {
+    fn from(fault: KeepFault) -> Self {
         unnoted(fault)
     }
 }

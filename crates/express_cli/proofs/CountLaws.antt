@@ -1,7 +1,7 @@
 -- What is said of the disk's count of faults, by how a run ends.
 use Rattle.std.proofs.Common.{◌≡◌, ◌≢◌, ◌⊎◌, ℕ, List, Option, codes, arith}
-use Rattle.node_restart.specs.Faults.{CountsFault}
-use Rattle.node_restart.specs.declared.fault.KeepFault.{KeepFault}
+use Rattle.kept_machine.specs.Faults.{CountsFault}
+use Rattle.kept_machine.specs.declared.fault.KeepFault.{KeepFault}
 use Rattle.node_serve.specs.KeptOpening.{IsFirstFault}
 use Rattle.express_texts.specs.declared.fault.TextFault.{TextFault}
 use Rattle.express_cli.specs.Ends.{DiskCounts, FaultMay, PrintsBy}

@@ -5,9 +5,9 @@ use Rattle.node_journal.specs.Disk.{DiskSeen}
 use Rattle.node_journal.specs.declared.fault.JournalFault.TheVariants.{Full, Damaged}
 use Rattle.settings_text.specs.declared.serve.ServeSettings.{ServeSettings}
 use Rattle.node_restart.specs.Kept.{KeptState}
-use Rattle.node_restart.specs.Texts.{fault_text}
-use Rattle.node_restart.specs.declared.fault.KeepFault.{KeepFault}
-use Rattle.node_restart.specs.declared.fault.KeepFault.TheVariants.{Journal, NoMemory, Foreign}
+use Rattle.kept_machine.specs.Texts.{fault_text}
+use Rattle.kept_machine.specs.declared.fault.KeepFault.{KeepFault}
+use Rattle.kept_machine.specs.declared.fault.KeepFault.TheVariants.{Journal, NoMemory, Foreign}
 use Rattle.node_serve.specs.KeptOpening.{IsOpenedOn, IsOfOpening, IsCauseOf, LeavesDisk}
 use Rattle.node_serve.specs.KeptOpening.{opening_of, key_text}
 use Rattle.node_serve.specs.declared.open_fault.OpenFault.{OpenFault}

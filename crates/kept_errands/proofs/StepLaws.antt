@@ -8,7 +8,7 @@ use Rattle.step_rules.specs.ClientReplies.{on_reply}
 use Rattle.client_core.specs.Answers.{outcome_in, progress_in}
 use Rattle.client_core.specs.declared.progress.Progress.{Progress}
 use Rattle.client_core.specs.declared.progress.Progress.TheVariants as progress
-use Rattle.client_restart.specs.declared.fault.NoteFault.{NoteFault}
+use Rattle.kept_machine.specs.declared.fault.KeepFault.{KeepFault}
 use Rattle.client_restart.specs.declared.opening.ClientOpening.{ClientOpening}
 use Rattle.client_restart.specs.Hears.{makes_step, makes_step_at}
 use Rattle.client_restart.specs.Keeps.{KeepsNote, sight}
@@ -40,7 +40,7 @@ CameBy (Err (halt.Keep fault)) old new answer = AnswersStep old answer × (new �
 abbrev pub Comes : {D : Type 0} → (old new : ClientState D) → Result Progress Halt → Result (List ℕ) Broken → Type 0
 Comes old new result answer = CameBy result old.core new.core answer × (new.opening ≡ old.opening)
 
-took : {D : Type 0} (shows : D → DiskSeen) (counts : D → Seen) (old new : ClientState D) (bytes : List ℕ) (kept : Result Progress NoteFault) (p : steps.Progress)
+took : {D : Type 0} (shows : D → DiskSeen) (counts : D → Seen) (old new : ClientState D) (bytes : List ℕ) (kept : Result Progress KeepFault) (p : steps.Progress)
     → (on_reply old.core.client bytes).progress ≡ p → IfOk kept (λ x. x ≡ progress_in p)
     → (makes_step (progress_in p) ≡ false → IsOk kept × (new ≡ old))
     → (makes_step (progress_in p) ≡ true → KeepsNote (Heard bytes) (sight shows counts old) (sight shows counts new) kept)
@@ -75,7 +75,7 @@ comes shows counts old new result (Err why) (same, told) =
 
 -- ---- a note that the disk doesn't take
 
-misses : {D : Type 0} (shows : D → DiskSeen) (counts : D → Seen) (old new : ClientState D) (bytes : List ℕ) (kept : Result Progress NoteFault) (fault : NoteFault) (b : Bool)
+misses : {D : Type 0} (shows : D → DiskSeen) (counts : D → Seen) (old new : ClientState D) (bytes : List ℕ) (kept : Result Progress KeepFault) (fault : KeepFault) (b : Bool)
     → makes_step_at old.core bytes ≡ b → Err (halt.Keep fault) ≡ halted kept
     → (b ≡ false → IsOk kept × (new ≡ old)) → (b ≡ true → KeepsNote (Heard bytes) (sight shows counts old) (sight shows counts new) kept)
     → MissesReply shows counts new fault
@@ -87,10 +87,10 @@ misses shows counts old new bytes (Err f) fault true e told still keeps =
       last = old;
       bytes = bytes;
       step = e;
-      keeps = subst (λ (x : NoteFault). KeepsNote {T = Progress} (Heard bytes) (sight shows counts old) (sight shows counts new) (Err x)) same (keeps refl);
+      keeps = subst (λ (x : KeepFault). KeepsNote {T = Progress} (Heard bytes) (sight shows counts old) (sight shows counts new) (Err x)) same (keeps refl);
     }
 
-missed : {D : Type 0} (shows : D → DiskSeen) (counts : D → Seen) (old new : ClientState D) (fault : NoteFault) (answer : Result (List ℕ) Broken)
+missed : {D : Type 0} (shows : D → DiskSeen) (counts : D → Seen) (old new : ClientState D) (fault : KeepFault) (answer : Result (List ℕ) Broken)
     → HearsBy shows counts answer old new (Err (halt.Keep fault)) → MissesReply shows counts new fault
 missed shows counts old new fault (Ok bytes) h = misses shows counts old new bytes h.kept fault _ refl h.told h.no_step h.keeps
 missed shows counts old new fault (Err why) (same, told) = absurd (cc told)
@@ -103,7 +103,7 @@ halts_at shows counts old new (halt.Stop why) answer h = tt
 
 -- ---- a step on a net
 
-pub heard_step : {D : Type 0} (peers : Peers) (shows : D → DiskSeen) (counts : D → Seen) (old new : ClientState D) (kept : Result Progress NoteFault) (bytes : List ℕ) (a b : Option (List Call))
+pub heard_step : {D : Type 0} (peers : Peers) (shows : D → DiskSeen) (counts : D → Seen) (old new : ClientState D) (kept : Result Progress KeepFault) (bytes : List ℕ) (a b : Option (List Call))
     → Talked peers old.core.client (Ok bytes) a b → IfOk kept (λ x. x ≡ progress_in (on_reply old.core.client bytes).progress)
     → (makes_step (progress_in (on_reply old.core.client bytes).progress) ≡ false → IsOk kept × (new ≡ old))
     → (makes_step (progress_in (on_reply old.core.client bytes).progress) ≡ true → KeepsNote (Heard bytes) (sight shows counts old) (sight shows counts new) kept)
@@ -120,7 +120,7 @@ lost_step peers shows counts old why h a b t is =
     record { answer = Err why; talked = t; hears = (refl, ap Err is) }
 
 -- what stands on the disk gives the client, whatever it heard
-pub stands_by : {D : Type 0} {T : Type 0} (shows : D → DiskSeen) (counts : D → Seen) (old new : ClientState D) (n : Noted) (kept : Result T NoteFault) (b : Bool)
+pub stands_by : {D : Type 0} {T : Type 0} (shows : D → DiskSeen) (counts : D → Seen) (old new : ClientState D) (n : Noted) (kept : Result T KeepFault) (b : Bool)
     → (b ≡ false → IsOk kept × (new ≡ old)) → (b ≡ true → KeepsNote n (sight shows counts old) (sight shows counts new) kept)
     → (old.journal.closed ≡ false → StandsByNotes old.opening old.core (shows old.disk).reads)
     → new.journal.closed ≡ false → StandsByNotes new.opening new.core (shows new.disk).reads
@@ -131,7 +131,7 @@ stands_by {D} shows counts old new n kept false still keeps stood still_open =
     subst (λ (k : ClientState D). k.journal.closed ≡ false → StandsByNotes k.opening k.core (shows k.disk).reads) (sym (still refl).1) stood still_open
 
 -- the disk's count, whatever was heard
-pub counts_by : {D : Type 0} (shows : D → DiskSeen) (counts : D → Seen) (old new : ClientState D) (n : Noted) (kept : Result Progress NoteFault) (b : Bool)
+pub counts_by : {D : Type 0} (shows : D → DiskSeen) (counts : D → Seen) (old new : ClientState D) (n : Noted) (kept : Result Progress KeepFault) (b : Bool)
     → (b ≡ false → IsOk kept × (new ≡ old)) → (b ≡ true → KeepsNote n (sight shows counts old) (sight shows counts new) kept)
     → DiskFaultBy (halted kept) (counts old.disk).faults (counts new.disk).faults
 counts_by shows counts old new n (Ok x) true still keeps = (keeps refl).counts

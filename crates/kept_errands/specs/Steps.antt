@@ -7,8 +7,8 @@ use Rattle.step_rules.specs.Client.{Client}
 use Rattle.step_rules.specs.ClientReplies.{on_reply}
 use Rattle.client_core.specs.Answers.{progress_in}
 use Rattle.client_core.specs.declared.progress.Progress.{Progress}
-use Rattle.client_restart.specs.declared.fault.NoteFault.{NoteFault}
-use Rattle.client_restart.specs.Faults.{CountsFault}
+use Rattle.kept_machine.specs.declared.fault.KeepFault.{KeepFault}
+use Rattle.kept_machine.specs.Faults.{CountsFault}
 use Rattle.client_restart.specs.Hears.{makes_step}
 use Rattle.client_restart.specs.Keeps.{KeepsNote, sight}
 use Rattle.client_restart.specs.Kept.{ClientState}
@@ -37,14 +37,14 @@ halt_at why = halt.Stop (stop_at why)
 
 -- ---- what the client hears
 
-abbrev pub halted : {T : Type 0} → Result T NoteFault → Result T Halt
+abbrev pub halted : {T : Type 0} → Result T KeepFault → Result T Halt
 halted (Ok value) = Ok value
 halted (Err fault) = Err (halt.Keep fault)
 
 -- The client takes the bytes as a reply to its present step. One that makes a step is kept before it.
 pub record Hears {D : Type 0} (shows : D → DiskSeen) (counts : D → Seen) (bytes : List ℕ)
     (old new : ClientState D) (result : Result Progress Halt) : Type 0 where
-  pub kept : Result Progress NoteFault
+  pub kept : Result Progress KeepFault
   pub told : result ≡ halted kept
   pub progress : IfOk kept (λ p. p ≡ progress_in (on_reply old.core.client bytes).progress)
   pub no_step : makes_step (progress_in (on_reply old.core.client bytes).progress) ≡ false

@@ -1,6 +1,6 @@
 -- The texts of what halts the work.
 use Rattle.std.specs.Prelude.{ℕ, List}
-use Rattle.client_restart.specs.Texts.{fault_text}
+use Rattle.kept_machine.specs.Texts.{fault_text}
 use Rattle.node_client.specs.Texts.{stop_text}
 use Rattle.kept_errands.specs.declared.halt.Halt.{Halt}
 use Rattle.kept_errands.specs.declared.halt.Halt.TheVariants.{Keep, Stop}

@@ -4,7 +4,7 @@ use Rattle.express_words.specs.Calls.{Call}
 use Rattle.express_words.specs.Seen.{Seen}
 use Rattle.step_rules.specs.Client.{Client, Current, Outcome}
 use Rattle.client_core.specs.declared.progress.Progress.{Progress}
-use Rattle.client_restart.specs.declared.fault.NoteFault.{NoteFault}
+use Rattle.kept_machine.specs.declared.fault.KeepFault.{KeepFault}
 use Rattle.client_restart.specs.Hears.{makes_step_at}
 use Rattle.client_restart.specs.Keeps.{CallKeeps}
 use Rattle.client_restart.specs.Kept.{ClientState}
@@ -47,7 +47,7 @@ EndsBy last new answer (Err (halt.Keep fault)) = AnswersStep last answer × (new
 
 -- A reply that makes a step was to be noted, and this is the fault of it.
 pub record MissesReply {D : Type 0} (shows : D → DiskSeen) (counts : D → Seen) (new : ClientState D)
-    (fault : NoteFault) : Type 0 where
+    (fault : KeepFault) : Type 0 where
   pub last : ClientState D
   pub bytes : List ℕ
   pub step : makes_step_at last.core bytes ≡ true

@@ -4,7 +4,7 @@ ghost use Rattle.kept_errands.specs.Steps.{halt_at};
 ghost use Rattle.kept_errands.specs.Texts.{halt_text};
 ghost use Rattle.kept_errands.specs.declared.halt.Halt.TheVariants as halt;
 
-use client_restart::NoteFault;
+use client_restart::KeepFault;
 use node_client::Stop;
 use node_exchange::Broken;
 use std::fmt;
@@ -13,7 +13,7 @@ use std::fmt;
 #[derive(Clone, Copy, Debug, PartialEq, Eq)]
 pub enum Halt {
     /// What was heard, or what the program above notes, isn't on the disk.
-    Keep(NoteFault),
+    Keep(KeepFault),
     /// A step had no answer that ends it.
     Stop(Stop),
 }
@@ -28,12 +28,12 @@ impl From<Broken> for Halt {
     }
 }
 
-impl From<NoteFault> for Halt {
+impl From<KeepFault> for Halt {
     ghost use Rattle.kept_errands.specs.declared.halt.Halt.TheVariants as halt;
 
     ghost from_gives = { λ fault halted. halted ≡ halt.Keep fault };
 
-    fn from(fault: NoteFault) -> Self {
+    fn from(fault: KeepFault) -> Self {
         Halt::Keep(fault)
     }
 }

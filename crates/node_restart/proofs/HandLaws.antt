@@ -9,16 +9,16 @@ use Rattle.node_journal.specs.Journal.{HasSpace, LacksSpace, broken}
 use Rattle.node_journal.specs.declared.fault.JournalFault.TheVariants.{Closed, Full}
 use Rattle.node_restart.specs.declared.opening.Opening.{Opening}
 use Rattle.node_restart.specs.declared.did.Did.{Did}
-use Rattle.node_restart.specs.declared.fault.KeepFault.{KeepFault}
-use Rattle.node_restart.specs.declared.fault.KeepFault.TheVariants.{Journal}
+use Rattle.kept_machine.specs.declared.fault.KeepFault.{KeepFault}
+use Rattle.kept_machine.specs.declared.fault.KeepFault.TheVariants.{Journal}
 use Rattle.node_restart.specs.Calls.{KeepsFrame}
-use Rattle.node_restart.specs.Faults.{IsOkOrDiskFault}
+use Rattle.kept_machine.specs.Faults.{IsOkOrDiskFault}
 use Rattle.node_restart.specs.Frames.{Handed, IsOneFrame, records_of}
 use Rattle.node_restart.specs.Kept.{KeptState, HoldsFrames, LeavesAround, LeavesFrames}
 use Rattle.node_restart.specs.Keeping.{kept_of, Keeps, LeavesFirst, MayLeaveFirst, AddsFrames, IsCause, Refuses}
 use Rattle.node_restart.proofs.FrameLaws.{one_or_not}
 use Rattle.node_restart.proofs.KeepLaws.{adds_none}
-use Rattle.node_restart.proofs.KeptLaws.{leaves_only}
+use Rattle.kept_machine.proofs.JournalLaws.{leaves_only}
 
 kept_one : (h : Handed) → IsOneFrame h.frame → kept_of (h ∷ []) ≡ h ∷ []
 kept_one h one = ap (λ (b : Bool). cond b (h ∷ []) []) one

@@ -1,10 +1,8 @@
-pub mod FaultLaws
 pub mod FrameLaws
 pub mod HandLaws
 pub mod KeepLaws
 pub mod KeptLaws
-pub mod MakingLaws
+pub mod MachineLaws
 pub mod OpeningLaws
-pub mod ReplayLaws
 pub mod StepLaws
 pub mod UpToLaws

@@ -3,9 +3,9 @@ use Rattle.std.proofs.Common.{List, [], ◌++◌, Result, Ok, Err, ℕ}
 use Rattle.std.specs.Prelude.{IfErr}
 use Rattle.express_words.specs.Seen.{Seen}
 use Rattle.node_journal.specs.Disk.{DiskSeen}
-use Rattle.node_restart.specs.declared.fault.KeepFault.{KeepFault}
+use Rattle.kept_machine.specs.declared.fault.KeepFault.{KeepFault}
 use Rattle.node_journal.specs.declared.fault.JournalFault.TheVariants.{Closed, Full, Disk}
-use Rattle.node_restart.specs.declared.fault.KeepFault.TheVariants.{Journal}
+use Rattle.kept_machine.specs.declared.fault.KeepFault.TheVariants.{Journal}
 use Rattle.node_restart.specs.declared.did.Did.{Did}
 use Rattle.node_restart.specs.Calls.{KeepsFrame}
 use Rattle.node_restart.specs.Frames.{Handed}

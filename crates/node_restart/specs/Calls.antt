@@ -3,35 +3,17 @@ use Rattle.std.specs.Prelude.{◌≡◌, ℕ, ◌+◌, true, false, List, [], �
 use Rattle.std.specs.Prelude.{IsOk, IfOk, OnOk, OnErr}
 use Rattle.express_words.specs.Seen.{Seen}
 use Rattle.node_journal.specs.Disk.{DiskSeen, Within}
-use Rattle.node_journal.specs.Records.{Appended, IsUndamaged}
-use Rattle.node_journal.specs.Journal.{JournalState, HasSpace, LacksSpace, IsOkOrDisk, OnlyAnswers}
-use Rattle.node_journal.specs.Journal.{OnlyAnswersFull, LeavesWithOrWithout, broken, longer}
-use Rattle.node_journal.specs.declared.fault.JournalFault.{JournalFault}
+use Rattle.node_journal.specs.Records.{IsUndamaged}
+use Rattle.node_journal.specs.Journal.{HasSpace, LacksSpace}
+use Rattle.node_journal.specs.Journal.{broken, longer}
 use Rattle.node_journal.specs.declared.fault.JournalFault.TheVariants.{Closed, Full}
 use Rattle.node_restart.specs.declared.did.Did.{Did}
-use Rattle.node_restart.specs.declared.fault.KeepFault.{KeepFault}
-use Rattle.node_restart.specs.declared.fault.KeepFault.TheVariants.{Journal}
-use Rattle.node_restart.specs.Faults.{Counts, IsOkOrDiskFault}
-use Rattle.node_restart.specs.Frames.{Handed, IsOneFrame, frame_record}
+use Rattle.kept_machine.specs.declared.fault.KeepFault.{KeepFault}
+use Rattle.kept_machine.specs.declared.fault.KeepFault.TheVariants.{Journal}
+use Rattle.kept_machine.specs.Faults.{Counts, IsOkOrDiskFault}
+use Rattle.node_restart.specs.Frames.{Handed, IsOneFrame}
 use Rattle.node_restart.specs.Steps.{step_of, Takes}
 use Rattle.node_restart.specs.Kept.{KeptState, HoldsFrames, LeavesAround, Stands}
-
--- The record of a frame goes behind a journal's end, where the bytes are exactly one frame. Others change
--- nothing.
-pub record WritesFrame {D : Type 0} (shows : D → DiskSeen) (h : Handed) (old new : JournalState)
-    (disk disk_new : D) (r : Result (Unit {0}) JournalFault) : Type 0 where
-  pub no_frame : (IsOneFrame h.frame → ⊥) → IsOk r × (new ≡ old) × (disk_new ≡ disk)
-  pub closed : IsOneFrame h.frame → old.closed ≡ true → OnlyAnswers r Closed old new disk disk_new
-  pub full : IsOneFrame h.frame → old.closed ≡ false → LacksSpace old (length h.frame + 1)
-      → OnlyAnswersFull r old new disk disk_new
-  pub fits : IsOneFrame h.frame → old.closed ≡ false → HasSpace old (length h.frame + 1) → IsOkOrDisk r
-  pub broken : IsOneFrame h.frame → old.closed ≡ false → HasSpace old (length h.frame + 1)
-      → OnErr r (new ≡ broken old)
-  pub longer : IsOneFrame h.frame → OnOk r (new ≡ longer (length h.frame + 1) old)
-  pub added : IsOneFrame h.frame → OnOk r ((c : List ℕ) → (shows disk_new).reads c
-      → Appended (shows disk).reads (frame_record h) c)
-  pub any_moment : IsOneFrame h.frame → old.closed ≡ false
-      → LeavesWithOrWithout old.limit (shows disk) (shows disk_new) (frame_record h)
 
 -- From old to new a server was handed these bytes, and wrote into a buffer.
 pub record KeepsFrame {D : Type 0} (shows : D → DiskSeen) (seen : D → Seen) (h : Handed)

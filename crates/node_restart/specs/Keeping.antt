@@ -6,8 +6,8 @@ use Rattle.node_journal.specs.Records.{content, IsUndamaged}
 use Rattle.node_journal.specs.Journal.{JournalState, HasSpace, LacksSpace, longer, broken}
 use Rattle.node_journal.specs.declared.fault.JournalFault.TheVariants.{Closed, Full, Disk}
 use Rattle.node_restart.specs.declared.opening.Opening.{Opening}
-use Rattle.node_restart.specs.declared.fault.KeepFault.{KeepFault}
-use Rattle.node_restart.specs.declared.fault.KeepFault.TheVariants.{Journal}
+use Rattle.kept_machine.specs.declared.fault.KeepFault.{KeepFault}
+use Rattle.kept_machine.specs.declared.fault.KeepFault.TheVariants.{Journal}
 use Rattle.node_restart.specs.Frames.{Handed, IsOneFrame, records_of}
 use Rattle.node_restart.specs.Steps.{fold_from}
 use Rattle.node_restart.specs.Kept.{KeptState, HoldsFrames, LeavesAround}

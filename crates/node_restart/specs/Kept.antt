@@ -1,17 +1,19 @@
 -- A server with its journal, and what stands on its disk.
-use Rattle.std.specs.Prelude.{◌≡◌, ◌⊎◌, ℕ, ◌≤◌, List, [], ◌∷◌, ◌++◌, length, drop, true, false, Result, Err}
+use Rattle.std.specs.Prelude.{◌≡◌, ◌⊎◌, ℕ, ◌≤◌, List, [], ◌∷◌, ◌++◌, length, drop, false, Result, Err}
 use Rattle.std.specs.Prelude.{MatchResult}
 use Rattle.node_journal.specs.Disk.{DiskSeen, LeavesOnly}
 use Rattle.node_journal.specs.Records.{content, records_from, IsUndamaged, LeavesNoByte}
 use Rattle.node_journal.specs.Next.{found}
-use Rattle.node_journal.specs.Journal.{JournalState, IsInPlace}
+use Rattle.node_journal.specs.Journal.{JournalState}
 use Rattle.node_journal.specs.declared.fault.JournalFault.TheVariants.{Damaged}
-use Rattle.node_restart.specs.declared.fault.KeepFault.{KeepFault}
+use Rattle.kept_machine.specs.declared.fault.KeepFault.{KeepFault}
+use Rattle.kept_machine.specs.Kept as machine
+use Rattle.node_restart.specs.declared.machine.Server.{Server}
 use Rattle.node_restart.specs.declared.server.Core.{Core}
 use Rattle.node_restart.specs.declared.opening.Opening.{Opening}
 use Rattle.node_restart.specs.Openings.{IsOpening}
 use Rattle.node_restart.specs.Frames.{Handed, AllFrames, records_of}
-use Rattle.node_restart.specs.Steps.{fold, settings_of, role_of}
+use Rattle.node_restart.specs.Steps.{fold}
 
 -- how the server was opened, the server, its journal and the journal's disk
 pub record KeptState (D : Type 0) : Type 0 where
@@ -19,6 +21,15 @@ pub record KeptState (D : Type 0) : Type 0 where
   pub core : Core
   pub journal : JournalState
   pub disk : D
+
+-- what is kept of a server, as its callers see it
+abbrev pub state_of : {D : Type 0} → machine.KeptState Server D → KeptState D
+state_of k = record {
+  opening = k.machine.opening;
+  core = k.machine.core;
+  journal = k.journal;
+  disk = k.disk;
+}
 
 -- the disk's content is the records of the opening and of these frames
 abbrev pub HoldsFrames : Opening → List Handed → (List ℕ → Type 0) → Type 0
@@ -68,15 +79,6 @@ MakesOnly limit o old new = LeavesNoByte old.may_leave → LeavesOnly old new (L
 -- P of the disk that comes back, with the server or beside a fault
 abbrev pub OnDisk : {D : Type 0} → Result (KeptState D) (KeepFault × D) → (D → Type 0) → Type 0
 OnDisk result P = MatchResult result (λ k. P k.disk) (λ x. P x.1)
-
--- until a call on the disk fails, the journal is in place and what stands on its disk gives the server
-pub record IsKept (o : Opening) (core : Core) (journal : JournalState) (disk : DiskSeen) : Type 0 where
-  pub is_opening : IsOpening o
-  pub settings : settings_of core ≡ o.settings
-  pub role : role_of core ≡ o.role
-  pub ready : journal.ready ≡ true
-  pub in_place : journal.closed ≡ false → IsInPlace journal disk
-  pub stands : journal.closed ≡ false → Stands o core disk.reads
 
 -- Records of the form stand before byte n.
 pub record HasBefore (n : ℕ) (c : List ℕ) : Type 0 where

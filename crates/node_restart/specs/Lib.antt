@@ -1,9 +1,8 @@
 pub mod Calls
-pub mod Faults
 pub mod Frames
 pub mod Keeping
 pub mod Kept
+pub mod MachineLaws
+pub mod Machines
 pub mod Openings
-pub mod Replays
 pub mod Steps
-pub mod Texts

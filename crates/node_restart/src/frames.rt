@@ -2,11 +2,8 @@
 ghost use Rattle.std.specs.Prelude.{◌≡◌, ◌≤◌, ◌+◌, ◌↔◌, IsTrue, IsNone, IfSome, length};
 ghost use Rattle.node_restart.specs.Frames.{IsOneFrame, IsNoFrame, handed, frame_record, sender_tag};
 
-use frame_rules::FRAME_MAX;
+use node_journal::RECORD_MAX;
 use wire_frames::Received;
-
-/// Room for a tag and the longest frame.
-pub(crate) const RECORD_MAX: usize = FRAME_MAX + 1;
 
 /// Who handed a frame to a server.
 #[derive(Clone, Copy, Debug, PartialEq, Eq)]

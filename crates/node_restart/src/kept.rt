@@ -8,16 +8,14 @@ ghost use Rattle.frame_rules.specs.Room.{HasRoom};
 ghost use Rattle.node_restart.specs.Openings.{IsOpening};
 ghost use Rattle.node_restart.specs.Frames.{IsForeign, handed};
 ghost use Rattle.node_restart.specs.Steps.{fold, share_in, resent_by, IsOldest, settings_of, role_of};
-ghost use Rattle.node_restart.specs.Faults.{OnForeign, OnDamaged, OnNotEmpty, OnFull, OnNoMemory, IsOfCreate, IsOfReopen, CountsFault};
+ghost use Rattle.kept_machine.specs.Faults.{OnForeign, OnDamaged, OnNotEmpty, OnFull, OnNoMemory, IsOfCreate, IsOfReopen, CountsFault};
 
 use crate::did::Did;
-use crate::fault::KeepFault;
 use crate::frames::Sender;
-use crate::keeping::keep;
+use crate::machine::{Handing, Server};
 use crate::opening::Opening;
-use crate::reopening::{Found, find};
-use crate::server::Core;
-use node_journal::{Disk, Journal};
+use kept_machine::KeepFault;
+use node_journal::Disk;
 use std::alloc::Global;
 use std::marker::Model;
 use wire_frames::Received;
@@ -25,20 +23,15 @@ use wire_frames::Received;
 /// A server with its journal and the journal's disk. All of the server's memory is taken when it is made.
 #[derive(Drop)]
 pub struct Kept<D: Disk> {
-    opening: Opening,
-    core: Core,
-    journal: Journal,
-    disk: D,
+    kept: kept_machine::Kept<Server, D>,
 }
 
 impl<D: Disk> Model for Kept<D> {
-    ghost use Rattle.node_restart.specs.Kept.{KeptState, IsKept};
+    ghost use Rattle.node_restart.specs.Kept.{KeptState, state_of};
 
     ghost Value = { KeptState D };
 
-    ghost view = { λ k. record { opening = k.opening; core = k.core; journal = k.journal; disk = k.disk } };
-
-    ghost invariant = { λ k. IsKept k.opening k.core k.journal (D.disk k.disk) };
+    ghost view = { λ k. state_of k.kept };
 }
 
 impl<D: Disk> Kept<D> {
@@ -82,18 +75,10 @@ impl<D: Disk> Kept<D> {
         // exactly the opening's.
         ensures any_moment { OnDisk result (λ d. MakesOnly limit opening.now (D.disk disk) (D.disk d)) }
     {
-        let Ok(core) = Core::open(alloc, opening) else {
-            return Err((KeepFault::NoMemory, disk));
-        };
-        let mut disk = disk;
-        match Journal::create(&mut disk, limit, &opening.record()) {
-            Ok(journal) => Ok(Kept {
-                opening: *opening,
-                core,
-                journal,
-                disk,
-            }),
-            Err(fault) => Err((KeepFault::Journal(fault), disk)),
+        let first = opening.record();
+        match kept_machine::Kept::create(alloc, &first, disk, limit) {
+            Ok(kept) => Ok(Kept { kept }),
+            Err((fault, disk)) => Err((fault, disk)),
         }
     }
 
@@ -124,22 +109,9 @@ impl<D: Disk> Kept<D> {
         ensures counts { IfErr result
             (λ x. CountsFault (D.Counted.seen disk).faults (D.Counted.seen x.1).faults x.0) }
     {
-        let mut disk = disk;
-        match find(alloc, &mut disk, limit) {
-            Ok(found) => {
-                let Found {
-                    opening,
-                    core,
-                    journal,
-                } = found;
-                Ok(Kept {
-                    opening,
-                    core,
-                    journal,
-                    disk,
-                })
-            }
-            Err(fault) => Err((fault, disk)),
+        match kept_machine::Kept::reopen(alloc, disk, limit) {
+            Ok(kept) => Ok(Kept { kept }),
+            Err((fault, disk)) => Err((fault, disk)),
         }
     }
 
@@ -173,23 +145,16 @@ impl<D: Disk> Kept<D> {
         ensures keeps { KeepsFrame D.disk D.Counted.seen (handed sender received.now)
             self.old self.new out.old out.new result }
     {
-        match keep(&mut self.journal, &mut self.disk, sender, received) {
-            Ok(()) => Ok(self.core.step(sender, received, out)),
-            Err(fault) => Err(KeepFault::Journal(fault)),
-        }
+        let input = Handing { sender, received };
+        kept_machine::take(&mut self.kept, &input, out)
     }
 
     /// The disk, as the last call left it.
     pub fn into_disk(self) -> D
         ensures { result ≡ self.disk }
     {
-        let Kept {
-            opening: _,
-            core: _,
-            journal: _,
-            disk,
-        } = self;
-        disk
+        let Kept { kept } = self;
+        kept.into_disk()
     }
 
     /// How the server was opened.
@@ -198,7 +163,7 @@ impl<D: Disk> Kept<D> {
         ensures role { role_of self.now.core ≡ self.now.opening.role }
         ensures settings { settings_of self.now.core ≡ self.now.opening.settings }
     {
-        &self.opening
+        &self.kept.machine().opening
     }
 
     /// The share of a box; zeros where there is no box of this number yet.
@@ -206,7 +171,7 @@ impl<D: Disk> Kept<D> {
         requires { box_number < self.now.opening.settings.boxes }
         ensures { result.now ≡ share_in self.now.core box_number }
     {
-        self.core.share(box_number)
+        self.kept.machine().core.share(box_number)
     }
 
     /// Writes the leader's oldest outstanding command to the front of `out` again, and gives its number and
@@ -221,6 +186,6 @@ impl<D: Disk> Kept<D> {
             ≡ Some (take x.1 out.new)) }
         ensures rest { drop (sent_length result) out.new ≡ drop (sent_length result) out.old }
     {
-        self.core.resend(out)
+        self.kept.machine().core.resend(out)
     }
 }

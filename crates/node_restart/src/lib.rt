@@ -2,22 +2,20 @@
 #![tactic(auto)]
 
 mod did;
-mod fault;
 mod frames;
-mod keeping;
 mod kept;
 pub mod laws;
+mod machine;
 mod opening;
-mod reopening;
-mod replaying;
 mod server;
 mod steps;
 
 pub use did::Did;
 pub use express_words::Role;
-pub use fault::KeepFault;
 pub use frames::Sender;
 pub use kept::Kept;
+pub use kept_machine::KeepFault;
+pub use machine::Server;
 pub use opening::Opening;
 pub use server::Core;
 pub use steps::{help_client, help_peer, lead_client, lead_peer};

@@ -3,10 +3,10 @@ use Rattle.std.proofs.Common.{◌≡◌, ◌≢◌, ℕ, ◌+◌, false, List, [
 use Rattle.node_journal.specs.Disk.{DiskSeen, Within}
 use Rattle.node_journal.specs.Journal.{JournalState, longer}
 use Rattle.node_journal.specs.Records.{content}
-use Rattle.node_restart.specs.Faults.{OnForeign, OnDamaged}
+use Rattle.kept_machine.specs.Faults.{OnForeign, OnDamaged}
 use Rattle.node_restart.specs.Frames.{Handed, IsForeign}
 use Rattle.node_restart.specs.Kept.{KeptState, IsDamagedAt}
-use Rattle.node_restart.specs.declared.fault.KeepFault.{KeepFault}
+use Rattle.kept_machine.specs.declared.fault.KeepFault.{KeepFault}
 use Rattle.node_restart.specs.declared.opening.Opening.{Opening}
 use Rattle.node_restart.specs.Keeping.{KeepsUpTo, journal_after, kept_of}
 use Rattle.node_serve.specs.KeptOpening.{IsFirstFault, IsOfOpening, IsCauseOf}

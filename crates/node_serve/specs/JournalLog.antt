@@ -1,8 +1,8 @@
 -- A server whose frames go to its journal.
 use Rattle.std.specs.Prelude.{ℕ}
 use Rattle.node_journal.specs.Disk.{DiskSeen}
-use Rattle.node_restart.specs.declared.fault.KeepFault.{KeepFault}
-use Rattle.node_restart.specs.Faults.{CountsFault}
+use Rattle.kept_machine.specs.declared.fault.KeepFault.{KeepFault}
+use Rattle.kept_machine.specs.Faults.{CountsFault}
 use Rattle.node_restart.specs.Keeping.{Keeps, KeepsUpTo}
 use Rattle.node_restart.specs.Kept.{KeptState}
 use Rattle.node_serve.specs.Logs.{Log}

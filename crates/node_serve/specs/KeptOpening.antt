@@ -8,14 +8,14 @@ use Rattle.node_journal.specs.Records.{content, IsUndamaged}
 use Rattle.node_journal.specs.declared.fault.JournalFault.TheVariants.{Closed, NotEmpty, Disk, Damaged}
 use Rattle.node_restart.specs.declared.opening.Opening.{Opening}
 use Rattle.node_restart.specs.declared.server.Core.{Core}
-use Rattle.node_restart.specs.declared.fault.KeepFault.{KeepFault}
-use Rattle.node_restart.specs.declared.fault.KeepFault.TheVariants.{Journal, Foreign}
-use Rattle.node_restart.specs.Faults.{CountsFault, IsOfReopen}
+use Rattle.kept_machine.specs.declared.fault.KeepFault.{KeepFault}
+use Rattle.kept_machine.specs.declared.fault.KeepFault.TheVariants.{Journal, Foreign}
+use Rattle.kept_machine.specs.Faults.{CountsFault, IsOfReopen}
 use Rattle.node_restart.specs.Frames.{IsForeign}
 use Rattle.node_restart.specs.Kept.{KeptState, HoldsFrames, IsToldBy, Stands, IsDamagedAt}
 use Rattle.node_restart.specs.Openings.{IsOpening}
 use Rattle.node_restart.specs.Steps.{fold}
-use Rattle.node_restart.specs.Texts as restart
+use Rattle.kept_machine.specs.Texts as restart
 use Rattle.settings_text.specs.declared.serve.ServeSettings.{ServeSettings}
 use Rattle.node_serve.specs.declared.node.Node.{Node}
 use Rattle.node_serve.specs.declared.node.Node.TheVariants as node

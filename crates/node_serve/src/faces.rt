@@ -2,7 +2,7 @@
 ghost use Rattle.std.specs.Prelude.{◌≡◌, Err, IfOk, OnErr, OnOk};
 ghost use Rattle.frame_rules.specs.Reading.{decoded};
 ghost use Rattle.frame_rules.specs.declared.fault.FrameFault.TheVariants.{Short};
-ghost use Rattle.node_restart.specs.Faults.{Counts};
+ghost use Rattle.kept_machine.specs.Faults.{Counts};
 ghost use Rattle.node_serve.specs.Draining.{FaultIn};
 ghost use Rattle.node_exchange.specs.Exchanging.{EarlyAtEnd};
 ghost use Rattle.node_serve.specs.Handing.{IsHelp};

@@ -16,6 +16,9 @@ mod requests;
 #[cfg(test)]
 mod runs;
 #[cfg(test)]
+mod tallies;
+pub mod tally;
+#[cfg(test)]
 mod told;
 #[cfg(test)]
 mod two_parts;

@@ -1,5 +1,6 @@
 //! Why a line has no answer.
 use express_words::NoMemory;
+use kept_machine::KeepFault;
 use node_journal::JournalFault;
 use std::alloc::{AllocError, AllocFailed};
 use std::fmt;
@@ -38,6 +39,16 @@ impl fmt::Display for Fault {
 impl From<JournalFault> for Fault {
     fn from(fault: JournalFault) -> Self {
         Fault::Journal(fault)
+    }
+}
+
+impl From<KeepFault> for Fault {
+    fn from(fault: KeepFault) -> Self {
+        match fault {
+            KeepFault::Journal(fault) => Fault::Journal(fault),
+            KeepFault::NoMemory => Fault::NoMemory,
+            KeepFault::Foreign(number) => Fault::Foreign(number),
+        }
     }
 }
 

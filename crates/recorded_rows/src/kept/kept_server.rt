@@ -8,21 +8,11 @@ use crate::hidden::Hidden;
 use crate::texts::{bytes_text, front_of, written};
 use frame_rules::FRAME_MAX;
 use node_journal::MemoryDisk;
-use node_restart::{Did, KeepFault, Kept, Sender};
+use node_restart::{Did, Kept, Sender};
 use std::alloc::Global;
 
 /// A server with its journal on a disk in memory.
 pub type KeptServer = Hidden<Kept<MemoryDisk>>;
-
-impl From<KeepFault> for Fault {
-    fn from(fault: KeepFault) -> Self {
-        match fault {
-            KeepFault::Journal(fault) => Fault::Journal(fault),
-            KeepFault::NoMemory => Fault::NoMemory,
-            KeepFault::Foreign(number) => Fault::Foreign(number),
-        }
-    }
-}
 
 impl KeptServer {
     /// A server before its first frame, on an empty disk as `disk_of` makes it.

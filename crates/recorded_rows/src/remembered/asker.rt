@@ -7,7 +7,7 @@ use crate::hidden::Hidden;
 use crate::remembered::world::World;
 use crate::texts::{ended_text, front_of};
 use client_core::Request;
-use client_restart::{ClientOpening, KeptClient, NoteFault};
+use client_restart::{ClientOpening, KeptClient};
 use frame_rules::FRAME_MAX;
 use node_journal::MemoryDisk;
 use std::alloc::Global;
@@ -28,16 +28,6 @@ const OPENING: ClientOpening = ClientOpening {
 
 /// A client with its journal.
 pub type Asker = Hidden<KeptClient<MemoryDisk>>;
-
-impl From<NoteFault> for Fault {
-    fn from(fault: NoteFault) -> Self {
-        match fault {
-            NoteFault::Journal(fault) => Fault::Journal(fault),
-            NoteFault::NoMemory => Fault::NoMemory,
-            NoteFault::Foreign(number) => Fault::Foreign(number),
-        }
-    }
-}
 
 // The request of this serial: a register at address zero, a write to it, and two reads.
 fn request_of(serial: u64) -> Request<'static> {

@@ -3,7 +3,7 @@ use Rattle.node_journal.specs.Disk.{Within, IsUntouched}
 use Rattle.node_restart.specs.declared.opening.Opening.{Opening}
 use Rattle.node_restart.specs.declared.server.Core.{Core}
 use Rattle.node_restart.specs.Kept.{Stands}
-use Rattle.node_restart.proofs.ReplayLaws.{untouched_trans}
+use Rattle.kept_machine.proofs.ReplayLaws.{untouched_trans}
 use Rattle.node_serve.proofs.kept_opening.open_kept.Goals as goal
 
 stands_before : {o : Opening} {core : Core} {first reads : List ℕ → Type 0} → Within first reads → Stands o core reads → Stands o core first

@@ -1,47 +1,21 @@
-use Rattle.std.proofs.Common.{◌≡◌, ◌≢◌, ◌<◌, ℕ, List, [], ◌∷◌, Err, ap, ◌∙◌, arith, rules}
-use Rattle.node_journal.specs.Journal.{JournalState}
-use Rattle.node_restart.specs.Steps.{settings_of, role_of}
-use Rattle.node_journal.specs.declared.fault.JournalFault.{JournalFault}
-use Rattle.node_restart.proofs.FaultLaws.{on_full, on_not_empty}
-use Rattle.node_restart.proofs.StepLaws.{opened_settings, opened_role}
-use Rattle.node_restart.proofs.MakingLaws.{none_left, opening_left}
+use Rattle.std.proofs.Common.{sym, ap, ◌∙◌, rules}
+use Rattle.node_restart.specs.Steps.{opened}
+use Rattle.node_restart.proofs.MachineLaws.{makes_of}
+use Rattle.node_restart.proofs.OpeningLaws.{one_opening}
 use Rattle.node_restart.proofs.kept.Kept.create.Goals as goal
 
-pub invariant_of-result : goal.invariant_of-result
-invariant_of-result g c =
-    record {
-      is_opening = record { seed = search rules };
-      settings = ap settings_of c.in-Ok.ensures ∙ opened_settings c.args.opening.now;
-      role = ap role_of c.in-Ok.ensures ∙ opened_role c.args.opening.now;
-      ready = ap (λ (j : JournalState). j.ready) c.in-Ok-create.ensures.made;
-      in_place = λ still. c.in-Ok-create.ensures.in_place;
-      stands = λ still. record {
-        frames = [];
-        whole = tt;
-        folded = c.in-Ok.ensures;
-        held = λ d read. c.in-Ok-create.ensures.content d read ∙ ap (λ (l : List ℕ). l ∷ []) c.record.ensures;
-      };
-    }
+pub returns-in-Ok-clause-opening : goal.returns-in-Ok-clause-opening
+returns-in-Ok-clause-opening g c =
+    one_opening c.in-Ok.kept.machine.opening c.args.opening.now c.in-Ok.ensures.sound.is_opening (record { seed = search rules })
+    (sym c.in-Ok.ensures.opens.is ∙ c.record-first.ensures)
 
-pub returns-in-Err-clause-not_empty : goal.returns-in-Err-clause-not_empty
-returns-in-Err-clause-not_empty g c =
-    on_not_empty c.in-Err.fault ((d : List ℕ) → (g.D.Disk.disk c.args.disk).reads d → d ≢ []) (λ e. c.in-Err.ensures.not_empty (ap (λ (f : JournalFault). Err f) e))
+pub returns-in-Ok-clause-core : goal.returns-in-Ok-clause-core
+returns-in-Ok-clause-core g c = c.in-Ok.ensures.opens.core ∙ ap opened (returns-in-Ok-clause-opening g c)
 
-pub returns-in-Err-clause-full : goal.returns-in-Err-clause-full
-returns-in-Err-clause-full g c =
-    let Empty : Type 0 = (d : List ℕ) → (g.D.Disk.disk c.args.disk).reads d → d ≡ [] in
-    on_full c.in-Err.fault (λ n. (n ≡ 0) × (c.args.limit < 51) × Empty) (λ n e.
-    let full = c.in-Err.ensures.full n (ap (λ (f : JournalFault). Err f) e) in
-    (full.0, omega (arith, full.1), full.2))
-
-pub returns-in_default-clause-any_moment : goal.returns-in_default-clause-any_moment
-returns-in_default-clause-any_moment g c =
-    none_left c.args.limit c.args.opening.now (g.D.Disk.disk c.args.disk) (λ f left. g.met.D.Disk.only_now c.args.disk f left)
-
-pub returns-in-Ok-create-clause-any_moment : goal.returns-in-Ok-create-clause-any_moment
-returns-in-Ok-create-clause-any_moment g c =
-    opening_left c.args.limit c.args.opening.now c.record.result (g.D.Disk.disk c.args.disk) (g.D.Disk.disk c.create.new.disk) c.record.ensures c.in-Ok-create.ensures.any_moment
+pub returns-in-Ok-clause-any_moment : goal.returns-in-Ok-clause-any_moment
+returns-in-Ok-clause-any_moment g c =
+    makes_of c.args.limit c.args.opening.now c.record-first.result (g.D.Disk.disk c.args.disk) (g.D.Disk.disk c.in-Ok.kept.disk) c.record-first.ensures c.in-Ok.ensures.any_moment
 
 pub returns-in-Err-clause-any_moment : goal.returns-in-Err-clause-any_moment
 returns-in-Err-clause-any_moment g c =
-    opening_left c.args.limit c.args.opening.now c.record.result (g.D.Disk.disk c.args.disk) (g.D.Disk.disk c.create.new.disk) c.record.ensures c.in-Err.ensures.any_moment
+    makes_of c.args.limit c.args.opening.now c.record-first.result (g.D.Disk.disk c.args.disk) (g.D.Disk.disk c.in-Err.disk) c.record-first.ensures c.in-Err.ensures.any_moment
