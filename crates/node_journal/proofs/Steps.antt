@@ -1,23 +1,24 @@
--- The two writes of an append, over what a read gives and what a crash leaves.
+-- The two writes of a batch, over what a read gives and what a crash leaves.
 use Rattle.std.proofs.Common.{◌≡◌, ◌⊎◌, inl, inr, get_or, ℕ, ◌+◌, ◌≤◌, List, [], ◌∷◌, ◌++◌, length, take, drop, refl, sym, ◌∙◌, ap, subst, arith, append_assoc, length-append}
 use Rattle.std.proofs.lemmas.List.{take_at}
 use Rattle.std.proofs.lemmas.Bool.{cases_eq}
 use Rattle.node_journal.specs.Disk.{Torn, Holds, Follows, Within}
-use Rattle.node_journal.specs.Records.{content, opened, body, IsSized, AllSized, EndsAt, LeavesNoByte, RestsBeforeOrAfter, RestsNoneOrFirst, Appended}
-use Rattle.node_journal.proofs.Contents.{content_closed, content_opened, opened_push, opened_length, sized_push}
+use Rattle.node_journal.specs.Records.{content, opened, AllSized, EndsAt, LeavesNoByte, RestsBeforeOrAfter, RestsNoneOrFirst}
+use Rattle.node_journal.specs.Batches.{AppendedAll, RestsBeforeOrAll, Spells}
+use Rattle.node_journal.proofs.Contents.{content_closed, opened-append, sized-append}
 use Rattle.node_journal.proofs.Tears.{behind_whole, behind_gate, at_whole, front_gate, back_gate}
 
--- the record stands behind the gate, and a closed gate behind it
+-- the records stand behind the gate but for their own first gate, and a closed gate behind them
 pub record IsStaged (end : ℕ) (bytes old new : List ℕ) : Type 0 where
   pub records : List (List ℕ)
   pub sized : AllSized records
   pub same : content old ≡ records
   pub gate : ℕ
   pub tail : List ℕ
-  pub split : new ≡ opened records ++ gate ∷ (body bytes ++ 0 ∷ tail)
+  pub split : new ≡ opened records ++ gate ∷ (bytes ++ tail)
   pub place : length (opened records) ≡ end
 
-module _ (end : ℕ) (bytes : List ℕ) (fits : IsSized bytes) where
+module _ (end : ℕ) (added : List (List ℕ)) (bytes : List ℕ) (fits : AllSized added) (spells : Spells added bytes) where
   stage_crash : (n : ℕ) (d c : List ℕ) → EndsAt end d → Torn (end + 1) n d c → EndsAt end c × (content c ≡ content d)
   stage_crash n d c e torn =
       let same : content d ≡ e.records = ap content e.split ∙ content_closed e.records e.gate e.tail e.sized e.closed in
@@ -27,9 +28,9 @@ module _ (end : ℕ) (bytes : List ℕ) (fits : IsSized bytes) where
         behind_gate e.records e.gate n e.tail c e.sized e.closed placed ∙ sym same,
       )
 
-  stage_written : (d c : List ℕ) → EndsAt end d → Holds (end + 1) (body bytes ++ 0 ∷ []) d c → IsStaged end bytes d c
+  stage_written : (d c : List ℕ) → EndsAt end d → Holds (end + 1) bytes d c → IsStaged end bytes d c
   stage_written d c e holds =
-      let written = body bytes ++ 0 ∷ [] in
+      let written = bytes in
       let front : take (end + 1) d ≡ opened e.records ++ e.gate ∷ [] =
       ap (λ (l : List ℕ). take (end + 1) l) e.split ∙ ap (λ (at : ℕ). take (at + 1) (opened e.records ++ e.gate ∷ e.tail)) (sym e.place) ∙ front_gate (opened e.records) e.gate e.tail in
       let tail = drop (end + 1 + length written) d in
@@ -40,29 +41,36 @@ module _ (end : ℕ) (bytes : List ℕ) (fits : IsSized bytes) where
         gate = e.gate;
         tail = tail;
         split = holds ∙ ap (λ (l : List ℕ). (l ++ written) ++ tail) front ∙ append_assoc (opened e.records ++ e.gate ∷ []) written tail
-            ∙ append_assoc (opened e.records) (e.gate ∷ []) (written ++ tail) ∙ ap (λ (l : List ℕ). opened e.records ++ e.gate ∷ l) (append_assoc (body bytes) (0 ∷ []) tail);
+            ∙ append_assoc (opened e.records) (e.gate ∷ []) (written ++ tail);
         place = e.place;
       }
 
   -- the gate stands open
-  gate_open : (d x c : List ℕ) (s : IsStaged end bytes d x) → c ≡ opened s.records ++ 1 ∷ (body bytes ++ 0 ∷ s.tail) → EndsAt (end + 5 + length bytes) c × (content c ≡ content d ++ bytes ∷ [])
-  gate_open d x c s whole = (
-    record {
-      records = s.records ++ bytes ∷ [];
-      sized = sized_push s.records bytes s.sized fits;
-      gate = 0;
-      closed = omega arith;
-      tail = s.tail;
-      split = whole ∙ opened_push s.records bytes (0 ∷ s.tail);
-      place = omega (arith, s.place, opened_length s.records bytes);
-    },
-    ap content whole ∙ content_opened s.records bytes 0 s.tail s.sized fits (omega arith) ∙ ap (λ (rs : List (List ℕ)). rs ++ bytes ∷ []) (sym s.same),
-  )
+  gate_open : (d x c : List ℕ) (s : IsStaged end bytes d x) → c ≡ opened s.records ++ 1 ∷ (bytes ++ s.tail)
+      → EndsAt (end + length (opened added)) c × (content c ≡ content d ++ added)
+  gate_open d x c s whole =
+      let shown : c ≡ opened (s.records ++ added) ++ 0 ∷ s.tail =
+      whole ∙ ap (λ (l : List ℕ). opened s.records ++ (l ++ s.tail)) spells
+      ∙ ap (λ (l : List ℕ). opened s.records ++ l) (append_assoc (opened added) (0 ∷ []) s.tail)
+      ∙ sym (append_assoc (opened s.records) (opened added) (0 ∷ s.tail))
+      ∙ ap (λ (l : List ℕ). l ++ 0 ∷ s.tail) (sym (opened-append s.records added)) in (
+        record {
+          records = s.records ++ added;
+          sized = sized-append s.records added s.sized fits;
+          gate = 0;
+          closed = omega arith;
+          tail = s.tail;
+          split = shown;
+          place = omega (arith, s.place, ap length (opened-append s.records added), length-append (opened s.records) (opened added));
+        },
+        ap content shown ∙ content_closed (s.records ++ added) 0 s.tail (sized-append s.records added s.sized fits) (omega arith)
+            ∙ ap (λ (rs : List (List ℕ)). rs ++ added) (sym s.same),
+      )
 
   gate_crash : (d x c : List ℕ) → IsStaged end bytes d x → Torn end 1 x c
-      → (EndsAt end c × (content c ≡ content d)) ⊎ (EndsAt (end + 5 + length bytes) c × (content c ≡ content d ++ bytes ∷ []))
+      → (EndsAt end c × (content c ≡ content d)) ⊎ (EndsAt (end + length (opened added)) c × (content c ≡ content d ++ added))
   gate_crash d x c s torn =
-      let behind = body bytes ++ 0 ∷ s.tail in
+      let behind = bytes ++ s.tail in
       let moved = subst (λ (l : List ℕ). Torn end 1 l c) s.split torn in
       let placed = subst (λ (at : ℕ). Torn at 1 (opened s.records ++ s.gate ∷ behind) c) (sym s.place) moved in
       let torn_gate = get_or c (length (opened s.records)) 0 in
@@ -75,20 +83,20 @@ module _ (end : ℕ) (bytes : List ℕ) (fits : IsSized bytes) where
         )
       ]
 
-  gate_written : (d x c : List ℕ) → IsStaged end bytes d x → Holds end (1 ∷ []) x c → EndsAt (end + 5 + length bytes) c × (content c ≡ content d ++ bytes ∷ [])
+  gate_written : (d x c : List ℕ) → IsStaged end bytes d x → Holds end (1 ∷ []) x c → EndsAt (end + length (opened added)) c × (content c ≡ content d ++ added)
   gate_written d x c s holds =
-      let behind = body bytes ++ 0 ∷ s.tail in
+      let behind = bytes ++ s.tail in
       let front : take end x ≡ opened s.records = ap (λ (l : List ℕ). take end l) s.split ∙ take_at (opened s.records) (s.gate ∷ behind) end s.place in
       let back : drop (end + 1) x ≡ behind =
       ap (λ (l : List ℕ). drop (end + 1) l) s.split ∙ ap (λ (at : ℕ). drop (at + 1) (opened s.records ++ s.gate ∷ behind)) (sym s.place) ∙ back_gate (opened s.records) s.gate behind in
       gate_open d x c s (holds ∙ ap (λ (l : List ℕ). (l ++ 1 ∷ []) ++ drop (end + 1) x) front ∙ append_assoc (opened s.records) (1 ∷ []) (drop (end + 1) x) ∙ ap (λ (l : List ℕ). opened s.records ++ 1 ∷ l) back)
 
   pub staged_long : (d x : List ℕ) → IsStaged end bytes d x → end ≤ length x
-  staged_long d x s = omega (arith, s.place, ap length s.split, length-append (opened s.records) (s.gate ∷ (body bytes ++ 0 ∷ s.tail)))
+  staged_long d x s = omega (arith, s.place, ap length s.split, length-append (opened s.records) (s.gate ∷ (bytes ++ s.tail)))
 
   module _ (reads may : List ℕ → Type 0) (ends : (c : List ℕ) → reads c → EndsAt end c) (durable : Within may reads) where
     abbrev pub P : List ℕ → Type 0
-    P = RestsBeforeOrAfter reads end bytes
+    P = RestsBeforeOrAll reads end added
 
     abbrev pub Staged : List ℕ → Type 0
     Staged c = (d : List ℕ) × reads d × IsStaged end bytes d c
@@ -101,7 +109,7 @@ module _ (end : ℕ) (bytes : List ℕ) (fits : IsSized bytes) where
         let from = follows c left in
         (from.0, durable from.0 from.1, inl (stage_crash n from.0 c (ends from.0 (durable from.0 from.1)) from.2))
 
-    pub staged : (reads_1 : List ℕ → Type 0) → Follows (Holds (end + 1) (body bytes ++ 0 ∷ [])) reads reads_1 → Within reads_1 Staged
+    pub staged : (reads_1 : List ℕ → Type 0) → Follows (Holds (end + 1) bytes) reads reads_1 → Within reads_1 Staged
     staged reads_1 follows c read =
         let from = follows c read in
         (from.0, from.1, stage_written from.0 c (ends from.0 from.1) from.2)
@@ -113,7 +121,7 @@ module _ (end : ℕ) (bytes : List ℕ) (fits : IsSized bytes) where
         (s.0, s.1, gate_crash s.0 from.0 c s.2 from.2)
 
     pub last : (reads_2 reads_3 : List ℕ → Type 0) → Within reads_2 Staged → Follows (Holds end (1 ∷ [])) reads_2 reads_3
-        → (c : List ℕ) → reads_3 c → EndsAt (end + 5 + length bytes) c × Appended reads bytes c
+        → (c : List ℕ) → reads_3 c → EndsAt (end + length (opened added)) c × AppendedAll reads added c
     last reads_2 reads_3 is_staged follows c read =
         let from = follows c read in
         let s = is_staged from.0 from.1 in

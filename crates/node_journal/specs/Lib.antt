@@ -1,3 +1,4 @@
+pub mod Batches
 pub mod Disk
 pub mod History
 pub mod Journal

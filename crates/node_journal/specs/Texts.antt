@@ -10,3 +10,6 @@ fault_text NotEmpty = codes "journal not empty"
 fault_text (Full end) = codes "journal full"
 fault_text (Disk faults) = codes "disk fault"
 fault_text (Damaged at) = codes "journal damaged " ++ decimal at
+
+abbrev pub batch_full_text : List ℕ
+batch_full_text = codes "batch full"

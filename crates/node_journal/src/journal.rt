@@ -2,12 +2,13 @@
 ghost use Rattle.std.specs.Prelude.{◌≡◌, ◌≢◌, ◌≤◌, ◌+◌, ◌^◌, ◌∷◌, [], true, false, List, ℕ, length, OnOk, OnErr, IsErrOf, Err, Ok, Some, None, take, IfOk};
 ghost use Rattle.node_journal.specs.Disk.{IsUntouched, LeavesOnly};
 ghost use Rattle.node_journal.specs.Records.{record_max, IsSized, IsUndamaged, GivesNoByte, LeavesNoByte, LeavesNoneOrFirst, Appended, HasNoMore, HoldsRecord, StaysUndamaged, content};
+ghost use Rattle.node_journal.specs.Batches.{AppendedAll, HasSpaceForAll, LacksSpaceForAll, LeavesAllOrNone, longer_by_all};
 ghost use Rattle.node_journal.specs.Next.{Finds, FindsDamage};
 ghost use Rattle.node_journal.specs.Journal.{JournalState, IsInPlace, CountsDisk, IsOkOrDisk, IsOkDiskOrDamaged, IfDamaged, OnlyAnswers, OnlyAnswersFull, LeavesWithOrWithout, longer, at_end, broken, HasSpace, LacksSpace, Passes};
 
-use crate::append::{put_first, put_record};
+use crate::append::{put_all, put_first, put_record};
 use crate::head::find;
-use crate::{Disk, HEAD_LEN, JournalFault};
+use crate::{Batch, Disk, HEAD_LEN, JournalFault};
 use std::marker::Model;
 
 /// A place on a disk, behind whole records. After a call that answers `Disk` each further call answers
@@ -206,6 +207,51 @@ impl Journal {
             return Err(JournalFault::Full(self.end));
         }
         match put_record(disk, self.end, bytes) {
+            Ok(()) => {
+                self.end += size;
+                Ok(())
+            }
+            Err(_) => {
+                self.closed = true;
+                Err(JournalFault::Disk(disk.faults()))
+            }
+        }
+    }
+
+    /// Adds all records of a batch, in two writes and two syncs however many they are, to a journal that
+    /// `append` would add one to. An empty batch asks nothing of the disk.
+    pub fn append_all<D: Disk>(&mut self, disk: &mut D, batch: &Batch) -> Result<(), JournalFault>
+        requires ready { self.old.ready ≡ true }
+        requires in_place { self.old.closed ≡ false
+            → IsInPlace self.old (D.disk disk.old) }
+        ensures closed { self.old.closed ≡ true
+            → OnlyAnswers result JournalFault.Closed self.old self.new disk.old disk.new }
+        ensures full { self.old.closed ≡ false → LacksSpaceForAll self.old batch.now.records
+            → OnlyAnswersFull result self.old self.new disk.old disk.new }
+        ensures fits { self.old.closed ≡ false → HasSpaceForAll self.old batch.now.records
+            → IsOkOrDisk result × OnErr result (self.new ≡ broken self.old) }
+        ensures counts { CountsDisk (D.Counted.seen disk.old).faults (D.Counted.seen disk.new).faults result }
+        ensures longer { OnOk result (self.new ≡ longer_by_all batch.now.records self.old) }
+        ensures added { OnOk result ((c : List ℕ) → (D.disk disk.new).reads c
+            → AppendedAll (D.disk disk.old).reads batch.now.records c) }
+        ensures undamaged { OnOk result ((c : List ℕ) → (D.disk disk.new).reads c
+            → IsUndamaged self.old.limit 0 c) }
+        ensures in_place { self.new.closed ≡ false
+            → IsInPlace self.new (D.disk disk.new) }
+
+        // A crash at any moment of the call leaves the records from before it, with all of these or with none,
+        // and nothing that a journal under the same limit would find damaged.
+        ensures any_moment { self.old.closed ≡ false
+            → LeavesAllOrNone self.old.limit (D.disk disk.old) (D.disk disk.new) batch.now.records }
+    {
+        if self.closed {
+            return Err(JournalFault::Closed);
+        }
+        let size = batch.size() as u64;
+        if self.limit - self.end <= size {
+            return Err(JournalFault::Full(self.end));
+        }
+        match put_all(disk, self.end, batch) {
             Ok(()) => {
                 self.end += size;
                 Ok(())

@@ -2,6 +2,7 @@
 #![tactic(auto)]
 
 mod append;
+mod batch;
 mod disk;
 mod disk_log;
 mod fault;
@@ -17,6 +18,7 @@ pub const RECORD_MAX: usize = 8214;
 // The bytes before a record's own: its gate and its length.
 const HEAD_LEN: usize = 5;
 
+pub use batch::{Batch, BatchFull};
 pub use disk::Disk;
 pub use fault::JournalFault;
 pub use journal::Journal;

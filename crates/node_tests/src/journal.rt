@@ -1,5 +1,7 @@
 //! The bytes on a disk, damage, each fault of a disk, and a crash at every call and every byte that isn't
 //! synced.
+ghost use Rattle.std.specs.Prelude.{◌≤◌, ◌^◌};
+
 use crate::told::is_told;
 use express_words::NoMemory;
 use express_words::outside::Counted;
@@ -54,9 +56,11 @@ impl Drop for Walk {
 }
 
 impl Walk {
-    fn open(alloc: Global, bytes: &[u8]) -> Result<Walk, Fail> {
+    fn open(alloc: Global, bytes: &[u8], limit: u64) -> Result<Walk, Fail>
+        requires { limit ≤ 2 ^ 62 }
+    {
         let mut disk = disk(alloc, bytes, &[], 0)?;
-        let journal = Journal::open(&mut disk, LIMIT)?;
+        let journal = Journal::open(&mut disk, limit)?;
         Ok(Walk { journal, disk })
     }
 
@@ -75,14 +79,20 @@ fn next_told(walk: &mut Walk, told: &mut String) -> Result<(), AllocError> {
     }
 }
 
-// What three reads on a disk of these bytes tell.
-fn records_told(alloc: Global, bytes: &[u8]) -> Result<String, Fail> {
-    let mut walk = Walk::open(alloc, bytes)?;
+// What three reads on a disk of these bytes tell, under this limit.
+pub(crate) fn records_within(limit: u64, alloc: Global, bytes: &[u8]) -> Result<String, Fail>
+    requires { limit ≤ 2 ^ 62 }
+{
+    let mut walk = Walk::open(alloc, bytes, limit)?;
     let mut told = String::new(alloc);
     for _ in 0..3u8 {
         next_told(&mut walk, &mut told)?;
     }
     Ok(told)
+}
+
+fn records_told(alloc: Global, bytes: &[u8]) -> Result<String, Fail> {
+    records_within(LIMIT, alloc, bytes)
 }
 
 fn disks_told(alloc: Global, disks: &[&[u8]]) -> Result<String, Fail> {
