@@ -1,0 +1,3 @@
+mod Left
+mod HelperOnce
+mod LeaderOnce

@@ -1,0 +1,4 @@
+mod Lists
+mod HelperSteps
+mod LeaderSteps
+mod Real
