@@ -1,0 +1,9 @@
+//! Tests of the gates: what no clause of theirs says.
+#![tactic(auto)]
+
+#[cfg(test)]
+mod leader;
+#[cfg(test)]
+mod printed;
+#[cfg(test)]
+mod told;

@@ -1,0 +1,9 @@
+pub mod Gates
+pub mod Holders
+pub mod Machines
+pub mod Notes
+pub mod Openings
+pub mod Passing
+pub mod Runs
+pub mod Texts
+pub mod Tickets

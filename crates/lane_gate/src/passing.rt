@@ -1,0 +1,71 @@
+//! What a frame must be to be handed on.
+ghost use Rattle.std.specs.Prelude.{◌≡◌, ◌↔◌, IsOk, IsTrue, Option, ℕ, List};
+ghost use Rattle.frame_rules.specs.Frames.{plain, plain_body};
+ghost use Rattle.lane_gate.specs.Passing.{FitsBody, NamesChallenge, PassesLink, PassesRow, plain_ticketed};
+
+use crate::fault::NotYours;
+use crate::row::{Challenge, GateRow};
+use crate::ticket::{Ticket, is_same_key};
+use frame_rules::{Body, Frame};
+
+/// A client's frame with the ticket that came with it, and for a proof the key of the challenges that it was
+/// made for.
+#[derive(Clone, Copy)]
+pub struct Ticketed<'a> {
+    pub ticket: Ticket,
+    pub challenge: Option<[u8; 32]>,
+    pub frame: Frame<'a>,
+}
+
+// Whether the key that a proof of this serial names is that of the challenges that were given last.
+fn names_challenge(given: &Option<Challenge>, serial: u32, named: &Option<[u8; 32]>) -> bool
+    ensures { IsTrue result ↔ NamesChallenge given.now serial named.now }
+{
+    let (Some(given), Some(named)) = (given, named) else {
+        return false;
+    };
+    let same = is_same_key(&given.key, named);
+    same && serial == given.serial
+}
+
+// Whether the body is one that a client sends, and a proof is one for the row's own challenges.
+fn fits_body(row: &GateRow, sent: &Ticketed<'_>) -> bool
+    ensures { IsTrue result ↔ FitsBody row.now (plain_ticketed sent.now) }
+{
+    match sent.frame.body {
+        Body::Proof(_) => names_challenge(&row.challenge, sent.frame.serial, &sent.challenge),
+        Body::Deposit(_)
+        | Body::Register { .. }
+        | Body::Write { .. }
+        | Body::Read { .. }
+        | Body::Retire { .. } => true,
+        _ => false,
+    }
+}
+
+// Whether a frame of the row's lane is handed on.
+pub(crate) fn passes_row(row: &GateRow, sent: &Ticketed<'_>) -> bool
+    ensures { IsTrue result ↔ PassesRow row.now (plain_ticketed sent.now) }
+{
+    let ticket = row.holder.fits(sent.frame.serial, &sent.ticket.hash());
+    let body = fits_body(row, sent);
+    ticket && body
+}
+
+/// At the helper's link: a frame is handed on exactly where it is a command, and no audit at the point 1 or
+/// 2. At these the helper opens the sums of the write themselves, under one mask in place of two: a leader that
+/// opens one bit wrong there reads the write from the helper's closing.
+pub fn pass_command(frame: &Frame<'_>) -> Result<(), NotYours>
+    ensures { IsOk result ↔ PassesLink (plain_body frame.now.body) }
+{
+    match frame.body {
+        Body::LinkAudit { sigma: 1 | 2, .. } => Err(NotYours),
+        Body::LinkAudit { .. }
+        | Body::LinkRegister { .. }
+        | Body::LinkBegin { .. }
+        | Body::LinkSettle(_)
+        | Body::LinkRead { .. }
+        | Body::LinkRetire { .. } => Ok(()),
+        _ => Err(NotYours),
+    }
+}

@@ -1,0 +1,5 @@
+pub mod EndLaws
+pub mod LeaseLaws
+pub mod OneLaws
+pub mod RecordLaws
+pub mod RestLaws
