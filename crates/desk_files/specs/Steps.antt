@@ -1,46 +1,20 @@
 -- What the system was asked of a folder or of a paper, and what it answered, call by call. An object that
 -- tells none of its calls has None in place of their list.
-use Rattle.std.specs.Prelude.{◌≡◌, ◌⊎◌, ℕ, List, Option, Result, Ok, Err, Bool, true, false}
-use Rattle.express_outside.specs.declared.calls.Trouble.{Trouble}
+use Rattle.std.specs.Prelude.{◌≡◌, ◌⊎◌, ℕ, List, Option, Ok, Err, Bool, true, false}
 use Rattle.express_outside.specs.Calls.{added}
-use Rattle.desk_outside.specs.declared.folder.DeskFile.{DeskFile}
 use Rattle.desk_outside.specs.declared.folder.Hold.{Hold}
 use Rattle.desk_outside.specs.declared.folder.Hold.TheVariants.{Held, Copied, InUse}
 use Rattle.desk_outside.specs.declared.folder_fault.FolderFault.{FolderFault}
 use Rattle.desk_outside.specs.declared.papers.Written.{Written}
 use Rattle.desk_outside.specs.declared.papers.Written.TheVariants.{New, Before}
-use Rattle.desk_files.specs.declared.folder_calls.Mark.{Mark}
+use Rattle.desk_files.specs.declared.folder_calls.FolderStep.{FolderStep}
+use Rattle.desk_files.specs.declared.folder_calls.FolderStep.TheVariants.{Made, Checked, Locked, Marked}
+use Rattle.desk_files.specs.declared.folder_calls.FolderStep.TheVariants.{FoundBare, MarkSet}
+use Rattle.desk_files.specs.declared.paper_files.PaperStep.{PaperStep}
+use Rattle.desk_files.specs.declared.paper_files.PaperStep.TheVariants.{Found, Laid, Placed, Tidied, FolderSynced}
 use Rattle.desk_files.specs.declared.folder_calls.Mark.TheVariants.{This, Other, Absent}
 use Rattle.desk_files.specs.declared.paper_files.Stands.{Stands}
 use Rattle.desk_files.specs.declared.paper_files.Stands.TheVariants.{These}
-
--- A call on a folder, with its answer: it was made where it wasn't there, found to be its user's alone,
--- locked, for this process or not; whose mark stands in it; whether nothing of a desk does; its lock's mark
--- was set. A file was handed out, looked for, renamed to another, unlinked; the disk has the folder's names.
-pub data FolderStep : Type 0 where
-  Made : Result (Unit {0}) FolderFault → FolderStep
-  Checked : Result (Unit {0}) FolderFault → FolderStep
-  Locked : Result Bool FolderFault → FolderStep
-  Marked : Result Mark FolderFault → FolderStep
-  FoundBare : Result Bool FolderFault → FolderStep
-  MarkSet : Result (Unit {0}) FolderFault → FolderStep
-  HandedOut : DeskFile → FolderStep
-  Looked : DeskFile → Result Bool FolderFault → FolderStep
-  Renamed : DeskFile → DeskFile → Result (Unit {0}) Trouble → FolderStep
-  Unlinked : DeskFile → Result (Unit {0}) Trouble → FolderStep
-  Synced : Result (Unit {0}) Trouble → FolderStep
-
--- A call on papers, with its answer: a folder was made where it wasn't there; what stands under a name was
--- compared with these bytes; these bytes were written beside the name that they are for, and the disk has
--- them; they were given the name, which nothing had, or not; what stands beside the name was taken away; the
--- disk has the folder's names.
-pub data PaperStep : Type 0 where
-  FolderMade : List ℕ → Result (Unit {0}) Trouble → PaperStep
-  Found : List ℕ → List ℕ → List ℕ → Result Stands Trouble → PaperStep
-  Laid : List ℕ → List ℕ → List ℕ → Result (Unit {0}) Trouble → PaperStep
-  Placed : List ℕ → List ℕ → List ℕ → Result Bool Trouble → PaperStep
-  Tidied : List ℕ → List ℕ → Result (Unit {0}) Trouble → PaperStep
-  FolderSynced : List ℕ → Result (Unit {0}) Trouble → PaperStep
 
 -- The last two calls, of which each went well.
 abbrev pub EndedByBoth : {A : Type 0} → Option (List A) → A → A → Type 0

@@ -1,8 +1,6 @@
 //! The system's calls on a desk's folder, each made once.
 ghost use Rattle.std.specs.Prelude.{◌≡◌, List, Option};
 ghost use Rattle.express_outside.specs.Calls.{added};
-ghost use Rattle.desk_files.specs.Steps.{FolderStep, Made, Checked, Locked, Marked, FoundBare, MarkSet};
-ghost use Rattle.desk_files.specs.Steps.{HandedOut, Looked, Renamed, Unlinked, Synced};
 
 use desk_outside::{DeskFile, FolderFault};
 use express_outside::{FileCalls, Trouble};
@@ -19,9 +17,40 @@ pub enum Mark {
     Absent,
 }
 
+/// A call on a folder, with its answer.
+#[derive(Clone, Copy)]
+pub enum FolderStep {
+    /// It was made where it wasn't there.
+    Made(Result<(), FolderFault>),
+    /// Whether it is its user's alone, and no link.
+    Checked(Result<(), FolderFault>),
+    /// It was locked, for this process or not.
+    Locked(Result<bool, FolderFault>),
+    /// Whose mark stands in it.
+    Marked(Result<Mark, FolderFault>),
+    /// Whether nothing of a desk stands in it.
+    FoundBare(Result<bool, FolderFault>),
+    /// Its lock's mark was set.
+    MarkSet(Result<(), FolderFault>),
+    /// A file was handed out.
+    HandedOut(DeskFile),
+    /// Whether a file is there.
+    Looked(DeskFile, Result<bool, FolderFault>),
+    /// A file was renamed to another.
+    Renamed(DeskFile, DeskFile, Result<(), Trouble>),
+    /// A file's name was taken away.
+    Unlinked(DeskFile, Result<(), Trouble>),
+    /// The disk has the folder's names.
+    Synced(Result<(), Trouble>),
+}
+
 /// The system's calls on a desk's folder.
 pub trait FolderCalls {
     ghost use Rattle.express_outside.specs.declared.calls.Trouble.{Trouble};
+    ghost use Rattle.desk_files.specs.declared.folder_calls.FolderStep.{FolderStep};
+    ghost use Rattle.desk_files.specs.declared.folder_calls.FolderStep.TheVariants.{Made, Checked, Locked, Marked};
+    ghost use Rattle.desk_files.specs.declared.folder_calls.FolderStep.TheVariants.{FoundBare, MarkSet, HandedOut};
+    ghost use Rattle.desk_files.specs.declared.folder_calls.FolderStep.TheVariants.{Looked, Renamed, Unlinked, Synced};
 
     /// One of its files, with the system's calls on it.
     type File: FileCalls + Drop;

@@ -3,11 +3,10 @@ ghost use Rattle.std.specs.Prelude.{◌≡◌, List, Option, Ok, IfOk, true};
 ghost use Rattle.express_words.specs.Seen.{silent};
 ghost use Rattle.express_words.specs.Causes.{HasCause, CountsFault};
 ghost use Rattle.express_outside.specs.Calls.{added};
-ghost use Rattle.desk_files.specs.Steps.{PaperStep, FolderMade, Found, Laid, Placed, Tidied, FolderSynced};
 ghost use Rattle.desk_files.specs.Steps.{PutNew, IsAnswered};
 
 use desk_outside::{Papers, Written};
-use express_outside::{Adapter, Reads, Trouble};
+use express_outside::{Adapter, History, Reads, Trouble};
 use express_words::outside::{Counted, Failed};
 
 /// What stands under a name, compared with bytes.
@@ -21,9 +20,29 @@ pub enum Stands {
     Others,
 }
 
+/// A call on papers, with its answer. A folder's path comes first, and then a name in it and bytes.
+#[derive(Drop)]
+pub enum PaperStep {
+    /// A folder was made where it wasn't there.
+    FolderMade(History<u8>, Result<(), Trouble>),
+    /// What stands under a name was compared with these bytes.
+    Found(History<u8>, History<u8>, History<u8>, Result<Stands, Trouble>),
+    /// These bytes were written beside the name that they are for, and the disk has them.
+    Laid(History<u8>, History<u8>, History<u8>, Result<(), Trouble>),
+    /// They were given the name, which nothing had, or not.
+    Placed(History<u8>, History<u8>, History<u8>, Result<bool, Trouble>),
+    /// What stands beside the name was taken away.
+    Tidied(History<u8>, History<u8>, Result<(), Trouble>),
+    /// The disk has the folder's names.
+    FolderSynced(History<u8>, Result<(), Trouble>),
+}
+
 /// The system's calls on papers.
 pub trait PaperCalls {
     ghost use Rattle.express_outside.specs.declared.calls.Trouble.{Trouble};
+    ghost use Rattle.desk_files.specs.declared.paper_files.PaperStep.{PaperStep};
+    ghost use Rattle.desk_files.specs.declared.paper_files.PaperStep.TheVariants.{FolderMade, Found, Laid, Placed};
+    ghost use Rattle.desk_files.specs.declared.paper_files.PaperStep.TheVariants.{Tidied, FolderSynced};
 
     /// A file that is read.
     type File: Reads + Drop;
@@ -61,7 +80,7 @@ pub trait PaperCalls {
         ensures told { calls self.new ≡ added (FolderSynced folder.now result) (calls self.old) };
 }
 
-/// Files of the system. Each error is a fault. It doesn't tell its calls.
+/// Files of the system. Each error is a fault.
 #[derive(Drop)]
 pub struct PaperFiles<C> {
     system: C,

@@ -1,23 +1,24 @@
 //! The system's calls on a desk's folder.
-ghost use Rattle.std.specs.Prelude.{None};
+ghost use Rattle.std.specs.Prelude.{◌≡◌, [], Some};
 
 use crate::desk_paths::DeskPaths;
-use crate::folder_calls::{FolderCalls, Mark};
+use crate::folder_calls::{FolderCalls, FolderStep, Mark};
 use crate::folder_checks::{cause_of, check_folder, is_there};
 use crate::system_files::{FILE_MODE, made, sync_folder, unlinked};
 use crate::system_mark::{mark_found, marked};
 use desk_outside::{DeskFile, FolderFault, MOST_LETTERS, Slot};
-use express_outside::{JournalFile, Trouble, clear_beside, trouble_of};
+use express_outside::{History, JournalFile, Trouble, clear_beside, trouble_of};
 use std::fs::{File, TryLockError};
 use std::os::unix::fs::OpenOptionsExt;
 use std::{fs, io};
 
-/// A desk's folder, and its lock while this process has it.
+/// A desk's folder, and its lock while this process has it. It tells its calls.
 #[derive(Drop)]
 pub struct SystemFolder<'a> {
     rt: &'a HostRuntime,
     paths: &'a DeskPaths,
     lock: Option<File>,
+    calls: History<FolderStep>,
 }
 
 impl<'a> SystemFolder<'a> {
@@ -27,6 +28,7 @@ impl<'a> SystemFolder<'a> {
             rt,
             paths,
             lock: None,
+            calls: History::new(),
         }
     }
 
@@ -45,6 +47,39 @@ impl<'a> SystemFolder<'a> {
             }
         }
         Ok(false)
+    }
+
+    fn check_folder(&self) -> Result<(), FolderFault> {
+        match fs::symlink_metadata(self.rt, self.paths.folder()) {
+            Ok(found) => check_folder(&found),
+            Err(error) => Err(cause_of(&error)),
+        }
+    }
+
+    fn take_lock(&mut self) -> Result<bool, FolderFault>
+        ensures { self.new.calls ≡ self.old.calls }
+    {
+        is_there(self.rt, self.paths.lock())?;
+        self.lock = locked(self.rt, self.paths.lock()).map_err(|error| cause_of(&error))?;
+        Ok(self.lock.is_some())
+    }
+
+    fn find_mark(&self) -> Result<Mark, FolderFault> {
+        match &self.lock {
+            Some(lock) => mark_found(self.rt, self.paths, lock),
+            None => Err(FolderFault::Broken),
+        }
+    }
+
+    fn has_nothing(&self) -> Result<bool, FolderFault> {
+        Ok(!self.has(DeskFile::Ledger)? && !self.has(DeskFile::NextLedger)? && !self.has_letters()?)
+    }
+
+    fn put_mark(&self) -> Result<(), FolderFault> {
+        match &self.lock {
+            Some(lock) => marked(self.rt, self.paths, lock).map_err(|error| cause_of(&error)),
+            None => Err(FolderFault::Broken),
+        }
     }
 }
 
@@ -74,62 +109,71 @@ fn locked(rt: &HostRuntime, path: &str) -> io::Result<Option<File>> {
 impl<'a> FolderCalls for SystemFolder<'a> {
     type File = JournalFile<'a>;
 
-    ghost calls = { λ _. None };
+    ghost calls = { λ folder. Some folder.calls };
 
     fn make(&mut self) -> Result<(), FolderFault> {
-        made(self.rt, self.paths.folder()).map_err(|error| cause_of(&error))
+        let answer = made(self.rt, self.paths.folder()).map_err(|error| cause_of(&error));
+        self.calls.note(&FolderStep::Made(answer));
+        answer
     }
 
     fn check(&mut self) -> Result<(), FolderFault> {
-        match fs::symlink_metadata(self.rt, self.paths.folder()) {
-            Ok(found) => check_folder(&found),
-            Err(error) => Err(cause_of(&error)),
-        }
+        let answer = self.check_folder();
+        self.calls.note(&FolderStep::Checked(answer));
+        answer
     }
 
     fn lock(&mut self) -> Result<bool, FolderFault> {
-        is_there(self.rt, self.paths.lock())?;
-        self.lock = locked(self.rt, self.paths.lock()).map_err(|error| cause_of(&error))?;
-        Ok(self.lock.is_some())
+        let answer = self.take_lock();
+        self.calls.note(&FolderStep::Locked(answer));
+        answer
     }
 
     fn mark(&mut self) -> Result<Mark, FolderFault> {
-        match &self.lock {
-            Some(lock) => mark_found(self.rt, self.paths, lock),
-            None => Err(FolderFault::Broken),
-        }
+        let answer = self.find_mark();
+        self.calls.note(&FolderStep::Marked(answer));
+        answer
     }
 
     fn is_bare(&mut self) -> Result<bool, FolderFault> {
-        Ok(!self.has(DeskFile::Ledger)? && !self.has(DeskFile::NextLedger)? && !self.has_letters()?)
+        let answer = self.has_nothing();
+        self.calls.note(&FolderStep::FoundBare(answer));
+        answer
     }
 
     fn set_mark(&mut self) -> Result<(), FolderFault> {
-        match &self.lock {
-            Some(lock) => marked(self.rt, self.paths, lock).map_err(|error| cause_of(&error)),
-            None => Err(FolderFault::Broken),
-        }
+        let answer = self.put_mark();
+        self.calls.note(&FolderStep::MarkSet(answer));
+        answer
     }
 
     fn look(&mut self, file: DeskFile) -> Result<bool, FolderFault> {
-        self.has(file)
+        let answer = self.has(file);
+        self.calls.note(&FolderStep::Looked(file, answer));
+        answer
     }
 
     fn file(&mut self, file: DeskFile) -> JournalFile<'a> {
+        self.calls.note(&FolderStep::HandedOut(file));
         JournalFile::at(self.rt, self.paths.place(file))
     }
 
     fn rename(&mut self, from: DeskFile, to: DeskFile) -> Result<(), Trouble> {
-        fs::rename(self.rt, self.paths.path(from), self.paths.path(to)).map_err(|error| trouble_of(
-            error,
-        ))
+        let (from_path, to_path) = (self.paths.path(from), self.paths.path(to));
+        let answer = fs::rename(self.rt, from_path, to_path).map_err(|error| trouble_of(error));
+        self.calls.note(&FolderStep::Renamed(from, to, answer));
+        answer
     }
 
     fn unlink(&mut self, file: DeskFile) -> Result<(), Trouble> {
-        forgotten(self.rt, self.paths.path(file)).map_err(|error| trouble_of(error))
+        let answer = forgotten(self.rt, self.paths.path(file)).map_err(|error| trouble_of(error));
+        self.calls.note(&FolderStep::Unlinked(file, answer));
+        answer
     }
 
     fn sync(&mut self) -> Result<(), Trouble> {
-        sync_folder(self.rt, self.paths.folder()).map_err(|error| trouble_of(error))
+        let answer = sync_folder(self.rt, self.paths.folder()).map_err(|error| trouble_of(error));
+        self.calls.note(&FolderStep::Synced(answer));
+        answer
     }
 }

@@ -1,24 +1,28 @@
 //! The system's calls on papers.
-ghost use Rattle.std.specs.Prelude.{◌≡◌, ◌↔◌, ◌⊎◌, IsTrue, None};
+ghost use Rattle.std.specs.Prelude.{◌≡◌, ◌↔◌, ◌⊎◌, IsTrue, Some};
 ghost use Rattle.std.specs.IoError.{error_kind};
 
-use crate::paper_files::{PaperCalls, Stands};
+use crate::paper_files::{PaperCalls, PaperStep, Stands};
 use crate::system_files::{made, sync_folder, unlinked, written};
-use express_outside::{Direct, Trouble, trouble_of};
+use express_outside::{Direct, History, Trouble, noted, trouble_of};
 use std::fs::File;
 use std::io::ErrorKind;
 use std::{fs, io};
 
-/// The system's files, by their paths.
+/// The system's files, by their paths. It tells its calls that write.
 #[derive(Drop)]
 pub struct SystemPapers<'a> {
     rt: &'a HostRuntime,
+    calls: History<PaperStep>,
 }
 
 impl<'a> SystemPapers<'a> {
     /// All of them.
     pub fn new(rt: &'a HostRuntime) -> Self {
-        SystemPapers { rt }
+        SystemPapers {
+            rt,
+            calls: History::new(),
+        }
     }
 }
 
@@ -97,33 +101,66 @@ fn placed(rt: &HostRuntime, folder: &str, name: &str, bytes: &[u8]) -> io::Resul
 impl<'a> PaperCalls for SystemPapers<'a> {
     type File = Direct<File>;
 
-    ghost calls = { λ _. None };
+    ghost calls = { λ papers. Some papers.calls };
 
     fn open(&mut self, path: &str) -> Result<Direct<File>, Trouble> {
-        Ok(Direct(File::open(self.rt, path).map_err(|error| trouble_of(error))?))
+        Ok(Direct::new(File::open(self.rt, path).map_err(|error| trouble_of(error))?))
     }
 
     fn make(&mut self, folder: &str) -> Result<(), Trouble> {
-        made(self.rt, folder).map_err(|error| trouble_of(error))
+        let answer = made(self.rt, folder).map_err(|error| trouble_of(error));
+        self.calls
+            .note(&PaperStep::FolderMade(noted(folder.as_bytes()), answer));
+        answer
     }
 
     fn find(&mut self, folder: &str, name: &str, bytes: &[u8]) -> Result<Stands, Trouble> {
-        found(self.rt, folder, name, bytes).map_err(|error| trouble_of(error))
+        let answer = found(self.rt, folder, name, bytes).map_err(|error| trouble_of(error));
+        self.calls.note(&PaperStep::Found(
+            noted(folder.as_bytes()),
+            noted(name.as_bytes()),
+            noted(bytes),
+            answer,
+        ));
+        answer
     }
 
     fn lay(&mut self, folder: &str, name: &str, bytes: &[u8]) -> Result<(), Trouble> {
-        laid(self.rt, folder, name, bytes).map_err(|error| trouble_of(error))
+        let answer = laid(self.rt, folder, name, bytes).map_err(|error| trouble_of(error));
+        self.calls.note(&PaperStep::Laid(
+            noted(folder.as_bytes()),
+            noted(name.as_bytes()),
+            noted(bytes),
+            answer,
+        ));
+        answer
     }
 
     fn place(&mut self, folder: &str, name: &str, bytes: &[u8]) -> Result<bool, Trouble> {
-        placed(self.rt, folder, name, bytes).map_err(|error| trouble_of(error))
+        let answer = placed(self.rt, folder, name, bytes).map_err(|error| trouble_of(error));
+        self.calls.note(&PaperStep::Placed(
+            noted(folder.as_bytes()),
+            noted(name.as_bytes()),
+            noted(bytes),
+            answer,
+        ));
+        answer
     }
 
     fn tidy(&mut self, folder: &str, name: &str) -> Result<(), Trouble> {
-        tidied(self.rt, folder, name).map_err(|error| trouble_of(error))
+        let answer = tidied(self.rt, folder, name).map_err(|error| trouble_of(error));
+        self.calls.note(&PaperStep::Tidied(
+            noted(folder.as_bytes()),
+            noted(name.as_bytes()),
+            answer,
+        ));
+        answer
     }
 
     fn sync(&mut self, folder: &str) -> Result<(), Trouble> {
-        sync_folder(self.rt, folder).map_err(|error| trouble_of(error))
+        let answer = sync_folder(self.rt, folder).map_err(|error| trouble_of(error));
+        self.calls
+            .note(&PaperStep::FolderSynced(noted(folder.as_bytes()), answer));
+        answer
     }
 }

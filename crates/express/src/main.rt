@@ -49,8 +49,8 @@ fn words_of<R: Env + AllocGlobal>(rt: &R) -> Result<Vec<String>, u8>
 
 // Hands the real objects to the top call, and answers its status.
 fn work(rt: &HostRuntime, words: &Vec<String>, seed: &[u8; 32]) -> u8 {
-    let mut input = Adapter::new(Direct(rt.reader()));
-    let mut out = Adapter::new(Direct(io::writer(rt)));
+    let mut input = Adapter::new(Direct::new(rt.reader()));
+    let mut out = Adapter::new(Direct::new(io::writer(rt)));
     let mut net = TcpNet::new(TcpPorts::new(*rt));
     let disk = FileDisk::new(JournalFile::new(rt, JOURNAL));
     let (status, _) = run_kept(

@@ -98,8 +98,8 @@ fn work(
 ) -> u8 {
     let ports = TcpNet::new(TcpPorts::new(*rt));
     let mut around = Around {
-        input: Adapter::new(Direct(rt.reader())),
-        out: Adapter::new(Direct(io::writer(rt))),
+        input: Adapter::new(Direct::new(rt.reader())),
+        out: Adapter::new(Direct::new(io::writer(rt))),
         net: ProxiedNet::new(rt.alloc(), ports, proxy, &names_of(&seeds[1])),
         folder: DeskFolder::new(SystemFolder::new(rt, paths)),
         papers: PaperFiles::new(SystemPapers::new(rt)),

@@ -1,6 +1,8 @@
 -- How a copy grows, piece by piece.
 use Rattle.std.proofs.Common.{◌≡◌, ℕ, ◌+◌, List, [], ◌∷◌, ◌++◌, length, Option, Some, None, Result, Ok, Err, ap, sym, ◌∙◌, arith}
-use Rattle.express_outside.specs.Calls.{FileCall, ReadAt, CopiedAt, added, given}
+use Rattle.express_outside.specs.Calls.{added, given}
+use Rattle.express_outside.specs.declared.file_calls.FileCall.{FileCall}
+use Rattle.express_outside.specs.declared.file_calls.FileCall.TheVariants.{ReadAt, CopiedAt}
 use Rattle.express_outside.specs.declared.calls.Trouble.{Trouble}
 use Rattle.express_outside.specs.declared.calls.Trouble.TheVariants.{Interrupted}
 use Rattle.express_outside.specs.Copying.{copied_from, bytes_in}

@@ -3,25 +3,25 @@ use Rattle.std.specs.Prelude.{◌≡◌, ◌⊎◌, ℕ, List, [], Bool, true, f
 use Rattle.std.specs.Prelude.{MatchBool, MatchResult}
 use Rattle.std.specs.declared.time.Instant.{Instant}
 use Rattle.express_words.specs.Streams.{Took, TookPrefix}
-use Rattle.express_outside.specs.Calls.{WriteCall, Flushed, IsRefusal, FileCall, ReadAt, Synced, Named}
-use Rattle.express_outside.specs.Calls.{Asked, Unsettled, Settled, Begun, Replaced}
+use Rattle.express_outside.specs.Calls.{IsRefusal}
 use Rattle.express_outside.specs.Copying.{CopiedWhole}
 use Rattle.express_outside.specs.Calls.{added, EndedBy}
 use Rattle.express_outside.specs.declared.calls.Trouble.{Trouble}
+use Rattle.express_outside.specs.declared.calls.WriteCall.{WriteCall}
+use Rattle.express_outside.specs.declared.calls.WriteCall.TheVariants.{Flushed}
+use Rattle.express_outside.specs.declared.file_calls.FileCall.{FileCall}
+use Rattle.express_outside.specs.declared.file_calls.FileCall.TheVariants.{ReadAt, Synced, Named, Asked}
+use Rattle.express_outside.specs.declared.file_calls.FileCall.TheVariants.{Unsettled, Settled, Begun, Replaced}
 use Rattle.express_outside.specs.declared.patience.Limit.{Limit}
 use Rattle.express_outside.specs.declared.file_disk.FileDisk.{FileDisk}
 use Rattle.express_outside.specs.declared.tcp_net.Connected.{Connected}
+use Rattle.express_outside.specs.declared.tcp_net.PortCall.{PortCall}
 
 -- ---- what takes bytes
 
 -- All of the bytes were taken where the write is told to be whole, and else a prefix of them.
 abbrev pub TookIfWhole : Bool → Option (List ℕ) → Option (List ℕ) → List ℕ → Type 0
 TookIfWhole whole old new bytes = MatchBool whole (Took old new bytes) (TookPrefix old new bytes)
-
--- All of the bytes were taken where the call went well, and else a prefix of them.
-abbrev pub TookIfOk : {T E : Type 0} → Result T E → Option (List ℕ) → Option (List ℕ) → List ℕ → Type 0
-TookIfOk result old new bytes =
-    MatchResult result (λ _. Took old new bytes) (λ _. TookPrefix old new bytes)
 
 -- the last call handed on what was held back
 abbrev pub EndedByFlush : Option (List WriteCall) → Type 0
@@ -76,12 +76,16 @@ EndedSynced calls =
 abbrev pub EndedByTrouble : {T : Type 0} → Option (List (Result T Trouble)) → Type 0
 EndedByTrouble answers = (why : Trouble) × EndedBy answers (Err why)
 
--- one accept more answered: with the moment of a connection, or with a trouble
-abbrev pub AddsAccept : {S : Type 0} → Option (List (Result Instant Trouble))
-    → Option (List (Result Instant Trouble)) → Result (Connected S) Trouble → Type 0
-AddsAccept old new result =
-    MatchResult result (λ made. new ≡ added (Ok made.at) old) (λ why. new ≡ added (Err why) old)
+-- one call more that connects: with the moment of a connection, or with a trouble
+abbrev pub AddsConnect : {S : Type 0} → (Result Instant Trouble → PortCall) → Option (List PortCall)
+    → Option (List PortCall) → Result (Connected S) Trouble → Type 0
+AddsConnect call old new result =
+    MatchResult result (λ made. new ≡ added (call (Ok made.at)) old) (λ why. new ≡ added (call (Err why)) old)
 
--- the last answer was a connection, made at the moment at which the limit began
-abbrev pub EndedAtBegin : Limit → Option (List (Result Instant Trouble)) → Type 0
-EndedAtBegin limit accepts = (at : Instant) × (limit.began ≡ Some at) × EndedBy accepts (Ok at)
+-- the last call was this one, and it failed
+abbrev pub EndedByFailure : {A : Type 0} → (Result A Trouble → PortCall) → Option (List PortCall) → Type 0
+EndedByFailure call calls = (why : Trouble) × EndedBy calls (call (Err why))
+
+-- the last call was this one, with a connection made at the moment at which the limit began
+abbrev pub EndedByMoment : (Result Instant Trouble → PortCall) → Limit → Option (List PortCall) → Type 0
+EndedByMoment call limit calls = (at : Instant) × (limit.began ≡ Some at) × EndedBy calls (call (Ok at))

@@ -1,6 +1,8 @@
 -- How a file is copied: piece by piece, each as a read gave it and to where it was read.
 use Rattle.std.specs.Prelude.{◌≡◌, ℕ, ◌+◌, List, [], ◌∷◌, length, Option, Some, None, Ok, Err}
-use Rattle.express_outside.specs.Calls.{FileCall, ReadAt, CopiedAt, added}
+use Rattle.express_outside.specs.Calls.{added}
+use Rattle.express_outside.specs.declared.file_calls.FileCall.{FileCall}
+use Rattle.express_outside.specs.declared.file_calls.FileCall.TheVariants.{ReadAt, CopiedAt}
 use Rattle.express_outside.specs.declared.calls.Trouble.TheVariants.{Interrupted}
 
 -- The calls behind these: a read at this offset for each piece, which was interrupted or gave the piece, and then

@@ -3,16 +3,12 @@ use Rattle.std.specs.Prelude.{◌≡◌, ℕ, ◌-◌, ◌*◌, List, Option, So
 use Rattle.std.specs.Duration.{as_nanos}
 use Rattle.std.specs.Time.{instant_nanos}
 use Rattle.std.specs.declared.time.Instant.{Instant}
+use Rattle.std.specs.declared.time.Duration.{Duration}
 use Rattle.express_outside.specs.Calls.{added}
 use Rattle.express_outside.specs.declared.calls.Trouble.{Trouble}
 use Rattle.express_outside.specs.declared.patience.Limit.{Limit}
-
--- A call on a socket: a look at the clock, which told this time; a read and a write that may wait so long,
--- with their answers.
-pub data SocketCall : Type 0 where
-  Told : ℕ → SocketCall
-  ReadWithin : ℕ → Result ℕ Trouble → SocketCall
-  WroteWithin : ℕ → Result ℕ Trouble → SocketCall
+use Rattle.express_outside.specs.declared.patience.SocketCall.{SocketCall}
+use Rattle.express_outside.specs.declared.patience.SocketCall.TheVariants.{Told}
 
 abbrev pub seconds : ℕ → ℕ
 seconds n = n * 1_000_000_000
@@ -31,7 +27,7 @@ abbrev pub left_of : Limit → Instant → ℕ
 left_of limit now = as_nanos limit.allowed - (instant_nanos now - instant_nanos (begin_at now limit.began))
 
 -- The clock was looked at, and then one call was made that may wait for as long as the limit has left.
-abbrev pub IsWithin : (ℕ → Result ℕ Trouble → SocketCall) → Limit → Option (List SocketCall)
+abbrev pub IsWithin : (Duration → Result ℕ Trouble → SocketCall) → Limit → Option (List SocketCall)
     → Option (List SocketCall) → Result ℕ Trouble → Type 0
-IsWithin call limit old new answer = (now : Instant)
-    × (new ≡ added (call (left_of limit now) answer) (added (Told (instant_nanos now)) old))
+IsWithin call limit old new answer = (now : Instant) × (left : Duration) × (as_nanos left ≡ left_of limit now)
+    × (new ≡ added (call left answer) (added (Told now) old))

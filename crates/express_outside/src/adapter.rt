@@ -1,13 +1,15 @@
 //! What gives bytes, takes them, or both, as sources, sinks and connections with a count of their faults.
-ghost use Rattle.std.specs.Prelude.{◌≡◌, ◌≤◌, length, Ok, IfOk, MatchBool, MatchResult};
+ghost use Rattle.std.specs.Prelude.{◌≡◌, ◌≤◌, length, None, Ok, IfOk, OnOk, OnErr, MatchBool, MatchResult};
 ghost use Rattle.std.specs.Io.KnownBytes.{ReadConsumes, WriteAppends};
-ghost use Rattle.express_words.specs.Seen.{silent};
+ghost use Rattle.express_words.specs.Seen.{streaming};
+ghost use Rattle.express_words.specs.Streams.{Took, TookPrefix};
 ghost use Rattle.express_words.specs.Causes.{HasCause, CountsFault};
-ghost use Rattle.express_outside.specs.Calls.{Wrote, EndedBy};
-ghost use Rattle.express_outside.specs.Answers.{TookIfWhole, TookIfOk};
+ghost use Rattle.express_outside.specs.Calls.{EndedBy};
+ghost use Rattle.express_outside.specs.declared.calls.WriteCall.TheVariants.{Wrote};
+ghost use Rattle.express_outside.specs.Answers.{TookIfWhole};
 ghost use Rattle.express_outside.specs.Answers.{EndedByFlush, EndedByRefusal, EndedByTrouble};
 
-use crate::calls::{Reads, Trouble, Writes};
+use crate::calls::{Passes, Reads, Trouble, Writes};
 use express_words::outside::{Conn, Counted, Failed, Sink, Source};
 
 /// So many times a call is made while each is interrupted.
@@ -16,9 +18,9 @@ const MOST_TRIES: u32 = 1000;
 /// What gives bytes, takes them, or both. Each error is a fault but an interruption, after which the call is
 /// made again, and so is a write that takes nothing.
 ///
-/// As a source and a sink it doesn't tell its bytes; over an object whose bytes are known the clauses `bytes`
-/// say what of them was given and taken, and over one that tells its calls the clauses `ended` which of them
-/// was the last, with its answer.
+/// As a sink it tells the bytes that the writes below took, and as a source it doesn't tell its bytes. Over a reader
+/// whose bytes are known the clause `bytes` says what of them was given, and over an object that tells its calls the
+/// clauses `ended` which of them was the last, with its answer.
 #[derive(Drop)]
 pub struct Adapter<T> {
     inner: T,
@@ -34,8 +36,8 @@ impl<T> Adapter<T> {
     }
 }
 
-impl<T> Counted for Adapter<T> {
-    ghost seen = { λ a. silent a.faults };
+impl<T: Passes> Counted for Adapter<T> {
+    ghost seen = { λ a. streaming None (T.taken a.inner) a.faults };
 
     fn faults(&self) -> u64 {
         self.faults
@@ -46,6 +48,7 @@ impl<T> Counted for Adapter<T> {
 fn read_again<T: Reads>(inner: &mut T, buf: &mut [u8]) -> Result<usize, Trouble>
     ensures bound { IfOk result (λ n. n ≤ length buf.new) }
     ensures bytes { ReadConsumes (T.remaining inner.old) (T.remaining inner.new) result buf.new }
+    ensures takes_nothing { T.taken inner.new ≡ T.taken inner.old }
     ensures ended { EndedBy (T.answers inner.new) result }
 {
     for _ in 1..MOST_TRIES {
@@ -63,6 +66,7 @@ impl<T: Reads> Source for Adapter<T> {
         ensures bound { IfOk result (λ n. n ≤ length buf.new) }
         ensures bytes { ReadConsumes (T.remaining self.old.inner) (T.remaining self.new.inner)
             result buf.new }
+        ensures writes_nothing { T.taken self.new.inner ≡ T.taken self.old.inner }
         ensures ended { MatchResult result (λ n. EndedBy (T.answers self.new.inner) (Ok n))
             (λ _. EndedByTrouble (T.answers self.new.inner)) }
         ensures cause { HasCause self.old.faults self.new.faults result }
@@ -81,7 +85,7 @@ impl<T: Reads> Source for Adapter<T> {
 // A write that is made again where it was interrupted.
 fn write_again<T: Writes>(inner: &mut T, bytes: &[u8]) -> Result<usize, Trouble>
     ensures bound { IfOk result (λ n. n ≤ length bytes.now) }
-    ensures bytes { WriteAppends (T.contents inner.old) (T.contents inner.new) result bytes.now }
+    ensures bytes { WriteAppends (T.taken inner.old) (T.taken inner.new) result bytes.now }
     ensures ended { EndedBy (T.calls inner.new) (Wrote result) }
 {
     for _ in 1..MOST_TRIES {
@@ -96,7 +100,7 @@ fn write_again<T: Writes>(inner: &mut T, bytes: &[u8]) -> Result<usize, Trouble>
 
 // Writes all of the bytes and hands them on, and says whether that went well.
 fn write_whole<T: Writes>(inner: &mut T, bytes: &[u8]) -> bool
-    ensures bytes { TookIfWhole result (T.contents inner.old) (T.contents inner.new) bytes.now }
+    ensures bytes { TookIfWhole result (T.taken inner.old) (T.taken inner.new) bytes.now }
     ensures ended { MatchBool result (EndedByFlush (T.calls inner.new))
         (EndedByRefusal (T.calls inner.new)) }
 {
@@ -112,7 +116,8 @@ fn write_whole<T: Writes>(inner: &mut T, bytes: &[u8]) -> bool
 
 impl<T: Writes> Sink for Adapter<T> {
     fn put(&mut self, bytes: &[u8]) -> Result<(), Failed>
-        ensures bytes { TookIfOk result (T.contents self.old.inner) (T.contents self.new.inner) bytes.now }
+        ensures took { OnOk result (Took (T.taken self.old.inner) (T.taken self.new.inner) bytes.now) }
+        ensures failed { OnErr result (TookPrefix (T.taken self.old.inner) (T.taken self.new.inner) bytes.now) }
         ensures ended { MatchResult result (λ _. EndedByFlush (T.calls self.new.inner))
             (λ _. EndedByRefusal (T.calls self.new.inner)) }
         ensures cause { HasCause self.old.faults self.new.faults result }

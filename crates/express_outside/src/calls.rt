@@ -1,9 +1,10 @@
 //! The system's calls on what gives and what takes bytes, each made once.
-ghost use Rattle.std.specs.Prelude.{◌≡◌, ◌≢◌, ◌≤◌, ℕ, List, length, Option, None, Result, IfOk};
-ghost use Rattle.std.specs.Io.KnownBytes.{Keeps, ReadConsumes, WriteAppends};
+ghost use Rattle.std.specs.Prelude.{◌≡◌, ◌≢◌, ◌≤◌, ℕ, List, length, [], Option, Some, Result, IfOk};
+ghost use Rattle.std.specs.Io.KnownBytes.{ReadConsumes, WriteAppends};
 ghost use Rattle.std.specs.IoError.{error_kind};
-ghost use Rattle.express_outside.specs.Calls.{WriteCall, Wrote, Flushed, added};
+ghost use Rattle.express_outside.specs.Calls.{added};
 
+use crate::history::History;
 use std::io;
 use std::io::{ErrorKind, Read, Write};
 
@@ -28,8 +29,23 @@ pub fn trouble_of(error: io::Error) -> Trouble
     }
 }
 
+/// A call on what takes bytes, with its answer.
+#[derive(Clone, Copy, Debug, PartialEq, Eq)]
+pub enum WriteCall {
+    /// A write, which took so many bytes.
+    Wrote(Result<usize, Trouble>),
+    /// What was held back was handed on.
+    Flushed(Result<(), Trouble>),
+}
+
+/// What bytes go through.
+pub trait Passes {
+    /// The bytes that its writes took so far, where it tells them.
+    ghost taken: { Self → Option (List ℕ) };
+}
+
 /// What gives bytes.
-pub trait Reads {
+pub trait Reads: Passes {
     ghost use Rattle.express_outside.specs.declared.calls.Trouble.{Trouble};
 
     /// The bytes that reads will give from here on, where they are known.
@@ -42,13 +58,14 @@ pub trait Reads {
     fn read(&mut self, buf: &mut [u8]) -> Result<usize, Trouble>
         ensures bound { IfOk result (λ n. n ≤ length buf.new) }
         ensures bytes { ReadConsumes (remaining self.old) (remaining self.new) result buf.new }
+        ensures takes_nothing { Self.taken self.new ≡ Self.taken self.old }
         ensures told { answers self.new ≡ added result (answers self.old) };
 }
 
 /// What takes bytes.
-pub trait Writes {
-    /// The bytes that it holds, where they are known.
-    ghost contents: { Self → Option (List ℕ) };
+pub trait Writes: Passes {
+    ghost use Rattle.express_outside.specs.declared.calls.WriteCall.{WriteCall};
+    ghost use Rattle.express_outside.specs.declared.calls.WriteCall.TheVariants.{Wrote, Flushed};
 
     /// Its calls so far, if it tells.
     ghost calls: { Self → Option (List WriteCall) };
@@ -56,39 +73,69 @@ pub trait Writes {
     /// One write, which takes some of the bytes from the front on.
     fn write(&mut self, bytes: &[u8]) -> Result<usize, Trouble>
         ensures bound { IfOk result (λ n. n ≤ length bytes.now) }
-        ensures bytes { WriteAppends (contents self.old) (contents self.new) result bytes.now }
+        ensures bytes { WriteAppends (Self.taken self.old) (Self.taken self.new) result bytes.now }
         ensures told { calls self.new ≡ added (Wrote result) (calls self.old) };
 
     /// Hands on what it holds back.
     fn flush(&mut self) -> Result<(), Trouble>
-        ensures bytes { Keeps (contents self.old) (contents self.new) }
+        ensures bytes { Self.taken self.new ≡ Self.taken self.old }
         ensures told { calls self.new ≡ added (Flushed result) (calls self.old) };
 }
 
-/// A reader, a writer or both of the system, which tells none of its calls.
+/// A reader, a writer or both of the system, which tells each of its calls and the bytes that its writes took.
 #[derive(Drop)]
-pub struct Direct<T>(pub T);
+pub struct Direct<T> {
+    stream: T,
+    answers: History<Result<usize, Trouble>>,
+    calls: History<WriteCall>,
+    taken: History<u8>,
+}
+
+impl<T> Direct<T> {
+    /// No call of it was made yet.
+    pub fn new(stream: T) -> Self
+        ensures { result ≡ record { stream = stream; answers = []; calls = []; taken = [] } }
+    {
+        Direct {
+            stream,
+            answers: History::new(),
+            calls: History::new(),
+            taken: History::new(),
+        }
+    }
+}
+
+impl<T> Passes for Direct<T> {
+    ghost taken = { λ d. Some d.taken };
+}
 
 impl<T: Read> Reads for Direct<T> {
-    ghost remaining = { λ d. T.remaining d.0 };
+    ghost remaining = { λ d. T.remaining d.stream };
 
-    ghost answers = { λ _. None };
+    ghost answers = { λ d. Some d.answers };
 
     fn read(&mut self, buf: &mut [u8]) -> Result<usize, Trouble> {
-        self.0.read(buf).map_err(trouble_of)
+        let answer = self.stream.read(buf).map_err(trouble_of);
+        self.answers.note(&answer);
+        answer
     }
 }
 
 impl<T: Write> Writes for Direct<T> {
-    ghost contents = { λ d. T.contents d.0 };
-
-    ghost calls = { λ _. None };
+    ghost calls = { λ d. Some d.calls };
 
     fn write(&mut self, bytes: &[u8]) -> Result<usize, Trouble> {
-        self.0.write(bytes).map_err(trouble_of)
+        let answer = self.stream.write(bytes).map_err(trouble_of);
+        if let Ok(count) = answer {
+            self.taken.note_bytes(&bytes[..count]);
+        }
+        self.calls.note(&WriteCall::Wrote(answer));
+        answer
     }
 
     fn flush(&mut self) -> Result<(), Trouble> {
-        self.0.flush().map_err(trouble_of)
+        let answer = self.stream.flush().map_err(trouble_of);
+        self.calls.note(&WriteCall::Flushed(answer));
+        answer
     }
 }

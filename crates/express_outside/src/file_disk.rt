@@ -1,76 +1,20 @@
 //! A journal's disk over a file.
-ghost use Rattle.std.specs.Prelude.{◌≡◌, ◌≤◌, ◌<◌, ◌+◌, List, length, Option, true, false, Ok, Err, IfOk, OnOk, OnErr};
+ghost use Rattle.std.specs.Prelude.{◌≡◌, ◌≤◌, ◌<◌, ◌+◌, length, true, false, Ok, Err, IfOk, OnOk, OnErr};
 ghost use Rattle.express_words.specs.Seen.{silent};
 ghost use Rattle.express_words.specs.Causes.{HasCause, CountsFault, next};
-ghost use Rattle.express_outside.specs.Calls.{FileCall, ReadAt, WroteAt, Synced, Named, added, given, EndedBy};
-ghost use Rattle.express_outside.specs.Calls.{Asked, Unsettled, Settled, Begun, CopiedAt, Replaced};
+ghost use Rattle.express_outside.specs.Calls.{added, EndedBy};
+ghost use Rattle.express_outside.specs.declared.file_calls.FileCall.TheVariants.{WroteAt, Synced, CopiedAt};
 ghost use Rattle.express_outside.specs.Copying.{CopiedWhole};
 ghost use Rattle.express_outside.specs.Answers.{EndedByEnd, EndedSynced, EndedUnsettled};
 ghost use Rattle.express_outside.specs.Answers.{IsUnopened, OpenedSettled, Renewed};
 
 use crate::calls::Trouble;
+use crate::file_calls::FileCalls;
 use express_words::outside::{Counted, Failed};
 use node_journal::Disk;
 
 /// So many bytes at once are copied of a file that is put in place anew.
 const PIECE: usize = 8192;
-
-/// The system's calls on one file, on the note beside it that says that a sync of it failed, and on a copy that
-/// is to take its place.
-pub trait FileCalls {
-    /// Its calls so far, if it tells.
-    ghost calls: { Self → Option (List FileCall) };
-
-    /// Opens the file, or makes it, for this process alone.
-    fn open(&mut self) -> Result<(), Trouble>
-        ensures told { calls self.new ≡ calls self.old };
-
-    /// Opens the file, which must be there, for reading alone.
-    fn open_to_read(&mut self) -> Result<(), Trouble>
-        ensures told { calls self.new ≡ calls self.old };
-
-    /// One read from an offset on. Ok(0) for a buffer that isn't empty is the file's end.
-    fn read_at(&mut self, at: u64, out: &mut [u8]) -> Result<usize, Trouble>
-        ensures bound { IfOk result (λ n. n ≤ length out.new) }
-        ensures told { calls self.new ≡ added (ReadAt at (given result out.new)) (calls self.old) };
-
-    /// Writes all of the bytes from an offset on.
-    fn write_at(&mut self, at: u64, bytes: &[u8]) -> Result<(), Trouble>
-        ensures told { calls self.new ≡ added (WroteAt at bytes.now result) (calls self.old) };
-
-    /// Waits until the disk has what was written.
-    fn sync(&mut self) -> Result<(), Trouble>
-        ensures told { calls self.new ≡ added (Synced result) (calls self.old) };
-
-    /// Fails where the name that the file was opened by isn't its own any more.
-    fn check_name(&mut self) -> Result<(), Trouble>
-        ensures told { calls self.new ≡ added (Named result) (calls self.old) };
-
-    /// Whether a sync of the file has failed since it was settled, as is noted beside it.
-    fn is_unsettled(&mut self) -> Result<bool, Trouble>
-        ensures told { calls self.new ≡ added (Asked result) (calls self.old) };
-
-    /// Notes beside the file that a sync of it failed.
-    fn unsettle(&mut self) -> Result<(), Trouble>
-        ensures told { calls self.new ≡ added (Unsettled result) (calls self.old) };
-
-    /// Takes that note away.
-    fn settle(&mut self) -> Result<(), Trouble>
-        ensures told { calls self.new ≡ added (Settled result) (calls self.old) };
-
-    /// Begins a copy of the file, an empty one. What was left of an earlier copy goes.
-    fn begin_copy(&mut self) -> Result<(), Trouble>
-        ensures told { calls self.new ≡ added (Begun result) (calls self.old) };
-
-    /// Writes all of the bytes to the copy, from an offset on.
-    fn copy_at(&mut self, at: u64, bytes: &[u8]) -> Result<(), Trouble>
-        ensures told { calls self.new ≡ added (CopiedAt at bytes.now result) (calls self.old) };
-
-    /// Waits until the disk has the copy, and puts it in the file's place at once; the disk has its name then. It is
-    /// the file from here on.
-    fn replace(&mut self) -> Result<(), Trouble>
-        ensures told { calls self.new ≡ added (Replaced result) (calls self.old) };
-}
 
 /// A file as a disk, opened at the first call. Each error is a fault. It doesn't tell its content.
 #[derive(Drop)]

@@ -1,9 +1,10 @@
 //! The file of a journal.
-ghost use Rattle.std.specs.Prelude.{◌≡◌, ◌↔◌, None, IsTrue, bit_and, false};
+ghost use Rattle.std.specs.Prelude.{◌≡◌, ◌≤◌, ◌↔◌, Some, length, IfOk, IsTrue, bit_and, false};
 ghost use Rattle.std.specs.Fs.{IsFile, file_type, metadata_mode, asks_create_new, asks_truncate, asks_append};
 
 use crate::calls::{Trouble, trouble_of};
-use crate::file_disk::FileCalls;
+use crate::file_calls::{FileCall, FileCalls, given};
+use crate::history::{History, noted};
 use std::fs::{File, Metadata, OpenOptions};
 use std::io::ErrorKind;
 use std::os::unix::fs::{FileExt, MetadataExt, OpenOptionsExt};
@@ -32,13 +33,14 @@ pub struct Place<'a> {
     pub moved: &'a str,
 }
 
-/// A file that is opened or made by `open`.
+/// A file that is opened or made by `open`. It tells its calls.
 #[derive(Drop)]
 pub struct JournalFile<'a> {
     rt: &'a HostRuntime,
     place: Place<'a>,
     file: Option<File>,
     copy: Option<File>,
+    calls: History<FileCall>,
 }
 
 // Whether this is a regular file that nobody but its user may read or write.
@@ -225,12 +227,79 @@ impl<'a> JournalFile<'a> {
             place,
             file: None,
             copy: None,
+            calls: History::new(),
         }
     }
 }
 
+// Each is one call on the file, where it is open.
+impl<'a> JournalFile<'a> {
+    fn read_file(&self, at: u64, out: &mut [u8]) -> Result<usize, Trouble>
+        ensures bound { IfOk result (λ n. n ≤ length out.new) }
+    {
+        match &self.file {
+            Some(file) => file.read_at(out, at).map_err(trouble_of),
+            None => Err(Trouble::Broken),
+        }
+    }
+
+    fn write_file(&self, at: u64, bytes: &[u8]) -> Result<(), Trouble> {
+        match &self.file {
+            Some(file) => file.write_all_at(bytes, at).map_err(trouble_of),
+            None => Err(Trouble::Broken),
+        }
+    }
+
+    fn sync_file(&self) -> Result<(), Trouble> {
+        match &self.file {
+            Some(file) => file.sync_all().map_err(trouble_of),
+            None => Err(Trouble::Broken),
+        }
+    }
+
+    fn check_file(&self) -> Result<(), Trouble> {
+        match &self.file {
+            Some(file) => check_named(self.rt, self.place, file).map_err(trouble_of),
+            None => Err(Trouble::Broken),
+        }
+    }
+
+    fn note_beside(&self) -> Result<(), Trouble> {
+        let Some(file) = &self.file else {
+            return Err(Trouble::Broken);
+        };
+        let path = name_of(self.rt, self.place, file).map_err(trouble_of)?;
+        note(self.rt, path).map_err(trouble_of)
+    }
+
+    fn write_copy(&self, at: u64, bytes: &[u8]) -> Result<(), Trouble> {
+        match &self.copy {
+            Some(copy) => copy.write_all_at(bytes, at).map_err(trouble_of),
+            None => Err(Trouble::Broken),
+        }
+    }
+
+    fn place_copy(&mut self) -> Result<(), Trouble>
+        ensures { self.new.calls ≡ self.old.calls }
+    {
+        let Some(copy) = &self.copy else {
+            return Err(Trouble::Broken);
+        };
+        placed(self.rt, self.place, copy).map_err(trouble_of)?;
+        self.file = self.copy.take();
+        Ok(())
+    }
+
+    fn begin(&mut self) -> Result<(), Trouble>
+        ensures { self.new.calls ≡ self.old.calls }
+    {
+        self.copy = Some(begun(self.rt, self.place).map_err(trouble_of)?);
+        Ok(())
+    }
+}
+
 impl<'a> FileCalls for JournalFile<'a> {
-    ghost calls = { λ _. None };
+    ghost calls = { λ file. Some file.calls };
 
     fn open(&mut self) -> Result<(), Trouble> {
         self.file = Some(opened(self.rt, self.place).map_err(trouble_of)?);
@@ -243,67 +312,64 @@ impl<'a> FileCalls for JournalFile<'a> {
     }
 
     fn read_at(&mut self, at: u64, out: &mut [u8]) -> Result<usize, Trouble> {
-        match &self.file {
-            Some(file) => file.read_at(out, at).map_err(trouble_of),
-            None => Err(Trouble::Broken),
-        }
+        let answer = self.read_file(at, out);
+        self.calls.note(&FileCall::ReadAt(at, given(answer, out)));
+        answer
     }
 
     fn write_at(&mut self, at: u64, bytes: &[u8]) -> Result<(), Trouble> {
-        match &self.file {
-            Some(file) => file.write_all_at(bytes, at).map_err(trouble_of),
-            None => Err(Trouble::Broken),
-        }
+        let answer = self.write_file(at, bytes);
+        self.calls
+            .note(&FileCall::WroteAt(at, noted(bytes), answer));
+        answer
     }
 
     fn sync(&mut self) -> Result<(), Trouble> {
-        match &self.file {
-            Some(file) => file.sync_all().map_err(trouble_of),
-            None => Err(Trouble::Broken),
-        }
+        let answer = self.sync_file();
+        self.calls.note(&FileCall::Synced(answer));
+        answer
     }
 
     fn check_name(&mut self) -> Result<(), Trouble> {
-        match &self.file {
-            Some(file) => check_named(self.rt, self.place, file).map_err(trouble_of),
-            None => Err(Trouble::Broken),
-        }
+        let answer = self.check_file();
+        self.calls.note(&FileCall::Named(answer));
+        answer
     }
 
     fn is_unsettled(&mut self) -> Result<bool, Trouble> {
-        is_noted(self.rt, self.place).map_err(trouble_of)
+        let answer = is_noted(self.rt, self.place).map_err(trouble_of);
+        self.calls.note(&FileCall::Asked(answer));
+        answer
     }
 
     fn unsettle(&mut self) -> Result<(), Trouble> {
-        let Some(file) = &self.file else {
-            return Err(Trouble::Broken);
-        };
-        let path = name_of(self.rt, self.place, file).map_err(trouble_of)?;
-        note(self.rt, path).map_err(trouble_of)
+        let answer = self.note_beside();
+        self.calls.note(&FileCall::Unsettled(answer));
+        answer
     }
 
     fn settle(&mut self) -> Result<(), Trouble> {
-        unnoted(self.rt, self.place).map_err(trouble_of)
+        let answer = unnoted(self.rt, self.place).map_err(trouble_of);
+        self.calls.note(&FileCall::Settled(answer));
+        answer
     }
 
     fn begin_copy(&mut self) -> Result<(), Trouble> {
-        self.copy = Some(begun(self.rt, self.place).map_err(trouble_of)?);
-        Ok(())
+        let answer = self.begin();
+        self.calls.note(&FileCall::Begun(answer));
+        answer
     }
 
     fn copy_at(&mut self, at: u64, bytes: &[u8]) -> Result<(), Trouble> {
-        match &self.copy {
-            Some(copy) => copy.write_all_at(bytes, at).map_err(trouble_of),
-            None => Err(Trouble::Broken),
-        }
+        let answer = self.write_copy(at, bytes);
+        self.calls
+            .note(&FileCall::CopiedAt(at, noted(bytes), answer));
+        answer
     }
 
     fn replace(&mut self) -> Result<(), Trouble> {
-        let Some(copy) = &self.copy else {
-            return Err(Trouble::Broken);
-        };
-        placed(self.rt, self.place, copy).map_err(trouble_of)?;
-        self.file = self.copy.take();
-        Ok(())
+        let answer = self.place_copy();
+        self.calls.note(&FileCall::Replaced(answer));
+        answer
     }
 }

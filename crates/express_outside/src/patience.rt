@@ -1,12 +1,13 @@
 //! Sockets whose calls end in time, by the clock.
 ghost use Rattle.std.specs.Prelude.{◌≡◌, ◌≤◌, ◌<◌, List, length, Option, None, Some, IfOk, IfSome};
 ghost use Rattle.std.specs.Duration.{as_nanos};
-ghost use Rattle.std.specs.Time.{instant_nanos};
+ghost use Rattle.std.specs.Io.KnownBytes.{WriteAppends};
 ghost use Rattle.express_outside.specs.Calls.{added};
-ghost use Rattle.express_outside.specs.Patience.{SocketCall, Told, ReadWithin, WroteWithin, IsWithin};
+ghost use Rattle.express_outside.specs.declared.patience.SocketCall.TheVariants.{ReadWithin, WroteWithin};
+ghost use Rattle.express_outside.specs.Patience.{IsWithin};
 ghost use Rattle.express_outside.specs.Patience.{IsLimit, begin_at, left_of, seconds};
 
-use crate::calls::{Reads, Trouble, Writes};
+use crate::calls::{Passes, Reads, Trouble, Writes};
 use std::time::{Duration, Instant};
 
 /// So many seconds an accepted connection has, from its accept on, for all that is read of it, and as many,
@@ -61,27 +62,43 @@ impl Limit {
     }
 }
 
+/// A call on a socket.
+#[derive(Clone, Copy)]
+pub enum SocketCall {
+    /// A look at the clock, which told this time.
+    Told(Instant),
+    /// A read that may wait so long, with its answer.
+    ReadWithin(Duration, Result<usize, Trouble>),
+    /// A write that may wait so long, with its answer.
+    WroteWithin(Duration, Result<usize, Trouble>),
+}
+
 /// The system's calls on a connected socket and on its clock.
-pub trait Socket {
+pub trait Socket: Passes {
+    ghost use Rattle.express_outside.specs.declared.patience.SocketCall.{SocketCall};
+    ghost use Rattle.express_outside.specs.declared.patience.SocketCall.TheVariants.{Told, ReadWithin, WroteWithin};
+
     /// Its calls so far, if it tells.
     ghost calls: { Self → Option (List SocketCall) };
 
     /// What the clock says.
     fn now(&mut self) -> Result<Instant, Trouble>
-        ensures told { IfOk result (λ now. calls self.new ≡ added (Told (instant_nanos now))
-            (calls self.old)) };
+        ensures takes_nothing { Self.taken self.new ≡ Self.taken self.old }
+        ensures told { IfOk result (λ now. calls self.new ≡ added (Told now) (calls self.old)) };
 
     /// One read, which fails where no byte comes for so long.
     fn read_within(&mut self, left: Duration, buf: &mut [u8]) -> Result<usize, Trouble>
         requires { 0 < as_nanos left }
         ensures bound { IfOk result (λ n. n ≤ length buf.new) }
-        ensures told { calls self.new ≡ added (ReadWithin (as_nanos left) result) (calls self.old) };
+        ensures takes_nothing { Self.taken self.new ≡ Self.taken self.old }
+        ensures told { calls self.new ≡ added (ReadWithin left result) (calls self.old) };
 
     /// One write, which fails where nothing is taken for so long.
     fn write_within(&mut self, left: Duration, bytes: &[u8]) -> Result<usize, Trouble>
         requires { 0 < as_nanos left }
         ensures bound { IfOk result (λ n. n ≤ length bytes.now) }
-        ensures told { calls self.new ≡ added (WroteWithin (as_nanos left) result) (calls self.old) };
+        ensures bytes { WriteAppends (Self.taken self.old) (Self.taken self.new) result bytes.now }
+        ensures told { calls self.new ≡ added (WroteWithin left result) (calls self.old) };
 }
 
 /// A socket with a limit on all that is read of it and one on all that is written.
@@ -142,6 +159,10 @@ impl<S> Timed<S> {
     }
 }
 
+impl<S: Socket> Passes for Timed<S> {
+    ghost taken = { λ timed. S.taken timed.socket };
+}
+
 // It tells none of its answers: the clauses `within` say which calls on the socket they came of.
 impl<S: Socket> Reads for Timed<S> {
     ghost remaining = { λ _. None };
@@ -150,6 +171,7 @@ impl<S: Socket> Reads for Timed<S> {
 
     fn read(&mut self, buf: &mut [u8]) -> Result<usize, Trouble>
         ensures bound { IfOk result (λ n. n ≤ length buf.new) }
+        ensures takes_nothing { S.taken self.new.socket ≡ S.taken self.old.socket }
         ensures within { IfOk result (λ n. IsWithin ReadWithin self.old.reading (S.calls self.old.socket)
             (S.calls self.new.socket) result) }
     {
@@ -162,12 +184,11 @@ impl<S: Socket> Reads for Timed<S> {
 }
 
 impl<S: Socket> Writes for Timed<S> {
-    ghost contents = { λ _. None };
-
     ghost calls = { λ _. None };
 
     fn write(&mut self, bytes: &[u8]) -> Result<usize, Trouble>
         ensures bound { IfOk result (λ n. n ≤ length bytes.now) }
+        ensures bytes { WriteAppends (S.taken self.old.socket) (S.taken self.new.socket) result bytes.now }
         ensures within { IfOk result (λ n. IsWithin WroteWithin self.old.writing
             (S.calls self.old.socket)
             (S.calls self.new.socket) result) }

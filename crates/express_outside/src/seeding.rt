@@ -12,5 +12,5 @@ pub struct NoSeed;
 /// 32 random bytes of the system.
 pub fn random_seed<R: Files>(rt: &R) -> Result<[u8; 32], NoSeed> {
     let random = File::open(rt, "/dev/urandom").map_err(|_| NoSeed)?;
-    seed_of(&mut Adapter::new(Direct(random))).map_err(|_| NoSeed)
+    seed_of(&mut Adapter::new(Direct::new(random))).map_err(|_| NoSeed)
 }

@@ -1,14 +1,17 @@
 //! A net over the system's ports.
-ghost use Rattle.std.specs.Prelude.{◌≡◌, ◌≤◌, List, Option, None, Some, Result, Ok, Err, IfOk, OnErr, MatchResult};
+ghost use Rattle.std.specs.Prelude.{◌≡◌, ◌≤◌, List, Option, None, Some, Ok, Err, IfOk, OnOk, OnErr, MatchResult};
 ghost use Rattle.std.specs.Duration.{as_nanos};
 ghost use Rattle.express_words.specs.Seen.{netted};
+ghost use Rattle.express_words.specs.Streams.{IsBlank};
 ghost use Rattle.express_words.specs.Causes.{HasCause, CountsFault, CountsFailure, next};
-ghost use Rattle.express_outside.specs.Calls.{EndedBy};
-ghost use Rattle.express_outside.specs.Answers.{EndedByTrouble, AddsAccept, EndedAtBegin};
+ghost use Rattle.express_outside.specs.Calls.{EndedBy, added};
+ghost use Rattle.express_outside.specs.Answers.{AddsConnect, EndedByFailure, EndedByMoment};
+ghost use Rattle.express_outside.specs.declared.tcp_net.PortCall.TheVariants.{Listened, Accepted, Dialled};
 ghost use Rattle.express_outside.specs.Patience.{IsLimit, seconds};
 
 use crate::adapter::Adapter;
 use crate::calls::Trouble;
+use crate::history::History;
 use crate::patience::{Socket, Timed};
 use express_words::outside::{Counted, Failed, Net};
 use std::time::Instant;
@@ -24,30 +27,45 @@ pub struct Connected<S> {
     pub at: Instant,
 }
 
+/// A call on a door or to an address, with its answer.
+#[derive(Drop)]
+pub enum PortCall {
+    /// The door was opened at this address.
+    Listened(History<u8>, Result<(), Trouble>),
+    /// A connection was taken at the door, at this moment.
+    Accepted(Result<Instant, Trouble>),
+    /// A connection was made to this address, at this moment.
+    Dialled(History<u8>, Result<Instant, Trouble>),
+}
+
 /// The system's calls on a door and on what is behind addresses.
 pub trait Ports {
-    ghost use Rattle.std.specs.declared.time.Instant.{Instant};
-    ghost use Rattle.express_outside.specs.declared.calls.Trouble.{Trouble};
+    ghost use Rattle.express_outside.specs.declared.tcp_net.PortCall.{PortCall};
+    ghost use Rattle.express_outside.specs.declared.tcp_net.PortCall.TheVariants.{Listened, Accepted, Dialled};
 
     /// A connected socket.
     type Socket: Socket + Drop;
 
-    /// What its accepts answered so far, if it tells.
-    ghost accepts: { Self → Option (List (Result Instant Trouble)) };
+    /// Its calls so far, if it tells.
+    ghost calls: { Self → Option (List PortCall) };
 
     /// Opens the door at an address.
-    fn listen(&mut self, at: &str) -> Result<(), Trouble>;
+    fn listen(&mut self, at: &str) -> Result<(), Trouble>
+        ensures told { calls self.new ≡ added (Listened at.now result) (calls self.old) };
 
     /// One accept: the next connection at the door.
     fn accept(&mut self) -> Result<Connected<Self::Socket>, Trouble>
-        ensures told { AddsAccept (accepts self.old) (accepts self.new) result };
+        ensures untaken { IfOk result (λ made. IsBlank (Self.Socket.taken made.socket)) }
+        ensures told { AddsConnect Accepted (calls self.old) (calls self.new) result };
 
     /// A connection to the program at an address.
-    fn dial(&mut self, peer: &str) -> Result<Connected<Self::Socket>, Trouble>;
+    fn dial(&mut self, peer: &str) -> Result<Connected<Self::Socket>, Trouble>
+        ensures untaken { IfOk result (λ made. IsBlank (Self.Socket.taken made.socket)) }
+        ensures told { AddsConnect (Dialled peer.now) (calls self.old) (calls self.new) result };
 
     /// Waits for a moment.
     fn pause(&mut self)
-        ensures { accepts self.new ≡ accepts self.old };
+        ensures { calls self.new ≡ calls self.old };
 }
 
 /// Sockets of the system, each with an end to its patience. Each error is a fault, but for those after which
@@ -101,8 +119,9 @@ impl<P: Ports> TcpNet<P> {
 
 // The next connection at the door, which is tried again where an accept fails.
 fn accept_again<P: Ports>(ports: &mut P) -> Result<Connected<P::Socket>, Trouble>
-    ensures ended { MatchResult result (λ made. EndedBy (P.accepts ports.new) (Ok made.at))
-        (λ why. EndedBy (P.accepts ports.new) (Err why)) }
+    ensures ended { MatchResult result (λ made. EndedBy (P.calls ports.new) (Accepted (Ok made.at)))
+        (λ why. EndedBy (P.calls ports.new) (Accepted (Err why))) }
+    ensures untaken { IfOk result (λ made. IsBlank (P.Socket.taken made.socket)) }
 {
     for _ in 1..MOST_ACCEPTS {
         match ports.accept() {
@@ -124,7 +143,13 @@ impl<P: Ports> Counted for TcpNet<P> {
 impl<P: Ports> Net for TcpNet<P> {
     type Conn = Adapter<Timed<P::Socket>>;
 
-    fn listen(&mut self, at: &str) -> Result<(), Failed> {
+    fn listen(&mut self, at: &str) -> Result<(), Failed>
+        ensures door { CountsFailure self.old.doors self.new.doors result }
+        ensures cause { HasCause self.old.faults self.new.faults result }
+        ensures counts { CountsFault self.old.faults self.new.faults result }
+        ensures opened { OnOk result (EndedBy (P.calls self.new.ports) (Listened at.now (Ok tt))) }
+        ensures ended { OnErr result (EndedByFailure (Listened at.now) (P.calls self.new.ports)) }
+    {
         match self.ports.listen(at) {
             Ok(()) => Ok(()),
             Err(_) => {
@@ -136,11 +161,12 @@ impl<P: Ports> Net for TcpNet<P> {
 
     fn accept(&mut self) -> Result<Adapter<Timed<P::Socket>>, Failed>
         ensures whole { IfOk result (λ conn. conn.faults ≡ 0) }
+        ensures unwritten { IfOk result (λ conn. IsBlank (P.Socket.taken conn.inner.socket)) }
         ensures door { CountsFailure self.old.doors self.new.doors result }
         ensures cause { HasCause self.old.faults self.new.faults result }
         ensures counts { CountsFault self.old.faults self.new.faults result }
-        ensures begun { IfOk result (λ conn. EndedAtBegin conn.inner.reading (P.accepts self.new.ports)) }
-        ensures ended { OnErr result (EndedByTrouble (P.accepts self.new.ports)) }
+        ensures begun { IfOk result (λ conn. EndedByMoment Accepted conn.inner.reading (P.calls self.new.ports)) }
+        ensures ended { OnErr result (EndedByFailure Accepted (P.calls self.new.ports)) }
         ensures reading { IfOk result (λ conn. as_nanos conn.inner.reading.allowed ≡ seconds 10) }
         ensures writing { IfOk result (λ conn. IsLimit conn.inner.writing None 10) }
     {
@@ -155,12 +181,14 @@ impl<P: Ports> Net for TcpNet<P> {
 
     fn dial(&mut self, peer: &str) -> Result<Adapter<Timed<P::Socket>>, Failed>
         ensures whole { IfOk result (λ conn. conn.faults ≡ 0) }
+        ensures unwritten { IfOk result (λ conn. IsBlank (P.Socket.taken conn.inner.socket)) }
         ensures door { self.new.doors ≡ self.old.doors }
         ensures cause { HasCause self.old.faults self.new.faults result }
         ensures counts { CountsFault self.old.faults self.new.faults result }
         ensures one_limit { IfOk result (λ conn. conn.inner.writing ≡ conn.inner.reading) }
         ensures limit { IfOk result (λ conn. as_nanos conn.inner.reading.allowed ≡ seconds 60) }
-        ensures begun { IfOk result (λ conn. (at : _) × (conn.inner.reading.began ≡ Some at)) }
+        ensures begun { IfOk result (λ conn. EndedByMoment (Dialled peer.now) conn.inner.reading (P.calls self.new.ports)) }
+        ensures ended { OnErr result (EndedByFailure (Dialled peer.now) (P.calls self.new.ports)) }
     {
         match self.ports.dial(peer) {
             Ok(made) => Ok(Adapter::new(Timed::dialled(made.socket, made.at))),

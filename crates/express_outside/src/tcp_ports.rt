@@ -1,9 +1,10 @@
 //! TCP sockets of the system.
-ghost use Rattle.std.specs.Prelude.{◌≤◌, None, length, IfOk};
+ghost use Rattle.std.specs.Prelude.{◌≡◌, ◌≤◌, [], Some, Ok, Err, length, IfOk, MatchResult};
 
-use crate::calls::{Trouble, trouble_of};
-use crate::patience::{Limit, Socket};
-use crate::tcp_net::{Connected, Ports};
+use crate::calls::{Passes, Trouble, trouble_of};
+use crate::history::{History, noted};
+use crate::patience::{Limit, Socket, SocketCall};
+use crate::tcp_net::{Connected, PortCall, Ports};
 use std::io::{ErrorKind, Read, Write};
 use std::net::{Net, OpenListener, OpenStream, SocketAddr, TcpListener, TcpStream, ToSocketAddrs};
 use std::time::{Clock, Duration, Instant};
@@ -15,29 +16,48 @@ const PATIENCE_WITH_DIALS: u64 = 10;
 /// So many milliseconds a door that failed is left alone.
 const PAUSE: u64 = 100;
 
-/// The ports of the system, with a listener once `listen` has succeeded. An address is an IP address or a
-/// host's name, and a port, as "127.0.0.1:7000".
+/// The ports of the system, with a listener once `listen` has succeeded. An address is an IP address or a host's name,
+/// and a port, as "127.0.0.1:7000". They tell their calls.
 #[derive(Drop)]
 pub struct TcpPorts<R: Net + Clock + Copy> {
     rt: R,
     door: Option<R::Listener>,
+    calls: History<PortCall>,
 }
 
-/// A stream, and the clock by which its calls end in time.
+/// A stream, and the clock by which its calls end in time. It tells its calls and the bytes that its writes took.
 #[derive(Drop)]
 pub struct TcpSocket<R: Net + Clock + Copy> {
     rt: R,
     stream: R::Stream,
+    calls: History<SocketCall>,
+    taken: History<u8>,
+}
+
+// The moment at which a socket was connected, where it was.
+fn moment_of<S>(answer: &Result<Connected<S>, Trouble>) -> Result<Instant, Trouble>
+    ensures { MatchResult answer.now (λ made. result ≡ Ok made.at) (λ why. result ≡ Err why) }
+{
+    match answer {
+        Ok(made) => Ok(made.at),
+        Err(why) => Err(*why),
+    }
 }
 
 impl<R: Net + Clock + Copy> TcpPorts<R> {
     /// Listens nowhere yet.
     pub fn new(rt: R) -> Self {
-        TcpPorts { rt, door: None }
+        TcpPorts {
+            rt,
+            door: None,
+            calls: History::new(),
+        }
     }
 
     // The stream, as connected now.
-    fn connected(&self, stream: R::Stream) -> io::Result<Connected<TcpSocket<R>>> {
+    fn connected(&self, stream: R::Stream) -> io::Result<Connected<TcpSocket<R>>>
+        ensures { IfOk result (λ made. made.socket.taken ≡ []) }
+    {
         let at = Instant::now(&self.rt)?;
         Ok(Connected {
             socket: TcpSocket::new(self.rt, stream),
@@ -45,7 +65,16 @@ impl<R: Net + Clock + Copy> TcpPorts<R> {
         })
     }
 
-    fn accepted(&self) -> io::Result<Connected<TcpSocket<R>>> {
+    fn opened(&mut self, at: &str) -> Result<(), Trouble>
+        ensures { self.new.calls ≡ self.old.calls }
+    {
+        self.door = Some(TcpListener::bind(&self.rt, at).map_err(trouble_of)?);
+        Ok(())
+    }
+
+    fn accepted(&self) -> io::Result<Connected<TcpSocket<R>>>
+        ensures { IfOk result (λ made. made.socket.taken ≡ []) }
+    {
         let Some(door) = &self.door else {
             return Err(io::Error::from(ErrorKind::NotConnected));
         };
@@ -62,7 +91,9 @@ impl<R: Net + Clock + Copy> TcpPorts<R> {
     }
 
     // Each address of the peer is dialled in turn.
-    fn dialled(&self, peer: &str) -> io::Result<Connected<TcpSocket<R>>> {
+    fn dialled(&self, peer: &str) -> io::Result<Connected<TcpSocket<R>>>
+        ensures { IfOk result (λ made. made.socket.taken ≡ []) }
+    {
         let mut limit = Limit::of(PATIENCE_WITH_DIALS);
         let mut last = io::Error::from(ErrorKind::InvalidInput);
         for addr in peer.to_socket_addrs(&self.rt)? {
@@ -78,19 +109,25 @@ impl<R: Net + Clock + Copy> TcpPorts<R> {
 impl<R: Net + Clock + Copy> Ports for TcpPorts<R> {
     type Socket = TcpSocket<R>;
 
-    ghost accepts = { λ _. None };
+    ghost calls = { λ ports. Some ports.calls };
 
     fn listen(&mut self, at: &str) -> Result<(), Trouble> {
-        self.door = Some(TcpListener::bind(&self.rt, at).map_err(trouble_of)?);
-        Ok(())
+        let answer = self.opened(at);
+        self.calls
+            .note(&PortCall::Listened(noted(at.as_bytes()), answer));
+        answer
     }
 
     fn accept(&mut self) -> Result<Connected<TcpSocket<R>>, Trouble> {
-        self.accepted().map_err(trouble_of)
+        let answer = self.accepted().map_err(trouble_of);
+        self.calls.note(&PortCall::Accepted(moment_of(&answer)));
+        answer
     }
 
     fn dial(&mut self, peer: &str) -> Result<Connected<TcpSocket<R>>, Trouble> {
-        self.dialled(peer).map_err(trouble_of)
+        let answer = self.dialled(peer).map_err(trouble_of);
+        self.calls.note(&PortCall::Dialled(noted(peer.as_bytes()), moment_of(&answer)));
+        answer
     }
 
     fn pause(&mut self) {
@@ -100,37 +137,59 @@ impl<R: Net + Clock + Copy> Ports for TcpPorts<R> {
 
 impl<R: Net + Clock + Copy> TcpSocket<R> {
     /// A stream whose calls end by this clock.
-    pub fn new(rt: R, stream: R::Stream) -> Self {
-        TcpSocket { rt, stream }
+    pub fn new(rt: R, stream: R::Stream) -> Self
+        ensures { (result.calls ≡ []) × (result.taken ≡ []) }
+    {
+        TcpSocket {
+            rt,
+            stream,
+            calls: History::new(),
+            taken: History::new(),
+        }
     }
 
     fn read_in_time(&mut self, left: Duration, buf: &mut [u8]) -> io::Result<usize>
-        ensures { IfOk result (λ n. n ≤ length buf.new) }
+        ensures bound { IfOk result (λ n. n ≤ length buf.new) }
+        ensures told { (self.new.calls ≡ self.old.calls) × (self.new.taken ≡ self.old.taken) }
     {
         self.stream.set_read_timeout(Some(left))?;
         self.stream.read(buf)
     }
 
     fn write_in_time(&mut self, left: Duration, bytes: &[u8]) -> io::Result<usize>
-        ensures { IfOk result (λ n. n ≤ length bytes.now) }
+        ensures bound { IfOk result (λ n. n ≤ length bytes.now) }
+        ensures told { (self.new.calls ≡ self.old.calls) × (self.new.taken ≡ self.old.taken) }
     {
         self.stream.set_write_timeout(Some(left))?;
         self.stream.write(bytes)
     }
 }
 
+impl<R: Net + Clock + Copy> Passes for TcpSocket<R> {
+    ghost taken = { λ socket. Some socket.taken };
+}
+
 impl<R: Net + Clock + Copy> Socket for TcpSocket<R> {
-    ghost calls = { λ _. None };
+    ghost calls = { λ socket. Some socket.calls };
 
     fn now(&mut self) -> Result<Instant, Trouble> {
-        Instant::now(&self.rt).map_err(trouble_of)
+        let now = Instant::now(&self.rt).map_err(trouble_of)?;
+        self.calls.note(&SocketCall::Told(now));
+        Ok(now)
     }
 
     fn read_within(&mut self, left: Duration, buf: &mut [u8]) -> Result<usize, Trouble> {
-        self.read_in_time(left, buf).map_err(trouble_of)
+        let answer = self.read_in_time(left, buf).map_err(trouble_of);
+        self.calls.note(&SocketCall::ReadWithin(left, answer));
+        answer
     }
 
     fn write_within(&mut self, left: Duration, bytes: &[u8]) -> Result<usize, Trouble> {
-        self.write_in_time(left, bytes).map_err(trouble_of)
+        let answer = self.write_in_time(left, bytes).map_err(trouble_of);
+        if let Ok(count) = answer {
+            self.taken.note_bytes(&bytes[..count]);
+        }
+        self.calls.note(&SocketCall::WroteWithin(left, answer));
+        answer
     }
 }

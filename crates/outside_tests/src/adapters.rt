@@ -1,7 +1,8 @@
 //! The adapters over a reader and a writer that fail or are interrupted.
-use express_outside::{Adapter, Direct};
+use express_outside::{Adapter, Direct, FileCall, History};
 use express_words::outside::{Counted, Failed, Sink, Source};
 use std::io::{self, ErrorKind, Read, Write};
+use std::mem::size_of;
 
 /// A reader that has two bytes, then fails once, then has ended. Each of its reads is interrupted so many times first.
 #[derive(Drop)]
@@ -64,7 +65,7 @@ fn has_ok(buf: &[u8; 8]) -> bool {
 
 // Two bytes, a fault and the end.
 fn source_told(interrupts: u32) -> [bool; 4] {
-    let mut source = Adapter::new(Direct(Failing::new(interrupts)));
+    let mut source = Adapter::new(Direct::new(Failing::new(interrupts)));
     let mut buf = [0u8; 8];
     [
         gives(&mut source, &mut buf, 2, 0),
@@ -83,7 +84,7 @@ fn a_source_counts_a_read_error_but_no_interruption_and_no_end(rt: HostRuntime) 
 
 #[test]
 fn a_source_that_is_always_interrupted_is_a_fault(rt: HostRuntime) {
-    let mut source = Adapter::new(Direct(Failing::new(1000)));
+    let mut source = Adapter::new(Direct::new(Failing::new(1000)));
     assert!(rt; fails(&mut source, &mut [0; 8], 1));
 }
 
@@ -117,7 +118,7 @@ impl Write for Narrow {
 }
 
 fn sink(flushes: bool) -> Adapter<Direct<Narrow>> {
-    Adapter::new(Direct(Narrow {
+    Adapter::new(Direct::new(Narrow {
         room: 7,
         flushes,
         is_interrupted: false,
@@ -143,4 +144,10 @@ fn a_sink_writes_on_and_counts_what_is_not_taken(rt: HostRuntime) {
 fn output_that_cannot_be_flushed_is_a_fault(rt: HostRuntime) {
     let mut stuck = sink(false);
     assert!(rt; puts(&mut stuck, b"short", false, 1));
+}
+
+#[test]
+fn what_is_noted_takes_no_memory(rt: HostRuntime) {
+    assert_eq!(rt; size_of::<History<FileCall>>(), 0);
+    assert_eq!(rt; size_of::<Direct<u64>>(), size_of::<u64>());
 }

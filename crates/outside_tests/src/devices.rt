@@ -11,7 +11,7 @@ fn takes(source: &mut Adapter<Direct<File>>, answer: Option<usize>, faults: u64)
 }
 
 fn source(rt: &HostRuntime, path: &str) -> Result<Adapter<Direct<File>>, Fail> {
-    Ok(Adapter::new(Direct(File::open(rt, path)?)))
+    Ok(Adapter::new(Direct::new(File::open(rt, path)?)))
 }
 
 #[test]
@@ -41,13 +41,13 @@ fn refuses<S: Sink>(sink: &mut S) -> bool {
 
 #[test]
 fn a_device_that_is_full_is_a_fault(rt: HostRuntime) -> Result<(), Fail> {
-    assert!(rt; refuses(&mut Adapter::new(Direct(full_device(&rt)?))));
+    assert!(rt; refuses(&mut Adapter::new(Direct::new(full_device(&rt)?))));
     Ok(())
 }
 
 #[test]
 fn what_is_held_back_for_a_device_that_is_full_is_a_fault(rt: HostRuntime) -> Result<(), Fail> {
     let held_back = BufWriter::new(rt.alloc(), full_device(&rt)?)?;
-    assert!(rt; refuses(&mut Adapter::new(Direct(held_back))));
+    assert!(rt; refuses(&mut Adapter::new(Direct::new(held_back))));
     Ok(())
 }

@@ -1,7 +1,7 @@
 //! A door whose accepts fail.
 ghost use Rattle.std.specs.Prelude.{None};
 
-use express_outside::{Connected, Ports, Socket, TcpNet, Trouble};
+use express_outside::{Connected, Passes, Ports, Socket, TcpNet, Trouble};
 use express_words::outside::{Counted, Net};
 use std::test::Fail;
 use std::time::{Duration, Instant};
@@ -9,6 +9,10 @@ use std::time::{Duration, Instant};
 /// A socket of which each call fails.
 #[derive(Drop)]
 struct Broken;
+
+impl Passes for Broken {
+    ghost taken = { λ _. None };
+}
 
 impl Socket for Broken {
     ghost calls = { λ _. None };
@@ -36,7 +40,7 @@ struct Jammed {
 impl Ports for Jammed {
     type Socket = Broken;
 
-    ghost accepts = { λ _. None };
+    ghost calls = { λ _. None };
 
     fn listen(&mut self, _at: &str) -> Result<(), Trouble> {
         Err(Trouble::Broken)

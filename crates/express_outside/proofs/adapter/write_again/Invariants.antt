@@ -2,4 +2,4 @@ use Rattle.std.specs.Io.KnownBytes.{Keeps}
 use Rattle.express_outside.proofs.adapter.write_again.Given as goal
 
 abbrev pub invariant-loop : goal.invariant-loop
-invariant-loop g l = Keeps (g.T.Writes.contents l.initial.inner) (g.T.Writes.contents l.inner)
+invariant-loop g l = Keeps (g.T.Passes.taken l.initial.inner) (g.T.Passes.taken l.inner)
