@@ -1,0 +1,13 @@
+use Rattle.std.proofs.Common.{◌≡◌, [], length, take, All}
+use Rattle.many_conns.specs.Hall.{Leads, IsLooked, IsServed, IsInTime}
+use Rattle.many_conns.proofs.hall.Hall.close_over.Given as goal
+
+abbrev pub invariant-loop-place : goal.invariant-loop-place
+invariant-loop-place g l = record {
+  leads : Leads g.S.Answering.rules (g.H.Hub.told l.fn.hub) (g.H.Hub.told l.hub) l.fn.self l.self;
+  nothing_owed : l.self.owed ≡ [];
+  count : l.place-end ≡ length l.self.places;
+  looked : All IsLooked l.self.places;
+  served : IsServed g.S.Answering.rules l.self;
+  in_time : All (IsInTime g.S.Answering.rules.whole l.self.patience l.self.now) (take l.place l.self.places);
+}

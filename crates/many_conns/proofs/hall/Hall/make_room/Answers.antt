@@ -1,0 +1,12 @@
+use Rattle.std.proofs.Common.{sym, subst}
+use Rattle.many_conns.specs.Hall.{IsOldestAt}
+use Rattle.many_words.specs.Events.{Adds, Dropped}
+use Rattle.many_conns.proofs.PlaceLaws.{drops_at, no_frame_of}
+use Rattle.many_conns.proofs.hall.Hall.make_room.Goals as goal
+
+pub returns-clause-leads : goal.returns-clause-leads
+returns-clause-leads g c =
+    drops_at _ _ _ _ _ _ _ _ _ _ _ _ _ _ _ _ (sym c.self.view_is) c.requires.nothing_owed
+    (subst (λ k. IsOldestAt k c.in-Some.place) c.deref.ensures.value c.in-Some.ensures)
+    c.index.ensures (no_frame_of _ _ _ c.frame.ensures.frame c.if-is_some.ensures) c.close.ensures
+    (subst (λ t. Adds t (g.H.Hub.told c.drop_for_another.new.self) (Dropped c.in-Some.place)) c.knocks.ensures c.drop_for_another.ensures)

@@ -1,0 +1,9 @@
+use Rattle.std.proofs.Common.{◌≡◌, ◌++◌, length, take, drop, map}
+use Rattle.many_conns.specs.Places.{waited}
+use Rattle.many_conns.proofs.rooms.wait_all.Given as goal
+
+abbrev pub invariant-loop-place : goal.invariant-loop-place
+invariant-loop-place l = record {
+  count : l.place-end ≡ length l.fn.places.items;
+  places : l.places.items ≡ map waited (take l.place l.fn.places.items) ++ drop l.place l.fn.places.items;
+}

@@ -1,0 +1,226 @@
+-- The server of many connections as a machine that takes the events of its outside one by one.
+use Rattle.std.specs.Prelude.{◌≡◌, ℕ, ◌<◌, ◌≤◌, min, Bool, true, false, ◌⊎◌, All}
+use Rattle.std.specs.Prelude.{List, [], ◌∷◌, ◌++◌, length, map, Option, Some, None, unwrap_or}
+use Rattle.std.specs.Prelude.{slice_get, slice_set}
+use Rattle.many_words.specs.Events.{Event, Entry, Adds}
+use Rattle.many_words.specs.Events.{Waited, Opened, Came, Ended, Blocked, Closed, Dropped, Logged, LogFailed, Unanswered, Sent}
+use Rattle.many_conns.specs.Rules.{Rules}
+use Rattle.many_conns.specs.Places.{Place, empty_place, new_place, waited, with_bytes, at_end, blocked, frame_at, is_over}
+use Rattle.many_conns.specs.declared.patience.Patience.{Patience}
+use Rattle.many_conns.specs.Routes.{Sending, sending, places_after}
+use Rattle.many_conns.specs.Batches.{Budget, line, admitted, refused, all_taken}
+
+-- ---- all of them
+
+-- The connections by place, the moment of the last wait, the server, and the frames that are to be answered, in
+-- order. A round takes at most so many frames, and so many dear ones among them, from the place on whose turn it is;
+-- since the last wait it has taken them, or hasn't.
+pub record Hall (S : Type 0) : Type 0 where
+  pub patience : Patience
+  pub most : ℕ
+  pub most_dear : ℕ
+  pub now : ℕ
+  pub places : List Place
+  pub turn : ℕ
+  pub served : Bool
+  pub server : S
+  pub owed : List Entry
+
+-- what a round takes: as much as the server has room for, and no more than it may
+abbrev pub budget : {S : Type 0} → Rules S → Hall S → Budget
+budget rules h = record { frames = min h.most (rules.room h.server); dear = h.most_dear }
+
+-- the whole frames that wait
+abbrev pub waiting : {S : Type 0} → Rules S → Hall S → List Entry
+waiting rules h = line rules.whole h.turn h.places
+
+-- those of them that a round takes
+abbrev pub batch : {S : Type 0} → Rules S → Hall S → List Entry
+batch rules h = admitted rules.is_dear (budget rules h) (waiting rules h)
+
+-- whose turn it is behind them: the first that wasn't taken
+abbrev pub next_turn : {S : Type 0} → Rules S → Hall S → ℕ
+next_turn rules h = unwrap_or (refused rules.is_dear (budget rules h) (waiting rules h)) h.turn
+
+-- the time of a connection isn't over
+abbrev pub IsInTime : (whole : List ℕ → Option ℕ) → Patience → (now : ℕ) → Place → Type 0
+IsInTime whole patience now p = p.live ≡ true → is_over whole patience now p ≡ false
+
+-- a connection was looked at since the last wait
+abbrev pub IsLooked : Place → Type 0
+IsLooked p = p.live ≡ true → p.due ≡ false
+
+-- it has no whole frame that could be taken
+abbrev pub HasNoFrame : (whole : List ℕ → Option ℕ) → Place → Type 0
+HasNoFrame whole p = frame_at whole p ≡ None
+
+-- since the last wait a batch was taken, or there was nothing to take
+abbrev pub IsServed : {S : Type 0} → Rules S → Hall S → Type 0
+IsServed rules h = (h.served ≡ true) ⊎ ((h.owed ≡ []) × All (HasNoFrame rules.whole) h.places)
+
+-- P of the place of this number
+abbrev pub IsSomeAt : List Place → ℕ → (Place → Type 0) → Type 0
+IsSomeAt places place P = (p : Place) → slice_get places place ≡ Some p → P p
+
+-- every place has a connection, and the one of this number has been waited for the longest
+pub record IsOldestAt (places : List Place) (place : ℕ) : Type 0 where
+  pub there : place < length places
+  pub full : All (λ p. p.live ≡ true) places
+  pub oldest : (before : Place) → slice_get places place ≡ Some before → All (λ p. before.since ≤ p.since) places
+
+abbrev pub with_place : {S : Type 0} → Hall S → ℕ → Place → Hall S
+with_place h place p = record h { places = slice_set h.places place p }
+
+-- ---- the rules
+
+-- a place where a connection is, and nothing is owed
+pub record IsOpenAt {S : Type 0} (h : Hall S) (place : ℕ) (p : Place) : Type 0 where
+  pub nothing_owed : h.owed ≡ []
+  pub there : slice_get h.places place ≡ Some p
+  pub live : p.live ≡ true
+
+-- a place where none is
+pub record IsFreeAt {S : Type 0} (h : Hall S) (place : ℕ) (p : Place) : Type 0 where
+  pub nothing_owed : h.owed ≡ []
+  pub there : slice_get h.places place ≡ Some p
+  pub free : p.live ≡ false
+
+-- Nothing is owed, each connection was looked at, what was whole was taken as far as there was room, and nobody's
+-- time is over.
+pub record IsSettled {S : Type 0} (rules : Rules S) (h : Hall S) : Type 0 where
+  pub nothing_owed : h.owed ≡ []
+  pub looked : All IsLooked h.places
+  pub served : IsServed rules h
+  pub in_time : All (IsInTime rules.whole h.patience h.now) h.places
+
+-- the server waits only where all is settled
+pub record Waits {S : Type 0} (rules : Rules S) (h : Hall S) (now : ℕ) (t : Hall S) : Type 0 where
+  pub settled : IsSettled rules h
+  pub is : t ≡ record h { now = now; places = map waited h.places; served = false }
+
+-- a connection is opened where none is
+pub record Opens {S : Type 0} (h : Hall S) (place : ℕ) (t : Hall S) : Type 0 where
+  pub before : Place
+  pub free : IsFreeAt h place before
+  pub is : t ≡ with_place h place (new_place h.now)
+
+-- bytes come behind those that came before
+pub record Comes {S : Type 0} (h : Hall S) (place : ℕ) (bytes : List ℕ) (t : Hall S) : Type 0 where
+  pub before : Place
+  pub at : IsOpenAt h place before
+  pub is : t ≡ with_place h place (with_bytes bytes before)
+
+-- a connection has no more
+pub record Ends {S : Type 0} (h : Hall S) (place : ℕ) (t : Hall S) : Type 0 where
+  pub before : Place
+  pub at : IsOpenAt h place before
+  pub is : t ≡ with_place h place (at_end before)
+
+-- nothing is taken of a connection whose output is pending
+pub record Blocks {S : Type 0} (h : Hall S) (place : ℕ) (t : Hall S) : Type 0 where
+  pub before : Place
+  pub at : IsOpenAt h place before
+  pub is : t ≡ with_place h place (blocked before)
+
+-- a connection is closed only where its time is over
+pub record Closes {S : Type 0} (rules : Rules S) (h : Hall S) (place : ℕ) (t : Hall S) : Type 0 where
+  pub before : Place
+  pub at : IsOpenAt h place before
+  pub over : is_over rules.whole h.patience h.now before ≡ true
+  pub is : t ≡ with_place h place empty_place
+
+-- A connection is dropped for another only where every place has one, and it is one that has been waited for the
+-- longest and has no whole frame.
+pub record Drops {S : Type 0} (rules : Rules S) (h : Hall S) (place : ℕ) (t : Hall S) : Type 0 where
+  pub before : Place
+  pub at : IsOpenAt h place before
+  pub full : All (λ p. p.live ≡ true) h.places
+  pub oldest : All (λ p. before.since ≤ p.since) h.places
+  pub no_frame : frame_at rules.whole before ≡ None
+  pub is : t ≡ with_place h place empty_place
+
+-- Once a round the log has the frames that it takes, together. From then on their answers are owed, and nothing else.
+pub record Logs {S : Type 0} (rules : Rules S) (h : Hall S) (entries : List Entry) (t : Hall S) : Type 0 where
+  pub nothing_owed : h.owed ≡ []
+  pub once : h.served ≡ false
+  pub written : entries ≡ batch rules h
+  pub is : t ≡ record h {
+    places = all_taken h.now (batch rules h) h.places;
+    turn = next_turn rules h;
+    served = true;
+    owed = batch rules h;
+  }
+
+-- the frame that was logged first is taken
+abbrev pub handled : {S : Type 0} → Rules S → Hall S → Entry → List Entry → Hall S
+handled rules h first rest = record h {
+  places = places_after h.now first.place (rules.says h.server first.frame) h.places;
+  owed = rest;
+  server = rules.after h.server first.frame;
+}
+
+-- Only what is owed is sent: what becomes of the frame that was logged first, to the place that it is for.
+pub record Sends {S : Type 0} (rules : Rules S) (h : Hall S) (place : ℕ) (bytes : List ℕ) (t : Hall S)
+    : Type 0 where
+  pub first : Entry
+  pub rest : List Entry
+  pub owed : h.owed ≡ first ∷ rest
+  pub said : sending first.place (rules.says h.server first.frame) h.places
+      ≡ Some (record { place = place; bytes = bytes })
+  pub is : t ≡ handled rules h first rest
+
+-- The frame that was logged first, which came of this place, has nothing to be sent now.
+pub record Leaves {S : Type 0} (rules : Rules S) (h : Hall S) (place : ℕ) (t : Hall S) : Type 0 where
+  pub first : Entry
+  pub rest : List Entry
+  pub owed : h.owed ≡ first ∷ rest
+  pub from : first.place ≡ place
+  pub said : sending first.place (rules.says h.server first.frame) h.places ≡ None
+  pub is : t ≡ handled rules h first rest
+
+-- A log that fails changes nothing: nothing is owed for what it didn't take.
+pub record Fails {S : Type 0} (h t : Hall S) : Type 0 where
+  pub nothing_owed : h.owed ≡ []
+  pub is : t ≡ h
+
+-- one event
+abbrev pub Steps : {S : Type 0} → Rules S → Hall S → Event → Hall S → Type 0
+Steps rules h (Waited now) t = Waits rules h now t
+Steps rules h (Opened place) t = Opens h place t
+Steps rules h (Came place bytes) t = Comes h place bytes t
+Steps rules h (Ended place) t = Ends h place t
+Steps rules h (Blocked place) t = Blocks h place t
+Steps rules h (Closed place) t = Closes rules h place t
+Steps rules h (Dropped place) t = Drops rules h place t
+Steps rules h (Logged entries) t = Logs rules h entries t
+Steps rules h LogFailed t = Fails h t
+Steps rules h (Unanswered place) t = Leaves rules h place t
+Steps rules h (Sent place bytes) t = Sends rules h place bytes t
+
+-- events one after another
+abbrev pub Runs : {S : Type 0} → Rules S → Hall S → List Event → Hall S → Type 0
+Runs rules h [] t = t ≡ h
+Runs {S} rules h (e ∷ events) t = (m : Hall S) × Steps rules h e m × Runs rules m events t
+
+-- From old to new the outside had events that lead from the one state to the other.
+abbrev pub Leads : {S : Type 0} → Rules S → (old new : Option (List Event)) → Hall S → Hall S → Type 0
+Leads rules old None h t = Unit {0}
+Leads rules None (Some new) h t = ⊥
+Leads rules (Some old) (Some new) h t = (events : List Event) × (new ≡ old ++ events) × Runs rules h events t
+
+-- From old to new the server waited, and what came after that was done.
+pub record Rounds {S : Type 0} (rules : Rules S) (old new : Option (List Event)) (h t : Hall S) : Type 0 where
+  pub between : Option (List Event)
+  pub now : ℕ
+  pub awake : Hall S
+  pub waits : Waits rules h now awake
+  pub told : Adds old between (Waited now)
+  pub leads : Leads rules between new awake t
+
+-- what stays as it was while connections come, bring bytes and go
+pub record Keeps {S : Type 0} (old new : Hall S) : Type 0 where
+  pub patience : new.patience ≡ old.patience
+  pub now : new.now ≡ old.now
+  pub served : new.served ≡ old.served
+  pub owed : new.owed ≡ old.owed
+  pub count : length new.places ≡ length old.places

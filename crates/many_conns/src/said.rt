@@ -1,0 +1,21 @@
+//! What becomes of a frame.
+
+/// What a place waits for: the answer to a lane's serial.
+#[derive(Clone, Copy, Debug, PartialEq, Eq)]
+pub struct Key {
+    pub lane: u16,
+    pub serial: u32,
+}
+
+/// What a step says of a frame, with the length of what it wrote.
+#[derive(Clone, Copy, Debug, PartialEq, Eq)]
+pub enum Said {
+    /// Its answer, which goes to its own place.
+    Answer(usize),
+    /// Its place waits for this. Who waited for it before is closed unanswered.
+    Wait(Key),
+    /// The answer for whoever waits for this, if anybody does.
+    Reply(Key, usize),
+    /// No answer is due.
+    Nothing,
+}
