@@ -61,15 +61,23 @@ class PublicPart:
         self.words = [number(part[16 * level : 16 * level + 16]) for level in range(128)]
         self.rights, self.last = number(part[2048:2064]), part[2064:]
 
-    def leaf(self, server, root, address):
-        """A server's leaf of an address."""
-        state = root & ~1 | server
-        for level, word in enumerate(self.words):
-            side = address >> 127 - level & 1
+    def walk(self, state, address, first=0, past=128):
+        """A server's state past these levels on the way to an address, from the one before them."""
+        for level in range(first, past):
+            word, side = self.words[level], address >> 127 - level & 1
             raw = children(state)[side]
             correction = word if side == 0 else word & ~1 | self.rights >> level & 1
             state = raw ^ correction if state & 1 else raw
         return state
+
+    def leaf(self, server, root, address):
+        """A server's leaf of an address."""
+        return self.walk(root & ~1 | server, address)
+
+    def added(self, leaf):
+        """What a write adds to a server's share of the box at which it has this leaf."""
+        own = block(len(self.last), leaf)
+        return xor(self.last, own) if leaf & 1 else own
 
     def message(self, leaf, other):
         """What a write puts into the box at which the servers have these leaves."""
