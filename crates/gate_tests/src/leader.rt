@@ -26,7 +26,7 @@ fn disk_of(alloc: Global, bytes: &[u8]) -> Result<MemoryDisk, NoMemory> {
 fn reading(ticket: u8) -> Ticketed<'static> {
     Ticketed {
         ticket: Ticket([ticket; 16]),
-        challenge: None,
+        statement: None,
         frame: Frame {
             lane: 1,
             serial: 1,

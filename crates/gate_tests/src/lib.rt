@@ -6,4 +6,6 @@ mod leader;
 #[cfg(test)]
 mod printed;
 #[cfg(test)]
+mod statement;
+#[cfg(test)]
 mod told;

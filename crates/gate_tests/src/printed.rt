@@ -1,6 +1,6 @@
-//! The hash of a ticket as another program computes it, and the texts of faults.
+//! The hashes of a ticket and of a statement as another program computes them, and the texts of faults.
 use crate::told::is_told;
-use lane_gate::{GateFault, NotYours, Ticket};
+use lane_gate::{GateFault, NotYours, StatementHash, Ticket};
 use lane_leases::UsedUp;
 use std::alloc::Global;
 use std::test::Fail;
@@ -16,12 +16,23 @@ fn a_ticket_is_known_by_its_sha_256(rt: HostRuntime) {
     assert!(rt; Ticket([7; 16]).hash().0 == HASH_OF_SEVENS);
 }
 
+// By Python's hashlib, of thirty-two bytes 7 and then the bytes 1 to 4.
+const HASH_OF_STATEMENT: [u8; 32] = [
+    0x6d, 0x54, 0xba, 0xe4, 0xec, 0xda, 0x2f, 0x3e, 0x9c, 0x64, 0x91, 0xca, 0x7a, 0xe4, 0xf9, 0xd8,
+    0x81, 0x83, 0xdb, 0x94, 0xe2, 0xf9, 0xef, 0x34, 0xdb, 0xf2, 0xe5, 0x49, 0x85, 0xa5, 0xc6, 0x60,
+];
+
+#[test]
+fn a_statement_is_known_by_its_keys_and_parts_sha_256(rt: HostRuntime) {
+    assert!(rt; StatementHash::of(&[7; 32], &[1, 2, 3, 4]).0 == HASH_OF_STATEMENT);
+}
+
 const FAULTS: [GateFault; 6] = [
     GateFault::NotOwners,
     GateFault::NotStrangers,
     GateFault::HasLease,
     GateFault::NoRequest,
-    GateFault::HasChallenge,
+    GateFault::HasStatement,
     GateFault::NoNumber,
 ];
 
@@ -38,7 +49,7 @@ fn faults_told(alloc: Global) -> Result<String, Fail> {
 fn faults_have_their_texts(rt: HostRuntime) -> Result<(), Fail> {
     is_told(
         faults_told(rt.alloc()),
-        "not an owner's lane, not a strangers' lane, serial leased, no such request, serial challenged, \
+        "not an owner's lane, not a strangers' lane, serial leased, no such request, serial has a statement, \
          no lease number, not yours, leases used up",
     )
 }

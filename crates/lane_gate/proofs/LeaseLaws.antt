@@ -3,14 +3,15 @@ use Rattle.std.proofs.Common.{◌≡◌, ℕ, ◌+◌, ◌<◌, ◌≤◌, inl, 
 use Rattle.std.proofs.lemmas.Bool.{ltb-true}
 use Rattle.lane_gate.specs.declared.fault.GateFault.TheVariants as fault
 use Rattle.lane_gate.specs.declared.ticket.TicketHash.{TicketHash}
+use Rattle.lane_gate.specs.declared.statement.StatementHash.{StatementHash}
 use Rattle.lane_gate.specs.declared.holder.Holder.{Holder}
 use Rattle.lane_gate.specs.declared.holder.Holder.TheVariants.{Keyless, Owner, Free, Leased}
 use Rattle.lane_gate.specs.declared.row.GateRow.{GateRow}
 use Rattle.lane_gate.specs.declared.note.Note.{Note}
-use Rattle.lane_gate.specs.declared.note.Note.TheVariants.{Key, Challenge, Lease}
+use Rattle.lane_gate.specs.declared.note.Note.TheVariants.{Key, Statement, Lease}
 use Rattle.lane_gate.specs.Holders.{last_serial, is_owners}
 use Rattle.lane_gate.specs.Gates.{GateState, Answer, row_at, keyless, above_answer, key_answer, lease_answer}
-use Rattle.lane_gate.specs.Gates.{with_key, with_lease, with_challenge, note_answer, with_note, after_note, if_taken}
+use Rattle.lane_gate.specs.Gates.{with_key, with_lease, with_statement, note_answer, with_note, after_note, if_taken}
 use Rattle.lane_gate.specs.Runs.{granted, AreAbove, Rise, LeasesRise}
 use Rattle.lane_gate.proofs.RowLaws.{set-either, set-there}
 
@@ -75,14 +76,14 @@ lease-last gate lane serial hash taken =
 -- ---- the last serial of a lane after a note
 
 abbrev held : GateState → ℕ → Holder → GateRow
-held gate lane holder = record { holder = holder; challenge = (row_at gate.rows lane).challenge }
+held gate lane holder = record { holder = holder; statement = (row_at gate.rows lane).statement }
 
 abbrev leased : GateState → ℕ → ℕ → TicketHash → GateRow
 leased gate lane serial hash = held gate lane (Leased (record { serial = serial; hash = hash; number = gate.leases + 1 }))
 
-abbrev challenged : GateState → ℕ → ℕ → List ℕ → GateRow
-challenged gate lane serial key =
-    record { holder = (row_at gate.rows lane).holder; challenge = Some (record { serial = serial; key = key }) }
+abbrev stated : GateState → ℕ → ℕ → StatementHash → GateRow
+stated gate lane serial hash =
+    record { holder = (row_at gate.rows lane).holder; statement = Some (record { serial = serial; hash = hash }) }
 
 key-from : (gate : GateState) (at : ℕ) (hash : TicketHash) (lane last : ℕ) → key_answer gate at ≡ Ok tt → last_at gate lane ≡ Some last →
     IsFrom last (last_at (with_key gate at hash) lane)
@@ -91,9 +92,9 @@ key-from gate at hash lane last taken is = elim (set-either gate.rows at lane (h
   | inr same ↦ from-same last _ (ap (λ (r : GateRow). last_serial r.holder) same ∙ is)
 ]
 
-challenge-from : (gate : GateState) (at of : ℕ) (key : List ℕ) (lane last : ℕ) → last_at gate lane ≡ Some last →
-    IsFrom last (last_at (with_challenge gate at of key) lane)
-challenge-from gate at of key lane last is = elim (set-either gate.rows at lane (challenged gate at of key)) [
+statement-from : (gate : GateState) (at of : ℕ) (hash : StatementHash) (lane last : ℕ) → last_at gate lane ≡ Some last →
+    IsFrom last (last_at (with_statement gate at of hash) lane)
+statement-from gate at of hash lane last is = elim (set-either gate.rows at lane (stated gate at of hash)) [
   | inl w ↦ from-same last _ (ap (λ (r : GateRow). last_serial r.holder) w.1 ∙ subst (λ (l : ℕ). last_at gate l ≡ Some last) w.0 is)
   | inr same ↦ from-same last _ (ap (λ (r : GateRow). last_serial r.holder) same ∙ is)
 ]
@@ -112,7 +113,7 @@ lease-from gate at of hash lane last taken is = elim (set-either gate.rows at la
 with-from : (gate : GateState) (note : Note) (lane last : ℕ) → note_answer gate note ≡ Ok tt → last_at gate lane ≡ Some last →
     IsFrom last (last_at (with_note gate note) lane)
 with-from gate (Key at hash) lane last taken is = key-from gate at hash lane last taken is
-with-from gate (Challenge at of key) lane last taken is = challenge-from gate at of key lane last is
+with-from gate (Statement at of hash) lane last taken is = statement-from gate at of hash lane last is
 with-from gate (Lease at of hash) lane last taken is = lease-from gate at of hash lane last taken is
 
 after-from : (gate : GateState) (note : Note) (lane last : ℕ) → last_at gate lane ≡ Some last → IsFrom last (last_at (after_note gate note) lane)
@@ -130,9 +131,9 @@ are-above gate [] lane serial last is least = tt
 are-above gate (Key at hash ∷ notes) lane serial last is least =
     let w = after-from gate (Key at hash) lane last is in
     are-above (after_note gate (Key at hash)) notes lane serial w.0 w.1 (omega arith)
-are-above gate (Challenge at of key ∷ notes) lane serial last is least =
-    let w = after-from gate (Challenge at of key) lane last is in
-    are-above (after_note gate (Challenge at of key)) notes lane serial w.0 w.1 (omega arith)
+are-above gate (Statement at of hash ∷ notes) lane serial last is least =
+    let w = after-from gate (Statement at of hash) lane last is in
+    are-above (after_note gate (Statement at of hash)) notes lane serial w.0 w.1 (omega arith)
 are-above gate (Lease at of hash ∷ notes) lane serial last is least =
     let w = after-from gate (Lease at of hash) lane last is in
     chosen (are-above (after_note gate (Lease at of hash)) notes lane serial w.0 w.1 (omega arith)) (lease_answer gate at of) refl
@@ -145,7 +146,7 @@ are-above gate (Lease at of hash ∷ notes) lane serial last is least =
 pub leases-rise : LeasesRise
 leases-rise gate [] = tt
 leases-rise gate (Key at hash ∷ notes) = leases-rise (after_note gate (Key at hash)) notes
-leases-rise gate (Challenge at of key ∷ notes) = leases-rise (after_note gate (Challenge at of key)) notes
+leases-rise gate (Statement at of hash ∷ notes) = leases-rise (after_note gate (Statement at of hash)) notes
 leases-rise gate (Lease at of hash ∷ notes) = chosen (λ later. leases-rise later notes) (lease_answer gate at of) refl
   where
     chosen : ((later : GateState) → Rise (granted later notes)) → (answer : Answer) → lease_answer gate at of ≡ answer →

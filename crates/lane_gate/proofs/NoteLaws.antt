@@ -4,9 +4,9 @@ use Rattle.std.proofs.Math.Seq.{take-append_seam}
 use Rattle.std.proofs.lemmas.Nat.{from_be_bytes-to_be_bytes_2, from_be_bytes-to_be_bytes_4}
 use Rattle.std.specs.Int.{w16, w32, to_be_bytes, from_be_bytes}
 use Rattle.lane_gate.specs.declared.note.Note.{Note}
-use Rattle.lane_gate.specs.declared.note.Note.TheVariants.{Key, Challenge, Lease}
+use Rattle.lane_gate.specs.declared.note.Note.TheVariants.{Key, Statement, Lease}
 use Rattle.lane_gate.specs.declared.opening.GateOpening.{GateOpening}
-use Rattle.lane_gate.specs.Notes.{tag_in, lane_in, serial_in, key_in, IsNote, note_record}
+use Rattle.lane_gate.specs.Notes.{tag_in, lane_in, serial_in, hash_in, IsNote, note_record}
 use Rattle.lane_gate.specs.Openings.{IsGateOpening, opening_record}
 
 pub wide_one : (a b : ℕ) → a < 2 ^ 32 → b < 2 ^ 32 → to_be_bytes w32 a ≡ to_be_bytes w32 b → a ≡ b
@@ -17,13 +17,13 @@ short_one a b fa fb is = sym (from_be_bytes-to_be_bytes_2 a fa) ∙ ap (from_be_
 
 -- the note of these parts
 abbrev note_from : ℕ → ℕ → ℕ → List ℕ → Note
-note_from tag lane serial key =
-    if tag == 17 then Key lane (record { 0 = key }) else
-    if tag == 18 then Challenge lane serial key else Lease lane serial (record { 0 = key })
+note_from tag lane serial hash =
+    if tag == 17 then Key lane (record { 0 = hash }) else
+    if tag == 18 then Statement lane serial (record { 0 = hash }) else Lease lane serial (record { 0 = hash })
 
-note-from : (n : Note) → note_from (tag_in n) (lane_in n) (serial_in n) (key_in n) ≡ n
+note-from : (n : Note) → note_from (tag_in n) (lane_in n) (serial_in n) (hash_in n) ≡ n
 note-from (Key lane hash) = refl
-note-from (Challenge lane serial key) = refl
+note-from (Statement lane serial hash) = refl
 note-from (Lease lane serial hash) = refl
 
 pub one_note : (a b : Note) → IsNote a → IsNote b → note_record a ≡ note_record b → a ≡ b
@@ -31,12 +31,12 @@ one_note a b ia ib is =
     let tag : tag_in a ≡ tag_in b = ap (λ (l : List ℕ). get_or l 0 0) is in
     let lane = short_one (lane_in a) (lane_in b) ia.lane ib.lane (ap (λ (l : List ℕ). take 2 (drop 1 l)) is) in
     let serial = wide_one (serial_in a) (serial_in b) ia.serial ib.serial (ap (λ (l : List ℕ). take 4 (drop 3 l)) is) in
-    let key : key_in a ≡ key_in b = ap (λ (l : List ℕ). drop 7 l) is in
+    let hash : hash_in a ≡ hash_in b = ap (λ (l : List ℕ). drop 7 l) is in
     sym (note-from a)
-    ∙ ap (λ (x : ℕ). note_from x (lane_in a) (serial_in a) (key_in a)) tag
-    ∙ ap (λ (x : ℕ). note_from (tag_in b) x (serial_in a) (key_in a)) lane
-    ∙ ap (λ (x : ℕ). note_from (tag_in b) (lane_in b) x (key_in a)) serial
-    ∙ ap (λ (x : List ℕ). note_from (tag_in b) (lane_in b) (serial_in b) x) key
+    ∙ ap (λ (x : ℕ). note_from x (lane_in a) (serial_in a) (hash_in a)) tag
+    ∙ ap (λ (x : ℕ). note_from (tag_in b) x (serial_in a) (hash_in a)) lane
+    ∙ ap (λ (x : ℕ). note_from (tag_in b) (lane_in b) x (hash_in a)) serial
+    ∙ ap (λ (x : List ℕ). note_from (tag_in b) (lane_in b) (serial_in b) x) hash
     ∙ note-from b
 
 abbrev opening_from : ℕ → ℕ → GateOpening

@@ -9,17 +9,18 @@ use Rattle.frame_rules.specs.Frames.{PlainFrame, PlainBody}
 use Rattle.lane_gate.specs.declared.ticket.TicketHash.{TicketHash}
 use Rattle.lane_gate.specs.declared.holder.Holder.{Holder}
 use Rattle.lane_gate.specs.declared.holder.Holder.TheVariants.{Keyless, Owner, Free, Leased}
-use Rattle.lane_gate.specs.declared.row.Challenge.{Challenge}
+use Rattle.lane_gate.specs.declared.statement.StatementHash.{StatementHash}
+use Rattle.lane_gate.specs.declared.statement.Statement.{Statement}
 use Rattle.lane_gate.specs.declared.row.GateRow.{GateRow}
 use Rattle.lane_gate.specs.Tickets.{ticket_hash}
 use Rattle.lane_gate.specs.Holders.{FitsTicket}
-use Rattle.lane_gate.specs.Passing.{PlainTicketed, NamesChallenge, FitsKind, PassesRow, PassesLink}
+use Rattle.lane_gate.specs.Passing.{PlainTicketed, NamesStatement, FitsKind, PassesRow, PassesLink}
 use Rattle.lane_gate.specs.Gates.{row_at, after_note}
 use Rattle.lane_gate.specs.Runs.{Comes, Commands, Notes, came, GoesBefore, HandsOn, IsPartOf, HandsOnAPart, HandsOnOneList}
 
 -- ---- a fact or its contrary
 
-abbrev Settled : Type 0 → Type 0
+abbrev pub Settled : Type 0 → Type 0
 Settled P = P ⊎ (P → ⊥)
 
 settled : {P : Type 0} (r : Bool) → Decides r P → Settled P
@@ -34,17 +35,27 @@ both (inr against) q = inr (λ w. against w.0)
 numbers : (a b : ℕ) → Settled (a ≡ b)
 numbers a b = settled (a == b) (Decides-eqb a b)
 
-keys : (a b : List ℕ) → Settled (a ≡ b)
-keys a b = settled (bytes_eq a b) (bytes_eq-Decides a b)
+pub bytes : (a b : List ℕ) → Settled (a ≡ b)
+bytes a b = settled (bytes_eq a b) (bytes_eq-Decides a b)
 
 hash_of : List ℕ → TicketHash
-hash_of key = record { 0 = key }
+hash_of digest = record { 0 = digest }
 
 hashes : (a b : TicketHash) → Settled (a ≡ b)
 unfolding hash_of
-hashes a b = elim (keys a.0 b.0) [
+hashes a b = elim (bytes a.0 b.0) [
   | inl same ↦ inl (ap hash_of same)
   | inr other ↦ inr (λ (same : a ≡ b). other (ap (λ (h : TicketHash). h.0) same))
+]
+
+statement_of : List ℕ → StatementHash
+statement_of digest = record { 0 = digest }
+
+statements : (a b : StatementHash) → Settled (a ≡ b)
+unfolding statement_of
+statements a b = elim (bytes a.0 b.0) [
+  | inl same ↦ inl (ap statement_of same)
+  | inr other ↦ inr (λ (same : a ≡ b). other (ap (λ (h : StatementHash). h.0) same))
 ]
 
 ticket-settled : (holder : Holder) (serial : ℕ) (hash : TicketHash) → Settled (FitsTicket holder serial hash)
@@ -53,13 +64,13 @@ ticket-settled (Owner key) serial hash = hashes hash key
 ticket-settled Free serial hash = inr (λ against. against)
 ticket-settled (Leased lease) serial hash = both (hashes hash lease.hash) (numbers serial lease.serial)
 
-challenge-settled : (given : Option Challenge) (serial : ℕ) (named : Option (List ℕ)) → Settled (NamesChallenge given serial named)
-challenge-settled None serial named = inr (λ against. against)
-challenge-settled (Some given) serial None = inr (λ against. against)
-challenge-settled (Some given) serial (Some named) = both (keys given.key named) (numbers serial given.serial)
+statement-settled : (noted : Option Statement) (serial : ℕ) (named : Option StatementHash) → Settled (NamesStatement noted serial named)
+statement-settled None serial named = inr (λ against. against)
+statement-settled (Some noted) serial None = inr (λ against. against)
+statement-settled (Some noted) serial (Some named) = both (statements noted.hash named) (numbers serial noted.serial)
 
-kind-settled : (row : GateRow) (serial : ℕ) (named : Option (List ℕ)) (body : PlainBody) → Settled (FitsKind row serial named body)
-kind-settled row serial named (frame.Proof share) = challenge-settled row.challenge serial named
+kind-settled : (row : GateRow) (serial : ℕ) (named : Option StatementHash) (body : PlainBody) → Settled (FitsKind row serial named body)
+kind-settled row serial named (frame.Proof share) = statement-settled row.statement serial named
 kind-settled row serial named (frame.Deposit deposit) = inl tt
 kind-settled row serial named (frame.Register address key) = inl tt
 kind-settled row serial named (frame.Write root part) = inl tt
@@ -82,7 +93,7 @@ kind-settled row serial named (frame.LinkBegun count draw) = inr (λ against. ag
 
 row-settled : (row : GateRow) (sent : PlainTicketed) → Settled (PassesRow row sent)
 row-settled row sent =
-    elim (both (ticket-settled row.holder sent.frame.serial (ticket_hash sent.ticket)) (kind-settled row sent.frame.serial sent.challenge sent.frame.body)) [
+    elim (both (ticket-settled row.holder sent.frame.serial (ticket_hash sent.ticket)) (kind-settled row sent.frame.serial sent.statement sent.frame.body)) [
       | inl w ↦ inl (record { ticket = w.0; body = w.1 })
       | inr against ↦ inr (λ (w : PassesRow row sent). against (w.ticket, w.body))
     ]

@@ -3,7 +3,7 @@ use Rattle.std.proofs.Common.{◌≡◌, ℕ, ◌⊎◌, inl, inr, List, [], ◌
 use Rattle.lane_gate.specs.declared.ticket.TicketHash.{TicketHash}
 use Rattle.lane_gate.specs.declared.row.GateRow.{GateRow}
 use Rattle.lane_gate.specs.declared.note.Note.{Note}
-use Rattle.lane_gate.specs.declared.note.Note.TheVariants.{Key, Challenge, Lease}
+use Rattle.lane_gate.specs.declared.note.Note.TheVariants.{Key, Statement, Lease}
 use Rattle.lane_gate.specs.Tickets.{ticket_hash}
 use Rattle.lane_gate.specs.Holders.{FitsTicket}
 use Rattle.lane_gate.specs.Passing.{PlainTicketed}
@@ -14,7 +14,7 @@ use Rattle.lane_gate.proofs.RowLaws.{set-either, opened-fit, one-ticket}
 -- the note gave this lane and serial to the ticket of this hash
 abbrev Gives : Note → ℕ → ℕ → TicketHash → Type 0
 Gives (Key lane hash) at serial given = (at ≡ lane) × (given ≡ hash)
-Gives (Challenge lane serial key) at of given = ⊥
+Gives (Statement lane serial hash) at of given = ⊥
 Gives (Lease lane serial hash) at of given = (at ≡ lane) × (of ≡ serial) × (given ≡ hash)
 
 -- a ticket that fits a row was given by a note of these
@@ -46,8 +46,8 @@ with-known : (Among : Note → Type 0) (Taken : Type 0) (gate : GateState) (note
 with-known Among Taken gate (Key at key) is_taken known lane serial hash fits =
     set-known Among Taken (Key at key) gate.rows at _ known (λ s h is. (Key at key, inr (refl, is_taken), (refl, is)))
     lane serial hash _ (set-either gate.rows at lane _) fits
-with-known Among Taken gate (Challenge at of key) is_taken known lane serial hash fits =
-    set-known Among Taken (Challenge at of key) gate.rows at _ known (λ s h is. widened Among Taken (Challenge at of key) gate.rows known at s h is)
+with-known Among Taken gate (Statement at of stated) is_taken known lane serial hash fits =
+    set-known Among Taken (Statement at of stated) gate.rows at _ known (λ s h is. widened Among Taken (Statement at of stated) gate.rows known at s h is)
     lane serial hash _ (set-either gate.rows at lane _) fits
 with-known Among Taken gate (Lease at of key) is_taken known lane serial hash fits =
     set-known Among Taken (Lease at of key) gate.rows at _ known (λ s h is. (Lease at of key, inr (refl, is_taken), (refl, is.1, is.0)))
@@ -82,7 +82,7 @@ known-after Among gate (Notes note ∷ events) known lane serial hash fits =
 
 gave : (note : Note) (sent : PlainTicketed) → Gives note sent.frame.lane sent.frame.serial (ticket_hash sent.ticket) → Gave note sent
 gave (Key lane hash) sent gives = gives
-gave (Challenge lane serial key) sent gives = gives
+gave (Statement lane serial hash) sent gives = gives
 gave (Lease lane serial hash) sent gives = gives
 
 pub passes-with-its-ticket : PassesWithItsTicket

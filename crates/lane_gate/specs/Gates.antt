@@ -5,7 +5,8 @@ use Rattle.lane_gate.specs.declared.ticket.TicketHash.{TicketHash}
 use Rattle.lane_gate.specs.declared.holder.Lease.{Lease}
 use Rattle.lane_gate.specs.declared.holder.Holder.{Holder}
 use Rattle.lane_gate.specs.declared.holder.Holder.TheVariants.{Keyless, Owner, Free, Leased}
-use Rattle.lane_gate.specs.declared.row.Challenge.{Challenge}
+use Rattle.lane_gate.specs.declared.statement.StatementHash.{StatementHash}
+use Rattle.lane_gate.specs.declared.statement.Statement.{Statement}
 use Rattle.lane_gate.specs.declared.row.GateRow.{GateRow}
 use Rattle.lane_gate.specs.declared.fault.GateFault.{GateFault}
 use Rattle.lane_gate.specs.declared.fault.GateFault.TheVariants as fault
@@ -20,10 +21,10 @@ pub record GateState : Type 0 where
   pub leases : ℕ
 
 abbrev pub keyless : GateRow
-keyless = record { holder = Keyless; challenge = None }
+keyless = record { holder = Keyless; statement = None }
 
 abbrev pub free : GateRow
-free = record { holder = Free; challenge = None }
+free = record { holder = Free; statement = None }
 
 -- so many owners' lanes, and behind them so many of the strangers
 abbrev pub opened_gate : ℕ → ℕ → GateState
@@ -44,7 +45,7 @@ Passes gate sent = PassesRow (row_at gate.rows sent.frame.lane) sent
 
 abbrev pub with_holder : GateState → ℕ → Holder → GateState
 with_holder gate lane holder = record {
-  rows = slice_set gate.rows lane (record { holder = holder; challenge = (row_at gate.rows lane).challenge });
+  rows = slice_set gate.rows lane (record { holder = holder; statement = (row_at gate.rows lane).statement });
   leases = gate.leases;
 }
 
@@ -62,12 +63,12 @@ with_lease gate lane serial hash = record {
   leases = gate.leases + 1;
 }
 
--- a lane with the challenges of this key, for this serial
-abbrev pub with_challenge : GateState → ℕ → ℕ → List ℕ → GateState
-with_challenge gate lane serial key = record {
+-- a lane with this statement, for this serial
+abbrev pub with_statement : GateState → ℕ → ℕ → StatementHash → GateState
+with_statement gate lane serial hash = record {
   rows = slice_set gate.rows lane (record {
     holder = (row_at gate.rows lane).holder;
-    challenge = Some (record { serial = serial; key = key });
+    statement = Some (record { serial = serial; hash = hash });
   });
   leases = gate.leases;
 }
@@ -96,31 +97,31 @@ above_answer (Some last) serial leases =
 abbrev pub lease_answer : GateState → ℕ → ℕ → Answer
 lease_answer gate lane serial = above_answer (last_serial (row_at gate.rows lane).holder) serial gate.leases
 
--- a later serial than that of the challenges before
-abbrev pub is_later : Option Challenge → ℕ → Bool
+-- a later serial than that of the statement before
+abbrev pub is_later : Option Statement → ℕ → Bool
 is_later None serial = true
-is_later (Some given) serial = nat_lt given.serial serial
+is_later (Some noted) serial = nat_lt noted.serial serial
 
--- a request takes one challenge
-abbrev pub row_challenge_answer : GateRow → ℕ → Answer
-row_challenge_answer row serial =
+-- a request takes one statement
+abbrev pub row_statement_answer : GateRow → ℕ → Answer
+row_statement_answer row serial =
     if has_request row.holder serial then
-    (if is_later row.challenge serial then Ok tt else Err fault.HasChallenge)
+    (if is_later row.statement serial then Ok tt else Err fault.HasStatement)
     else Err fault.NoRequest
 
-abbrev pub challenge_answer : GateState → ℕ → ℕ → Answer
-challenge_answer gate lane serial = row_challenge_answer (row_at gate.rows lane) serial
+abbrev pub statement_answer : GateState → ℕ → ℕ → Answer
+statement_answer gate lane serial = row_statement_answer (row_at gate.rows lane) serial
 
 -- what is told of a note
 abbrev pub note_answer : GateState → Note → Answer
 note_answer gate (note.Key lane hash) = key_answer gate lane
-note_answer gate (note.Challenge lane serial key) = challenge_answer gate lane serial
+note_answer gate (note.Statement lane serial hash) = statement_answer gate lane serial
 note_answer gate (note.Lease lane serial hash) = lease_answer gate lane serial
 
 -- the gate with a note that it takes
 abbrev pub with_note : GateState → Note → GateState
 with_note gate (note.Key lane hash) = with_key gate lane hash
-with_note gate (note.Challenge lane serial key) = with_challenge gate lane serial key
+with_note gate (note.Statement lane serial hash) = with_statement gate lane serial hash
 with_note gate (note.Lease lane serial hash) = with_lease gate lane serial hash
 
 -- the one where the answer is Ok, and else the other

@@ -5,5 +5,6 @@ pub mod Notes
 pub mod Openings
 pub mod Passing
 pub mod Runs
+pub mod Statements
 pub mod Texts
 pub mod Tickets

@@ -1,13 +1,16 @@
 -- What happens at a gate, and what it hands on.
-use Rattle.std.specs.Prelude.{◌≡◌, ◌<◌, ◌⊎◌, ℕ, List, [], ◌∷◌, Ok}
-use Rattle.frame_rules.specs.Frames.{PlainFrame}
+use Rattle.std.specs.Prelude.{◌≡◌, ◌<◌, ◌⊎◌, ℕ, List, [], ◌∷◌, Ok, Some, length}
+use Rattle.express_words.specs.declared.audit.ProofShare.{ProofShare}
+use Rattle.frame_rules.specs.Frames.{PlainFrame, Proof}
 use Rattle.kept_machine.specs.Machines.{Gives}
 use Rattle.lane_gate.specs.declared.note.Note.{Note}
-use Rattle.lane_gate.specs.declared.note.Note.TheVariants.{Key, Challenge, Lease}
+use Rattle.lane_gate.specs.declared.statement.StatementHash.{StatementHash}
+use Rattle.lane_gate.specs.declared.note.Note.TheVariants.{Key, Statement, Lease}
 use Rattle.lane_gate.specs.Tickets.{ticket_hash}
+use Rattle.lane_gate.specs.Statements.{PlainStatement, statement_hash, Collide}
 use Rattle.lane_gate.specs.Passing.{PlainTicketed, PassesLink}
-use Rattle.lane_gate.specs.Gates.{GateState, Passes, opened_gate, lease_answer, note_answer, after_note}
-use Rattle.lane_gate.specs.Gates.{if_taken}
+use Rattle.lane_gate.specs.Gates.{GateState, Passes, row_at, opened_gate, lease_answer, note_answer}
+use Rattle.lane_gate.specs.Gates.{after_note, if_taken}
 use Rattle.lane_gate.specs.Machines.{gate_rules}
 
 -- a frame of a client comes, or one from the link; or something is noted
@@ -63,7 +66,7 @@ HandsOnAPart = (gate : GateState) (events : List Event) (all : List PlainFrame) 
 -- the note gave the frame's lane to its ticket: an owner's lane, or the frame's serial of a strangers' lane
 abbrev pub Gave : Note → PlainTicketed → Type 0
 Gave (Key lane hash) sent = (sent.frame.lane ≡ lane) × (ticket_hash sent.ticket ≡ hash)
-Gave (Challenge lane serial key) sent = ⊥
+Gave (Statement lane serial hash) sent = ⊥
 Gave (Lease lane serial hash) sent =
     (sent.frame.lane ≡ lane) × (sent.frame.serial ≡ serial) × (ticket_hash sent.ticket ≡ hash)
 
@@ -86,6 +89,26 @@ abbrev pub OneTicketPasses : Type 0
 OneTicketPasses = (gate : GateState) (a b : PlainTicketed) → a.frame.lane ≡ b.frame.lane →
     Passes gate a → Passes gate b → ticket_hash a.ticket ≡ ticket_hash b.ticket
 
+-- ---- statements
+
+-- a proof passes: its lane's row has the hash of the core's statement, and it names that of its client's
+pub record PassesProof (core client : PlainStatement) : Type 0 where
+  pub gate : GateState
+  pub sent : PlainTicketed
+  pub share : ProofShare
+  pub serial : ℕ
+  pub proof : sent.frame.body ≡ Proof share
+  pub hash : StatementHash
+  pub noted : (row_at gate.rows sent.frame.lane).statement ≡ Some (record { serial = serial; hash = hash })
+  pub cores : hash ≡ statement_hash core.key core.part
+  pub named : sent.statement ≡ Some (statement_hash client.key client.part)
+  pub passes : Passes gate sent
+
+-- core and client then have one key, of 32 bytes, and one public part, or they have a collision
+abbrev pub ProvesOneStatement : Type 0
+ProvesOneStatement = (core client : PlainStatement) → length core.key ≡ 32 → length client.key ≡ 32 →
+    PassesProof core client → (core ≡ client) ⊎ Collide core client
+
 -- ---- leases
 
 pub record Granted : Type 0 where
@@ -96,7 +119,8 @@ pub record Granted : Type 0 where
 abbrev pub granted : GateState → List Note → List Granted
 granted gate [] = []
 granted gate (Key lane hash ∷ notes) = granted (after_note gate (Key lane hash)) notes
-granted gate (Challenge lane serial key ∷ notes) = granted (after_note gate (Challenge lane serial key)) notes
+granted gate (Statement lane serial hash ∷ notes) =
+    granted (after_note gate (Statement lane serial hash)) notes
 granted gate (Lease lane serial hash ∷ notes) =
     let later = granted (after_note gate (Lease lane serial hash)) notes in
     if_taken (lease_answer gate lane serial) (record { lane = lane; serial = serial } ∷ later) later

@@ -27,8 +27,8 @@ pub enum GateFault {
     HasLease,
     /// No lease of the lane has this serial, or the lane's owner has no key.
     NoRequest,
-    /// The serial isn't above that of the lane's last challenge.
-    HasChallenge,
+    /// The serial isn't above that of the lane's last statement.
+    HasStatement,
     /// No number is left for a lease.
     NoNumber,
 }
@@ -42,7 +42,7 @@ impl fmt::Display for GateFault {
             GateFault::NotStrangers => "not a strangers' lane",
             GateFault::HasLease => "serial leased",
             GateFault::NoRequest => "no such request",
-            GateFault::HasChallenge => "serial challenged",
+            GateFault::HasStatement => "serial has a statement",
             GateFault::NoNumber => "no lease number",
         })
     }

@@ -2,8 +2,8 @@
 ghost use Rattle.std.specs.Prelude.{◌≡◌, ◌+◌, ◌<◌, ◌≤◌, ◌^◌, ◌↔◌, IsOk, IfOk, OnOk, OnErr, length, slice_set};
 ghost use Rattle.lane_gate.specs.Openings.{IsGateOpening};
 ghost use Rattle.lane_gate.specs.Passing.{plain_ticketed};
-ghost use Rattle.lane_gate.specs.Gates.{Passes, row_at, opened_gate, with_key, with_lease, with_challenge};
-ghost use Rattle.lane_gate.specs.Gates.{key_answer, lease_answer, challenge_answer, row_challenge_answer};
+ghost use Rattle.lane_gate.specs.Gates.{Passes, row_at, opened_gate, with_key, with_lease, with_statement};
+ghost use Rattle.lane_gate.specs.Gates.{key_answer, lease_answer, statement_answer, row_statement_answer};
 ghost use Rattle.lane_gate.specs.Gates.{note_answer, with_note};
 
 use crate::fault::{GateFault, NotYours};
@@ -11,7 +11,8 @@ use crate::holder::{Holder, Lease};
 use crate::note::Note;
 use crate::opening::GateOpening;
 use crate::passing::{Ticketed, passes_row};
-use crate::row::{Challenge, GateRow};
+use crate::row::GateRow;
+use crate::statement::{Statement, StatementHash};
 use crate::ticket::TicketHash;
 use express_words::NoMemory;
 use std::alloc::Global;
@@ -36,15 +37,15 @@ impl Model for LaneGate {
     ghost invariant = { λ g. length g.rows.items ≤ 256 };
 }
 
-// A challenge of this serial is a row's next.
-fn check_challenge(row: &GateRow, serial: u32) -> Result<(), GateFault>
-    ensures { result ≡ row_challenge_answer row.now serial }
+// A statement of this serial is a row's next.
+fn check_statement(row: &GateRow, serial: u32) -> Result<(), GateFault>
+    ensures { result ≡ row_statement_answer row.now serial }
 {
     if !row.holder.has_request(serial) {
         return Err(GateFault::NoRequest);
     }
-    match row.challenge {
-        Some(given) if serial <= given.serial => Err(GateFault::HasChallenge),
+    match row.statement {
+        Some(noted) if serial <= noted.serial => Err(GateFault::HasStatement),
         _ => Ok(()),
     }
 }
@@ -95,7 +96,7 @@ impl LaneGate {
     }
 
     /// Says whether a client's frame is handed on: its ticket is that of its lane and serial, and a proof
-    /// names the challenges that were given for it. All else is refused in one way.
+    /// names the statement that was noted for it. All else is refused in one way.
     pub fn pass(&self, sent: &Ticketed<'_>) -> Result<(), NotYours>
         ensures gated { IsOk result ↔ Passes self.now (plain_ticketed sent.now) }
     {
@@ -122,7 +123,7 @@ impl LaneGate {
             lane,
             GateRow {
                 holder: Holder::Owner(hash),
-                challenge: row.challenge,
+                statement: row.statement,
             },
         );
         Ok(())
@@ -157,37 +158,42 @@ impl LaneGate {
             hash,
             number: self.leases,
         };
-        let challenge = self.row(lane).challenge;
+        let statement = self.row(lane).statement;
         self.set(
             lane,
             GateRow {
                 holder: Holder::Leased(lease),
-                challenge,
+                statement,
             },
         );
         Ok(())
     }
 
-    // Notes the key of the challenges that a request was given, one a serial.
-    fn give_challenge(&mut self, lane: u16, serial: u32, key: [u8; 32]) -> Result<(), GateFault>
-        ensures answer { result ≡ challenge_answer self.old lane serial }
-        ensures given { OnOk result (self.new ≡ with_challenge self.old lane serial key) }
+    // Notes the statement of a write that was given challenges, one a serial.
+    fn take_statement(
+        &mut self,
+        lane: u16,
+        serial: u32,
+        hash: StatementHash,
+    ) -> Result<(), GateFault>
+        ensures answer { result ≡ statement_answer self.old lane serial }
+        ensures given { OnOk result (self.new ≡ with_statement self.old lane serial hash) }
         ensures stays { OnErr result (self.new ≡ self.old) }
     {
         let row = self.row(lane);
-        check_challenge(&row, serial)?;
+        check_statement(&row, serial)?;
         self.set(
             lane,
             GateRow {
                 holder: row.holder,
-                challenge: Some(Challenge { serial, key }),
+                statement: Some(Statement { serial, hash }),
             },
         );
         Ok(())
     }
 
     /// Takes a note, or says why not and changes nothing. An owner's lane takes any key, in place of the one
-    /// before; a request one challenge, above that of the request before; and a strangers' lane a lease of a
+    /// before; a request one statement, above that of the request before; and a strangers' lane a lease of a
     /// serial above its last.
     pub fn note(&mut self, note: &Note) -> Result<(), GateFault>
         ensures answer { result ≡ note_answer self.old note.now }
@@ -196,7 +202,7 @@ impl LaneGate {
     {
         match *note {
             Note::Key { lane, hash } => self.give_key(lane, hash),
-            Note::Challenge { lane, serial, key } => self.give_challenge(lane, serial, key),
+            Note::Statement { lane, serial, hash } => self.take_statement(lane, serial, hash),
             Note::Lease { lane, serial, hash } => self.lease(lane, serial, hash),
         }
     }

@@ -1,6 +1,7 @@
 //! The gate of tickets in front of a server's core: which frames it hands on, and by which records it stands.
 #![tactic(auto)]
 
+mod digest;
 mod fault;
 mod gate;
 mod holder;
@@ -10,6 +11,7 @@ mod note;
 mod opening;
 mod passing;
 mod row;
+mod statement;
 mod ticket;
 
 pub use fault::{GateFault, NotYours};
@@ -18,5 +20,6 @@ pub use holder::{Holder, Lease};
 pub use note::{NOTE_LEN, Note};
 pub use opening::{GateOpening, OPENING_LEN};
 pub use passing::{Ticketed, pass_command};
-pub use row::{Challenge, GateRow};
+pub use row::GateRow;
+pub use statement::{Statement, StatementHash};
 pub use ticket::{Ticket, TicketHash};

@@ -1,39 +1,40 @@
 //! What a frame must be to be handed on.
-ghost use Rattle.std.specs.Prelude.{◌≡◌, ◌↔◌, IsOk, IsTrue, Option, ℕ, List};
+ghost use Rattle.std.specs.Prelude.{◌≡◌, ◌↔◌, IsOk, IsTrue};
 ghost use Rattle.frame_rules.specs.Frames.{plain, plain_body};
-ghost use Rattle.lane_gate.specs.Passing.{FitsBody, NamesChallenge, PassesLink, PassesRow, plain_ticketed};
+ghost use Rattle.lane_gate.specs.Passing.{FitsBody, NamesStatement, PassesLink, PassesRow, plain_ticketed};
 
 use crate::fault::NotYours;
-use crate::row::{Challenge, GateRow};
-use crate::ticket::{Ticket, is_same_key};
+use crate::row::GateRow;
+use crate::statement::{Statement, StatementHash};
+use crate::ticket::Ticket;
 use frame_rules::{Body, Frame};
 
-/// A client's frame with the ticket that came with it, and for a proof the key of the challenges that it was
-/// made for.
+/// A client's frame with the ticket that came with it, and for a proof the hash of its statement, which the
+/// client made of the key that it was given and of its own public part.
 #[derive(Clone, Copy)]
 pub struct Ticketed<'a> {
     pub ticket: Ticket,
-    pub challenge: Option<[u8; 32]>,
+    pub statement: Option<StatementHash>,
     pub frame: Frame<'a>,
 }
 
-// Whether the key that a proof of this serial names is that of the challenges that were given last.
-fn names_challenge(given: &Option<Challenge>, serial: u32, named: &Option<[u8; 32]>) -> bool
-    ensures { IsTrue result ↔ NamesChallenge given.now serial named.now }
+// Whether a proof of this serial names the statement that was noted last, and that is of its serial.
+fn names_statement(noted: &Option<Statement>, serial: u32, named: &Option<StatementHash>) -> bool
+    ensures { IsTrue result ↔ NamesStatement noted.now serial named.now }
 {
-    let (Some(given), Some(named)) = (given, named) else {
+    let (Some(noted), Some(named)) = (noted, named) else {
         return false;
     };
-    let same = is_same_key(&given.key, named);
-    same && serial == given.serial
+    let same = noted.hash.is(named);
+    same && serial == noted.serial
 }
 
-// Whether the body is one that a client sends, and a proof is one for the row's own challenges.
+// Whether the body is one that a client sends, and a proof is one of the row's own statement.
 fn fits_body(row: &GateRow, sent: &Ticketed<'_>) -> bool
     ensures { IsTrue result ↔ FitsBody row.now (plain_ticketed sent.now) }
 {
     match sent.frame.body {
-        Body::Proof(_) => names_challenge(&row.challenge, sent.frame.serial, &sent.challenge),
+        Body::Proof(_) => names_statement(&row.statement, sent.frame.serial, &sent.statement),
         Body::Deposit(_)
         | Body::Register { .. }
         | Body::Write { .. }

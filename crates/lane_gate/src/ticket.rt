@@ -2,6 +2,7 @@
 ghost use Rattle.std.specs.Prelude.{◌≡◌, ◌↔◌, IsTrue};
 ghost use Rattle.lane_gate.specs.Tickets.{ticket_hash};
 
+use crate::digest::is_same_digest;
 use sha2::{Digest, Sha256};
 
 /// Sixteen bytes that a client drew, or that its server's operator did. Each frame of the lane carries them.
@@ -28,17 +29,6 @@ impl TicketHash {
     pub fn is(&self, other: &TicketHash) -> bool
         ensures { IsTrue result ↔ (self.now ≡ other.now) }
     {
-        is_same_key(&self.0, &other.0)
+        is_same_digest(&self.0, &other.0)
     }
-}
-
-/// Whether two keys are the same. All bytes are looked at, wherever they differ.
-pub(crate) fn is_same_key(one: &[u8; 32], other: &[u8; 32]) -> bool
-    ensures { IsTrue result ↔ (one.now ≡ other.now) }
-{
-    let mut differing: u32 = 0;
-    for place in 0..32 {
-        differing += u32::from(one[place] ^ other[place]);
-    }
-    differing == 0
 }

@@ -4,7 +4,7 @@ use Rattle.std.proofs.Math.Seq.{drop-nil}
 use Rattle.std.proofs.lemmas.List.{drop-drop, drop-append-le, length-drop}
 use Rattle.circular_buffer.specs.Buffer.{keep_last}
 use Rattle.lane_gate.specs.declared.note.Note.{Note}
-use Rattle.lane_gate.specs.declared.note.Note.TheVariants.{Key, Challenge, Lease}
+use Rattle.lane_gate.specs.declared.note.Note.TheVariants.{Key, Statement, Lease}
 use Rattle.lane_gate.specs.Gates.{GateState, Answer, after_note, if_taken}
 use Rattle.lane_gate.specs.Runs.{Granted, granted, Rise}
 use Rattle.lane_gate.proofs.LeaseLaws.{leases-rise}
@@ -37,7 +37,7 @@ gate_of leases = leases.gate
 
 row-granted : (gate : GateState) (note : Note) (all : List Granted) → IsOfRow note → AreGranted (after_note gate note) all → AreGranted gate all
 row-granted gate (Key lane hash) all row w = (Key lane hash ∷ w.0, w.1)
-row-granted gate (Challenge lane serial key) all row w = (Challenge lane serial key ∷ w.0, w.1)
+row-granted gate (Statement lane serial hash) all row w = (Statement lane serial hash ∷ w.0, w.1)
 row-granted gate (Lease lane serial hash) all row w = absurd row
 
 lease-granted : (before now : LeasesState) (ask : Ask) (lease : Announced) (rest : List Granted) → IsLeased before ask lease now →

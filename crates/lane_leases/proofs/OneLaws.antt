@@ -5,7 +5,7 @@ use Rattle.std.proofs.lemmas.Bool.{ltb-true}
 use Rattle.kept_machine.specs.Machines.{Runs}
 use Rattle.lane_gate.specs.declared.ticket.TicketHash.{TicketHash}
 use Rattle.lane_gate.specs.declared.note.Note.{Note}
-use Rattle.lane_gate.specs.declared.note.Note.TheVariants.{Key, Challenge, Lease}
+use Rattle.lane_gate.specs.declared.note.Note.TheVariants.{Key, Statement, Lease}
 use Rattle.lane_gate.specs.declared.opening.GateOpening.{GateOpening}
 use Rattle.lane_gate.specs.Gates.{row_at, above_answer, number_answer, after_note}
 use Rattle.lane_gate.specs.Holders.{last_serial}
@@ -72,7 +72,7 @@ one-step-of (leader.Ended ended) before a b sa sb = sa ∙ sym sb
 
 tag-apart : (note : Note) (tag : ℕ) → 20 ≤ tag → tag_in note ≡ tag → ⊥
 tag-apart (Key lane hash) tag least same = omega arith
-tag-apart (Challenge lane serial key) tag least same = omega arith
+tag-apart (Statement lane serial hash) tag least same = omega arith
 tag-apart (Lease lane serial hash) tag least same = omega arith
 
 front-one : (a b c d : List ℕ) → length a ≡ 32 → length c ≡ 32 → a ++ b ≡ c ++ d → a ≡ c

@@ -3,7 +3,7 @@ use Rattle.std.specs.Prelude.{◌≡◌, ◌≤◌, ◌+◌, ◌-◌, ◌^◌, �
 use Rattle.std.specs.Prelude.{Option, Some, None, Result, Ok, Err}
 use Rattle.circular_buffer.specs.Buffer.{keep_last}
 use Rattle.lane_gate.specs.declared.note.Note.{Note}
-use Rattle.lane_gate.specs.declared.note.Note.TheVariants.{Key, Challenge, Lease}
+use Rattle.lane_gate.specs.declared.note.Note.TheVariants.{Key, Statement, Lease}
 use Rattle.lane_gate.specs.Gates.{GateState, row_at, opened_gate, lease_answer, after_note}
 use Rattle.lane_gate.specs.Holders.{last_serial}
 use Rattle.lane_leases.specs.declared.ask.Ask.{Ask}
@@ -50,8 +50,8 @@ abbrev pub IsTold : LeasesState → Ask → Result Announced UsedUp → LeasesSt
 IsTold before ask (Ok lease) now = IsLeased before ask lease now
 IsTold before ask (Err fault) now = IsUsedUp before.gate × (now ≡ before)
 
--- a note of a row: a key, or challenges
+-- a note of a row: a key, or a statement
 abbrev pub IsOfRow : Note → Type 0
 IsOfRow (Key lane hash) = Unit {0}
-IsOfRow (Challenge lane serial key) = Unit {0}
+IsOfRow (Statement lane serial hash) = Unit {0}
 IsOfRow (Lease lane serial hash) = ⊥

@@ -72,7 +72,7 @@ impl LaneLeases {
         self.gate.pass(sent)
     }
 
-    /// Takes a note of a row, a key or challenges, as the gate does.
+    /// Takes a note of a row, a key or a statement, as the gate does.
     pub fn note(&mut self, note: &Note) -> Result<(), GateFault>
         requires { IsOfRow note.now }
         ensures answer { result ≡ note_answer self.old.gate note.now }

@@ -18,7 +18,7 @@ pub const ENDED_LEN: usize = 34;
 /// What changes a leader's gate.
 #[derive(Clone, Copy)]
 pub enum LeaderNote {
-    /// The note of a row: a key, or challenges.
+    /// The note of a row: a key, or a statement.
     Row(Note),
     /// A lease was asked for.
     Asked(Ask),

@@ -6,11 +6,11 @@ use Rattle.lane_leases.proofs.machine.LaneLeasesTakesNote.record.Goals as goal
 
 pub returns-clause-some : goal.returns-clause-some
 returns-clause-some c =
-    ap Some (sym (front 39 (note_record c.args.input.now) c.copy_from_slice.new.self _ (c.copy_from_slice.ensures.after ∙ c.record.ensures) (omega (arith, c.requires.0.key))))
+    ap Some (sym (front 39 (note_record c.args.input.now) c.copy_from_slice.new.self _ (c.copy_from_slice.ensures.after ∙ c.record.ensures) (omega (arith, c.requires.0.hash))))
 
 pub returns-clause-is : goal.returns-clause-is
 returns-clause-is c = record {
   note = leader.Row c.args.input.now;
   whole = c.requires;
-  is = front 39 (note_record c.args.input.now) c.copy_from_slice.new.self _ (c.copy_from_slice.ensures.after ∙ c.record.ensures) (omega (arith, c.requires.0.key));
+  is = front 39 (note_record c.args.input.now) c.copy_from_slice.new.self _ (c.copy_from_slice.ensures.after ∙ c.record.ensures) (omega (arith, c.requires.0.hash));
 }

@@ -1,5 +1,5 @@
 use Rattle.std.proofs.Common.{◌≡◌, ℕ, ◌*◌, ◌<◌, ◌≤◌, get_or}
-use Rattle.lane_gate.proofs.ticket.is_same_key.Given as goal
+use Rattle.lane_gate.proofs.digest.is_same_digest.Given as goal
 
 abbrev pub invariant-loop-place : goal.invariant-loop-place
 invariant-loop-place l = record {
