@@ -1,6 +1,7 @@
 //! Papers over the system's calls.
 ghost use Rattle.std.specs.Prelude.{◌≡◌, List, Option, Ok, IfOk, true};
 ghost use Rattle.express_words.specs.Seen.{silent};
+ghost use Rattle.express_words.specs.Streams.{IsAtStart};
 ghost use Rattle.express_words.specs.Causes.{HasCause, CountsFault};
 ghost use Rattle.express_outside.specs.Calls.{added};
 ghost use Rattle.desk_files.specs.Steps.{PutNew, IsAnswered};
@@ -52,6 +53,7 @@ pub trait PaperCalls {
 
     /// The file at this path, from its first byte on.
     fn open(&mut self, path: &str) -> Result<Self::File, Trouble>
+        ensures unread { IfOk result (λ file. IsAtStart (Self.File.content file)) }
         ensures told { calls self.new ≡ calls self.old };
 
     /// Makes this folder for its user alone, where there is none, and waits until the disk has its name.

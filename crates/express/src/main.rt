@@ -1,15 +1,23 @@
 //! The program: the real objects, handed to the top call.
 #![tactic(auto)]
 
-ghost use Rattle.std.specs.Prelude.{◌≡◌, ◌≢◌, [], ◌∷◌, Contains, IfErr, MatchResult};
+ghost use Rattle.std.specs.Prelude.{◌≡◌, ◌≢◌, [], ◌∷◌, Contains, IfErr, MatchResult, map, string_bytes};
 ghost use Rattle.std.specs.IoError.{error_kind};
 ghost use Rattle.std.specs.Process.{exit_status};
+ghost use Rattle.express_words.specs.Causes.{Rose};
+ghost use Rattle.express_cli.specs.Around.{FailedLast};
+ghost use Rattle.express_cli.specs.CommandLine.{AskSome, AskTalk};
+ghost use Rattle.express_cli.specs.Keeping.{AsksOther, Keeps, OtherRan};
+ghost use Rattle.express_cli.specs.Laws.{Laws};
+ghost use Rattle.express.specs.Real.{real_around, real_streams, stream_seen};
 
 use express_cli::run_kept;
 use express_outside::{
     Adapter, Direct, FileDisk, JournalFile, TcpNet, TcpPorts, random_seed, stand_in,
 };
-use std::io::ErrorKind;
+use express_words::outside::Counted;
+use node_journal::Disk;
+use std::io::{ErrorKind, Printer, StdinLock};
 use std::process::ExitCode;
 use std::rt::Env;
 use std::{env, io};
@@ -47,21 +55,54 @@ fn words_of<R: Env + AllocGlobal>(rt: &R) -> Result<Vec<String>, u8>
     all.skip(1).collect(rt.alloc()).map_err(|_| OUT_OF_MEMORY)
 }
 
+/// The system's own objects around a run.
+#[derive(Drop)]
+struct Real<'a> {
+    input: Adapter<Direct<StdinLock<'a>>>,
+    out: Adapter<Direct<Printer<'a, HostRuntime>>>,
+    net: TcpNet<TcpPorts<HostRuntime>>,
+}
+
+// The top call over the system's own objects: what it promises, of what their calls answered.
+fn run_here<'a>(
+    rt: &HostRuntime,
+    words: &Vec<String>,
+    seed: &[u8; 32],
+    real: &mut Real<'a>,
+    disk: FileDisk<JournalFile<'a>>,
+) -> (u8, FileDisk<JournalFile<'a>>)
+    ensures ran { OtherRan words.now.items
+        (real_streams real.old.input real.new.input real.old.out real.new.out)
+        (real_around seed.now real.old.net real.new.net) result.0 }
+    ensures disk_rests { AsksOther words.now.items → result.1 ≡ disk.entry }
+    ensures input_rests { AsksOther words.now.items
+        → (AskSome (map string_bytes words.now.items) → ⊥) → real.new.input ≡ real.old.input }
+    ensures net_rests { AsksOther words.now.items
+        → (AskTalk (map string_bytes words.now.items) → ⊥) → real.new.net ≡ real.old.net }
+    ensures net_waits { AsksOther words.now.items
+        → Contains (2 ∷ 3 ∷ 4 ∷ 8 ∷ []) result.0 → real.new.net ≡ real.old.net }
+    ensures laws { Laws }
+    ensures kept { Keeps words.now.items ⟦<FileDisk<JournalFile<'a>> as Disk>⟧.disk
+        ⟦<FileDisk<JournalFile<'a>> as Counted>⟧.seen
+        (real_streams real.old.input real.new.input real.old.out real.new.out)
+        (real_around seed.now real.old.net real.new.net) disk.entry result }
+    ensures last_take { result.0 ≡ 4 → FailedLast stream_seen real.old.input real.new.input }
+    ensures disk_fault { result.0 ≡ 10 → Rose disk.entry.faults result.1.faults }
+    ensures statuses { Contains (0 ∷ 2 ∷ 3 ∷ 4 ∷ 5 ∷ 6 ∷ 7 ∷ 8 ∷ 10 ∷ 11 ∷ 12 ∷ 13 ∷ []) result.0 }
+{
+    let Real { input, out, net } = real;
+    run_kept(rt.alloc(), words, seed, input, out, net, disk)
+}
+
 // Hands the real objects to the top call, and answers its status.
 fn work(rt: &HostRuntime, words: &Vec<String>, seed: &[u8; 32]) -> u8 {
-    let mut input = Adapter::new(Direct::new(rt.reader()));
-    let mut out = Adapter::new(Direct::new(io::writer(rt)));
-    let mut net = TcpNet::new(TcpPorts::new(*rt));
+    let mut real = Real {
+        input: Adapter::new(Direct::new(rt.reader())),
+        out: Adapter::new(Direct::new(io::writer(rt))),
+        net: TcpNet::new(TcpPorts::new(*rt)),
+    };
     let disk = FileDisk::new(JournalFile::new(rt, JOURNAL));
-    let (status, _) = run_kept(
-        rt.alloc(),
-        words,
-        seed,
-        &mut input,
-        &mut out,
-        &mut net,
-        disk,
-    );
+    let (status, _) = run_here(rt, words, seed, &mut real, disk);
     status
 }
 

@@ -1,18 +1,34 @@
 //! The program: the real objects, handed to the top call.
 #![tactic(auto)]
 
-ghost use Rattle.std.specs.Prelude.{◌≡◌, IfErr};
+ghost use Rattle.std.specs.Prelude.{◌≡◌, ◌≢◌, [], ◌∷◌, ◌++◌, Contains, Some};
+ghost use Rattle.desk_outside.specs.Calls.{Held};
+ghost use Rattle.desk_words.specs.CommandLine.{AskSome, words_in};
+ghost use Rattle.desk_run.specs.FolderSteps.{FolderSteps};
+ghost use Rattle.desk_run.specs.Printing.{Prints, TellsMet};
+ghost use Rattle.desk_run.specs.Quiet.{AskServers};
+ghost use Rattle.desk_run.specs.Rests.{IsAtHome};
+ghost use Rattle.desk_run.specs.Sends.{Sends};
+ghost use Rattle.desk_run.specs.Statuses.{EndsAsAsked};
+ghost use Rattle.desk_run.specs.Words.{DoneIfAsked};
 ghost use Rattle.express_desk.specs.Missing.{status_without};
+ghost use Rattle.express_desk.specs.Real.{real_calls, real_scene};
 
 mod missing;
 
 use desk_files::{DeskFolder, DeskPaths, PaperFiles, SystemClock, SystemFolder, SystemPapers};
+use desk_outside::Hold;
 use desk_run::{Around, run_desk};
 use desk_words::{folder_of, proxy_of};
-use express_outside::{Adapter, Direct, TcpNet, TcpPorts, random_seed, stand_in};
+use express_outside::{
+    Adapter, Direct, FileDisk, JournalFile, TcpNet, TcpPorts, random_seed, stand_in,
+};
+use express_words::outside::Counted;
 use missing::{Missing, why_no_words};
+use node_journal::Disk;
 use socks_proxy::{ProxiedNet, Proxy, ProxyFault};
 use std::env::VarError;
+use std::io::{Printer, StdinLock};
 use std::process::ExitCode;
 use std::rt::Env;
 use std::{env, io};
@@ -88,6 +104,49 @@ fn tell_proxy(rt: &HostRuntime, why: Option<ProxyFault>) {
     }
 }
 
+/// What the system has around a desk.
+type RealDesk<'a> = Around<
+    Adapter<Direct<StdinLock<'a>>>,
+    Adapter<Direct<Printer<'a, HostRuntime>>>,
+    ProxiedNet<'a, TcpNet<TcpPorts<HostRuntime>>>,
+    DeskFolder<SystemFolder<'a>>,
+    PaperFiles<SystemPapers<'a>>,
+    SystemClock<'a>,
+>;
+
+// The top call over the system's own objects: what it promises, of what their calls answered.
+fn run_here<'a>(
+    rt: &HostRuntime,
+    words: &Vec<String>,
+    seed: &[u8; 32],
+    around: &mut RealDesk<'a>,
+) -> u8
+    ensures ends { AskSome (words_in words.now) → EndsAsAsked (words_in words.now) result }
+    ensures wrong { (AskSome (words_in words.now) → ⊥) → Contains (2 ∷ 1 ∷ []) result }
+    ensures rests { (AskSome (words_in words.now) → ⊥) → IsAtHome around.old around.new }
+    ensures folder_rests { (AskSome (words_in words.now) → ⊥) → around.new.folder ≡ around.old.folder }
+    ensures in_use { result ≡ 4 → IsAtHome around.old around.new }
+    // Another process had the folder: that is all that it was asked.
+    ensures held { result ≡ 4 → around.new.folder.log ≡ around.old.folder.log ++ Held (Some Hold.InUse) ∷ [] }
+    ensures quiet { (AskServers (words_in words.now) → ⊥) → around.new.net ≡ around.old.net }
+    ensures done { DoneIfAsked ⟦<FileDisk<JournalFile<'a>> as Disk>⟧.disk
+        ⟦<FileDisk<JournalFile<'a>> as Counted>⟧.seen (words_in words.now) result
+        (real_scene around.old.out.inner.taken (real_calls around.old.net) around.old.folder.log)
+        (real_scene around.new.out.inner.taken (real_calls around.new.net) around.new.folder.log) }
+    ensures met { result ≡ 5
+        → Prints TellsMet (Some around.old.out.inner.taken) (Some around.new.out.inner.taken) }
+    ensures sink { result ≢ 1 → around.new.out.faults ≡ around.old.out.faults }
+    ensures net { result ≢ 1 → around.new.net.faults ≡ around.old.net.faults }
+    ensures sends { Sends ⟦<FileDisk<JournalFile<'a>> as Disk>⟧.disk
+        ⟦<FileDisk<JournalFile<'a>> as Counted>⟧.seen
+        (real_calls around.old.net) (real_calls around.new.net) }
+    ensures steps { FolderSteps ⟦<FileDisk<JournalFile<'a>> as Disk>⟧.disk
+        ⟦<FileDisk<JournalFile<'a>> as Counted>⟧.seen
+        (Some around.old.folder.log) (Some around.new.folder.log) }
+{
+    run_desk(rt.alloc(), words, seed, around)
+}
+
 // Hands the real objects to the top call, and answers its status.
 fn work(
     rt: &HostRuntime,
@@ -105,7 +164,7 @@ fn work(
         papers: PaperFiles::new(SystemPapers::new(rt)),
         clock: SystemClock::new(rt),
     };
-    let status = run_desk(rt.alloc(), words, &seeds[0], &mut around);
+    let status = run_here(rt, words, &seeds[0], &mut around);
     tell_proxy(rt, around.net.why());
     status
 }

@@ -1,6 +1,7 @@
 //! The system's calls on what gives and what takes bytes, each made once.
-ghost use Rattle.std.specs.Prelude.{◌≡◌, ◌≢◌, ◌≤◌, ℕ, List, length, [], Option, Some, Result, IfOk};
-ghost use Rattle.std.specs.Io.KnownBytes.{ReadConsumes, WriteAppends};
+ghost use Rattle.std.specs.Prelude.{◌≡◌, ◌≢◌, ◌<◌, ◌≤◌, ℕ, List, length, take, [], Option, None, Some, Result, IfOk, OnErr};
+ghost use Rattle.std.specs.Io.KnownBytes.{WriteAppends};
+ghost use Rattle.express_words.specs.Streams.{Gave, IsAtEnd};
 ghost use Rattle.std.specs.IoError.{error_kind};
 ghost use Rattle.express_outside.specs.Calls.{added};
 
@@ -40,7 +41,12 @@ pub enum WriteCall {
 
 /// What bytes go through.
 pub trait Passes {
-    /// The bytes that its writes took so far, where it tells them.
+    ghost use Rattle.express_words.specs.Streams.{Stream};
+
+    /// The bytes that its reads gave so far, and those that they will give where these are known, if it tells.
+    ghost content: { Self → Option Stream };
+
+    /// The bytes that its writes took so far, if it tells.
     ghost taken: { Self → Option (List ℕ) };
 }
 
@@ -48,16 +54,15 @@ pub trait Passes {
 pub trait Reads: Passes {
     ghost use Rattle.express_outside.specs.declared.calls.Trouble.{Trouble};
 
-    /// The bytes that reads will give from here on, where they are known.
-    ghost remaining: { Self → Option (List ℕ) };
-
     /// What its reads answered so far, if it tells.
     ghost answers: { Self → Option (List (Result ℕ Trouble)) };
 
     /// One read, into the front of `buf`. Ok(0) for a buffer that isn't empty is the end.
     fn read(&mut self, buf: &mut [u8]) -> Result<usize, Trouble>
         ensures bound { IfOk result (λ n. n ≤ length buf.new) }
-        ensures bytes { ReadConsumes (remaining self.old) (remaining self.new) result buf.new }
+        ensures gave { IfOk result (λ n. Gave (Self.content self.old) (Self.content self.new) (take n buf.new)) }
+        ensures end { IfOk result (λ n. n ≡ 0 → 0 < length buf.old → IsAtEnd (Self.content self.new)) }
+        ensures failed { OnErr result (Gave (Self.content self.old) (Self.content self.new) []) }
         ensures takes_nothing { Self.taken self.new ≡ Self.taken self.old }
         ensures told { answers self.new ≡ added result (answers self.old) };
 }
@@ -74,18 +79,22 @@ pub trait Writes: Passes {
     fn write(&mut self, bytes: &[u8]) -> Result<usize, Trouble>
         ensures bound { IfOk result (λ n. n ≤ length bytes.now) }
         ensures bytes { WriteAppends (Self.taken self.old) (Self.taken self.new) result bytes.now }
+        ensures gives_nothing { Self.content self.new ≡ Self.content self.old }
         ensures told { calls self.new ≡ added (Wrote result) (calls self.old) };
 
     /// Hands on what it holds back.
     fn flush(&mut self) -> Result<(), Trouble>
         ensures bytes { Self.taken self.new ≡ Self.taken self.old }
+        ensures gives_nothing { Self.content self.new ≡ Self.content self.old }
         ensures told { calls self.new ≡ added (Flushed result) (calls self.old) };
 }
 
-/// A reader, a writer or both of the system, which tells each of its calls and the bytes that its writes took.
+/// A reader, a writer or both of the system, which tells each of its calls, and the bytes that its reads gave and its
+/// writes took.
 #[derive(Drop)]
 pub struct Direct<T> {
     stream: T,
+    given: History<u8>,
     answers: History<Result<usize, Trouble>>,
     calls: History<WriteCall>,
     taken: History<u8>,
@@ -94,10 +103,11 @@ pub struct Direct<T> {
 impl<T> Direct<T> {
     /// No call of it was made yet.
     pub fn new(stream: T) -> Self
-        ensures { result ≡ record { stream = stream; answers = []; calls = []; taken = [] } }
+        ensures { result ≡ record { stream = stream; given = []; answers = []; calls = []; taken = [] } }
     {
         Direct {
             stream,
+            given: History::new(),
             answers: History::new(),
             calls: History::new(),
             taken: History::new(),
@@ -106,16 +116,19 @@ impl<T> Direct<T> {
 }
 
 impl<T> Passes for Direct<T> {
+    ghost content = { λ d. Some (record { given = d.given; left = None }) };
+
     ghost taken = { λ d. Some d.taken };
 }
 
 impl<T: Read> Reads for Direct<T> {
-    ghost remaining = { λ d. T.remaining d.stream };
-
     ghost answers = { λ d. Some d.answers };
 
     fn read(&mut self, buf: &mut [u8]) -> Result<usize, Trouble> {
         let answer = self.stream.read(buf).map_err(trouble_of);
+        if let Ok(count) = answer {
+            self.given.note_bytes(&buf[..count]);
+        }
         self.answers.note(&answer);
         answer
     }

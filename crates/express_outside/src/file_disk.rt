@@ -1,10 +1,11 @@
 //! A journal's disk over a file.
-ghost use Rattle.std.specs.Prelude.{◌≡◌, ◌≤◌, ◌<◌, ◌+◌, length, true, false, Ok, Err, IfOk, OnOk, OnErr};
+ghost use Rattle.std.specs.Prelude.{◌≡◌, ◌≤◌, ◌<◌, ◌+◌, ◌^◌, length, take, true, false, Ok, Err, IfOk, OnOk, OnErr};
 ghost use Rattle.express_words.specs.Seen.{silent};
 ghost use Rattle.express_words.specs.Causes.{HasCause, CountsFault, next};
 ghost use Rattle.express_outside.specs.Calls.{added, EndedBy};
 ghost use Rattle.express_outside.specs.declared.file_calls.FileCall.TheVariants.{WroteAt, Synced, CopiedAt};
 ghost use Rattle.express_outside.specs.Copying.{CopiedWhole};
+ghost use Rattle.express_outside.specs.FileReads.{GaveFrom, ReadFrom};
 ghost use Rattle.express_outside.specs.Answers.{EndedByEnd, EndedSynced, EndedUnsettled};
 ghost use Rattle.express_outside.specs.Answers.{IsUnopened, OpenedSettled, Renewed};
 
@@ -30,6 +31,8 @@ pub struct FileDisk<F> {
 fn read_on<F: FileCalls>(file: &mut F, at: u64, out: &mut [u8]) -> Result<usize, Trouble>
     ensures bound { IfOk result (λ n. n ≤ length out.new) }
     ensures length { length out.new ≡ length out.old }
+    ensures gave { at + length out.old < 2 ^ 64
+        → IfOk result (λ n. ReadFrom at (F.calls file.old) (F.calls file.new) (take n out.new)) }
     ensures ended { IfOk result (λ n. n < length out.old → EndedByEnd (F.calls file.new)) }
 {
     let mut done = 0;
@@ -175,6 +178,8 @@ impl<F: FileCalls> FileDisk<F> {
         ensures faults { self.new.faults ≡ self.old.faults }
         ensures bound { IfOk result (λ n. n ≤ length out.new) }
         ensures length { length out.new ≡ length out.old }
+        ensures gave { at + length out.old < 2 ^ 64 → IfOk result (λ n. GaveFrom at
+            self.old.is_open (F.calls self.old.file) (F.calls self.new.file) (take n out.new)) }
         ensures ended { IfOk result (λ n. n < length out.old → EndedByEnd (F.calls self.new.file)) }
     {
         self.open()?;
@@ -225,6 +230,8 @@ impl<F: FileCalls> Disk for FileDisk<F> {
         ensures length { length out.new ≡ length out.old }
         ensures cause { HasCause self.old.faults self.new.faults result }
         ensures counts { CountsFault self.old.faults self.new.faults result }
+        ensures gave { at + length out.old < 2 ^ 64 → IfOk result (λ n. GaveFrom at
+            self.old.is_open (F.calls self.old.file) (F.calls self.new.file) (take n out.new)) }
         ensures ended { IfOk result (λ n. n < length out.old → EndedByEnd (F.calls self.new.file)) }
     {
         match self.read_file(at, out) {

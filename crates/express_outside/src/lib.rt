@@ -8,6 +8,7 @@ mod file_calls;
 mod file_disk;
 mod history;
 mod journal_file;
+mod net_log;
 mod patience;
 mod seeding;
 mod stand_ins;

@@ -1,8 +1,9 @@
 //! Sockets whose calls end in time, by the clock.
-ghost use Rattle.std.specs.Prelude.{◌≡◌, ◌≤◌, ◌<◌, List, length, Option, None, Some, IfOk, IfSome};
+ghost use Rattle.std.specs.Prelude.{◌≡◌, ◌≤◌, ◌<◌, ℕ, List, [], ◌++◌, length, take, Option, None, Some, IfOk, OnErr, IfSome};
 ghost use Rattle.std.specs.Duration.{as_nanos};
 ghost use Rattle.std.specs.Io.KnownBytes.{WriteAppends};
-ghost use Rattle.express_outside.specs.Calls.{added};
+ghost use Rattle.express_words.specs.Streams.{Gave};
+ghost use Rattle.express_outside.specs.Calls.{added, told};
 ghost use Rattle.express_outside.specs.declared.patience.SocketCall.TheVariants.{ReadWithin, WroteWithin};
 ghost use Rattle.express_outside.specs.Patience.{IsWithin};
 ghost use Rattle.express_outside.specs.Patience.{IsLimit, begin_at, left_of, seconds};
@@ -74,30 +75,40 @@ pub enum SocketCall {
 }
 
 /// The system's calls on a connected socket and on its clock.
-pub trait Socket: Passes {
+pub trait Socket {
     ghost use Rattle.express_outside.specs.declared.patience.SocketCall.{SocketCall};
     ghost use Rattle.express_outside.specs.declared.patience.SocketCall.TheVariants.{Told, ReadWithin, WroteWithin};
+
+    /// The bytes that its reads gave so far.
+    ghost given: { Self → List ℕ };
+
+    /// The bytes that its writes took so far.
+    ghost taken: { Self → List ℕ };
 
     /// Its calls so far, if it tells.
     ghost calls: { Self → Option (List SocketCall) };
 
     /// What the clock says.
     fn now(&mut self) -> Result<Instant, Trouble>
-        ensures takes_nothing { Self.taken self.new ≡ Self.taken self.old }
+        ensures passes_nothing { (given self.new ≡ given self.old) × (taken self.new ≡ taken self.old) }
         ensures told { IfOk result (λ now. calls self.new ≡ added (Told now) (calls self.old)) };
 
     /// One read, which fails where no byte comes for so long.
     fn read_within(&mut self, left: Duration, buf: &mut [u8]) -> Result<usize, Trouble>
         requires { 0 < as_nanos left }
         ensures bound { IfOk result (λ n. n ≤ length buf.new) }
-        ensures takes_nothing { Self.taken self.new ≡ Self.taken self.old }
+        ensures gave { IfOk result (λ n. given self.new ≡ given self.old ++ take n buf.new) }
+        ensures failed { OnErr result (given self.new ≡ given self.old) }
+        ensures takes_nothing { taken self.new ≡ taken self.old }
         ensures told { calls self.new ≡ added (ReadWithin left result) (calls self.old) };
 
     /// One write, which fails where nothing is taken for so long.
     fn write_within(&mut self, left: Duration, bytes: &[u8]) -> Result<usize, Trouble>
         requires { 0 < as_nanos left }
         ensures bound { IfOk result (λ n. n ≤ length bytes.now) }
-        ensures bytes { WriteAppends (Self.taken self.old) (Self.taken self.new) result bytes.now }
+        ensures took { IfOk result (λ n. taken self.new ≡ taken self.old ++ take n bytes.now) }
+        ensures failed { OnErr result (taken self.new ≡ taken self.old) }
+        ensures gives_nothing { given self.new ≡ given self.old }
         ensures told { calls self.new ≡ added (WroteWithin left result) (calls self.old) };
 }
 
@@ -160,17 +171,20 @@ impl<S> Timed<S> {
 }
 
 impl<S: Socket> Passes for Timed<S> {
-    ghost taken = { λ timed. S.taken timed.socket };
+    ghost content = { λ timed. told (S.given timed.socket) };
+
+    ghost taken = { λ timed. Some (S.taken timed.socket) };
 }
 
 // It tells none of its answers: the clauses `within` say which calls on the socket they came of.
 impl<S: Socket> Reads for Timed<S> {
-    ghost remaining = { λ _. None };
-
     ghost answers = { λ _. None };
 
     fn read(&mut self, buf: &mut [u8]) -> Result<usize, Trouble>
         ensures bound { IfOk result (λ n. n ≤ length buf.new) }
+        ensures gave { IfOk result (λ n. Gave (told (S.given self.old.socket)) (told (S.given self.new.socket))
+            (take n buf.new)) }
+        ensures failed { OnErr result (Gave (told (S.given self.old.socket)) (told (S.given self.new.socket)) []) }
         ensures takes_nothing { S.taken self.new.socket ≡ S.taken self.old.socket }
         ensures within { IfOk result (λ n. IsWithin ReadWithin self.old.reading (S.calls self.old.socket)
             (S.calls self.new.socket) result) }
@@ -188,7 +202,8 @@ impl<S: Socket> Writes for Timed<S> {
 
     fn write(&mut self, bytes: &[u8]) -> Result<usize, Trouble>
         ensures bound { IfOk result (λ n. n ≤ length bytes.now) }
-        ensures bytes { WriteAppends (S.taken self.old.socket) (S.taken self.new.socket) result bytes.now }
+        ensures bytes { WriteAppends (Some (S.taken self.old.socket)) (Some (S.taken self.new.socket)) result bytes.now }
+        ensures gives_nothing { S.given self.new.socket ≡ S.given self.old.socket }
         ensures within { IfOk result (λ n. IsWithin WroteWithin self.old.writing
             (S.calls self.old.socket)
             (S.calls self.new.socket) result) }

@@ -1,9 +1,11 @@
 //! A net over the system's ports.
-ghost use Rattle.std.specs.Prelude.{◌≡◌, ◌≤◌, List, Option, None, Some, Ok, Err, IfOk, OnOk, OnErr, MatchResult};
+ghost use Rattle.std.specs.Prelude.{◌≡◌, ◌≢◌, ◌==◌, [], ◌∷◌, ◌++◌, is_err, ◌≤◌, List, Option, None, Some, Ok, Err, IfOk, OnOk, OnErr, MatchResult};
 ghost use Rattle.std.specs.Duration.{as_nanos};
 ghost use Rattle.express_words.specs.Seen.{netted};
-ghost use Rattle.express_words.specs.Streams.{IsBlank};
-ghost use Rattle.express_words.specs.Causes.{HasCause, CountsFault, CountsFailure, next};
+ghost use Rattle.express_words.specs.Calls.{Closed, Adds};
+ghost use Rattle.express_words.specs.Calls.{Listened as DoorOpened, Accepted as Taken, Dialled as Reached};
+ghost use Rattle.express_outside.specs.NetCalls.{IsFresh, calls_of};
+ghost use Rattle.express_words.specs.Causes.{HasCause, CountsFault, CountsFailure, Rose, next};
 ghost use Rattle.express_outside.specs.Calls.{EndedBy, added};
 ghost use Rattle.express_outside.specs.Answers.{AddsConnect, EndedByFailure, EndedByMoment};
 ghost use Rattle.express_outside.specs.declared.tcp_net.PortCall.TheVariants.{Listened, Accepted, Dialled};
@@ -11,9 +13,11 @@ ghost use Rattle.express_outside.specs.Patience.{IsLimit, seconds};
 
 use crate::adapter::Adapter;
 use crate::calls::Trouble;
-use crate::history::History;
+use crate::history::{History, noted};
+use crate::net_log::{Entry, Line};
 use crate::patience::{Socket, Timed};
 use express_words::outside::{Counted, Failed, Net};
+use http_server::Log;
 use std::time::Instant;
 
 /// So many times an accept is tried: an error of one pending connection, or of the system for a moment, isn't
@@ -55,12 +59,12 @@ pub trait Ports {
 
     /// One accept: the next connection at the door.
     fn accept(&mut self) -> Result<Connected<Self::Socket>, Trouble>
-        ensures untaken { IfOk result (λ made. IsBlank (Self.Socket.taken made.socket)) }
+        ensures fresh { IfOk result (λ made. IsFresh (Self.Socket.given made.socket) (Self.Socket.taken made.socket)) }
         ensures told { AddsConnect Accepted (calls self.old) (calls self.new) result };
 
     /// A connection to the program at an address.
     fn dial(&mut self, peer: &str) -> Result<Connected<Self::Socket>, Trouble>
-        ensures untaken { IfOk result (λ made. IsBlank (Self.Socket.taken made.socket)) }
+        ensures fresh { IfOk result (λ made. IsFresh (Self.Socket.given made.socket) (Self.Socket.taken made.socket)) }
         ensures told { AddsConnect (Dialled peer.now) (calls self.old) (calls self.new) result };
 
     /// Waits for a moment.
@@ -69,10 +73,11 @@ pub trait Ports {
 }
 
 /// Sockets of the system, each with an end to its patience. Each error is a fault, but for those after which
-/// an accept is tried again, and so is an accept where nothing listens. The net doesn't tell its calls.
+/// an accept is tried again, and so is an accept where nothing listens. The net tells its calls.
 #[derive(Drop)]
 pub struct TcpNet<P: Ports> {
     ports: P,
+    log: Log<Entry, Option<Line<P::Socket>>>,
     faults: u64,
     doors: u64,
 }
@@ -82,6 +87,7 @@ impl<P: Ports> TcpNet<P> {
     pub fn new(ports: P) -> Self {
         TcpNet {
             ports,
+            log: Log::new(),
             faults: 0,
             doors: 0,
         }
@@ -94,12 +100,21 @@ impl<P: Ports> TcpNet<P> {
         self.doors
     }
 
+    // Notes a call, with the connection that it closed.
+    fn note(&mut self, entry: &Entry, closed: &Option<Line<P::Socket>>)
+        ensures noted { self.new.log.items ≡ self.old.log.items ++ (entry.now, closed.now) ∷ [] }
+        ensures rest { self.new ≡ record self.old { log = self.new.log } }
+    {
+        self.log = self.log.and(entry, closed);
+    }
+
     // A dial failed, or a connection that is closed had faults.
     fn count_fault(&mut self)
         ensures faults { self.new.faults ≡ next self.old.faults }
         ensures later { self.old.faults ≤ self.new.faults }
         ensures doors { self.new.doors ≡ self.old.doors }
         ensures ports { self.new.ports ≡ self.old.ports }
+        ensures log { self.new.log ≡ self.old.log }
     {
         self.faults = self.faults.saturating_add(1);
     }
@@ -111,6 +126,7 @@ impl<P: Ports> TcpNet<P> {
         ensures doors { self.new.doors ≡ next self.old.doors }
         ensures doors_later { self.old.doors ≤ self.new.doors }
         ensures ports { self.new.ports ≡ self.old.ports }
+        ensures log { self.new.log ≡ self.old.log }
     {
         self.count_fault();
         self.doors = self.doors.saturating_add(1);
@@ -121,7 +137,7 @@ impl<P: Ports> TcpNet<P> {
 fn accept_again<P: Ports>(ports: &mut P) -> Result<Connected<P::Socket>, Trouble>
     ensures ended { MatchResult result (λ made. EndedBy (P.calls ports.new) (Accepted (Ok made.at)))
         (λ why. EndedBy (P.calls ports.new) (Accepted (Err why))) }
-    ensures untaken { IfOk result (λ made. IsBlank (P.Socket.taken made.socket)) }
+    ensures fresh { IfOk result (λ made. IsFresh (P.Socket.given made.socket) (P.Socket.taken made.socket)) }
 {
     for _ in 1..MOST_ACCEPTS {
         match ports.accept() {
@@ -133,7 +149,7 @@ fn accept_again<P: Ports>(ports: &mut P) -> Result<Connected<P::Socket>, Trouble
 }
 
 impl<P: Ports> Counted for TcpNet<P> {
-    ghost seen = { λ n. netted None n.faults n.doors };
+    ghost seen = { λ n. netted (calls_of P.Socket.given P.Socket.taken n.log.items) n.faults n.doors };
 
     fn faults(&self) -> u64 {
         self.faults
@@ -144,6 +160,8 @@ impl<P: Ports> Net for TcpNet<P> {
     type Conn = Adapter<Timed<P::Socket>>;
 
     fn listen(&mut self, at: &str) -> Result<(), Failed>
+        ensures call { Adds (calls_of P.Socket.given P.Socket.taken self.old.log.items)
+            (calls_of P.Socket.given P.Socket.taken self.new.log.items) (DoorOpened at.now (is_err result)) }
         ensures door { CountsFailure self.old.doors self.new.doors result }
         ensures cause { HasCause self.old.faults self.new.faults result }
         ensures counts { CountsFault self.old.faults self.new.faults result }
@@ -151,8 +169,12 @@ impl<P: Ports> Net for TcpNet<P> {
         ensures ended { OnErr result (EndedByFailure (Listened at.now) (P.calls self.new.ports)) }
     {
         match self.ports.listen(at) {
-            Ok(()) => Ok(()),
+            Ok(()) => {
+                self.note(&Entry::Listened(noted(at.as_bytes()), false), &None);
+                Ok(())
+            }
             Err(_) => {
+                self.note(&Entry::Listened(noted(at.as_bytes()), true), &None);
                 self.count_door_fault();
                 Err(Failed)
             }
@@ -161,7 +183,9 @@ impl<P: Ports> Net for TcpNet<P> {
 
     fn accept(&mut self) -> Result<Adapter<Timed<P::Socket>>, Failed>
         ensures whole { IfOk result (λ conn. conn.faults ≡ 0) }
-        ensures unwritten { IfOk result (λ conn. IsBlank (P.Socket.taken conn.inner.socket)) }
+        ensures fresh { IfOk result (λ conn. IsFresh (P.Socket.given conn.inner.socket) (P.Socket.taken conn.inner.socket)) }
+        ensures call { Adds (calls_of P.Socket.given P.Socket.taken self.old.log.items)
+            (calls_of P.Socket.given P.Socket.taken self.new.log.items) (Taken (is_err result)) }
         ensures door { CountsFailure self.old.doors self.new.doors result }
         ensures cause { HasCause self.old.faults self.new.faults result }
         ensures counts { CountsFault self.old.faults self.new.faults result }
@@ -171,8 +195,12 @@ impl<P: Ports> Net for TcpNet<P> {
         ensures writing { IfOk result (λ conn. IsLimit conn.inner.writing None 10) }
     {
         match accept_again(&mut self.ports) {
-            Ok(made) => Ok(Adapter::new(Timed::accepted(made.socket, made.at))),
+            Ok(made) => {
+                self.note(&Entry::Accepted(false), &None);
+                Ok(Adapter::new(Timed::accepted(made.socket, made.at)))
+            }
             Err(_) => {
+                self.note(&Entry::Accepted(true), &None);
                 self.count_door_fault();
                 Err(Failed)
             }
@@ -181,7 +209,9 @@ impl<P: Ports> Net for TcpNet<P> {
 
     fn dial(&mut self, peer: &str) -> Result<Adapter<Timed<P::Socket>>, Failed>
         ensures whole { IfOk result (λ conn. conn.faults ≡ 0) }
-        ensures unwritten { IfOk result (λ conn. IsBlank (P.Socket.taken conn.inner.socket)) }
+        ensures fresh { IfOk result (λ conn. IsFresh (P.Socket.given conn.inner.socket) (P.Socket.taken conn.inner.socket)) }
+        ensures call { Adds (calls_of P.Socket.given P.Socket.taken self.old.log.items)
+            (calls_of P.Socket.given P.Socket.taken self.new.log.items) (Reached peer.now (is_err result)) }
         ensures door { self.new.doors ≡ self.old.doors }
         ensures cause { HasCause self.old.faults self.new.faults result }
         ensures counts { CountsFault self.old.faults self.new.faults result }
@@ -191,17 +221,30 @@ impl<P: Ports> Net for TcpNet<P> {
         ensures ended { OnErr result (EndedByFailure (Dialled peer.now) (P.calls self.new.ports)) }
     {
         match self.ports.dial(peer) {
-            Ok(made) => Ok(Adapter::new(Timed::dialled(made.socket, made.at))),
+            Ok(made) => {
+                self.note(&Entry::Dialled(noted(peer.as_bytes()), false), &None);
+                Ok(Adapter::new(Timed::dialled(made.socket, made.at)))
+            }
             Err(_) => {
+                self.note(&Entry::Dialled(noted(peer.as_bytes()), true), &None);
                 self.count_fault();
                 Err(Failed)
             }
         }
     }
 
-    fn close(&mut self, conn: Adapter<Timed<P::Socket>>) {
+    fn close(&mut self, conn: Adapter<Timed<P::Socket>>)
+        ensures call { Adds (calls_of P.Socket.given P.Socket.taken self.old.log.items)
+            (calls_of P.Socket.given P.Socket.taken self.new.log.items)
+            (Closed (P.Socket.given conn.inner.socket) (P.Socket.taken conn.inner.socket) (conn.faults == 0)) }
+        ensures door { self.new.doors ≡ self.old.doors }
+        ensures later { self.old.faults ≤ self.new.faults }
+        ensures whole { conn.faults ≡ 0 → self.new.faults ≡ self.old.faults }
+        ensures broken { conn.faults ≢ 0 → Rose self.old.faults self.new.faults }
+    {
         if conn.faults() != 0 {
             self.count_fault();
         }
+        self.note(&Entry::Closed, &Some(conn));
     }
 }

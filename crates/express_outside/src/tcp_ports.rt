@@ -1,7 +1,7 @@
 //! TCP sockets of the system.
 ghost use Rattle.std.specs.Prelude.{◌≡◌, ◌≤◌, [], Some, Ok, Err, length, IfOk, MatchResult};
 
-use crate::calls::{Passes, Trouble, trouble_of};
+use crate::calls::{Trouble, trouble_of};
 use crate::history::{History, noted};
 use crate::patience::{Limit, Socket, SocketCall};
 use crate::tcp_net::{Connected, PortCall, Ports};
@@ -25,12 +25,14 @@ pub struct TcpPorts<R: Net + Clock + Copy> {
     calls: History<PortCall>,
 }
 
-/// A stream, and the clock by which its calls end in time. It tells its calls and the bytes that its writes took.
+/// A stream, and the clock by which its calls end in time. It tells its calls, and the bytes
+/// that its reads gave and its writes took.
 #[derive(Drop)]
 pub struct TcpSocket<R: Net + Clock + Copy> {
     rt: R,
     stream: R::Stream,
     calls: History<SocketCall>,
+    given: History<u8>,
     taken: History<u8>,
 }
 
@@ -56,7 +58,7 @@ impl<R: Net + Clock + Copy> TcpPorts<R> {
 
     // The stream, as connected now.
     fn connected(&self, stream: R::Stream) -> io::Result<Connected<TcpSocket<R>>>
-        ensures { IfOk result (λ made. made.socket.taken ≡ []) }
+        ensures { IfOk result (λ made. (made.socket.given ≡ []) × (made.socket.taken ≡ [])) }
     {
         let at = Instant::now(&self.rt)?;
         Ok(Connected {
@@ -73,7 +75,7 @@ impl<R: Net + Clock + Copy> TcpPorts<R> {
     }
 
     fn accepted(&self) -> io::Result<Connected<TcpSocket<R>>>
-        ensures { IfOk result (λ made. made.socket.taken ≡ []) }
+        ensures { IfOk result (λ made. (made.socket.given ≡ []) × (made.socket.taken ≡ [])) }
     {
         let Some(door) = &self.door else {
             return Err(io::Error::from(ErrorKind::NotConnected));
@@ -92,7 +94,7 @@ impl<R: Net + Clock + Copy> TcpPorts<R> {
 
     // Each address of the peer is dialled in turn.
     fn dialled(&self, peer: &str) -> io::Result<Connected<TcpSocket<R>>>
-        ensures { IfOk result (λ made. made.socket.taken ≡ []) }
+        ensures { IfOk result (λ made. (made.socket.given ≡ []) × (made.socket.taken ≡ [])) }
     {
         let mut limit = Limit::of(PATIENCE_WITH_DIALS);
         let mut last = io::Error::from(ErrorKind::InvalidInput);
@@ -138,19 +140,21 @@ impl<R: Net + Clock + Copy> Ports for TcpPorts<R> {
 impl<R: Net + Clock + Copy> TcpSocket<R> {
     /// A stream whose calls end by this clock.
     pub fn new(rt: R, stream: R::Stream) -> Self
-        ensures { (result.calls ≡ []) × (result.taken ≡ []) }
+        ensures { (result.calls ≡ []) × (result.given ≡ []) × (result.taken ≡ []) }
     {
         TcpSocket {
             rt,
             stream,
             calls: History::new(),
+            given: History::new(),
             taken: History::new(),
         }
     }
 
     fn read_in_time(&mut self, left: Duration, buf: &mut [u8]) -> io::Result<usize>
         ensures bound { IfOk result (λ n. n ≤ length buf.new) }
-        ensures told { (self.new.calls ≡ self.old.calls) × (self.new.taken ≡ self.old.taken) }
+        ensures calls { self.new.calls ≡ self.old.calls }
+        ensures bytes { (self.new.given ≡ self.old.given) × (self.new.taken ≡ self.old.taken) }
     {
         self.stream.set_read_timeout(Some(left))?;
         self.stream.read(buf)
@@ -158,18 +162,19 @@ impl<R: Net + Clock + Copy> TcpSocket<R> {
 
     fn write_in_time(&mut self, left: Duration, bytes: &[u8]) -> io::Result<usize>
         ensures bound { IfOk result (λ n. n ≤ length bytes.now) }
-        ensures told { (self.new.calls ≡ self.old.calls) × (self.new.taken ≡ self.old.taken) }
+        ensures calls { self.new.calls ≡ self.old.calls }
+        ensures bytes { (self.new.given ≡ self.old.given) × (self.new.taken ≡ self.old.taken) }
     {
         self.stream.set_write_timeout(Some(left))?;
         self.stream.write(bytes)
     }
 }
 
-impl<R: Net + Clock + Copy> Passes for TcpSocket<R> {
-    ghost taken = { λ socket. Some socket.taken };
-}
-
 impl<R: Net + Clock + Copy> Socket for TcpSocket<R> {
+    ghost given = { λ socket. socket.given };
+
+    ghost taken = { λ socket. socket.taken };
+
     ghost calls = { λ socket. Some socket.calls };
 
     fn now(&mut self) -> Result<Instant, Trouble> {
@@ -180,6 +185,9 @@ impl<R: Net + Clock + Copy> Socket for TcpSocket<R> {
 
     fn read_within(&mut self, left: Duration, buf: &mut [u8]) -> Result<usize, Trouble> {
         let answer = self.read_in_time(left, buf).map_err(trouble_of);
+        if let Ok(count) = answer {
+            self.given.note_bytes(&buf[..count]);
+        }
         self.calls.note(&SocketCall::ReadWithin(left, answer));
         answer
     }

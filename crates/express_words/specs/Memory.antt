@@ -30,12 +30,21 @@ failed t = record { made = next t.made; failing = t.failing; faults = next t.fau
 abbrev pub faulted : Tally → Tally
 faulted t = record { made = t.made; failing = t.failing; faults = next t.faults }
 
+-- the bytes that were given, and those that are left
+pub record Supply : Type 0 where
+  pub given : List ℕ
+  pub left : List ℕ
+
+-- what a source shows of them
+abbrev pub shown : Supply → Stream
+shown s = record { given = s.given; left = Some s.left }
+
 -- a source that gave some more of its bytes
-abbrev pub advanced : ℕ → Stream → Stream
+abbrev pub advanced : ℕ → Supply → Supply
 advanced n s = record { given = s.given ++ take n s.left; left = drop n s.left }
 
 pub record SourceState : Type 0 where
-  pub content : Stream
+  pub content : Supply
   pub tally : Tally
 
 -- the bytes written, and how many more have room
@@ -60,7 +69,7 @@ HoldsIfRoom bytes old new held =
     ((old.1 < length bytes) × (new ≡ old))
 
 pub record ConnState : Type 0 where
-  pub content : Stream
+  pub content : Supply
   pub written : List ℕ
   pub room : ℕ
   pub tally : Tally

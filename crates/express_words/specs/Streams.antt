@@ -1,21 +1,32 @@
 -- What a source gives and a sink takes.
-use Rattle.std.specs.Prelude.{◌≡◌, ℕ, List, [], ◌++◌, Option, Some, None}
+use Rattle.std.specs.Prelude.{◌≡◌, ℕ, List, [], ◌++◌, Option, Some, None, IfSome}
 
--- what a source has given so far, and what it has left
+-- What a source has given so far, and what it has left, where it knows that: a file in memory does, a terminal and
+-- a socket don't.
 pub record Stream : Type 0 where
   pub given : List ℕ
-  pub left : List ℕ
+  pub left : Option (List ℕ)
+
+-- From old to new these bytes went from the front of what is left, where that was known.
+abbrev pub Leaves : Option (List ℕ) → Option (List ℕ) → List ℕ → Type 0
+Leaves None new bytes = Unit {0}
+Leaves (Some old) None bytes = ⊥
+Leaves (Some old) (Some new) bytes = old ≡ bytes ++ new
 
 -- From old to new a source gave these bytes. Of a source that didn't tell its content nothing is said.
 abbrev pub Gave : Option Stream → Option Stream → List ℕ → Type 0
 Gave None new bytes = Unit {0}
 Gave (Some old) None bytes = ⊥
-Gave (Some old) (Some new) bytes = (old.left ≡ bytes ++ new.left) × (new.given ≡ old.given ++ bytes)
+Gave (Some old) (Some new) bytes = Leaves old.left new.left bytes × (new.given ≡ old.given ++ bytes)
 
--- nothing is left, where the source tells
+-- what a source has left, where it tells its content and knows that
+abbrev pub left_in : Option Stream → Option (List ℕ)
+left_in None = None
+left_in (Some now) = now.left
+
+-- nothing is left, where that is told
 abbrev pub IsAtEnd : Option Stream → Type 0
-IsAtEnd None = Unit {0}
-IsAtEnd (Some now) = now.left ≡ []
+IsAtEnd content = IfSome (left_in content) (λ left. left ≡ [])
 
 -- nothing was given yet, where the source tells
 abbrev pub IsAtStart : Option Stream → Type 0

@@ -2,7 +2,7 @@
 use Rattle.std.proofs.Common.{◌≡◌, ℕ, ◌<◌, List, [], ◌++◌, length, Option, arith, append-nil, length-append, Result, Ok, Err, IfSome}
 use Rattle.std.proofs.lemmas.List.{append_assoc}
 use Rattle.express_words.specs.Causes.{Rose}
-use Rattle.express_words.specs.Streams.{Stream, Gave}
+use Rattle.express_words.specs.Streams.{Stream, Gave, left_in}
 use Rattle.input_reading.specs.Seeds.{seed_bytes}
 use Rattle.input_reading.specs.declared.seed.SeedFault.{SeedFault}
 use Rattle.input_reading.specs.declared.seed.SeedFault.TheVariants.{Early}
@@ -16,5 +16,5 @@ gave_no_more a b c x first second = grind (arith, append-nil)
 
 -- a source that gave a seed had not too few bytes left
 pub not_early : (a b : Option Stream) (c d : ℕ) (seed : List ℕ) → Gave a b seed → length seed ≡ seed_bytes
-    → IfSome a (λ s. length s.left < seed_bytes → ¬ Rose c d → (let end : Result (List ℕ) SeedFault = Ok seed in end) ≡ Err (Early (length s.left)))
+    → IfSome (left_in a) (λ left. length left < seed_bytes → ¬ Rose c d → (let end : Result (List ℕ) SeedFault = Ok seed in end) ≡ Err (Early (length left)))
 not_early a b c d seed gave long = grind (arith, length-append)

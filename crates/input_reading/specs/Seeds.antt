@@ -3,7 +3,7 @@ use Rattle.std.specs.Prelude.{◌≡◌, ℕ, ◌<◌, ◌≤◌, Option, IfSome
 use Rattle.std.specs.Fmt.{decimal}
 use Rattle.express_words.specs.Causes.{Rose, next}
 use Rattle.express_words.specs.Seen.{Seen}
-use Rattle.express_words.specs.Streams.{Stream, IsAtEnd}
+use Rattle.express_words.specs.Streams.{Stream, IsAtEnd, left_in}
 use Rattle.input_reading.specs.Reading.{GaveSome}
 use Rattle.input_reading.specs.declared.seed.SeedFault.{SeedFault}
 use Rattle.input_reading.specs.declared.seed.SeedFault.TheVariants.{Failed, Early}
@@ -20,16 +20,16 @@ GaveNoSeed old new before now (Failed count) =
 GaveNoSeed old new before now (Early length) =
     (length < seed_bytes) × (now ≡ before) × IsAtEnd new × GaveSome old new (λ n. n ≡ length)
 
--- The fact holds where a source tells its bytes, has enough of them left for a seed, and doesn't fail.
+-- The fact holds where a source tells what it has left, that is enough for a seed, and it doesn't fail.
 abbrev pub WithEnough : Seen → Seen → Type 0 → Type 0
 WithEnough old new Fact =
-    IfSome old.content (λ s. seed_bytes ≤ length s.left → ¬ Rose old.faults new.faults → Fact)
+    IfSome (left_in old.content) (λ left. seed_bytes ≤ length left → ¬ Rose old.faults new.faults → Fact)
 
--- The fact holds of how many bytes a source has left, where it tells them, they are too few for a seed, and
--- it doesn't fail.
+-- The fact holds of how many bytes a source has left, where it tells that, they are too few for a seed, and it
+-- doesn't fail.
 abbrev pub WithTooFew : Seen → Seen → (ℕ → Type 0) → Type 0
-WithTooFew old new Fact =
-    IfSome old.content (λ s. length s.left < seed_bytes → ¬ Rose old.faults new.faults → Fact (length s.left))
+WithTooFew old new Fact = IfSome (left_in old.content)
+    (λ left. length left < seed_bytes → ¬ Rose old.faults new.faults → Fact (length left))
 
 abbrev pub seed_fault_text : SeedFault → List ℕ
 seed_fault_text (Failed count) =

@@ -1,7 +1,7 @@
 //! A door whose accepts fail.
-ghost use Rattle.std.specs.Prelude.{None};
+ghost use Rattle.std.specs.Prelude.{[], None};
 
-use express_outside::{Connected, Passes, Ports, Socket, TcpNet, Trouble};
+use express_outside::{Connected, Ports, Socket, TcpNet, Trouble};
 use express_words::outside::{Counted, Net};
 use std::test::Fail;
 use std::time::{Duration, Instant};
@@ -10,11 +10,11 @@ use std::time::{Duration, Instant};
 #[derive(Drop)]
 struct Broken;
 
-impl Passes for Broken {
-    ghost taken = { λ _. None };
-}
-
 impl Socket for Broken {
+    ghost given = { λ _. [] };
+
+    ghost taken = { λ _. [] };
+
     ghost calls = { λ _. None };
 
     fn now(&mut self) -> Result<Instant, Trouble> {

@@ -2,3 +2,4 @@ mod NameLaws
 pub mod TalkLaws
 pub mod ReplyLaws
 pub mod DialLaws
+pub mod TellLaws

@@ -58,7 +58,7 @@ abbrev pub IsOpened : Option (List Call) → Seen → (said : List ℕ) → Type
 IsOpened None conn said = Unit {0}
 IsOpened (Some calls) conn said =
     (conn.written ≡ Some said)
-    × ((answer : List ℕ) × (left : List ℕ) × IsYes answer
+    × ((answer : List ℕ) × (left : Option (List ℕ)) × IsYes answer
     × (conn.content ≡ Some (record { given = answer; left = left })))
 
 -- What a dial through a proxy came to on a net, where this is said to the proxy: with a connection, the proxy
@@ -80,12 +80,12 @@ Closes old new conn = AddsClose old.calls new.calls conn.content conn.written co
 -- ---- a net whose dials may go through a proxy, over the net below
 
 -- how a place is reached
-abbrev pub route_on : {N : Type 0} → ProxiedNet N → List ℕ → PlainRoute
+abbrev pub route_on : {N L : Type 0} → ProxiedNet N L → List ℕ → PlainRoute
 route_on net place = route_of place (is_named net.proxy)
 
 -- What a dial through its proxy came to: it is made under the next user name, and once the numbers of these
 -- are spent it fails, and makes no call below.
-pub record DialsThrough {N C E : Type 0} (seen : N → Seen) (conn_seen : C → Seen) (old new : ProxiedNet N)
+pub record DialsThrough {N L C E : Type 0} (seen : N → Seen) (conn_seen : C → Seen) (old new : ProxiedNet N L)
     (to : PlainTarget) (result : Result C E) : Type 0 where
   pub opens : Opens conn_seen old.proxy (said_for old.drawn old.number to) (seen old.below) (seen new.below)
       result

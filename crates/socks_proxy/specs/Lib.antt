@@ -4,3 +4,4 @@ pub mod Routes
 pub mod Circuits
 pub mod Dials
 pub mod Texts
+pub mod Telling

@@ -7,6 +7,7 @@ mod circuits;
 mod fault;
 mod forms;
 mod hearing;
+mod net_log;
 mod proxied_net;
 mod proxy;
 mod routes;

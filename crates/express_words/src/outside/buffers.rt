@@ -1,7 +1,6 @@
 //! Bytes to be given, and bytes that were taken.
 ghost use Rattle.std.specs.Prelude.{◌≡◌, ℕ, ◌+◌, ◌-◌, ◌<◌, ◌≤◌, min, [], ◌++◌, length, take, drop, IfOk, MatchBool, vec_len, vec_capacity};
-ghost use Rattle.express_words.specs.Streams.{Stream};
-ghost use Rattle.express_words.specs.Memory.{HoldsIfRoom, advanced};
+ghost use Rattle.express_words.specs.Memory.{HoldsIfRoom, Supply, advanced};
 
 use crate::NoMemory;
 use std::alloc::Global;
@@ -15,7 +14,7 @@ pub struct Input {
 }
 
 impl Model for Input {
-    ghost Value = { Stream };
+    ghost Value = { Supply };
 
     ghost view = { λ i. record { given = take i.place i.bytes.items; left = drop i.place i.bytes.items } };
 

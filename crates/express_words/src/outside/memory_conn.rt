@@ -3,7 +3,7 @@ ghost use Rattle.std.specs.Prelude.{◌≡◌, ℕ, ◌-◌, ◌<◌, ◌≤◌,
 ghost use Rattle.express_words.specs.Causes.{HasCause, CountsFault};
 ghost use Rattle.express_words.specs.Streams.{Gave, IsAtEnd, Took, TookPrefix};
 ghost use Rattle.express_words.specs.Seen.{streaming};
-ghost use Rattle.express_words.specs.Memory.{ConnState, IsListed, started, conn_failed, conn_gave, conn_took, fresh};
+ghost use Rattle.express_words.specs.Memory.{ConnState, IsListed, started, conn_failed, conn_gave, conn_took, fresh, shown};
 
 use crate::NoMemory;
 use crate::outside::buffers::{Input, Output};
@@ -71,7 +71,7 @@ impl MemoryConn {
 }
 
 impl Counted for MemoryConn {
-    ghost seen = { λ c. streaming (Some c.content) (Some c.written) c.tally.faults };
+    ghost seen = { λ c. streaming (Some (shown c.content)) (Some c.written) c.tally.faults };
 
     fn faults(&self) -> u64 {
         self.calls.faults()
@@ -82,10 +82,10 @@ impl Source for MemoryConn {
     /// Gives as many bytes as are left and fit. A call that fails changes nothing but the counts.
     fn take(&mut self, buf: &mut [u8]) -> Result<usize, Failed>
         ensures bound { IfOk result (λ n. n ≤ length buf.new) }
-        ensures gave { IfOk result (λ n. Gave (Some self.old.content) (Some self.new.content)
+        ensures gave { IfOk result (λ n. Gave (Some (shown self.old.content)) (Some (shown self.new.content))
             (take n buf.new)) }
-        ensures end { IfOk result (λ n. n ≡ 0 → 0 < length buf.old → IsAtEnd (Some self.new.content)) }
-        ensures failed { OnErr result (Gave (Some self.old.content) (Some self.new.content) []) }
+        ensures end { IfOk result (λ n. n ≡ 0 → 0 < length buf.old → IsAtEnd (Some (shown self.new.content))) }
+        ensures failed { OnErr result (Gave (Some (shown self.old.content)) (Some (shown self.new.content)) []) }
         ensures writes_nothing { self.new.written ≡ self.old.written }
         ensures cause { HasCause self.old.tally.faults self.new.tally.faults result }
         ensures counts { CountsFault self.old.tally.faults self.new.tally.faults result }

@@ -4,7 +4,7 @@ ghost use Rattle.express_words.specs.Causes.{HasCause, CountsFault, CountsFailur
 ghost use Rattle.express_words.specs.Streams.{Stream};
 ghost use Rattle.express_words.specs.Calls.{Call, Listened, Accepted, Dialled, Adds, GivesTelling, AddsClose};
 ghost use Rattle.express_words.specs.Seen.{netted};
-ghost use Rattle.express_words.specs.Memory.{NetState, ConnState, Ledger, LacksRoom, IsListed, net_failed, net_of, net_passed, passed, faulted, noted, unnoted, NotesIfRoom, GivesFirst, lending, closing, told};
+ghost use Rattle.express_words.specs.Memory.{NetState, ConnState, Ledger, LacksRoom, IsListed, net_failed, net_of, net_passed, passed, faulted, noted, unnoted, NotesIfRoom, GivesFirst, lending, closing, told, shown};
 
 use crate::NoMemory;
 use crate::outside::call_log::CallLog;
@@ -139,7 +139,7 @@ impl Net for MemoryNet {
         ensures whole { IfOk result (λ conn. conn.tally.faults ≡ 0) }
         ensures unread { IfOk result (λ conn. conn.content.given ≡ []) }
         ensures unwritten { IfOk result (λ conn. conn.written ≡ []) }
-        ensures tells { IfOk result (λ conn. GivesTelling (told self.new.ledger) (Some conn.content)
+        ensures tells { IfOk result (λ conn. GivesTelling (told self.new.ledger) (Some (shown conn.content))
             (Some conn.written)) }
         ensures call { Adds (told self.old.ledger) (told self.new.ledger) (Accepted (is_err result)) }
         ensures door { CountsFailure self.old.doors self.new.doors result }
@@ -167,7 +167,7 @@ impl Net for MemoryNet {
         ensures whole { IfOk result (λ conn. conn.tally.faults ≡ 0) }
         ensures unread { IfOk result (λ conn. conn.content.given ≡ []) }
         ensures unwritten { IfOk result (λ conn. conn.written ≡ []) }
-        ensures tells { IfOk result (λ conn. GivesTelling (told self.new.ledger) (Some conn.content)
+        ensures tells { IfOk result (λ conn. GivesTelling (told self.new.ledger) (Some (shown conn.content))
             (Some conn.written)) }
         ensures call { Adds (told self.old.ledger) (told self.new.ledger) (Dialled peer.now (is_err result)) }
         ensures door { self.new.doors ≡ self.old.doors }
@@ -187,7 +187,7 @@ impl Net for MemoryNet {
 
     /// The close of a connection that this net didn't give isn't noted.
     fn close(&mut self, conn: MemoryConn)
-        ensures call { AddsClose (told self.old.ledger) (told self.new.ledger) (Some conn.content) (Some conn.written) conn.tally.faults }
+        ensures call { AddsClose (told self.old.ledger) (told self.new.ledger) (Some (shown conn.content)) (Some conn.written) conn.tally.faults }
         ensures door { self.new.doors ≡ self.old.doors }
         ensures later { self.old.tally.faults ≤ self.new.tally.faults }
         ensures whole { conn.tally.faults ≡ 0 → self.new.tally.faults ≡ self.old.tally.faults }

@@ -3,7 +3,7 @@ ghost use Rattle.std.specs.Prelude.{◌≡◌, ℕ, ◌<◌, ◌≤◌, ◌↔�
 ghost use Rattle.express_words.specs.Causes.{HasCause, CountsFault};
 ghost use Rattle.express_words.specs.Streams.{Gave, IsAtEnd};
 ghost use Rattle.express_words.specs.Seen.{streaming};
-ghost use Rattle.express_words.specs.Memory.{SourceState, IsListed, started, advanced, passed, failed};
+ghost use Rattle.express_words.specs.Memory.{SourceState, IsListed, started, advanced, passed, failed, shown};
 
 use crate::NoMemory;
 use crate::outside::buffers::Input;
@@ -39,7 +39,7 @@ impl MemorySource {
 }
 
 impl Counted for MemorySource {
-    ghost seen = { λ s. streaming (Some s.content) None s.tally.faults };
+    ghost seen = { λ s. streaming (Some (shown s.content)) None s.tally.faults };
 
     fn faults(&self) -> u64 {
         self.calls.faults()
@@ -50,10 +50,10 @@ impl Source for MemorySource {
     /// Gives as many bytes as are left and fit. A call that fails changes nothing but the counts.
     fn take(&mut self, buf: &mut [u8]) -> Result<usize, Failed>
         ensures bound { IfOk result (λ n. n ≤ length buf.new) }
-        ensures gave { IfOk result (λ n. Gave (Some self.old.content) (Some self.new.content)
+        ensures gave { IfOk result (λ n. Gave (Some (shown self.old.content)) (Some (shown self.new.content))
             (take n buf.new)) }
-        ensures end { IfOk result (λ n. n ≡ 0 → 0 < length buf.old → IsAtEnd (Some self.new.content)) }
-        ensures failed { OnErr result (Gave (Some self.old.content) (Some self.new.content) []) }
+        ensures end { IfOk result (λ n. n ≡ 0 → 0 < length buf.old → IsAtEnd (Some (shown self.new.content))) }
+        ensures failed { OnErr result (Gave (Some (shown self.old.content)) (Some (shown self.new.content)) []) }
         ensures cause { HasCause self.old.tally.faults self.new.tally.faults result }
         ensures counts { CountsFault self.old.tally.faults self.new.tally.faults result }
         ensures fails { IsErr result ↔ IsListed self.old.tally }
