@@ -6,6 +6,8 @@ mod leader;
 #[cfg(test)]
 mod printed;
 #[cfg(test)]
+mod servers;
+#[cfg(test)]
 mod statement;
 #[cfg(test)]
 mod told;

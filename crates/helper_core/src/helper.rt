@@ -4,9 +4,11 @@ ghost use Rattle.frame_rules.specs.Spelling.{IsFrame};
 ghost use Rattle.frame_rules.specs.Frames.{plain, plain_body};
 ghost use Rattle.frame_rules.specs.Whole.{has_width, is_command};
 ghost use Rattle.frame_rules.specs.Room.{HasRoom};
-ghost use Rattle.step_rules.specs.Helper.{opened_helper, written};
+ghost use Rattle.server_boxes.specs.Challenged.{plain_challenged};
+ghost use Rattle.step_rules.specs.Helper.{opened_helper, row_at, written};
 ghost use Rattle.step_rules.specs.HelperClients.{on_client};
 ghost use Rattle.step_rules.specs.HelperCommands.{on_link_bytes, link_steps, carried_with, carries_out, carry_steps};
+ghost use Rattle.helper_core.specs.Challenged.{challenged_in};
 ghost use Rattle.helper_core.specs.State.{share_in, IsCarriedFrame};
 ghost use Rattle.helper_core.specs.Turns.{DoesClient, DoesLink};
 
@@ -15,6 +17,7 @@ use dpf_eval::Steps;
 use express_words::{NoMemory, Settings};
 use frame_rules::{FRAME_MAX, Frame};
 use link_order::{Arrival, Incoming};
+use server_boxes::ChallengedWrite;
 use std::alloc::Global;
 use std::marker::Model;
 use std::sync::ledger::Ledger;
@@ -171,6 +174,14 @@ impl Helper {
             (slice_get self.now.server.boxes box_number) ≡ Some result }
     {
         self.server.address_of(box_number)
+    }
+
+    /// The write of a lane that has begun and waits for its proof, which has to be one of its key and public part; None
+    /// where the lane has none, or there is no such lane.
+    pub fn challenged(&self, lane: u16) -> Option<ChallengedWrite<'_>>
+        ensures { option_map plain_challenged result ≡ challenged_in (row_at self.now.server lane) }
+    {
+        self.server.challenged(lane)
     }
 
     /// The share of a box; zeros where there is no box of this number yet.

@@ -2,14 +2,16 @@
 ghost use Rattle.std.specs.Prelude.{◌≡◌, ◌<◌, ◌≤◌, IfOk, Some, length, take, drop, option_map, slice_get};
 ghost use Rattle.frame_rules.specs.Spelling.{spelling};
 ghost use Rattle.frame_rules.specs.Room.{HasRoom};
-ghost use Rattle.step_rules.specs.Helper.{opened_server};
+ghost use Rattle.server_boxes.specs.Challenged.{plain_challenged};
+ghost use Rattle.step_rules.specs.Helper.{opened_server, row_at};
 ghost use Rattle.step_rules.specs.HelperClients.{client_turn};
+ghost use Rattle.helper_core.specs.Challenged.{challenged_in};
 ghost use Rattle.helper_core.specs.State.{share_in};
 
 use crate::rows::answer_client;
 use crate::slot::{HelperSlot, idle_slots};
 use express_words::{NoMemory, Settings};
-use server_boxes::ServerBoxes;
+use server_boxes::{ChallengedWrite, ServerBoxes};
 use std::alloc::Global;
 use std::marker::Model;
 use wire_frames::{Received, encode_into};
@@ -88,6 +90,17 @@ impl Server {
         ensures { option_map (λ found. found.address) (slice_get self.now.boxes number) ≡ Some result }
     {
         self.boxes.address_of(number)
+    }
+
+    /// The write of a lane that waits for its proof.
+    pub(crate) fn challenged(&self, lane: u16) -> Option<ChallengedWrite<'_>>
+        ensures { option_map plain_challenged result ≡ challenged_in (row_at self.now lane) }
+    {
+        let place = usize::from(lane);
+        if self.slots.len() <= place {
+            return None;
+        }
+        self.slots[place].challenged()
     }
 
     pub(crate) fn share(&self, number: u32) -> &[u8]

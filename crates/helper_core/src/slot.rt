@@ -1,17 +1,19 @@
 //! What the helper holds of a lane.
 ghost use Rattle.std.specs.Prelude.{◌≡◌, ◌+◌, ◌≤◌, ℕ, List, length, option_map, IfSome, [], All, IfOk, replicate};
 ghost use Rattle.frame_rules.specs.Frames.{plain_body, Refused};
+ghost use Rattle.server_boxes.specs.Challenged.{plain_challenged};
 ghost use Rattle.server_boxes.specs.Held.{HasLeaves, write_in};
 ghost use Rattle.step_rules.specs.Helper.{door, phase_of, want_of, idle, row, Done, Begun as Begins, Audited as Audits};
 ghost use Rattle.step_rules.specs.HelperCommands.{stage_for, held_key, held_root, held_token, held_proof, held_closing};
 ghost use Rattle.step_rules.specs.HelperClients.{deposit_row, proof_row, proof_in};
+ghost use Rattle.helper_core.specs.Challenged.{challenged_in};
 ghost use Rattle.helper_core.specs.Slots.{row_in, rows_in, stage_in, stage_with, BecomesSlot, IfSlot, IsHelperSlot, StaysSlot, TakesTurn};
 
 use crate::taken::want_in;
 use express_words::{Closing, NoMemory, ProofShare, Refusal, Settings};
 use frame_rules::{Body, DepositBody};
 use lane_table::{Gate, Row, Want, closing, opening, phase};
-use server_boxes::{Begun, Room};
+use server_boxes::{Begun, ChallengedWrite, Room};
 use std::alloc::Global;
 
 /// How far a lane's request has come, with what is held for it.
@@ -87,6 +89,27 @@ impl HelperSlot {
             self.stage
         } else {
             HelperStage::Idle
+        }
+    }
+
+    /// The write that waits for its proof.
+    pub(crate) fn challenged(&self) -> Option<ChallengedWrite<'_>>
+        ensures { option_map plain_challenged result ≡ challenged_in (row_in self.now) }
+    {
+        match self.stage {
+            HelperStage::Begun(begun) => {
+                let ckey = begun.ckey;
+                Some(ChallengedWrite {
+                    serial: self.serial,
+                    ckey,
+                    part: &self.room.part,
+                })
+            }
+            HelperStage::Idle => None,
+            HelperStage::Deposited(_) => None,
+            HelperStage::Proved(_, _) => None,
+            HelperStage::Audited(_, _) => None,
+            HelperStage::Done(_) => None,
         }
     }
 

@@ -1,13 +1,14 @@
 //! The gate of the leader.
-ghost use Rattle.std.specs.Prelude.{◌≡◌, ◌↔◌, IsOk, IsSome, IfOk, OnOk, OnErr};
-ghost use Rattle.lane_gate.specs.Gates.{Passes, note_answer, with_note};
+ghost use Rattle.std.specs.Prelude.{◌≡◌, ◌↔◌, IsOk, IsNone, IsSome, IfOk, IfSome, OnOk, OnErr};
+ghost use Rattle.lane_gate.specs.Gates.{Passes, note_answer, row_at, with_note};
 ghost use Rattle.lane_gate.specs.Holders.{last_serial};
 ghost use Rattle.lane_gate.specs.Openings.{IsGateOpening};
 ghost use Rattle.lane_gate.specs.Passing.{plain_ticketed};
+ghost use Rattle.lane_leases.specs.Choosing.{longest_of};
 ghost use Rattle.lane_leases.specs.Ends.{IsEndOf};
 ghost use Rattle.lane_leases.specs.Leases.{IsLeased, IsNext, IsOfRow, IsUsedUp};
 ghost use Rattle.lane_leases.specs.Leases.{opened_leases, with_end, with_gate};
-ghost use Rattle.lane_leases.specs.Resting.{rested};
+ghost use Rattle.lane_leases.specs.Resting.{rested, HasRestedLongest, NoneRests};
 
 use crate::ask::{Announced, Ask};
 use crate::choosing::longest_rested;
@@ -82,6 +83,30 @@ impl LaneLeases {
         self.gate.note(note)
     }
 
+    /// The gate.
+    pub fn gate(&self) -> &LaneGate
+        ensures { result.now ≡ self.now.gate }
+    {
+        &self.gate
+    }
+
+    /// The lane of the strangers that the next lease is of: the one that has rested longest. None where no lane has a
+    /// serial left.
+    pub fn next_lane(&self) -> Option<u16>
+        ensures some { IfSome result (HasRestedLongest self.now.gate.rows) }
+        ensures none { IsNone result → NoneRests self.now.gate.rows }
+        ensures is { result ≡ longest_of self.now.gate.rows }
+    {
+        longest_rested(self.gate.rows())
+    }
+
+    /// The lane's row; that of an owner without a key where there is no such lane.
+    pub fn row(&self, lane: u16) -> GateRow
+        ensures { result ≡ row_at self.now.gate.rows lane }
+    {
+        self.gate.row(lane)
+    }
+
     /// Leases a lane of the strangers to the ticket of the ask's own hash: the one that has rested longest, with
     /// its next serial. What is told is for the helper, with the hash of the helper's ticket.
     pub fn lease(&mut self, ask: &Ask) -> Result<Announced, UsedUp>
@@ -89,7 +114,7 @@ impl LaneLeases {
         ensures used_up { OnErr result (IsUsedUp self.old.gate) }
         ensures stays { OnErr result (self.new ≡ self.old) }
     {
-        let Some(lane) = longest_rested(self.gate.rows()) else {
+        let Some(lane) = self.next_lane() else {
             return Err(UsedUp);
         };
         let serial = next_serial(&self.gate.row(lane));

@@ -6,7 +6,7 @@ use Rattle.std.proofs.lemmas.List.Elements.{filter-append}
 use Rattle.express_words.specs.declared.settings.Settings.{Settings}
 use Rattle.frame_rules.specs.Frames.{PlainFrame}
 use Rattle.frame_rules.specs.Spelling.{spelling}
-use Rattle.step_rules.specs.LeaderReplies.{resent}
+use Rattle.leader_core.specs.Told.{resent_at}
 use Rattle.step_rules.specs.Leader.{Leader, Stage, Idle, Waiting, Challenged, Auditing, Settling, Done, Row, idle, opened_leader}
 use Rattle.leader_core.specs.Awaited.{commands_of, awaited_at, awaited, AreThoseAwaited, RowsAwait}
 
@@ -126,15 +126,15 @@ pub opened_awaits : (settings : Settings) (seed : List ℕ) → RowsAwait (opene
 unfolding opened_leader
 opened_awaits settings seed = opened_rows settings
 
--- ---- the oldest command
+-- ---- a command that is sent again
 
-first_link : (a : Leader) (number size : ℕ) (first : Option PlainFrame) → RowsAwait a → slice_get a.outstanding 0 ≡ first → number + length a.outstanding ≡ a.next →
-    option_map (λ (c : PlainFrame). length (spelling c)) first ≡ Some size → option_map (λ (c : PlainFrame). c.link) first ≡ Some number
-first_link a number size None is e next there = absurd (cc there)
-first_link a number size (Some c) is e next there = let same : c.link ≡ number = omega (arith, is.numbers 0 c e, next) in ap (λ (n : ℕ). let o : Option ℕ = Some n in o) same
+same_link : (a : Leader) (place number size : ℕ) (found : Option PlainFrame) → RowsAwait a → slice_get a.outstanding place ≡ found → number + length a.outstanding ≡ a.next + place →
+    option_map (λ (c : PlainFrame). length (spelling c)) found ≡ Some size → option_map (λ (c : PlainFrame). c.link) found ≡ Some number
+same_link a place number size None is e next there = absurd (cc there)
+same_link a place number size (Some c) is e next there = let same : c.link ≡ number = omega (arith, is.numbers place c e, next) in ap (λ (n : ℕ). let o : Option ℕ = Some n in o) same
 
 -- has the number under which it is sent again
-pub resent_link : (a : Leader) (found : Option (ℕ × ℕ)) → RowsAwait a → IfSome found (λ x. x.0 + length a.outstanding ≡ a.next) →
-    IfSome found (λ x. option_map (λ (c : PlainFrame). length (spelling c)) (resent a) ≡ Some x.1) → IfSome found (λ x. option_map (λ (c : PlainFrame). c.link) (resent a) ≡ Some x.0)
-resent_link a None is next there = tt
-resent_link a (Some x) is next there = first_link a x.0 x.1 (resent a) is refl next there
+pub resent_link : (a : Leader) (place : ℕ) (found : Option (ℕ × ℕ)) → RowsAwait a → IfSome found (λ x. x.0 + length a.outstanding ≡ a.next + place) →
+    IfSome found (λ x. option_map (λ (c : PlainFrame). length (spelling c)) (resent_at a place) ≡ Some x.1) → IfSome found (λ x. option_map (λ (c : PlainFrame). c.link) (resent_at a place) ≡ Some x.0)
+resent_link a place None is next there = tt
+resent_link a place (Some x) is next there = same_link a place x.0 x.1 (resent_at a place) is refl next there

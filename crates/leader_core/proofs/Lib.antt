@@ -9,4 +9,5 @@ mod LinkLemmas
 mod OpenLemmas
 mod OrderLemmas
 mod ReplyAwaits
+mod ResendLemmas
 mod SlotLemmas

@@ -1,10 +1,12 @@
 pub mod Applying
 pub mod Asked
 pub mod Awaited
+pub mod Challenged
 pub mod Commands
 pub mod Replies
 pub mod Saying
 pub mod Slots
+pub mod Standings
 pub mod State
 pub mod Told
 pub mod Turns

@@ -1,5 +1,5 @@
 -- What the leader answers, and what its calls give and write.
-use Rattle.std.specs.Prelude.{◌≡◌, ℕ, List, [], length, take, drop, Option, Some, None}
+use Rattle.std.specs.Prelude.{◌≡◌, ℕ, List, [], length, take, drop, slice_get, Option, Some, None}
 use Rattle.dpf_rules.specs.Evaluation.{prefix_count}
 use Rattle.frame_rules.specs.Frames as frame
 use Rattle.frame_rules.specs.Frames.{PlainFrame, PlainBody}
@@ -72,6 +72,10 @@ turn_steps a answer = 0
 
 abbrev pub ExpandsNothing : steps.Leader → steps.Turn → Type 0
 ExpandsNothing a t = turn_steps a t.answer ≡ 0
+
+-- the outstanding command at a place, the oldest at 0
+abbrev pub resent_at : steps.Leader → ℕ → Option PlainFrame
+resent_at a place = slice_get a.outstanding place
 
 -- how many bytes were sent again
 abbrev pub sent_length : Option (ℕ × ℕ) → ℕ

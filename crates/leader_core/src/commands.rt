@@ -67,15 +67,23 @@ impl Commands {
         self.link.full()
     }
 
-    /// The oldest command's number and bytes, or None exactly where there is none.
-    pub(crate) fn oldest_bytes(&self) -> Option<(u64, &[u8])>
-        ensures none { IsNone result ↔ (self.now.frames ≡ []) }
-        ensures number { IfSome result (λ command. IsOldest self.now command.0) }
-        ensures frame { IfSome result (λ command. slice_get self.now.frames 0 ≡ Some command.1.now) }
+    /// The number and bytes of the command at this place, the oldest at 0, or None exactly where no more than `place` stand.
+    pub(crate) fn bytes_at(&self, place: usize) -> Option<(u64, &[u8])>
+        ensures none { IsNone result ↔ (length self.now.frames ≤ place) }
+        ensures number { IfSome result (λ command. command.0 + length self.now.frames ≡ self.now.next + place) }
+        ensures frame { IfSome result (λ command. slice_get self.now.frames place ≡ Some command.1.now) }
         ensures room { IfSome result (λ command. length command.1.now ≤ self.now.size) }
         ensures link { IsOutstanding self.now }
     {
-        self.link.oldest()
+        self.link.at(place)
+    }
+
+    /// How many commands there are.
+    pub(crate) fn count(&self) -> usize
+        ensures count { result ≡ length self.now.frames }
+        ensures link { IsOutstanding self.now }
+    {
+        self.link.len()
     }
 
     /// What the oldest command is, or None exactly where there is none.

@@ -2,20 +2,24 @@
 ghost use Rattle.std.specs.Prelude.{◌≡◌, ◌↔◌, ◌+◌, ◌<◌, ◌≤◌, IfOk, IfSome, IsNone, None, Some, length, option_map, take, drop};
 ghost use Rattle.frame_rules.specs.Spelling.{spelling};
 ghost use Rattle.frame_rules.specs.Room.{HasRoom};
-ghost use Rattle.step_rules.specs.Leader.{opened_leader};
+ghost use Rattle.server_boxes.specs.Challenged.{plain_challenged};
+ghost use Rattle.step_rules.specs.Leader.{opened_leader, row_at};
 ghost use Rattle.step_rules.specs.LeaderClients.{on_client};
 ghost use Rattle.step_rules.specs.LeaderReplies.{resent};
+ghost use Rattle.leader_core.specs.Challenged.{challenged_in};
+ghost use Rattle.leader_core.specs.Standings.{standing_in};
 ghost use Rattle.leader_core.specs.State.{share_in};
-ghost use Rattle.leader_core.specs.Told.{sent_length, turn_steps};
+ghost use Rattle.leader_core.specs.Told.{resent_at, sent_length, turn_steps};
 ghost use Rattle.leader_core.specs.Turns.{DoesClient, DoesReply};
 
 use crate::commands::Commands;
 use crate::slot::idle_slots;
+use crate::standing::Standing;
 use crate::stores::LeaderStores;
 use crate::turn::{Ack, Turn};
 use dpf_eval::Steps;
 use express_words::{NoMemory, Settings};
-use server_boxes::ServerBoxes;
+use server_boxes::{ChallengedWrite, ServerBoxes};
 use std::alloc::Global;
 use std::marker::Model;
 use std::sync::ledger::Ledger;
@@ -120,7 +124,23 @@ impl Leader {
             (take x.1 out.new)) }
         ensures rest { drop (sent_length result) out.new ≡ drop (sent_length result) out.old }
     {
-        self.core.resend(out)
+        self.resend_at(0, out)
+    }
+
+    /// Writes the outstanding command at this place, the oldest at 0, to the front of `out` again, and gives its number
+    /// and its length; None exactly where no more than `place` are outstanding, and then nothing is written.
+    pub fn resend_at(&self, place: usize, out: &mut [u8]) -> Option<(u64, usize)>
+        requires room { HasRoom out.old }
+        ensures none { IsNone result ↔ (resent_at self.now place ≡ None) }
+        ensures number { IfSome result (λ x. x.0 + length self.now.outstanding ≡ self.now.next + place) }
+        ensures link { IfSome result (λ x. option_map (λ c. c.link) (resent_at self.now place) ≡ Some x.0) }
+        ensures length { IfSome result (λ x. option_map (λ c. length (spelling c))
+            (resent_at self.now place) ≡ Some x.1) }
+        ensures written { IfSome result (λ x. option_map spelling (resent_at self.now place) ≡ Some
+            (take x.1 out.new)) }
+        ensures rest { drop (sent_length result) out.new ≡ drop (sent_length result) out.old }
+    {
+        self.core.resend_at(place, out)
     }
 
     /// How many commands are outstanding.
@@ -129,6 +149,21 @@ impl Leader {
         ensures few { result ≤ 32 }
     {
         self.core.outstanding()
+    }
+
+    /// The write of a lane whose client was given challenges, and which waits for its proof: that has to be one of its
+    /// key and public part. None where the lane has none, or there is no such lane.
+    pub fn challenged(&self, lane: u16) -> Option<ChallengedWrite<'_>>
+        ensures { option_map plain_challenged result ≡ challenged_in (row_at self.now lane) }
+    {
+        self.core.challenged(lane)
+    }
+
+    /// How a lane stands; as one with no request where there is no such lane.
+    pub fn standing(&self, lane: u16) -> Standing
+        ensures { result ≡ standing_in (row_at self.now lane) }
+    {
+        self.core.standing(lane)
     }
 
     /// How many boxes stand.

@@ -14,6 +14,7 @@ mod link;
 mod replies;
 mod said;
 mod slot;
+mod standing;
 mod stores;
 mod turn;
 mod uncounted;
@@ -21,5 +22,6 @@ mod writing;
 
 pub use laws::rows_await;
 pub use leader::Leader;
+pub use standing::Standing;
 pub use turn::{Ack, Turn};
 pub use uncounted::{hear_request, take_request};

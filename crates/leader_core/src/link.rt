@@ -4,19 +4,25 @@ ghost use Rattle.frame_rules.specs.Frames.{PlainFrame};
 ghost use Rattle.frame_rules.specs.Spelling.{spelling};
 ghost use Rattle.frame_rules.specs.Room.{HasRoom};
 ghost use Rattle.link_order.specs.Link.{IsOutstanding};
-ghost use Rattle.step_rules.specs.LeaderReplies.{on_reply_bytes, resent};
+ghost use Rattle.server_boxes.specs.Challenged.{plain_challenged};
+ghost use Rattle.step_rules.specs.Leader.{row_at};
+ghost use Rattle.step_rules.specs.LeaderReplies.{on_reply_bytes};
+ghost use Rattle.leader_core.specs.Challenged.{challenged_in};
 ghost use Rattle.leader_core.specs.Commands.{is_audit, IsIssued};
 ghost use Rattle.leader_core.specs.Replies.{settled_with, told};
 ghost use Rattle.leader_core.specs.State.{leader_in, oldest_in, AreStores};
-ghost use Rattle.leader_core.specs.Told.{sent_length, DoesAck};
+ghost use Rattle.leader_core.specs.Standings.{standing_in};
+ghost use Rattle.leader_core.specs.Told.{resent_at, sent_length, DoesAck};
 
 use crate::applied::Applied;
 use crate::issued::Issued;
+use crate::standing::Standing;
 use crate::stores::LeaderStores;
 use crate::turn::Ack;
 use crate::writing::put_frame;
 use express_words::Closing;
 use frame_rules::Body;
+use server_boxes::ChallengedWrite;
 use wire_frames::Received;
 
 impl LeaderStores {
@@ -92,32 +98,51 @@ impl LeaderStores {
         }
     }
 
+    /// The write of a lane that waits for its proof.
+    pub(crate) fn challenged(&self, lane: u16) -> Option<ChallengedWrite<'_>>
+        ensures { option_map plain_challenged result ≡ challenged_in (row_at (leader_in self.now) lane) }
+    {
+        let place = usize::from(lane);
+        if self.slots.len() <= place {
+            return None;
+        }
+        self.slots[place].challenged_write()
+    }
+
+    /// How a lane stands.
+    pub(crate) fn standing(&self, lane: u16) -> Standing
+        ensures { result ≡ standing_in (row_at (leader_in self.now) lane) }
+    {
+        let place = usize::from(lane);
+        if self.slots.len() <= place {
+            return Standing::Other;
+        }
+        self.slots[place].standing()
+    }
+
     /// How many commands are outstanding.
     pub(crate) fn outstanding(&self) -> usize
         requires is { AreStores self.now }
         ensures count { result ≡ length (leader_in self.now).outstanding }
         ensures few { result ≤ 32 }
     {
-        match self.link.oldest_bytes() {
-            None => 0,
-            Some((number, _)) => (self.link.next() - number) as usize,
-        }
+        self.link.count()
     }
 
-    /// Writes the oldest outstanding command again.
-    pub(crate) fn resend(&self, out: &mut [u8]) -> Option<(u64, usize)>
+    /// Writes the outstanding command at this place again, the oldest at 0.
+    pub(crate) fn resend_at(&self, place: usize, out: &mut [u8]) -> Option<(u64, usize)>
         requires is { AreStores self.now }
         requires room { HasRoom out.old }
-        ensures none { IsNone result ↔ (resent (leader_in self.now) ≡ None) }
+        ensures none { IsNone result ↔ (resent_at (leader_in self.now) place ≡ None) }
         ensures number { IfSome result (λ x. x.0 + length
-            (leader_in self.now).outstanding ≡ self.now.link.next) }
-        ensures length { IfSome result (λ x. option_map (λ c. length (spelling c)) (resent
-            (leader_in self.now)) ≡ Some x.1) }
-        ensures written { IfSome result (λ x. option_map spelling (resent (leader_in self.now)) ≡ Some
+            (leader_in self.now).outstanding ≡ self.now.link.next + place) }
+        ensures length { IfSome result (λ x. option_map (λ c. length (spelling c)) (resent_at
+            (leader_in self.now) place) ≡ Some x.1) }
+        ensures written { IfSome result (λ x. option_map spelling (resent_at (leader_in self.now) place) ≡ Some
             (take x.1 out.new)) }
         ensures rest { drop (sent_length result) out.new ≡ drop (sent_length result) out.old }
     {
-        let (number, bytes) = self.link.oldest_bytes()?;
+        let (number, bytes) = self.link.bytes_at(place)?;
         let length = bytes.len();
         out[..length].copy_from_slice(bytes);
         Some((number, length))

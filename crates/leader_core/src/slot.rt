@@ -1,8 +1,9 @@
 //! What the leader holds of a lane.
-ghost use Rattle.std.specs.Prelude.{◌≡◌, ◌+◌, ◌≤◌, ℕ, List, [], All, IsSomeAnd, replicate, take, IfOk, IfSome, IfErr, length};
+ghost use Rattle.std.specs.Prelude.{◌≡◌, ◌+◌, ◌≤◌, ℕ, List, [], All, IsSomeAnd, option_map, replicate, take, IfOk, IfSome, IfErr, length};
 ghost use Rattle.frame_rules.specs.Frames.{PlainFrame, plain_body, Challenge};
 ghost use Rattle.frame_rules.specs.Whole.{IsAnswer};
 ghost use Rattle.lane_table.specs.Gates.{opening_gate, closing_gate};
+ghost use Rattle.server_boxes.specs.Challenged.{plain_challenged};
 ghost use Rattle.server_boxes.specs.Held.{openings_of, write_in};
 ghost use Rattle.step_rules.specs.Leader.{Leader, door, phase_of, row, idle, want_of, Auditing, Challenged as Challenges, Done, Settling, Waiting};
 ghost use Rattle.step_rules.specs.LeaderClients.{again_at, new_at, submission_at, proof_at, proof_in};
@@ -12,15 +13,18 @@ ghost use Rattle.dpf_rules.specs.Evaluation.{prefix_count};
 ghost use Rattle.leader_core.specs.Asked.{asked_with, IsAsked};
 ghost use Rattle.leader_core.specs.Replies.{key_at, writing_at, auditing_at, settling_at};
 ghost use Rattle.leader_core.specs.Saying.{said_in, IsSaid, TakesProofs, TakesProofsAt, TakesSubmissions, TakesSubmissionsAt};
+ghost use Rattle.leader_core.specs.Challenged.{challenged_in};
+ghost use Rattle.leader_core.specs.Standings.{standing_in};
 ghost use Rattle.leader_core.specs.Slots.{kept_of, reply_in, row_in, rows_in, stage_in, BecomesSlot, IsLeaderSlot, StaysSlot};
 
 use crate::asked::Asked;
 use crate::said::SaidToClient;
+use crate::standing::Standing;
 use dpf_eval::Steps;
 use express_words::{Closing, NoMemory, Openings, Refusal, Settings};
 use frame_rules::Body;
 use lane_table::{Gate, Row, Want, closing, opening, phase};
-use server_boxes::{Begun, Proof, Room, ServerBoxes};
+use server_boxes::{Begun, ChallengedWrite, Proof, Room, ServerBoxes};
 use std::alloc::Global;
 use std::sync::ledger::Ledger;
 
@@ -251,6 +255,42 @@ impl LeaderSlot {
         let opened = boxes.open_write(0, begun, proof, &mut self.room, steps);
         self.stage = LeaderStage::Auditing(number, *begun, *proof, opened);
         opened
+    }
+
+    /// The write whose client was given challenges, and that waits for its proof.
+    pub(crate) fn challenged_write(&self) -> Option<ChallengedWrite<'_>>
+        ensures { option_map plain_challenged result ≡ challenged_in (row_in self.now) }
+    {
+        match self.stage {
+            LeaderStage::Challenged(begun) => {
+                let ckey = begun.ckey;
+                Some(ChallengedWrite {
+                    serial: self.serial,
+                    ckey,
+                    part: &self.room.part,
+                })
+            }
+            LeaderStage::Idle => None,
+            LeaderStage::Waiting(_, _) => None,
+            LeaderStage::Auditing(_, _, _, _) => None,
+            LeaderStage::Settling(_, _, _, _) => None,
+            LeaderStage::Done(_, _) => None,
+        }
+    }
+
+    /// How the lane stands.
+    pub(crate) fn standing(&self) -> Standing
+        ensures { result ≡ standing_in (row_in self.now) }
+    {
+        match self.stage {
+            LeaderStage::Waiting(_, _) => Standing::Busy,
+            LeaderStage::Auditing(_, _, _, _) => Standing::Busy,
+            LeaderStage::Settling(_, _, _, _) => Standing::Busy,
+            LeaderStage::Done(Want::Write, KeptReply::Accepted) => Standing::Written(self.serial),
+            LeaderStage::Done(_, _) => Standing::Other,
+            LeaderStage::Idle => Standing::Other,
+            LeaderStage::Challenged(_) => Standing::Other,
+        }
     }
 
     /// The key that a register brought.

@@ -40,6 +40,14 @@ impl Outgoing {
         })
     }
 
+    /// How many commands are outstanding.
+    pub fn len(&self) -> usize
+        ensures count { result ≡ length self.now.frames }
+        ensures link { IsOutstanding self.now }
+    {
+        self.ring.len()
+    }
+
     /// The number that the next command gets.
     pub fn next(&self) -> u64
         ensures number { result ≡ self.now.next }
@@ -68,6 +76,21 @@ impl Outgoing {
         Ok(number)
     }
 
+    /// The outstanding command at this place, the oldest at 0, with its number; None exactly where no more than `place` are
+    /// outstanding.
+    pub fn at(&self, place: usize) -> Option<(u64, &[u8])>
+        ensures none { IsNone result ↔ (length self.now.frames ≤ place) }
+        ensures number { IfSome result (λ command. command.0 + length self.now.frames ≡ self.now.next + place) }
+        ensures frame { IfSome result (λ command. slice_get self.now.frames place ≡ Some command.1.now) }
+        ensures room { IfSome result (λ command. length command.1.now ≤ self.now.size) }
+        ensures link { IsOutstanding self.now }
+    {
+        if self.ring.len() <= place {
+            return None;
+        }
+        Some((self.oldest_number() + place as u64, self.ring.get(place)))
+    }
+
     /// The oldest outstanding command with its number, or None exactly where none is outstanding.
     pub fn oldest(&self) -> Option<(u64, &[u8])>
         ensures none { IsNone result ↔ (self.now.frames ≡ []) }
@@ -76,10 +99,7 @@ impl Outgoing {
         ensures room { IfSome result (λ command. length command.1.now ≤ self.now.size) }
         ensures link { IsOutstanding self.now }
     {
-        if self.ring.len() == 0 {
-            return None;
-        }
-        Some((self.oldest_number(), self.ring.get(0)))
+        self.at(0)
     }
 
     /// The oldest outstanding command's number, exactly where `window` commands are outstanding.

@@ -44,11 +44,7 @@ pub(crate) fn is_one_frame(received: &Received<'_>) -> bool
 }
 
 /// The record of a frame.
-pub(crate) fn put_record<'a>(
-    sender: Sender,
-    frame: &[u8],
-    room: &'a mut [u8; RECORD_MAX],
-) -> &'a [u8]
+pub fn put_record<'a>(sender: Sender, frame: &[u8], room: &'a mut [u8; RECORD_MAX]) -> &'a [u8]
     requires { length frame.now ≤ 8213 }
     ensures { result.now ≡ frame_record (handed sender frame.now) }
 {
@@ -59,7 +55,7 @@ pub(crate) fn put_record<'a>(
 }
 
 /// The frame of a record, and who handed it, if it is one.
-pub(crate) fn frame_in(bytes: &[u8]) -> Option<(Sender, Received<'_>)>
+pub fn frame_in(bytes: &[u8]) -> Option<(Sender, Received<'_>)>
     ensures some { IfSome result (λ x. IsOneFrame x.1) }
     ensures is { IfSome result (λ x. bytes.now ≡ frame_record (handed x.0 x.1)) }
     ensures none { IsNone result → IsNoFrame bytes.now }

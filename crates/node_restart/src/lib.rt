@@ -12,10 +12,10 @@ mod steps;
 
 pub use did::Did;
 pub use express_words::Role;
-pub use frames::Sender;
+pub use frames::{Sender, frame_in, put_record};
 pub use kept::Kept;
 pub use kept_machine::KeepFault;
 pub use machine::Server;
-pub use opening::Opening;
+pub use opening::{OPENING_LEN, Opening};
 pub use server::Core;
 pub use steps::{help_client, help_peer, lead_client, lead_peer};

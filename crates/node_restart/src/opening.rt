@@ -6,7 +6,7 @@ ghost use Rattle.node_restart.specs.Openings.{IsOpening, opening_record, role_nu
 use express_words::{Role, Settings};
 
 /// How many bytes the record of an opening has.
-pub(crate) const OPENING_LEN: usize = 45;
+pub const OPENING_LEN: usize = 45;
 
 /// How a server is opened: which of the two it is, the settings, and the seed of its draws.
 #[derive(Clone, Copy, Debug, PartialEq, Eq)]
@@ -53,7 +53,7 @@ fn short(a: u8, b: u8) -> u16
 
 impl Opening {
     /// The record: tag, role, width, boxes, lanes, window and seed.
-    pub(crate) fn record(&self) -> [u8; OPENING_LEN]
+    pub fn record(&self) -> [u8; OPENING_LEN]
         ensures { result ≡ opening_record self.now }
     {
         let [w0, w1, w2, w3] = self.settings.width.to_be_bytes();
@@ -69,7 +69,7 @@ impl Opening {
     }
 
     /// The opening that a record is, if it is one.
-    pub(crate) fn of(bytes: &[u8]) -> Option<Opening>
+    pub fn of(bytes: &[u8]) -> Option<Opening>
         ensures some { IfSome result IsOpening }
         ensures is { IfSome result (λ o. bytes.now ≡ opening_record o) }
         ensures none { IsNone result → (o : Opening) → IsOpening o → bytes.now ≡ opening_record o → ⊥ }

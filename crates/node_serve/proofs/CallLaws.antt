@@ -2,7 +2,7 @@
 use Rattle.std.proofs.Common.{◌≡◌, ◌≢◌, ℕ, false, List, [], ◌∷◌, ◌++◌, Option, Some, None, refl, ap, subst, append_assoc, arith}
 use Rattle.std.proofs.lemmas.List.{append-nil}
 use Rattle.express_words.specs.Seen.{Seen}
-use Rattle.express_words.specs.Streams.{Stream, Gave}
+use Rattle.express_words.specs.Streams.{Stream, Gave, left_in}
 use Rattle.express_words.specs.Calls.{Call, Accepted, Adds, AddsClose, GivesTelling}
 use Rattle.node_exchange.specs.Exchanging.{Makes, Exchange, EarlyAtEnd, ExchangesOn}
 use Rattle.node_serve.specs.Moved.{Calls}
@@ -46,11 +46,7 @@ own_calls peer es calls on = let own = told peer es calls.old calls.new [] on in
 
 -- ---- an accept, these calls, and a close
 
-abbrev pub left_in : Option Stream → List ℕ
-left_in None = []
-left_in (Some stream) = stream.left
-
-abbrev pub stream : (given left : List ℕ) → Stream
+abbrev pub stream : (given : List ℕ) (left : Option (List ℕ)) → Stream
 stream given left = record { given = given; left = left }
 
 pub contact_made : (d : Option (List Call)) (t : Option Stream) (x : Option (List ℕ)) (c b : Option (List Call)) (s : Option Stream) (w : Option (List ℕ)) (a : Option (List Call)) (k : Contact)

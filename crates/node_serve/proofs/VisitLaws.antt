@@ -1,7 +1,7 @@
 -- A connection that was accepted, served and closed is a visit.
 use Rattle.std.proofs.Common.{◌≡◌, ◌≢◌, ◌⊎◌, inl, inr, ℕ, false, List, [], Option, Some, None, Result, Ok, Err, refl, sym, ap, ◌∙◌, subst, arith}
 use Rattle.express_words.specs.Seen.{Seen}
-use Rattle.express_words.specs.Streams.{Stream, Gave, IsBlank, Took}
+use Rattle.express_words.specs.Streams.{Stream, Gave, IsBlank, Took, left_in}
 use Rattle.express_words.specs.Calls.{Call, Accepted, Adds, AddsClose, GivesTelling}
 use Rattle.frame_rules.specs.Frames.{PlainFrame}
 use Rattle.frame_rules.specs.Gathering.{gathered}
@@ -21,7 +21,7 @@ use Rattle.node_serve.specs.declared.node.Served.TheVariants as served
 use Rattle.node_serve.specs.Visits.{Contact, Visit, Standing, standing, Shown, IsContact, IsCutOff, IsStepped, ClosesWith, IsVisit, IsRefusedVisit, ClosedAs}
 use Rattle.node_serve.proofs.RespondLaws.{helper_alone, helper_stops}
 use Rattle.node_serve.proofs.ReplyLaws.{own_reply}
-use Rattle.node_serve.proofs.CallLaws.{makes_same, own_calls, left_in, stream, contact_made, link_at_end}
+use Rattle.node_serve.proofs.CallLaws.{makes_same, own_calls, stream, contact_made, link_at_end}
 
 pub is_short_or_not : (r : Result (PlainFrame × ℕ) FrameFault) → (r ≡ Err Short) ⊎ (r ≢ Err Short)
 is_short_or_not (Err Short) = inl refl

@@ -22,8 +22,8 @@ use Rattle.node_serve.specs.declared.node.Served.TheVariants as served
 use Rattle.node_serve.specs.declared.stop.Halt.{Halt}
 use Rattle.node_serve.specs.declared.stop.Halt.TheVariants as halt
 
--- A connection at the door, at its close: the bytes that it gave and those that it had left, the bytes that
--- it took, its count of faults, and the calls that the server made on the net meanwhile.
+-- A connection at the door, at its close: the bytes that it gave and, where it knew them, those that it had left,
+-- the bytes that it took, its count of faults, and the calls that the server made on the net meanwhile.
 pub record Contact : Type 0 where
   pub content : Stream
   pub taken : List ℕ

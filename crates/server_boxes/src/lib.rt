@@ -3,9 +3,11 @@
 #![tactic(auto)]
 
 mod boxes;
+mod challenged;
 mod closing;
 mod room;
 
 pub use boxes::ServerBoxes;
+pub use challenged::ChallengedWrite;
 pub use closing::{challenge_key, close};
 pub use room::{Begun, Proof, Room};

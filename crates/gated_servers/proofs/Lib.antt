@@ -1,0 +1,4 @@
+mod LeaseLaws
+mod OpeningLaws
+mod PartLaws
+mod RecordLaws
