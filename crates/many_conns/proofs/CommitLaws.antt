@@ -8,7 +8,8 @@ use Rattle.many_words.specs.Events.{Event, Entry, Adds, Logged, LogFailed, Waite
 use Rattle.many_conns.specs.declared.patience.Patience.{Patience}
 use Rattle.many_conns.specs.Rules.{Rules}
 use Rattle.many_conns.specs.Places.{Place, taken}
-use Rattle.many_conns.specs.Batches.{Budget, line, admitted, refused, all_taken, put_some}
+use Rattle.many_conns.specs.declared.batch.Budget.{Budget}
+use Rattle.many_conns.specs.Batches.{line, admitted, refused, all_taken, put_some}
 use Rattle.many_conns.specs.Hall.{Hall, Leads, Waits, IsLooked}
 use Rattle.many_conns.proofs.LeadLaws.{leads_one, leads_none}
 use Rattle.many_conns.proofs.PlaceLaws.{hall}
@@ -17,14 +18,14 @@ pub logs_all : {S : Type 0} (rules : Rules S) (old new : Option (List Event)) (h
     → (patience : Patience) (most dear now : ℕ) (places after : List Place) (turn next : ℕ) (served : Bool) (server : S) (owed entries : List Entry)
     → (full : Option ℕ) (room : ℕ) → h ≡ hall patience most dear now places turn served server owed → h.owed ≡ [] → h.served ≡ false
     → room ≡ most
-    → entries ≡ admitted rules.is_dear (record { frames = min most (rules.room server); dear = dear }) (line rules.whole turn places)
-    → full ≡ refused rules.is_dear (record { frames = min most (rules.room server); dear = dear }) (line rules.whole turn places)
+    → entries ≡ admitted rules.is_dear (record { frames = most; clients = rules.room server; dear = dear }) (line rules server turn places)
+    → full ≡ refused rules.is_dear (record { frames = most; clients = rules.room server; dear = dear }) (line rules server turn places)
     → next ≡ unwrap_or full turn → after ≡ all_taken now entries places → Adds old new (Logged entries)
     → Leads rules old new h (hall patience room dear now after next true server entries)
 logs_all rules old new h patience most dear now places after turn next served server owed entries full room is none once same batch stop turns done adds =
-    let left : Budget = record { frames = min most (rules.room server); dear = dear } in
+    let left : Budget = record { frames = most; clients = rules.room server; dear = dear } in
     subst (λ k. Leads rules old new k (hall patience room dear now after next true server entries)) (sym is)
-    (leads_one rules old new _ _ (Logged entries) adds
+    (leads_one rules old new _ _ (Logged entries) adds refl
     (record {
       nothing_owed = subst (λ k. k.owed ≡ []) is none;
       once = subst (λ k. k.served ≡ false) is once;
@@ -33,7 +34,7 @@ logs_all rules old new h patience most dear now places after turn next served se
           ∙ (ap (λ k. hall patience most dear now k next true server entries) done
           ∙ (ap (λ k. hall patience most dear now (all_taken now entries places) k true server entries) (turns ∙ ap (λ k. unwrap_or k turn) stop)
           ∙ ap (λ k. hall patience most dear now (all_taken now k places)
-          (unwrap_or (refused rules.is_dear left (line rules.whole turn places)) turn) true server k) batch));
+          (unwrap_or (refused rules.is_dear left (line rules server turn places)) turn) true server k) batch));
     }))
 
 same_hall : {S : Type 0} (patience : Patience) (most dear now : ℕ) (places : List Place) (turn : ℕ) (served : Bool) (server : S)
@@ -59,11 +60,11 @@ pub fails_all : {S : Type 0} (rules : Rules S) (old new : Option (List Event)) (
 fails_all rules old new h patience most dear now places turn served server owed entries room is none same empty adds =
     subst (λ t. Leads rules old new h t) (is ∙ same_hall patience most dear now places turn served server owed entries room
     (sym (ap (λ k. k.owed) is) ∙ none) same empty)
-    (leads_one rules old new h h LogFailed adds (record { nothing_owed = none; is = refl }))
+    (leads_one rules old new h h LogFailed adds refl (record { nothing_owed = none; is = refl }))
 
 pub waits_once : {S : Type 0} (rules : Rules S) (old new : Option (List Event)) (h t : Hall S) (now : ℕ)
     → Waits rules h now t → Adds old new (Waited now) → Leads rules old new h t
-waits_once rules old new h t now waits adds = leads_one rules old new h t (Waited now) adds waits
+waits_once rules old new h t now waits adds = leads_one rules old new h t (Waited now) adds refl waits
 
 no_true : true ≡ false → ⊥
 no_true e = grind arith

@@ -1,7 +1,14 @@
 pub mod BatchLaws
+pub mod CommandLaws
+pub mod DialledLaws
 pub mod CommitLaws
 pub mod HandleLaws
 pub mod LeadLaws
 pub mod ListLaws
+pub mod OldestLaws
+pub mod OpenLaws
 pub mod OrderLaws
 pub mod PlaceLaws
+pub mod ResendLaws
+pub mod RouteLaws
+pub mod WaitLaws

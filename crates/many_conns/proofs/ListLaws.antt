@@ -9,11 +9,14 @@ use Rattle.std.proofs.lemmas.List.{take-append-le, length-drop, drop-take, lengt
 use Rattle.std.proofs.lemmas.Bool.{cases_lt}
 use Rattle.std.proofs.Math.ListN.{drop_of_length-le}
 use Rattle.std.proofs.Math.Seq.{drop-cons}
-use Rattle.std.specs.Prelude.{Option, Some, min, ◌-◌, ◌⊎◌, slice_get}
+use Rattle.std.specs.Prelude.{Bool, Option, Some, min, ◌-◌, ◌⊎◌, slice_get}
 use Rattle.std.proofs.Common.{inl, inr}
+use Rattle.many_words.specs.declared.door.Door.TheVariants.{Clients}
+use Rattle.many_words.specs.declared.door.Door.{Door}
 use Rattle.many_words.specs.Events.{Entry}
-use Rattle.many_conns.specs.Places.{Place, frame_at, empty_place}
-use Rattle.many_conns.specs.Batches.{whole_from, entry_at}
+use Rattle.many_conns.specs.Rules.{Rules}
+use Rattle.many_conns.specs.Places.{Place, empty_place}
+use Rattle.many_conns.specs.Batches.{whole_from, entries_of, frames_from}
 use Rattle.many_conns.specs.Hall.{IsSomeAt}
 
 none_below : (i : ℕ) → i < 0 → ⊥
@@ -26,42 +29,42 @@ all_one P p holds = grind arith
 pub all_more : (P : Place → Type 0) (places : List Place) (i : ℕ) → i < length places → All P (take i places)
     → IsSomeAt places i P → All P (take (i + 1) places)
 all_more P places i lt before here =
-    rw (add-one, take-suc places i empty_place lt)
-    (All-append P (take i places) (get_or places i empty_place ∷ []) before
-    (all_one P _ (here (get_or places i empty_place) (slice_get-get_or places i empty_place lt))))
+    rw (add-one, take-suc places i (empty_place Clients) lt)
+    (All-append P (take i places) (get_or places i (empty_place Clients) ∷ []) before
+    (all_one P _ (here (get_or places i (empty_place Clients)) (slice_get-get_or places i (empty_place Clients) lt))))
 
 pub all_whole : (P : Place → Type 0) (places : List Place) (n : ℕ) → n ≡ length places → All P (take n places)
     → All P places
 all_whole P places n is all = subst (All P) (ap (λ k. take k places) is ∙ take_all (length places) places (omega arith)) all
 
-whole_from-suc : (whole : List ℕ → Option ℕ) (k : ℕ) (places : List Place) (i : ℕ) (p : Place) → i < length places → p ≡ get_or places i p
-    → whole_from whole k (take (suc i) places) ≡ whole_from whole k (take i places) ++ entry_at (k + i) (frame_at whole p)
-whole_from-suc whole k [] i p lt read = absurd (none_below i lt)
-whole_from-suc whole k (q ∷ places) zero p lt read =
-    append-nil (entry_at k (frame_at whole q))
-    ∙ (ap (λ x. entry_at k (frame_at whole x)) (sym read) ∙ ap (λ n. entry_at n (frame_at whole p)) (omega arith))
-whole_from-suc whole k (q ∷ places) (suc i) p lt read =
+whole_from-suc : {S : Type 0} (rules : Rules S) (s : S) (peers : Bool) (k : ℕ) (places : List Place) (i : ℕ) (p : Place) → i < length places → p ≡ get_or places i p
+    → whole_from rules s peers k (take (suc i) places) ≡ whole_from rules s peers k (take i places) ++ entries_of rules s (k + i) p.door (frames_from rules.whole peers p)
+whole_from-suc rules s peers k [] i p lt read = absurd (none_below i lt)
+whole_from-suc rules s peers k (q ∷ places) zero p lt read =
+    append-nil (entries_of rules s k q.door (frames_from rules.whole peers q))
+    ∙ (ap (λ x. entries_of rules s k x.door (frames_from rules.whole peers x)) (sym read) ∙ ap (λ n. entries_of rules s n p.door (frames_from rules.whole peers p)) (omega arith))
+whole_from-suc rules s peers k (q ∷ places) (suc i) p lt read =
     let next : k + 1 + i ≡ k + suc i = omega arith in
-    ap (λ b. entry_at k (frame_at whole q) ++ b) (whole_from-suc whole (k + 1) places i p (omega arith) read
-    ∙ ap (λ n. whole_from whole (k + 1) (take i places) ++ entry_at n (frame_at whole p)) next)
-    ∙ sym (append_assoc (entry_at k (frame_at whole q)) (whole_from whole (k + 1) (take i places)) (entry_at (k + suc i) (frame_at whole p)))
+    ap (λ b. entries_of rules s k q.door (frames_from rules.whole peers q) ++ b) (whole_from-suc rules s peers (k + 1) places i p (omega arith) read
+    ∙ ap (λ n. whole_from rules s peers (k + 1) (take i places) ++ entries_of rules s n p.door (frames_from rules.whole peers p)) next)
+    ∙ sym (append_assoc (entries_of rules s k q.door (frames_from rules.whole peers q)) (whole_from rules s peers (k + 1) (take i places)) (entries_of rules s (k + suc i) p.door (frames_from rules.whole peers p)))
 
 -- those of the places before this one, and its own
-pub whole_from-more : (whole : List ℕ → Option ℕ) (k : ℕ) (places : List Place) (i : ℕ) (p : Place) → i < length places → p ≡ get_or places i p
-    → whole_from whole k (take (i + 1) places) ≡ whole_from whole k (take i places) ++ entry_at (k + i) (frame_at whole p)
-whole_from-more whole k places i p lt read = rw add-one (whole_from-suc whole k places i p lt read)
+pub whole_from-more : {S : Type 0} (rules : Rules S) (s : S) (peers : Bool) (k : ℕ) (places : List Place) (i : ℕ) (p : Place) → i < length places → p ≡ get_or places i p
+    → whole_from rules s peers k (take (i + 1) places) ≡ whole_from rules s peers k (take i places) ++ entries_of rules s (k + i) p.door (frames_from rules.whole peers p)
+whole_from-more rules s peers k places i p lt read = rw add-one (whole_from-suc rules s peers k places i p lt read)
 
 -- those of the places up to one, and of the others
-pub whole_from-split : (whole : List ℕ → Option ℕ) (k : ℕ) (places : List Place) (i : ℕ)
-    → (rest : List Entry) × (whole_from whole k places ≡ whole_from whole k (take i places) ++ rest)
-whole_from-split whole k [] zero = ([], refl)
-whole_from-split whole k [] (suc i) = ([], refl)
-whole_from-split whole k (q ∷ places) zero = (whole_from whole k (q ∷ places), refl)
-whole_from-split whole k (q ∷ places) (suc i) =
-    let later = whole_from-split whole (k + 1) places i in (
+pub whole_from-split : {S : Type 0} (rules : Rules S) (s : S) (peers : Bool) (k : ℕ) (places : List Place) (i : ℕ)
+    → (rest : List Entry) × (whole_from rules s peers k places ≡ whole_from rules s peers k (take i places) ++ rest)
+whole_from-split rules s peers k [] zero = ([], refl)
+whole_from-split rules s peers k [] (suc i) = ([], refl)
+whole_from-split rules s peers k (q ∷ places) zero = (whole_from rules s peers k (q ∷ places), refl)
+whole_from-split rules s peers k (q ∷ places) (suc i) =
+    let later = whole_from-split rules s peers (k + 1) places i in (
       later.0,
-      ap (λ b. entry_at k (frame_at whole q) ++ b) later.1
-          ∙ sym (append_assoc (entry_at k (frame_at whole q)) (whole_from whole (k + 1) (take i places)) later.0),
+      ap (λ b. entries_of rules s k q.door (frames_from rules.whole peers q) ++ b) later.1
+          ∙ sym (append_assoc (entries_of rules s k q.door (frames_from rules.whole peers q)) (whole_from rules s peers (k + 1) (take i places)) later.0),
     )
 
 -- a change of each place, one after another
@@ -94,17 +97,11 @@ pub all_next : (P : Place → Type 0) (before now : List Place) (i n : ℕ) → 
 all_next P before now i n lt count all same here =
     all_more P now i (subst (λ k. i < k) count lt) (subst (All P) (sym same) all) here
 
--- the older of two places among those before one and that one
-pub still_oldest : (places : List Place) (place : ℕ) (q x : Place) → place < length places → x ≡ get_or places place x
-    → q.since ≤ x.since → All (λ p. q.since ≤ p.since) (take place places) → All (λ p. q.since ≤ p.since) (take (place + 1) places)
-still_oldest places place q x lt read le all =
-    all_more (λ p. q.since ≤ p.since) places place lt all
-    (λ p got. subst (λ k. q.since ≤ k.since) (read ∙ get_or_from_slice_get places place p x got) le)
-
-pub now_oldest : (places : List Place) (place : ℕ) (q x : Place) → place < length places → x ≡ get_or places place x
-    → x.since < q.since → All (λ p. q.since ≤ p.since) (take place places) → All (λ p. x.since ≤ p.since) (take (place + 1) places)
-now_oldest places place q x lt read less all =
-    still_oldest places place x x lt read (omega arith) (λ k d in'. omega (arith, less, all k d in'))
+-- one place more
+pub one_more : (P : Place → Type 0) (places : List Place) (place : ℕ) (x : Place) → place < length places → x ≡ get_or places place x
+    → P x → All P (take place places) → All P (take (place + 1) places)
+one_more P places place x lt read holds all =
+    all_more P places place lt all (λ p got. subst P (read ∙ get_or_from_slice_get places place p x got) holds)
 
 -- so many bytes at the front are dropped, or all
 pub drop_at_most : (xs : List ℕ) (count m : ℕ) → m ≡ min count (length xs) → drop m xs ≡ drop count xs

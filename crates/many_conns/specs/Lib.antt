@@ -1,6 +1,9 @@
 pub mod Batches
+pub mod Commands
+pub mod Doors
 pub mod Hall
 pub mod Orders
 pub mod Places
 pub mod Routes
 pub mod Rules
+pub mod Waiting

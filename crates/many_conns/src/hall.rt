@@ -1,18 +1,20 @@
 //! The server of many connections: one round after another.
-ghost use Rattle.std.specs.Prelude.{◌≡◌, ◌+◌, ◌<◌, ◌≤◌, [], ◌∷◌, ◌++◌, true, false, ℕ, length, take, map, All, IfOk, IfSome, OnOk, OnErr, slice_get, Some, replicate};
+ghost use Rattle.std.specs.Prelude.{◌≡◌, ◌+◌, ◌<◌, ◌≤◌, [], ◌∷◌, ◌++◌, true, false, ℕ, length, take, map, All, IfOk, IfSome, OnOk, OnErr, slice_get, Some};
 ghost use Rattle.std.specs.Bool.{OnTrue, OnFalse};
 ghost use Rattle.many_words.specs.Events.{Adds, Waited};
-ghost use Rattle.many_conns.specs.Places.{waited, empty_place};
-ghost use Rattle.many_conns.specs.Hall.{Keeps, Leads, Rounds, IsSettled, IsInTime, IsLooked, IsServed, IsSomeAt, Waits};
+ghost use Rattle.many_conns.specs.Doors.{free_places};
+ghost use Rattle.many_words.specs.Doors.{is_peer};
+ghost use Rattle.many_conns.specs.Hall.{Keeps, Leads, Rounds, IsSettled, IsInTime, IsAsked, IsLooked, IsServed, IsSomeAt, Waits};
 
 use crate::answering::{ANSWER_MAX, Answering};
 use crate::batch::Batch;
+use crate::doors::Doors;
 use crate::filling::{fill, take_all};
 use crate::patience::Patience;
 use crate::place::Place;
 use crate::rooms::{free_places, oldest, wait_all};
-use crate::routing::{deliver, route};
-use many_words::Hub;
+use crate::routing::{deliver, resend, route};
+use many_words::{Door, Hub};
 use std::alloc::{AllocError, Global};
 use std::marker::Model;
 
@@ -23,7 +25,8 @@ pub enum Stop {
     Log,
 }
 
-/// How long a connection is waited for, how many frames a round takes at most, and how many dear ones among them.
+/// How long a client or an operator is waited for, how many frames a round takes at most, and how many dear ones among
+/// them.
 #[derive(Clone, Copy, Debug, PartialEq, Eq)]
 pub struct Bounds {
     pub patience: Patience,
@@ -66,12 +69,12 @@ impl<S: Answering> Model for Hall<S> {
 }
 
 impl<S: Answering> Hall<S> {
-    /// So many free places, and a server. This alone takes memory: a room for the bytes of each place, and one for each
+    /// Free places, and a server. This alone takes memory: a room for the bytes of each place, and one for each
     /// frame of a round.
     pub fn open(
         alloc: Global,
         server: S,
-        places: usize,
+        doors: Doors,
         bounds: Bounds,
     ) -> Result<Hall<S>, AllocError>
     where
@@ -83,7 +86,7 @@ impl<S: Answering> Hall<S> {
               most = bounds.frames;
               most_dear = bounds.dear;
               now = 0;
-              places = replicate places empty_place;
+              places = free_places doors;
               turn = 0;
               served = true;
               server = server;
@@ -94,7 +97,7 @@ impl<S: Answering> Hall<S> {
             patience: bounds.patience,
             dear: bounds.dear,
             now: 0,
-            places: free_places(alloc, places)?,
+            places: free_places(alloc, doors)?,
             turn: 0,
             served: true,
             server,
@@ -125,27 +128,34 @@ impl<S: Answering> Hall<S> {
         hub.close(place);
     }
 
-    // Puts a connection that waits at a place that is free.
+    // Asks the door of a place where a connection may come for one, and puts it there. On one that the server dials it first
+    // sends what is unanswered again.
     fn open_one<H: Hub>(&mut self, hub: &mut H, place: usize)
         requires nothing_owed { self.old.owed ≡ [] }
         requires there { place < length self.old.places }
         ensures leads { Leads S.rules (H.told hub.old) (H.told hub.new) self.old self.new }
+        ensures asked { IsSomeAt self.new.places place IsAsked }
         ensures others { take place self.new.places ≡ take place self.old.places }
         ensures keeps { Keeps self.old self.new }
     {
-        if self.places[place].is_live() {
+        let slot = &mut self.places[place];
+        if !slot.is_free() {
             return;
         }
-        if !hub.open(place) {
+        let door = slot.door();
+        if !hub.open(place, door) {
+            slot.ask();
             return;
         }
-        self.places[place].open(self.now);
+        slot.open(self.now);
+        resend(&self.server, hub, door, place);
     }
 
-    // Looks at the connection at a place.
+    // Looks at the connection at a place whose door was asked.
     fn look_at<H: Hub>(&mut self, hub: &mut H, place: usize)
         requires nothing_owed { self.old.owed ≡ [] }
         requires there { place < length self.old.places }
+        requires asked { IsSomeAt self.old.places place IsAsked }
         ensures leads { Leads S.rules (H.told hub.old) (H.told hub.new) self.old self.new }
         ensures looked { IsSomeAt self.new.places place IsLooked }
         ensures others { take place self.new.places ≡ take place self.old.places }
@@ -171,28 +181,29 @@ impl<S: Answering> Hall<S> {
         }
     }
 
-    // Where each place has a connection and one more waits at the door, drops the one that has been waited for the
-    // longest, unless its frame is whole.
-    fn make_room<H: Hub>(&mut self, hub: &mut H)
+    // Where each place of a door has a connection and one more waits there, drops the one that has been waited for the
+    // longest of them, unless its frame is whole.
+    fn make_room<H: Hub>(&mut self, hub: &mut H, door: Door)
         requires nothing_owed { self.old.owed ≡ [] }
+        requires no_peer { is_peer door ≡ false }
         ensures served { self.new.served ≡ self.old.served }
         ensures leads { Leads S.rules (H.told hub.old) (H.told hub.new) self.old self.new }
         ensures nothing_owed { self.new.owed ≡ [] }
     {
-        let Some(place) = oldest(&self.places) else {
+        let Some(place) = oldest(&self.places, door) else {
             return;
         };
-        if !hub.knocks() {
+        if !hub.knocks(door) {
             return;
         }
         if self.places[place].frame(&self.server).is_some() {
             return;
         }
-        self.places[place].close();
+        self.places[place].vacate();
         hub.drop_for_another(place);
     }
 
-    // Fills places that are free, and looks at each connection.
+    // Asks each door for connections, and looks at each connection.
     fn gather<H: Hub>(&mut self, hub: &mut H)
         requires nothing_owed { self.old.owed ≡ [] }
         ensures served { self.new.served ≡ self.old.served }
@@ -265,9 +276,12 @@ impl<S: Answering> Hall<S> {
         };
         let mut out = [0u8; ANSWER_MAX];
         let place = entry.place();
-        let said = self.server.step(entry.frame(), &mut out);
+        let door = entry.door();
+        let said = self
+            .server
+            .step(door, entry.frame(), entry.record(), &mut out);
         self.answered += 1;
-        let send = route(&mut self.places, self.now, place, said, &out);
+        let send = route(&mut self.places, self.now, door, place, said, &out);
         deliver(hub, place, send, &out);
         true
     }
@@ -292,7 +306,8 @@ impl<S: Answering> Hall<S> {
         ensures settled { OnOk result (IsSettled S.rules self.new) }
     {
         self.wait(hub);
-        self.make_room(hub);
+        self.make_room(hub, Door::Clients);
+        self.make_room(hub, Door::Status);
         self.gather(hub);
         self.commit(hub)?;
         self.answer_all(hub);

@@ -4,6 +4,7 @@
 
 mod answering;
 mod batch;
+mod doors;
 mod filling;
 mod hall;
 pub mod laws;
@@ -14,7 +15,8 @@ mod routing;
 mod said;
 
 pub use answering::{ANSWER_MAX, Answering};
-pub use batch::Batch;
+pub use batch::{Batch, Budget, Weight};
+pub use doors::{Doors, Role};
 pub use hall::{Bounds, Hall, Stop};
 pub use patience::Patience;
 pub use place::Place;

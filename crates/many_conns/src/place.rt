@@ -1,11 +1,11 @@
 //! A place for a connection.
-ghost use Rattle.std.specs.Prelude.{◌≡◌, ◌+◌, ◌≤◌, ◌++◌, length, take, drop, IfOk, IfSome, OnSome, option_map, vec_capacity, true, false};
-ghost use Rattle.many_conns.specs.Places.{empty_place, new_place, with_bytes, at_end, blocked, frame_at, taken, is_over, waited, Looks, is_quiet, patience_for, waits_for, waiting_for, released, replied};
+ghost use Rattle.std.specs.Prelude.{◌≡◌, ◌+◌, ◌≤◌, ◌++◌, length, take, drop, IfOk, IfSome, OnSome, option_map, is_some, vec_capacity, true, false};
+ghost use Rattle.many_conns.specs.Places.{empty_place, new_place, vacated, is_free, asked, with_bytes, at_end, blocked, is_heard, frame_at, taken, is_over, is_late, finished, waited, Looks, is_linked, is_quiet, patience_for, waits_for, waiting_for, released, replied};
 
 use crate::answering::Answering;
 use crate::patience::Patience;
 use crate::said::Key;
-use many_words::{Hub, ROOM, Taken, push_all};
+use many_words::{Door, Hub, ROOM, Taken, push_all};
 use std::alloc::{AllocError, Global};
 use std::marker::Model;
 
@@ -15,13 +15,16 @@ const PIECE: usize = 4096;
 /// A place for a connection, with what came of it and wasn't taken.
 #[derive(Drop)]
 pub struct Place {
+    door: Door,
     live: bool,
     held: Vec<u8>,
     ended: bool,
+    finished: bool,
     pending: bool,
     waits: Option<Key>,
     since: u64,
     due: bool,
+    asked: bool,
 }
 
 impl Model for Place {
@@ -31,13 +34,16 @@ impl Model for Place {
     ghost Value = { State };
 
     ghost view = { λ p. record {
+      door = p.door;
       live = p.live;
       held = p.held.items;
       ended = p.ended;
+      finished = p.finished;
       pending = p.pending;
       waits = p.waits;
       since = p.since;
       due = p.due;
+      asked = p.asked;
     } };
 
     ghost invariant = { λ p. (16384 ≤ vec_capacity p.held) × (length p.held.items ≤ 16384) };
@@ -55,45 +61,76 @@ fn remove_front(held: &mut Vec<u8>, count: usize)
 }
 
 impl Place {
-    /// No connection. This alone takes memory.
-    pub fn empty(alloc: Global) -> Result<Place, AllocError>
-        ensures { IfOk result (λ p. p ≡ empty_place) }
+    /// No connection, at a place of this door. This alone takes memory.
+    pub fn empty(alloc: Global, door: Door) -> Result<Place, AllocError>
+        ensures { IfOk result (λ p. p ≡ empty_place door) }
     {
         Ok(Place {
+            door,
             live: false,
             held: Vec::with_capacity(alloc, ROOM)?,
             ended: false,
+            finished: false,
             pending: false,
             waits: None,
             since: 0,
             due: false,
+            asked: true,
         })
     }
 
     /// A connection comes.
     pub fn open(&mut self, now: u64)
-        ensures { self.new ≡ new_place now }
+        ensures { self.new ≡ new_place self.old.door now }
     {
+        self.close();
         self.live = true;
-        self.held.clear();
-        self.ended = false;
-        self.pending = false;
-        self.waits = None;
         self.since = now;
         self.due = true;
     }
 
     /// The connection goes.
     pub fn close(&mut self)
-        ensures { self.new ≡ empty_place }
+        ensures { self.new ≡ empty_place self.old.door }
     {
         self.live = false;
         self.held.clear();
         self.ended = false;
+        self.finished = false;
         self.pending = false;
         self.waits = None;
         self.since = 0;
         self.due = false;
+        self.asked = true;
+    }
+
+    /// The connection goes for another one.
+    pub fn vacate(&mut self)
+        ensures { self.new ≡ vacated self.old }
+    {
+        self.close();
+        self.asked = false;
+    }
+
+    /// The door has no connection for it.
+    pub fn ask(&mut self)
+        ensures { self.new ≡ asked self.old }
+    {
+        self.asked = true;
+    }
+
+    /// The door that its connections come through.
+    pub fn door(&self) -> Door
+        ensures { result ≡ self.now.door }
+    {
+        self.door
+    }
+
+    /// Whether a connection may come to it: none is there, or its door is the other server's.
+    pub fn is_free(&self) -> bool
+        ensures { result ≡ is_free self.now }
+    {
+        !self.live || self.door.is_link()
     }
 
     pub fn is_live(&self) -> bool
@@ -115,7 +152,7 @@ impl Place {
     {
         let mut piece = [0u8; PIECE];
         let space = (ROOM - self.held.len()).min(PIECE);
-        let seen = hub.take(place, &mut piece[..space]);
+        let seen = hub.take(place, self.door, &mut piece[..space]);
         match seen {
             Taken::Bytes(count) => {
                 push_all(&mut self.held, &piece[..count]);
@@ -136,17 +173,42 @@ impl Place {
         ensures { self.new ≡ waited self.old }
     {
         self.due = true;
+        self.asked = false;
     }
 
-    /// The whole frame that it has first. While its output is pending, or it waits for an answer, it has none.
+    // Whether a frame may be taken of it.
+    fn is_heard(&self) -> bool
+        ensures { result ≡ is_heard self.now }
+    {
+        self.live
+            && !self.finished
+            && (self.door.is_dialled() || !self.pending)
+            && self.waits.is_none()
+    }
+
+    /// The bytes that came of it, if a frame may be taken of it.
+    pub fn heard(&self) -> Option<&[u8]>
+        ensures held { IfSome result (λ held. held.now ≡ self.now.held) }
+        ensures heard { is_some result ≡ is_heard self.now }
+        ensures room { IfSome result (λ held. length held.now ≤ 16384) }
+    {
+        if self.is_heard() {
+            Some(&self.held)
+        } else {
+            None
+        }
+    }
+
+    /// The whole frame that it has first. While its output is pending, unless the server dialled it, or it waits for an
+    /// answer, it has none.
     pub fn frame<S: Answering>(&self, server: &S) -> Option<&[u8]>
         ensures frame { option_map (λ f. f.now) result ≡ frame_at S.rules.whole self.now }
         ensures room { IfSome result (λ f. length f.now ≤ 16384) }
     {
-        if !self.live || self.pending || self.waits.is_some() {
+        if !self.is_heard() {
             return None;
         }
-        match server.whole(&self.held) {
+        match server.whole(self.door, &self.held) {
             Some(count) => Some(&self.held[..count]),
             None => None,
         }
@@ -156,8 +218,14 @@ impl Place {
     pub fn is_over<S: Answering>(&self, server: &S, patience: Patience, now: u64) -> bool
         ensures { result ≡ is_over S.rules.whole patience now self.now }
     {
-        (self.ended && self.is_quiet(server))
-            || self.patience_for(patience) <= now.saturating_sub(self.since)
+        ((self.ended || self.finished) && self.is_quiet(server)) || self.is_late(patience, now)
+    }
+
+    // Whether it has been waited for too long.
+    fn is_late(&self, patience: Patience, now: u64) -> bool
+        ensures { result ≡ is_late patience now self.now }
+    {
+        !self.door.is_peer() && self.patience_for(patience) <= now.saturating_sub(self.since)
     }
 
     // Whether nothing of it is under way.
@@ -182,9 +250,21 @@ impl Place {
         ensures { result ≡ waits_for key self.now }
     {
         match self.waits {
-            Some(other) => self.live && other.lane == key.lane && other.serial == key.serial,
+            Some(other) => {
+                self.live
+                    && !self.door.is_dialled()
+                    && other.lane == key.lane
+                    && other.serial == key.serial
+            }
             None => false,
         }
+    }
+
+    /// Whether it is the connection that the server dialled.
+    pub fn is_linked(&self) -> bool
+        ensures { result ≡ is_linked self.now }
+    {
+        self.live && self.door.is_dialled()
     }
 
     /// It waits for this from now on.
@@ -199,10 +279,16 @@ impl Place {
         ensures { self.new ≡ released key self.old }
     {
         if self.waits_for(key) {
-            self.held.clear();
-            self.ended = true;
+            self.finished = true;
             self.waits = None;
         }
+    }
+
+    /// Its last frame is answered.
+    pub fn finish(&mut self)
+        ensures { self.new ≡ finished self.old }
+    {
+        self.finished = true;
     }
 
     /// It is sent the answer that it waited for.

@@ -1,9 +1,12 @@
 //! All places: as they are opened, after a wait, and who has been waited for the longest.
-ghost use Rattle.std.specs.Prelude.{◌≡◌, ◌+◌, ◌<◌, ◌≤◌, ℕ, length, take, map, All, IfOk, IfSome, replicate};
+ghost use Rattle.std.specs.Prelude.{◌≡◌, ◌+◌, ◌<◌, ◌≤◌, ◌++◌, ℕ, length, take, map, Some, OnOk, IfOk, IfSome, replicate};
+ghost use Rattle.many_conns.specs.Doors.{free_places};
 ghost use Rattle.many_conns.specs.Places.{waited, empty_place};
-ghost use Rattle.many_conns.specs.Hall.{IsSomeAt, IsOldestAt};
+ghost use Rattle.many_conns.specs.Hall.{IsSomeAt, IsOldestOf, IsOldestAt};
 
+use crate::doors::Doors;
 use crate::place::Place;
+use many_words::Door;
 use std::alloc::{AllocError, Global};
 
 // The server has waited.
@@ -15,44 +18,63 @@ pub fn wait_all(places: &mut Vec<Place>)
     }
 }
 
-// So many places, all free.
-pub fn free_places(alloc: Global, count: usize) -> Result<Vec<Place>, AllocError>
-    ensures { IfOk result (λ places. places.items ≡ replicate count empty_place) }
+// So many places of a door more, all free.
+fn add_free(
+    alloc: Global,
+    places: &mut Vec<Place>,
+    door: Door,
+    count: usize,
+) -> Result<(), AllocError>
+    ensures { OnOk result (places.new.items ≡ places.old.items ++ replicate count (empty_place door)) }
 {
-    let mut places = Vec::with_capacity(alloc, count)?;
     for _ in 0..count {
-        places.push(Place::empty(alloc)?)?;
+        places.push(Place::empty(alloc, door)?)?;
     }
+    Ok(())
+}
+
+// The place of the other server, those of operators and those of clients, all free.
+pub fn free_places(alloc: Global, doors: Doors) -> Result<Vec<Place>, AllocError>
+    ensures { IfOk result (λ places. places.items ≡ free_places doors) }
+{
+    let mut places = Vec::new(alloc);
+    add_free(alloc, &mut places, doors.role.door(), 1)?;
+    add_free(alloc, &mut places, Door::Status, doors.status)?;
+    add_free(alloc, &mut places, Door::Clients, doors.clients)?;
     Ok(places)
 }
 
-// The place that has been waited for the longest up to this one, where so far it is the best.
-fn older(places: &[Place], best: usize, place: usize) -> usize
-    requires best { best < length places.now }
+// The place of a door that has been waited for the longest up to this one, where so far it is the best of them.
+fn older(places: &[Place], door: Door, best: Option<usize>, place: usize) -> usize
     requires place { place < length places.now }
-    requires so_far { IsSomeAt places.now best (λ q. All (λ p. q.since ≤ p.since) (take place places.now)) }
-    ensures there { result < length places.now }
-    ensures oldest { IsSomeAt places.now result (λ q. All (λ p. q.since ≤ p.since) (take (place + 1) places.now)) }
+    requires door { IsSomeAt places.now place (λ p. p.door ≡ door) }
+    requires so_far { IsOldestOf door (take place places.now) places.now best }
+    ensures { IsOldestOf door (take (place + 1) places.now) places.now (Some result) }
 {
-    if places[place].since() < places[best].since() {
-        return place;
+    match best {
+        Some(best) => {
+            if places[best].since() <= places[place].since() {
+                best
+            } else {
+                place
+            }
+        }
+        None => place,
     }
-    best
 }
 
-// The place whose connection has been waited for the longest, where each place has one.
-pub fn oldest(places: &[Place]) -> Option<usize>
-    ensures { IfSome result (IsOldestAt places.now) }
+// The place whose connection has been waited for the longest of those of a door, where each of them has one.
+pub fn oldest(places: &[Place], door: Door) -> Option<usize>
+    ensures { IfSome result (IsOldestAt door places.now) }
 {
-    if places.is_empty() {
-        return None;
-    }
-    let mut best = 0;
+    let mut best = None;
     for place in 0..places.len() {
-        if !places[place].is_live() {
-            return None;
+        if places[place].door() == door {
+            if !places[place].is_live() {
+                return None;
+            }
+            best = Some(older(places, door, best, place));
         }
-        best = older(places, best, place);
     }
-    Some(best)
+    best
 }

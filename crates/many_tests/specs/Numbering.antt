@@ -1,7 +1,8 @@
 -- What a server of the tests reads of bytes.
-use Rattle.std.specs.Prelude.{ℕ, zero, suc, ◌+◌, nat_le, nat_lt, Bool, if◌then◌else◌, List, [], ◌∷◌, length, Option, Some, None}
+use Rattle.std.specs.Prelude.{ℕ, zero, suc, ◌+◌, nat_le, nat_lt, nat_eq, Bool, true, false, if◌then◌else◌, List, [], ◌∷◌, length, take, Option, Some, None}
+use Rattle.many_words.specs.declared.door.Door.{Door}
 use Rattle.many_conns.specs.declared.said.Key.{Key}
-use Rattle.many_conns.specs.Rules.{Outcome, Answers, Waits, Replies}
+use Rattle.many_conns.specs.Rules.{Outcome, Answers, Lasts, Waits, Commands, Replies}
 
 -- the byte behind the length, or 0
 abbrev pub first_byte : List ℕ → ℕ
@@ -22,9 +23,23 @@ key serial = record { lane = 1; serial = serial }
 abbrev pub of_kind : (count kind serial : ℕ) → Outcome
 of_kind count zero serial = Waits (key serial)
 of_kind count (suc zero) serial = Replies (key serial) (count ∷ serial ∷ [])
-of_kind count (suc (suc kind)) serial = Answers (count ∷ suc (suc kind) ∷ [])
+of_kind count (suc (suc zero)) serial = Lasts (count ∷ serial ∷ [])
+of_kind count (suc (suc (suc zero))) serial = Commands (Some (key serial)) (count ∷ serial ∷ [])
+of_kind count (suc (suc (suc (suc kind)))) serial = Answers (count ∷ suc (suc (suc (suc kind))) ∷ [])
 
 -- what becomes of a frame whose number is this
 abbrev pub outcome : (count : ℕ) → List ℕ → Outcome
 outcome count (n ∷ kind ∷ serial ∷ []) = of_kind count kind serial
 outcome count frame = Answers (count ∷ first_byte frame ∷ [])
+
+-- a frame whose first byte is 9 asks, and nothing is noted of it
+abbrev pub noted_unless : Bool → List ℕ → Option (List ℕ)
+noted_unless true frame = None
+noted_unless false frame = Some (take 3 frame)
+
+abbrev pub noted : List ℕ → Option (List ℕ)
+noted frame = noted_unless (nat_eq (first_byte frame) 9) frame
+
+-- one command is never answered
+abbrev pub outstanding : List (List ℕ)
+outstanding = (7 ∷ []) ∷ []

@@ -1,3 +1,5 @@
+pub mod Doors
 pub mod Events
 pub mod Memory
+pub mod Notes
 pub mod Takes

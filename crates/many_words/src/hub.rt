@@ -1,9 +1,10 @@
 //! The outside of a server of many connections.
 ghost use Rattle.std.specs.Prelude.{◌≡◌, ◌≤◌, ℕ, List, length, take, true, false, Option, OnOk, OnErr};
 ghost use Rattle.std.specs.Bool.{OnTrue, OnFalse};
-ghost use Rattle.many_words.specs.Events.{Event, Adds, Waited, Opened, Came, Ended, Blocked, Closed, Dropped, Logged, LogFailed, Unanswered, Sent};
+ghost use Rattle.many_words.specs.Events.{Event, Adds, Waited, Opened, Asked, Came, Ended, Blocked, Closed, Dropped, Logged, LogFailed, Unanswered, Sent, SentAgain};
 ghost use Rattle.many_words.specs.Takes.{Gives};
 
+use crate::door::Door;
 use crate::entry::Entry;
 
 /// A call failed.
@@ -30,29 +31,32 @@ pub trait Hub {
     fn wait(&mut self) -> u64
         ensures { Adds (told self.old) (told self.new) (Waited result) };
 
-    /// Puts the next connection of the door at a place that is free, if one waits.
-    fn open(&mut self, place: usize) -> bool
-        ensures opened { OnTrue result (Adds (told self.old) (told self.new) (Opened place)) }
-        ensures none { OnFalse result (told self.new ≡ told self.old) };
+    /// Puts the next connection of a door at one of its places, if one waits there, or for the door [`Door::Dialled`] the
+    /// one that the server dials, if it stands now. One that was at the place is closed for it. It never waits.
+    fn open(&mut self, place: usize, door: Door) -> bool
+        ensures opened { OnTrue result (Adds (told self.old) (told self.new) (Opened place door)) }
+        ensures none { OnFalse result (Adds (told self.old) (told self.new) (Asked place door)) };
 
-    /// The bytes that came of a connection, up to the buffer's length, into its front. It never waits.
-    fn take(&mut self, place: usize, buf: &mut [u8]) -> Taken
+    /// The bytes that came of the connection at a place of this door, up to the buffer's length, into its front. Of the one
+    /// that the server dials they are taken also while what was sent to it is pending. It never waits.
+    fn take(&mut self, place: usize, door: Door, buf: &mut [u8]) -> Taken
         ensures length { length buf.new ≡ length buf.old }
-        ensures gives { Gives (told self.old) (told self.new) place result buf.new };
+        ensures gives { Gives (told self.old) (told self.new) place door result buf.new };
 
     /// Closes a connection.
     fn close(&mut self, place: usize)
         ensures { Adds (told self.old) (told self.new) (Closed place) };
 
-    /// Whether a connection waits at the door.
-    fn knocks(&mut self) -> bool
+    /// Whether a connection waits at a door.
+    fn knocks(&mut self, door: Door) -> bool
         ensures { told self.new ≡ told self.old };
 
     /// Closes a connection for one that waits at the door.
     fn drop_for_another(&mut self, place: usize)
         ensures { Adds (told self.old) (told self.new) (Dropped place) };
 
-    /// Writes these frames together, in this order, and syncs them. At Ok a crash leaves them.
+    /// Writes the records of these frames together, in this order, and syncs them: at Ok a crash leaves them. A frame
+    /// without a record writes nothing, and where none has one nothing is written or synced.
     fn log(&mut self, entries: &[Entry]) -> Result<(), Failed>
         ensures logged { OnOk result (Adds (told self.old) (told self.new) (Logged entries.now)) }
         ensures failed { OnErr result (Adds (told self.old) (told self.new) LogFailed) };
@@ -64,4 +68,8 @@ pub trait Hub {
     /// Bytes that are sent to a connection as it takes them. It never waits.
     fn send(&mut self, place: usize, bytes: &[u8])
         ensures { Adds (told self.old) (told self.new) (Sent place bytes.now) };
+
+    /// So too, of what was sent to another connection before, or was to be sent while none stood.
+    fn send_again(&mut self, place: usize, bytes: &[u8])
+        ensures { Adds (told self.old) (told self.new) (SentAgain place bytes.now) };
 }

@@ -1,9 +1,11 @@
 //! A hub in memory.
-ghost use Rattle.std.specs.Prelude.{◌≡◌, ◌≤◌, ℕ, List, length, take, Option, Some, OnOk, OnErr, IfOk};
+ghost use Rattle.std.specs.Prelude.{◌≡◌, ◌≤◌, ℕ, List, length, take, false, Option, Some, OnOk, OnErr, IfOk};
 ghost use Rattle.std.specs.Bool.{OnTrue, OnFalse};
 ghost use Rattle.many_words.specs.Events.{Adds};
+ghost use Rattle.many_words.specs.Doors.{is_dialled};
 ghost use Rattle.many_words.specs.Memory.{told_of, event_of, event_in};
 
+use crate::door::Door;
 use crate::entry::Entry;
 use crate::hub::{Failed, Hub, Taken};
 use std::alloc::{AllocError, Global};
@@ -12,7 +14,8 @@ use std::alloc::{AllocError, Global};
 #[derive(Clone, Copy, Debug, PartialEq, Eq)]
 pub enum Kind {
     Waited,
-    Opened,
+    Opened(Door),
+    Asked(Door),
     Came,
     Ended,
     Blocked,
@@ -22,6 +25,7 @@ pub enum Kind {
     LogFailed,
     Unanswered,
     Sent,
+    SentAgain,
 }
 
 /// One call: its kind, the place or for a wait the moment, its bytes, and what went to the log.
@@ -33,10 +37,11 @@ pub struct Note {
     pub entries: Vec<Entry>,
 }
 
-/// One connection to come: its bytes, and how many of them come in each round. It ends behind them, if it ends. What is
+/// One connection to come: the door that it comes through, its bytes, and how many of them come in each round. It ends behind them, if it ends. What is
 /// sent to it is pending for so many looks.
 #[derive(Drop)]
 pub struct Script {
+    pub door: Door,
     pub bytes: Vec<u8>,
     pub pace: usize,
     pub ends: bool,
@@ -52,7 +57,7 @@ struct Given {
     pending: usize,
 }
 
-/// Connections that come in order, each at the first place that is asked for; a clock that goes on by one at each wait;
+/// Connections that come in order, each at the first place that its door is asked for; a clock that goes on by one at each wait;
 /// and a log of which one write may fail. It tells its calls for as long as each of them finds memory.
 #[derive(Drop)]
 pub struct MemoryHub {
@@ -69,8 +74,6 @@ pub struct MemoryHub {
 impl MemoryHub {
     /// Connections that come in this order, and the number of the write to the log that fails, from 1; 0 where none does.
     pub fn new(alloc: Global, coming: Vec<Script>, failing: u64) -> MemoryHub {
-        let mut coming = coming;
-        coming.reverse();
         MemoryHub {
             alloc,
             coming,
@@ -114,16 +117,35 @@ impl MemoryHub {
         }
     }
 
-    // The next bytes of the connection at a place, into the front of a buffer.
-    fn give(&mut self, place: usize, buf: &mut [u8]) -> Taken
+    // The next connection of a door comes to a place, if there is one and memory for it.
+    fn come(&mut self, place: usize, door: Door) -> bool
+        ensures notes { (self.new.notes ≡ self.old.notes) }
+        ensures whole { (self.new.whole ≡ self.old.whole) }
+    {
+        let Some(index) = self.coming.iter().position(|script| script.door == door) else {
+            return false;
+        };
+        let given = Given {
+            place,
+            script: self.coming.remove(index),
+            count: 0,
+            pending: 0,
+        };
+        self.given.retain(|given| given.place != place);
+        self.given.push(given).is_ok()
+    }
+
+    // The next bytes of the connection at a place of a door, into the front of a buffer.
+    fn give(&mut self, place: usize, door: Door, buf: &mut [u8]) -> Taken
         ensures length { length buf.new ≡ length buf.old }
         ensures bound { (n : ℕ) → result ≡ Taken.Bytes n → n ≤ length buf.new }
+        ensures pending { result ≡ Taken.Pending → is_dialled door ≡ false }
         ensures notes { (self.new.notes ≡ self.old.notes) }
         ensures whole { (self.new.whole ≡ self.old.whole) }
     {
         for given in self.given.iter_mut() {
             if given.place == place {
-                return next_of(given, buf);
+                return next_of(given, door, buf);
             }
         }
         Taken::Over
@@ -157,11 +179,12 @@ fn note_of(
     })
 }
 
-fn next_of(given: &mut Given, buf: &mut [u8]) -> Taken
+fn next_of(given: &mut Given, door: Door, buf: &mut [u8]) -> Taken
     ensures length { length buf.new ≡ length buf.old }
     ensures bound { (n : ℕ) → result ≡ Taken.Bytes n → n ≤ length buf.new }
+    ensures pending { result ≡ Taken.Pending → is_dialled door ≡ false }
 {
-    if given.pending > 0 {
+    if given.pending > 0 && !door.is_dialled() {
         given.pending -= 1;
         return Taken::Pending;
     }
@@ -196,25 +219,19 @@ impl Hub for MemoryHub {
         u64::from(now)
     }
 
-    fn open(&mut self, place: usize) -> bool {
-        let Some(script) = self.coming.pop() else {
-            return false;
+    fn open(&mut self, place: usize, door: Door) -> bool {
+        let comes = self.come(place, door);
+        let kind = if comes {
+            Kind::Opened(door)
+        } else {
+            Kind::Asked(door)
         };
-        let given = Given {
-            place,
-            script,
-            count: 0,
-            pending: 0,
-        };
-        if self.given.push(given).is_err() {
-            return false;
-        }
-        self.note(Kind::Opened, place, &[], &[]);
-        true
+        self.note(kind, place, &[], &[]);
+        comes
     }
 
-    fn take(&mut self, place: usize, buf: &mut [u8]) -> Taken {
-        let taken = self.give(place, buf);
+    fn take(&mut self, place: usize, door: Door, buf: &mut [u8]) -> Taken {
+        let taken = self.give(place, door, buf);
         match taken {
             Taken::Bytes(count) => self.note(Kind::Came, place, &buf[..count], &[]),
             Taken::Over => self.note(Kind::Ended, place, &[], &[]),
@@ -228,8 +245,8 @@ impl Hub for MemoryHub {
         self.note(Kind::Closed, place, &[], &[]);
     }
 
-    fn knocks(&mut self) -> bool {
-        !self.coming.is_empty()
+    fn knocks(&mut self, door: Door) -> bool {
+        self.coming.iter().any(|script| script.door == door)
     }
 
     fn drop_for_another(&mut self, place: usize) {
@@ -238,10 +255,12 @@ impl Hub for MemoryHub {
     }
 
     fn log(&mut self, entries: &[Entry]) -> Result<(), Failed> {
-        self.writes = self.writes.saturating_add(1);
-        if self.writes == self.failing {
-            self.note(Kind::LogFailed, 0, &[], &[]);
-            return Err(Failed);
+        if entries.iter().any(|entry| entry.record().is_some()) {
+            self.writes = self.writes.saturating_add(1);
+            if self.writes == self.failing {
+                self.note(Kind::LogFailed, 0, &[], &[]);
+                return Err(Failed);
+            }
         }
         self.note(Kind::Logged, 0, &[], entries);
         Ok(())
@@ -254,5 +273,10 @@ impl Hub for MemoryHub {
     fn send(&mut self, place: usize, bytes: &[u8]) {
         self.hold_up(place);
         self.note(Kind::Sent, place, bytes, &[]);
+    }
+
+    fn send_again(&mut self, place: usize, bytes: &[u8]) {
+        self.hold_up(place);
+        self.note(Kind::SentAgain, place, bytes, &[]);
     }
 }

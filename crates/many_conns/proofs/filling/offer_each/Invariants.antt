@@ -5,4 +5,4 @@ use Rattle.many_conns.proofs.filling.offer_each.Given as goal
 
 abbrev pub invariant-loop-place : goal.invariant-loop-place
 invariant-loop-place g l =
-    Offered g.S.Answering.rules.is_dear (whole_from g.S.Answering.rules.whole l.base (take l.place l.places)) l.fn.batch l.batch None
+    Offered g.S.Answering.rules.is_dear (whole_from g.S.Answering.rules l.server l.peers l.base (take l.place l.places)) l.fn.batch l.batch None

@@ -1,26 +1,8 @@
-use Rattle.std.proofs.Common.{sym, ap, ◌∙◌, subst, Some, None, arith}
-use Rattle.many_conns.specs.Batches.{Offered, whole_from}
-use Rattle.many_conns.proofs.BatchLaws.{offered_then, offered_more, line_beyond}
+use Rattle.many_conns.proofs.BatchLaws.{offered_then, offered_more}
 use Rattle.many_conns.proofs.filling.offer_line.Goals as goal
 
-pub returns-then-places-turn : goal.returns-then-places-turn
-returns-then-places-turn g c =
-    let rules = g.S.Answering.rules in
-    subst (λ xs. Offered rules.is_dear xs c.args.batch.now c.offer_each.new.batch c.offer_each.result)
-    (sym (line_beyond rules.whole c.args.turn c.args.places.now c.if-places-turn.true)) c.offer_each.ensures
-
 pub returns-in-Some : goal.returns-in-Some
-returns-in-Some g c =
-    let rules = g.S.Answering.rules in
-    offered_more rules.is_dear _ _ _ _ _
-    (subst (λ xs. Offered rules.is_dear (whole_from rules.whole c.args.turn xs) c.args.batch.now c.offer_each-2.new.batch (Some c.in-Some.place)) c.split_at.ensures.back
-    c.in-Some.ensures)
+returns-in-Some g c = offered_more _ _ _ _ _ _ c.in-Some.ensures
 
 pub returns-in-None : goal.returns-in-None
-returns-in-None g c =
-    let rules = g.S.Answering.rules in
-    offered_then rules.is_dear _ _ _ _ _ _
-    (subst (λ xs. Offered rules.is_dear (whole_from rules.whole c.args.turn xs) c.args.batch.now c.offer_each-2.new.batch None) c.split_at.ensures.back
-    c.in-None.ensures)
-    (subst (λ xs. Offered rules.is_dear (whole_from rules.whole 0 xs) c.offer_each-2.new.batch c.offer_each-in-None.new.batch c.offer_each-in-None.result) c.split_at.ensures.front
-    c.offer_each-in-None.ensures)
+returns-in-None g c = offered_then _ _ _ _ _ _ _ c.in-None.ensures c.offer_around.ensures

@@ -1,7 +1,8 @@
 use Rattle.std.proofs.Common.{sym, ap, ◌∙◌, subst, All, inr}
 use Rattle.many_words.specs.Events.{Adds, Logged}
 use Rattle.std.specs.Prelude.{min}
-use Rattle.many_conns.specs.Batches.{Budget, all_taken, admitted, refused, line}
+use Rattle.many_conns.specs.declared.batch.Budget.{Budget}
+use Rattle.many_conns.specs.Batches.{all_taken, admitted, refused, line}
 use Rattle.many_conns.specs.Hall.{IsLooked, HasNoFrame}
 use Rattle.many_conns.proofs.CommitLaws.{logs_all, fails_all, same_all, taken_looked, on_err, on_ok, none_of, empty_of}
 use Rattle.many_conns.proofs.BatchLaws.{nothing_waits}
@@ -18,7 +19,7 @@ returns-then-is_empty-clause-served g c =
     inr (
       sym c.entries.ensures ∙ empty_of c.entries.result.now c.if-is_empty.ensures,
       subst (All (HasNoFrame rules.whole)) c.deref.ensures.value
-          (nothing_waits rules.whole rules.is_dear _ c.self.inside.turn c.deref.result.now
+          (nothing_waits rules c.self.inside.server rules.is_dear _ c.self.inside.turn c.deref.result.now
           (sym c.fill-refused.ensures.entries ∙ (sym c.entries.ensures ∙ empty_of c.entries.result.now c.if-is_empty.ensures))
           (sym c.fill-refused.ensures.refused ∙ none_of c.fill-refused.result c.if-is_none.ensures)),
     )
@@ -32,11 +33,12 @@ returns-then-is_err-clause-leads g c =
 pub returns-clause-leads : goal.returns-clause-leads
 returns-clause-leads g c =
     let rules = g.S.Answering.rules in
-    let left : Budget = record { frames = min c.self.inside.batch.room (rules.room c.self.inside.server); dear = c.self.inside.dear } in
+    let server = c.self.inside.server in
+    let left : Budget = record { frames = c.self.inside.batch.room; clients = rules.room server; dear = c.self.inside.dear } in
     logs_all _ _ _ _ _ _ _ _ _ _ _ _ _ _ _ _ _ _ (sym c.self.view_is) c.requires.nothing_owed c.requires.unserved
     c.fill-refused.ensures.room
-    (c.fill-refused.ensures.entries ∙ ap (λ k. admitted rules.is_dear left (line rules.whole c.self.inside.turn k)) c.deref.ensures.value)
-    (c.fill-refused.ensures.refused ∙ ap (λ k. refused rules.is_dear left (line rules.whole c.self.inside.turn k)) c.deref.ensures.value)
+    (c.fill-refused.ensures.entries ∙ ap (λ k. admitted rules.is_dear left (line rules server c.self.inside.turn k)) c.deref.ensures.value)
+    (c.fill-refused.ensures.refused ∙ ap (λ k. refused rules.is_dear left (line rules server c.self.inside.turn k)) c.deref.ensures.value)
     c.unwrap_or-self-inside.ensures
     (c.take_all.ensures ∙ ap (λ k. all_taken c.self.inside.now k c.self.inside.places.items) c.entries-3.ensures)
     (subst (λ k. Adds (g.H.Hub.told c.args.hub.now) (g.H.Hub.told c.log.new.self) (Logged k)) c.entries-2.ensures

@@ -6,7 +6,7 @@ use Rattle.many_conns.proofs.hall.Hall.make_room.Goals as goal
 
 pub returns-clause-leads : goal.returns-clause-leads
 returns-clause-leads g c =
-    drops_at _ _ _ _ _ _ _ _ _ _ _ _ _ _ _ _ (sym c.self.view_is) c.requires.nothing_owed
-    (subst (λ k. IsOldestAt k c.in-Some.place) c.deref.ensures.value c.in-Some.ensures)
-    c.index.ensures (no_frame_of _ _ _ c.frame.ensures.frame c.if-is_some.ensures) c.close.ensures
+    drops_at _ _ _ _ _ _ _ _ _ _ _ _ _ _ _ _ c.args.door _ (sym c.self.view_is) c.requires.nothing_owed
+    (subst (λ k. IsOldestAt c.args.door k c.in-Some.place) c.deref.ensures.value c.in-Some.ensures)
+    c.requires.no_peer c.index.ensures (no_frame_of _ _ _ c.frame.ensures.frame c.if-is_some.ensures) c.index_mut.ensures.value c.vacate.ensures
     (subst (λ t. Adds t (g.H.Hub.told c.drop_for_another.new.self) (Dropped c.in-Some.place)) c.knocks.ensures c.drop_for_another.ensures)
