@@ -1,0 +1,9 @@
+//! Tests of the clients' door over HTTP: what no clause of it says.
+#![tactic(auto)]
+
+#[cfg(test)]
+mod answers;
+#[cfg(test)]
+mod asked;
+#[cfg(test)]
+mod refused;

@@ -1,0 +1,10 @@
+pub mod Fields
+pub mod Heads
+pub mod Hearing
+pub mod Laws
+pub mod Output
+pub mod Replies
+pub mod Values
+pub mod Requests
+pub mod Sending
+pub mod Texts
