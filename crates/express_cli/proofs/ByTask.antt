@@ -2,7 +2,7 @@
 use Rattle.std.proofs.Common.{◌≡◌, ◌≢◌, ◌⊎◌, ℕ, ◌≤◌, List, length, Option, Some, None, IfSome, inl, inr, refl, arith, append-nil, length-append}
 use Rattle.clap.specs.Words.{Text}
 use Rattle.express_words.specs.Causes.{Rose}
-use Rattle.express_words.specs.Streams.{Stream}
+use Rattle.express_words.specs.Streams.{Stream, left_in}
 use Rattle.input_reading.specs.Reading.{GaveAll, most_bytes}
 use Rattle.express_cli.specs.CommandLine.{AskFor, AskSome, Asks}
 use Rattle.express_cli.specs.Ends.{IsBad, IsOutput, MillMay, WorkMay, status_of}
@@ -68,40 +68,40 @@ if_some None h = tt
 if_some (Some value) h = h value refl
 
 -- where it gave all its bytes, they are those that it had left
-pub gave_left : (from to : Option Stream) (s : Stream) (bytes : List ℕ) → from ≡ Some s → GaveAll from to bytes → bytes ≡ s.left
-gave_left from to s bytes is all = grind (arith, append-nil)
+pub gave_left : (from to : Option Stream) (left bytes : List ℕ) → left_in from ≡ Some left → GaveAll from to bytes → bytes ≡ left
+gave_left from to left bytes is all = grind (arith, append-nil)
 
 -- an input that wasn't read to its end was too long, unless it failed
-pub not_unread : (streams : Streams) (s : Stream) (end : End) (text : List ℕ) → streams.input.content ≡ Some s → Well streams (status_of end) → length s.left ≤ most_bytes
+pub not_unread : (streams : Streams) (left : List ℕ) (end : End) (text : List ℕ) → left_in streams.input.content ≡ Some left → Well streams (status_of end) → length left ≤ most_bytes
     → UnreadMay streams.input streams.input_now end text → ⊥
-not_unread streams s end text is well short may = grind (arith, length-append)
+not_unread streams left end text is well short may = grind (arith, length-append)
 
 -- ---- a task that reads it
 
 -- what came of one that is asked for was written
-pub input_done : (words : List Text) (streams : Streams) (net : Around) (end : End) (task : InputTask) (s : Stream) → ComesTo words streams net end → AskFor words (OnInput task) → Well streams (status_of end)
-    → streams.input.content ≡ Some s → length s.left ≤ most_bytes → (text : List ℕ) × OfInput task s.left net end text × Wrote streams text × (end ≢ ends.WriteFault)
-input_done words streams net end task s comes asks well is short =
+pub input_done : (words : List Text) (streams : Streams) (net : Around) (end : End) (task : InputTask) (left : List ℕ) → ComesTo words streams net end → AskFor words (OnInput task) → Well streams (status_of end)
+    → left_in streams.input.content ≡ Some left → length left ≤ most_bytes → (text : List ℕ) × OfInput task left net end text × Wrote streams text × (end ≢ ends.WriteFault)
+input_done words streams net end task left comes asks well is short =
     let did = met words streams net end (OnInput task) comes asks well.sink well.memory in (
       did.0,
       (elim did.1 [
-        | inl unread ↦ absurd (not_unread streams s end did.0 is well short unread.1)
-        | inr read ↦ rw (gave_left streams.input.content streams.input_now.content s read.0 is read.1) at read.2
+        | inl unread ↦ absurd (not_unread streams left end did.0 is well short unread.1)
+        | inr read ↦ rw (gave_left streams.input.content streams.input_now.content left read.0 is read.1) at read.2
       ]),
       did.2,
       did.3,
     )
 
 -- where no line is bad, work on it is done
-pub work_done : (words : List Text) (streams : Streams) (net : Around) (end : End) (command : Command) (s : Stream) → ComesTo words streams net end → Asks words command → Well streams (status_of end)
-    → streams.input.content ≡ Some s → length s.left ≤ most_bytes → ((n : ℕ) → IsBad command n s.left → ⊥) → (text : List ℕ) × (status_of end ≡ 0) × IsOutput command s.left text × Wrote streams text
-work_done words streams net end command s comes asks well is short good =
-    let did = input_done words streams net end (Work command) s comes asks well is short in
-    let done : (status_of end ≡ 0) × IsOutput command s.left did.0 = grind arith in
+pub work_done : (words : List Text) (streams : Streams) (net : Around) (end : End) (command : Command) (left : List ℕ) → ComesTo words streams net end → Asks words command → Well streams (status_of end)
+    → left_in streams.input.content ≡ Some left → length left ≤ most_bytes → ((n : ℕ) → IsBad command n left → ⊥) → (text : List ℕ) × (status_of end ≡ 0) × IsOutput command left text × Wrote streams text
+work_done words streams net end command left comes asks well is short good =
+    let did = input_done words streams net end (Work command) left comes asks well is short in
+    let done : (status_of end ≡ 0) × IsOutput command left did.0 = grind arith in
     (did.0, done.0, done.1, did.2)
 
 -- by good settings it is done, or a fault of the net broke it off
 pub by_settings : (command : NetCommand) (words : List Text) (streams : Streams) (net : Around) (end : End) → ComesTo words streams net end → GoesBySettings command words streams net (status_of end)
-by_settings command words streams net end comes asks well = if_some streams.input.content (λ s is settings spells short.
-    let did = input_done words streams net end (Net command) s comes asks well is short in
+by_settings command words streams net end comes asks well = if_some (left_in streams.input.content) (λ left is settings spells short.
+    let did = input_done words streams net end (Net command) left comes asks well is short in
     (did.0, did.2, grind (arith, work_end)))

@@ -1,6 +1,7 @@
 -- What is around a run.
 use Rattle.std.specs.Prelude.{◌≡◌, ℕ, List}
 use Rattle.express_words.specs.Streams.{Took}
+pub use Rattle.express_words.specs.Streams.{left_in}
 use Rattle.input_reading.specs.Reading.{GaveAll, GaveSome, LastFailed}
 pub use Rattle.express_words.specs.Seen.{Seen}
 pub use Rattle.node_serve.specs.Visits.{Shown}

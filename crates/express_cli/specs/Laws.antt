@@ -46,6 +46,13 @@ use Rattle.write_hiding.specs.MaliciousLaws.{MaliciousViewsStay, MaliciousDistin
 use Rattle.write_hiding.specs.MaliciousLaws.{MaliciousWritesAreSeen}
 use Rattle.write_hiding.specs.MaliciousLaws.{AdversariesPlayTheSame, AdversariesSeeTheSame}
 use Rattle.write_hiding.specs.MaliciousLaws.{AdversaryMovesReturn, DistinctStayForAdversaries}
+use Rattle.audit_once.specs.Once.{HelpersAuditOnce, LeadersAuditOnce}
+use Rattle.step_hiding.specs.HelperWorlds.{HelpersAreReal}
+use Rattle.step_hiding.specs.LeaderWorlds.{LeadersAreReal}
+use Rattle.run_sights.specs.WriteLaws.{WritesTellTheSame, WritesReturn}
+use Rattle.run_sights.specs.RealWrites.{ClientsSendTheirs, LeavesAreReal}
+use Rattle.run_sights.specs.HelperRuns.{HelperSightsStay, HelperRunsStay, HelperRunsReturn, HelperMasksStay}
+use Rattle.run_sights.specs.LeaderRuns.{LeaderSightsStay, LeaderRunsStay, LeaderRunsReturn, LeaderMasksStay}
 
 pub record Laws : Type 0 where
   -- A schedule that a text spells keeps the rules: so each law of schedules, below, speaks of what a replay
@@ -164,6 +171,32 @@ pub record Laws : Type 0 where
   pub adversaries_see_the_same : AdversariesSeeTheSame
   pub adversary_moves_return : AdversaryMovesReturn
   pub distinct_stay_for_adversaries : DistinctStayForAdversaries
+  -- Whatever bytes come to a server and in whatever order, it opens and closes at most once for each lane and
+  -- serial.
+  pub helpers_audit_once : HelpersAuditOnce
+  pub leaders_audit_once : LeadersAuditOnce
+  -- The other server, all clients but honest ones, and the net do what they like. All that an honest server
+  -- sends in a run of any events is the same for other aims of honest clients' writes, where nobody else
+  -- sends a proof for these and what the server audits of them is the client's own, at no point 1 or 2. The
+  -- moved run is such a run, the opposite move gives the first one back, and masks of boxes at which no write
+  -- aims stay.
+  pub helper_sights_stay : HelperSightsStay
+  pub helper_runs_stay : HelperRunsStay
+  pub helper_runs_return : HelperRunsReturn
+  pub helper_masks_stay : HelperMasksStay
+  pub leader_sights_stay : LeaderSightsStay
+  pub leader_runs_stay : LeaderRunsStay
+  pub leader_runs_return : LeaderRunsReturn
+  pub leader_masks_stay : LeaderMasksStay
+  -- What an honest client sends to the other server is the same, and the opposite move gives its write back.
+  -- A client of the program sends such a write, of which the program's leaves are those of its choice; with
+  -- the program's leaves and masks the steps are the tables.
+  pub writes_tell_the_same : WritesTellTheSame
+  pub writes_return : WritesReturn
+  pub clients_send_theirs : ClientsSendTheirs
+  pub leaves_are_real : LeavesAreReal
+  pub helpers_are_real : HelpersAreReal
+  pub leaders_are_real : LeadersAreReal
   -- Draws are apart: a client's words of a write, its keys of a box and both servers' draws are slices of the
   -- streams that the run's seed is expanded into, and no two of them share a byte. At any state a server's
   -- count of draws and a client's serial name a stream of their seed that no other count or serial names.

@@ -17,7 +17,7 @@ use Rattle.express_cli.specs.Batches.{SortsOut, batch_text}
 use Rattle.express_cli.specs.Cloaks.{old_view, new_view, cloak_text}
 use Rattle.express_cli.specs.Mills.{mill_text}
 use Rattle.express_cli.specs.Ends.{IsBad, bad_line, bad_settings, usage_text, read_fault_text, too_long_text}
-use Rattle.express_cli.specs.Around.{Around, IsUnread, ReadSome, Streams, Wrote}
+use Rattle.express_cli.specs.Around.{Around, IsUnread, ReadSome, Streams, Wrote, left_in}
 use Rattle.express_cli.specs.Talking.{IsBadKey, IsStill}
 use Rattle.express_cli.specs.Runs.{GoesBySettings, MayBreak, MayLeave, RunMay}
 use Rattle.express_cli.specs.Runs.{Refused, Talked, WantsMemory, Well, Worked}
@@ -29,31 +29,31 @@ use Rattle.express_cli.specs.declared.ends.End.{End}
 use Rattle.express_cli.specs.declared.ends.End.TheVariants.{NetFault}
 
 pub record Ran (words : List Text) (streams : Streams) (net : Around) (status : ℕ) : Type 0 where
-  -- Where a schedule is to be replayed, input and sink tell their bytes, neither fails and memory is found,
-  -- the status is 0 and the output of the schedule that the bytes read spell is written.
+  -- Where a schedule is to be replayed, the input tells what it has left and the sink its bytes, neither fails
+  -- and memory is found, the status is 0 and the output of the schedule that the bytes read spell is written.
   pub headline : Asks words Replay → Well streams status
-      → IfSome streams.input.content (λ s. (schedule : Schedule) → SpellsSchedule schedule s.left
-      → length s.left ≤ most_bytes → (status ≡ 0) × Wrote streams (output_of schedule))
+      → IfSome (left_in streams.input.content) (λ left. (schedule : Schedule) → SpellsSchedule schedule left
+      → length left ≤ most_bytes → (status ≡ 0) × Wrote streams (output_of schedule))
   -- Likewise of pairs of closings it is written which a sort of all of them rejects, and how many ranges it
   -- judges.
   pub batch : Asks words Batch → Well streams status
-      → IfSome streams.input.content (λ s. (pairs : Pairs) → SpellsBatch pairs s.left
-      → length s.left ≤ most_bytes
+      → IfSome (left_in streams.input.content) (λ left. (pairs : Pairs) → SpellsBatch pairs left
+      → length left ≤ most_bytes
       → (status ≡ 0) × ((rejected : List Bool) × (judged : ℕ) × SortsOut pairs rejected judged
       × Wrote streams (batch_text rejected judged)))
   -- Likewise of a game both views are written, which are equal: the viewer's of the one write, and of the
   -- other under the moved choice.
   pub cloak : Asks words Cloak → Well streams status
-      → IfSome streams.input.content (λ s. (game : CloakGame) → SpellsGame game s.left
-      → length s.left ≤ most_bytes
+      → IfSome (left_in streams.input.content) (λ left. (game : CloakGame) → SpellsGame game left
+      → length left ≤ most_bytes
       → (status ≡ 0) × (new_view game ≡ old_view game) × Wrote streams (cloak_text game))
   -- Likewise, whatever the command, the first bad line of another text is named, and an input that is too
   -- long is refused.
   pub names_bad_line : (command : Command) → Asks words command → Well streams status
-      → IfSome streams.input.content (λ s. (n : ℕ) → IsBad command n s.left → length s.left ≤ most_bytes
+      → IfSome (left_in streams.input.content) (λ left. (n : ℕ) → IsBad command n left → length left ≤ most_bytes
       → (status ≡ 3) × Wrote streams (bad_line n))
   pub refuses_too_long : AskSome words → Well streams status
-      → IfSome streams.input.content (λ s. most_bytes < length s.left
+      → IfSome (left_in streams.input.content) (λ left. most_bytes < length left
       → (status ≡ 8) × Wrote streams too_long_text)
   -- Where the mill of a number is asked for, the sink doesn't fail and memory is found, the text of its run
   -- is written, whatever the input is, which isn't read.
@@ -70,8 +70,8 @@ pub record Ran (words : List Text) (streams : Streams) (net : Around) (status : 
   pub carry : GoesBySettings Carry words streams net status
   -- Likewise the first key of other settings that is missing or wrong is named.
   pub names_bad_key : (command : NetCommand) → AsksNet words command → Well streams status
-      → IfSome streams.input.content (λ s. (key : List ℕ) → IsBadKey command key s.left
-      → length s.left ≤ most_bytes → (status ≡ 3) × Wrote streams (bad_settings key))
+      → IfSome (left_in streams.input.content) (λ left. (key : List ℕ) → IsBadKey command key left
+      → length left ≤ most_bytes → (status ≡ 3) × Wrote streams (bad_settings key))
   pub statuses : Contains (0 ∷ 2 ∷ 3 ∷ 4 ∷ 5 ∷ 6 ∷ 7 ∷ 8 ∷ []) status
   -- Only the usage text comes of words that ask for nothing, and the input isn't read.
   pub usage : status ≡ 2 → AskNothing words × IsUnread streams × Wrote streams usage_text

@@ -7,7 +7,7 @@ use Rattle.input_reading.specs.Reading.{GaveSome, most_bytes}
 use Rattle.express_cli.specs.Mills.{mill_text}
 use Rattle.express_cli.specs.Ends.{IsBad, IsOutput, Prints, WorkMay, bad_line, usage_text, read_fault_text}
 use Rattle.express_cli.specs.Ends.{out_of_memory_text, too_long_text}
-use Rattle.express_cli.specs.Around.{Around, IsUnread, Read, Seen, Streams, Wrote}
+use Rattle.express_cli.specs.Around.{Around, IsUnread, Read, Seen, Streams, Wrote, left_in}
 use Rattle.express_cli.specs.Talking.{BreaksBy, IsStill, LeavesNothing, Spells, TalkMay, Talks, WantsFirst}
 use Rattle.express_cli.specs.Talking.{duty_of}
 use Rattle.express_cli.specs.declared.words.Command.{Command}
@@ -135,10 +135,10 @@ abbrev pub Told : (End → List ℕ → Type 0) → Streams → ℕ → Type 0
 Told May streams status = (text : List ℕ) × Wrote streams text
     × (((status ≡ 0) × May Done text) ⊎ ((status ≡ 6) × May NetFault text))
 
--- Where this command is asked for, input and sink tell their bytes, neither fails and memory is found, this
--- comes of the settings that the bytes read spell.
+-- Where this command is asked for, the input tells what it has left and the sink its bytes, neither fails and
+-- memory is found, this comes of the settings that the bytes read spell.
 abbrev pub GoesBySettings : NetCommand → List Text → Streams → Around → ℕ → Type 0
 GoesBySettings command words streams net status = AsksNet words command → Well streams status
-    → IfSome streams.input.content (λ s. (settings : (duty_of command).Settings)
-    → Spells command settings s.left → length s.left ≤ most_bytes
+    → IfSome (left_in streams.input.content) (λ left. (settings : (duty_of command).Settings)
+    → Spells command settings left → length left ≤ most_bytes
     → Told ((duty_of command).May settings net) streams status)

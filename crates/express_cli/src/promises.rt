@@ -1,6 +1,7 @@
 //! The laws of the layers below, brought together.
 ghost use Rattle.express_cli.specs.Laws.{Laws};
 
+use audit_once::servers_audit_once;
 use batch_audit::{few_values_pass, sorts_are_one};
 use file_carry::{answers_join, unwritten_is_missing};
 use log_laws::logs_are_a_run;
@@ -14,7 +15,9 @@ use run_hiding::{
     writes_add_up,
 };
 use run_laws::{draws_are_apart, frames_are_shown, owners_keep_theirs};
+use run_sights::{clients_are_honest, helper_runs_stay, honest_writes_move, leader_runs_stay};
 use settings_text::{carry_is_read_exactly, client_is_read_exactly, serve_is_read_exactly};
+use step_hiding::worlds_have_the_tables;
 use step_laws::{
     answers_are_own, draws_are_fresh, lanes_go_on, points_are_untold, refusals_have_causes,
 };
@@ -58,6 +61,12 @@ pub fn laws()
     malicious_views_stay();
     malicious_writes_are_seen();
     adversaries_see_the_same();
+    servers_audit_once();
+    helper_runs_stay();
+    leader_runs_stay();
+    honest_writes_move();
+    clients_are_honest();
+    worlds_have_the_tables();
     draws_are_apart();
     draws_are_fresh();
     runs_are_ideal();

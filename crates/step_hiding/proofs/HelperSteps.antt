@@ -26,195 +26,185 @@ use Rattle.audit_rules.specs.Values.{Write, Values}
 use Rattle.step_rules.specs.Boxes.{Box, place_of, new_box, with_new, with_read}
 use Rattle.step_rules.specs.Helper as helper
 use Rattle.step_rules.specs.Helper.{Server, Helper, Row, Stage, Idle, Deposited, Begun, Proved, Audited, Done, Turn, row, row_at, door, phase_of, want_in, want_of, Answer, Carried, Repeated, Ignored, LinkTurn, opened_helper, opened_server}
-use Rattle.step_rules.specs.HelperClients.{RowTurn, deposit_at, deposit_row, proof_in, proof_at, proof_row, if_lane, by_kind, on_whole, client_turn}
+use Rattle.step_rules.specs.HelperClients.{RowTurn, row_turn, held_deposit, held_proof, deposit_at, deposit_row, proof_in, proof_at, proof_row, if_lane, by_kind, on_whole, client_turn}
 use Rattle.step_rules.specs.HelperCommands as steps
 use Rattle.step_rules.specs.HelperCommands.{Effect, done, stage_for, register_at, register, begin, audit, settle, read_live, read_at, read, command, carries_out, carried_with, arrives, if_command, kept_for, keeps, on_link_bytes, audit_values}
-use Rattle.step_hiding.specs.Worlds.{World, values_in, written_in, masked_in}
-use Rattle.step_hiding.specs.Twins.{Two, SameElsewhere, TwinWrites, TwinBoxes}
-use Rattle.step_hiding.specs.HelperWorlds.{audit_in, settle_in, body_in, read_in, command_in, carries_in, arrives_in, if_command_in, on_link_in, Event, FromClient, FromLink, helper_after, helper_says, helper_sight}
-use Rattle.step_hiding.specs.HelperTwins.{TwinDeposits, TwinStages, TwinRows, TwinServers, TwinHelpers}
-use Rattle.step_hiding.specs.HelperLaws.{TwinFrames, MayCome, SameMasked, Views, HelpersAnswerClients, HelpersAnswerLeaders, Comes, Plays, HelperSightsStay}
-use Rattle.step_hiding.proofs.Lists.{zip_set, zip_at, zip_append, zip_length, Both, zip_get, same_addresses, twin_is, written}
+use Rattle.step_hiding.specs.Worlds.{real, values_in, written_in, masked_in, Event, FromClient, FromLink, LinkUp}
+use Rattle.step_hiding.specs.Twins.{Aims, SameProofs, Two, SameElsewhere, TwinBoxes}
+use Rattle.step_hiding.specs.HelperWorlds.{audit_in, settle_in, body_in, read_in, command_in, carries_in, arrives_in, if_command_in, on_link_in, helper_after, helper_says, helper_sight}
+use Rattle.step_hiding.specs.HelperTwins.{TwinStages, TwinRows, TwinServers, TwinHelpers}
+use Rattle.step_hiding.specs.HelperLaws.{TwinFrames, MayRead, SameMasked, Views, HelpersAnswerClients, HelpersAnswerLeaders, Comes, Plays, HelperSightsStay}
+use Rattle.step_hiding.proofs.Lists.{gate_serial, set_alike, set_length, zip_set, zip_append, zip_length, Both, zip_get, same_addresses, twin_is, same_box, written}
 
 -- ---- rows
 
-module _ (two : Two) where
-  idle_twins : TwinRows two helper.idle helper.idle
-  idle_twins = record { serial = refl; stage = tt }
+is_proof : PlainBody → Bool
+is_proof (frame.Proof share) = true
+is_proof body = false
 
-  same_wants_in : (held other : DepositBody) → TwinDeposits held other → want_in held ≡ want_in other
-  same_wants_in (deposit.Register key) (deposit.Register other) twins = refl
-  same_wants_in (deposit.Write root) (deposit.Write other) twins = refl
-  same_wants_in (deposit.Read token) (deposit.Read other) twins = refl
-  same_wants_in held other twins = absurd twins
+module _ (two : Two) (elsewhere : SameElsewhere two) where
+  abbrev Stages : ℕ → ℕ → Stage → Stage → Type 0
+  Stages lane serial x y = TwinStages two.aims lane serial x y
 
-  same_wants : (x y : Stage) → TwinStages two x y → want_of x ≡ want_of y
-  same_wants Idle Idle twins = refl
-  same_wants (Deposited held) (Deposited other) twins = same_wants_in held other twins
-  same_wants (Begun w) (Begun v) twins = refl
-  same_wants (Proved w s) (Proved v t) twins = refl
-  same_wants (Audited w c) (Audited v d) twins = refl
-  same_wants (Done want) (Done other) twins = twins
-  same_wants x y twins = absurd twins
+  same_wants : (lane serial : ℕ) (x y : Stage) → Stages lane serial x y → want_of x ≡ want_of y
+  same_wants lane serial Idle Idle twins = refl
+  same_wants lane serial (Deposited held) (Deposited other) twins = ap want_in twins
+  same_wants lane serial (Begun w) (Begun v) twins = refl
+  same_wants lane serial (Proved w s) (Proved v t) twins = refl
+  same_wants lane serial (Audited w c) (Audited v d) twins = refl
+  same_wants lane serial (Done want) (Done other) twins = twins
+  same_wants lane serial x y twins = absurd twins
 
-  same_phases : (x y : Stage) → TwinStages two x y → phase_of x ≡ phase_of y
-  same_phases Idle Idle twins = refl
-  same_phases (Deposited held) (Deposited other) twins = refl
-  same_phases (Begun w) (Begun v) twins = refl
-  same_phases (Proved w s) (Proved v t) twins = refl
-  same_phases (Audited w c) (Audited v d) twins = refl
-  same_phases (Done want) (Done other) twins = refl
-  same_phases x y twins = absurd twins
+  same_phases : (lane serial : ℕ) (x y : Stage) → Stages lane serial x y → phase_of x ≡ phase_of y
+  same_phases lane serial Idle Idle twins = refl
+  same_phases lane serial (Deposited held) (Deposited other) twins = refl
+  same_phases lane serial (Begun w) (Begun v) twins = refl
+  same_phases lane serial (Proved w s) (Proved v t) twins = refl
+  same_phases lane serial (Audited w c) (Audited v d) twins = refl
+  same_phases lane serial (Done want) (Done other) twins = refl
+  same_phases lane serial x y twins = absurd twins
 
-  same_doors : (r q : Row) → TwinRows two r q → door r ≡ door q
-  same_doors r q twins =
+  same_doors : (lane : ℕ) (r q : Row) → TwinRows two.aims lane r q → door r ≡ door q
+  same_doors lane r q twins =
       let one = twins.serial in
-      let two = same_phases r.stage q.stage twins.stage in
-      let three = same_wants r.stage q.stage twins.stage in
+      let two = same_phases lane r.serial r.stage q.stage twins.stage in
+      let three = same_wants lane r.serial r.stage q.stage twins.stage in
       rw (one, two, three) refl
 
-  -- ---- frames of clients
+  -- ---- frames of clients, at one lane's row
 
-  record TwinTurns (t u : RowTurn) : Type 0 where
-    row : TwinRows two t.row u.row
-    body : t.body ≡ u.body
+  module _ (lane : ℕ) (r q : Row) (rows : TwinRows two.aims lane r q) where
+    record TwinTurns (t u : RowTurn) : Type 0 where
+      row : TwinRows two.aims lane t.row u.row
+      body : t.body ≡ u.body
 
-  deposits_at : (r q : Row) → TwinRows two r q → (serial : ℕ) (held other : DepositBody) → TwinDeposits held other → (gate : Gate)
-      → TwinTurns (deposit_at r serial held gate) (deposit_at q serial other gate)
-  unfolding deposit_at
-  deposits_at r q rows serial held other twins (Stale n) = record { row = rows; body = refl }
-  deposits_at r q rows serial held other twins (Phase p) = record { row = rows; body = refl }
-  deposits_at r q rows serial held other twins Same = record { row = rows; body = refl }
-  deposits_at r q rows serial held other twins New = record { row = record { serial = refl; stage = twins }; body = refl }
+    stays : (body : PlainBody) → TwinTurns (row_turn r body) (row_turn q body)
+    stays body = record { row = rows; body = refl }
 
-  deposits : (r q : Row) → TwinRows two r q → (serial : ℕ) (held other : DepositBody) → TwinDeposits held other
-      → TwinTurns (deposit_row r serial held) (deposit_row q serial other)
-  unfolding deposit_row
-  deposits r q rows serial held other twins =
-      subst (λ gate. TwinTurns (deposit_at r serial held (opening_gate (door r) serial (want_in held))) (deposit_at q serial other gate))
-      (ap (λ d. opening_gate d serial (want_in held)) (same_doors r q rows) ∙ ap (opening_gate (door q) serial) (same_wants_in held other twins))
-      (deposits_at r q rows serial held other twins (opening_gate (door r) serial (want_in held)))
+    deposits_at : (serial : ℕ) (held : DepositBody) (gate : Gate) → TwinTurns (deposit_at r serial held gate) (deposit_at q serial held gate)
+    unfolding deposit_at
+    deposits_at serial held (Stale n) = stays (frame.Refused (refusal.Stale n))
+    deposits_at serial held (Phase p) = stays (frame.Refused (refusal.Phase p))
+    deposits_at serial held Same = stays held_deposit
+    deposits_at serial held New = record { row = record { serial = refl; stage = refl }; body = refl }
 
-  proofs_in : (r q : Row) → TwinRows two r q → (share other : ProofShare) (x y : Stage) → TwinStages two x y
-      → TwinTurns (proof_in r share x) (proof_in q other y)
-  unfolding proof_in
-  proofs_in r q rows share other Idle Idle twins = record { row = rows; body = refl }
-  proofs_in r q rows share other (Deposited held) (Deposited again) twins = record { row = rows; body = refl }
-  proofs_in r q rows share other (Begun w) (Begun v) twins = record { row = record { serial = rows.serial; stage = twins }; body = refl }
-  proofs_in r q rows share other (Proved w s) (Proved v t) twins = record { row = rows; body = refl }
-  proofs_in r q rows share other (Audited w c) (Audited v d) twins = record { row = rows; body = refl }
-  proofs_in r q rows share other (Done want) (Done again) twins = record { row = rows; body = refl }
-  proofs_in r q rows share other x y twins = absurd twins
+    deposits : (serial : ℕ) (held : DepositBody) → TwinTurns (deposit_row r serial held) (deposit_row q serial held)
+    unfolding deposit_row
+    deposits serial held =
+        subst (λ d. TwinTurns (deposit_at r serial held (opening_gate (door r) serial (want_in held))) (deposit_at q serial held (opening_gate d serial (want_in held))))
+        (same_doors lane r q rows) (deposits_at serial held (opening_gate (door r) serial (want_in held)))
 
-  proofs_at : (r q : Row) → TwinRows two r q → (share other : ProofShare) (gate : Gate)
-      → TwinTurns (proof_at r share gate) (proof_at q other gate)
-  unfolding proof_at
-  proofs_at r q rows share other (Stale n) = record { row = rows; body = refl }
-  proofs_at r q rows share other (Phase p) = record { row = rows; body = refl }
-  proofs_at r q rows share other Same = proofs_in r q rows share other r.stage q.stage rows.stage
-  proofs_at r q rows share other New = proofs_in r q rows share other r.stage q.stage rows.stage
+    -- a share that comes for this row
+    module _ (share other : ProofShare) (twins : SameProofs (two.aims.proofs lane r.serial) share other) where
+      proofs_in : (x y : Stage) → Stages lane r.serial x y → TwinTurns (proof_in r share x) (proof_in q other y)
+      unfolding proof_in
+      proofs_in Idle Idle at = stays (frame.Refused (refusal.Phase 0))
+      proofs_in (Deposited held) (Deposited again) at = stays (frame.Refused (refusal.Phase 1))
+      proofs_in (Begun w) (Begun v) at = record { row = record { serial = rows.serial; stage = (at, twins) }; body = refl }
+      proofs_in (Proved w s) (Proved v t) at = stays held_proof
+      proofs_in (Audited w c) (Audited v d) at = stays held_proof
+      proofs_in (Done want) (Done again) at = stays held_proof
+      proofs_in x y at = absurd at
 
-  proves : (r q : Row) → TwinRows two r q → (serial : ℕ) (share other : ProofShare)
-      → TwinTurns (proof_row r serial share) (proof_row q serial other)
-  unfolding proof_row
-  proves r q rows serial share other =
-      subst (λ gate. TwinTurns (proof_at r share (closing_gate (door r) serial)) (proof_at q other gate))
-      (ap (λ d. closing_gate d serial) (same_doors r q rows)) (proofs_at r q rows share other (closing_gate (door r) serial))
+    proofs_at : (serial : ℕ) (share other : ProofShare) → SameProofs (two.aims.proofs lane serial) share other → (gate : Gate)
+        → closing_gate (door r) serial ≡ gate → TwinTurns (proof_at r share gate) (proof_at q other gate)
+    unfolding proof_at
+    proofs_at serial share other twins (Stale n) is = stays (frame.Refused (refusal.Stale n))
+    proofs_at serial share other twins (Phase p) is = stays (frame.Refused (refusal.Phase p))
+    proofs_at serial share other twins Same is =
+        proofs_in share other (subst (λ n. SameProofs (two.aims.proofs lane n) share other) (gate_serial (door r) serial (inl is)) twins) r.stage q.stage rows.stage
+    proofs_at serial share other twins New is =
+        proofs_in share other (subst (λ n. SameProofs (two.aims.proofs lane n) share other) (gate_serial (door r) serial (inr is)) twins) r.stage q.stage rows.stage
+
+    proves : (serial : ℕ) (share other : ProofShare) → SameProofs (two.aims.proofs lane serial) share other
+        → TwinTurns (proof_row r serial share) (proof_row q serial other)
+    unfolding proof_row
+    proves serial share other twins =
+        subst (λ d. TwinTurns (proof_at r share (closing_gate (door r) serial)) (proof_at q other (closing_gate d serial)))
+        (same_doors lane r q rows) (proofs_at serial share other twins (closing_gate (door r) serial) refl)
 
   -- a twin of h: h with other boxes and rows
-  module _ (h : Server) (boxes : List Box) (rows : List Row) (box_twins : AllZip (TwinBoxes two) h.boxes boxes)
-      (row_twins : AllZip (TwinRows two) h.rows rows) where
+  module _ (h : Server) (boxes : List Box) (rows : List Row) (box_twins : AllZip (TwinBoxes two.aims) h.boxes boxes)
+      (lanes : length h.rows ≡ length rows)
+      (row_twins : (lane : ℕ) → TwinRows two.aims lane (row_at h lane) (slice_index_or rows lane helper.idle)) where
     abbrev K : Server
     K = record h { boxes = boxes; rows = rows }
 
-    twins_here : TwinServers two h K
-    twins_here = record { settings = refl; boxes = box_twins; rows = row_twins; draws = refl; seed = refl }
+    -- with other rows at a lane
+    set_twins : (lane : ℕ) (r q : Row) → TwinRows two.aims lane r q → (bs ds : List Box) → AllZip (TwinBoxes two.aims) bs ds → (draws : ℕ)
+        → TwinServers two.aims (record h { rows = slice_set h.rows lane r; boxes = bs; draws = draws }) (record h { rows = slice_set rows lane q; boxes = ds; draws = draws })
+    set_twins lane r q twins bs ds zip draws = record {
+      settings = refl;
+      boxes = zip;
+      lanes = set_length h.rows lane r ∙ lanes ∙ sym (set_length rows lane q);
+      rows = set_alike (TwinRows two.aims) h.rows rows helper.idle lane r q lanes row_twins twins;
+      draws = refl;
+      seed = refl;
+    }
 
-    at_twins : (lane : ℕ) → TwinRows two (row_at h lane) (row_at K lane)
-    at_twins lane = zip_at (TwinRows two) h.rows rows lane helper.idle row_twins idle_twins
+    twins_here : TwinServers two.aims h K
+    twins_here = record { settings = refl; boxes = box_twins; lanes = lanes; rows = row_twins; draws = refl; seed = refl }
 
     record TwinSays (t u : Turn) : Type 0 where
-      server : TwinServers two t.server u.server
+      server : TwinServers two.aims t.server u.server
       reply : t.reply ≡ u.reply
-      settings : t.server.settings ≡ h.settings
 
     says_either : (b : Bool) (t u v w : Turn) → TwinSays t u → TwinSays v w → TwinSays (cond b t v) (cond b u w)
     says_either true t u v w p q = p
     says_either false t u v w p q = q
 
-    in_lane : (f : PlainFrame) (body : PlainBody) (t u : RowTurn) → TwinTurns t u → TwinSays (if_lane h f t) (if_lane K (record f { body = body }) u)
+    in_lane : (f : PlainFrame) (body : PlainBody) (t u : RowTurn) → TwinTurns f.lane (row_at h f.lane) (row_at K f.lane) (row_twins f.lane) t u
+        → TwinSays (if_lane h f t) (if_lane K (record f { body = body }) u)
     unfolding if_lane
     in_lane f body t u twins =
-        says_either (nat_le h.settings.lanes f.lane) _ _ _ _ (record { server = twins_here; reply = refl; settings = refl })
+        says_either (nat_le h.settings.lanes f.lane) _ _ _ _ (record { server = twins_here; reply = refl })
         (record {
-          server = record { settings = refl; boxes = box_twins; rows = zip_set (TwinRows two) h.rows rows f.lane t.row u.row row_twins twins.row; draws = refl; seed = refl };
+          server = set_twins f.lane t.row u.row twins.row h.boxes boxes box_twins h.draws;
           reply = ap (λ (b : PlainBody). frame_of b) twins.body;
-          settings = refl;
         })
       where
         frame_of : PlainBody → PlainFrame
         frame_of b = record { lane = f.lane; serial = f.serial; link = 0; body = b }
 
-    by_deposit : (f : PlainFrame) (body : PlainBody) (held other : DepositBody) → TwinDeposits held other
-        → TwinSays (by_kind h f (frame.Deposit held)) (by_kind K (record f { body = body }) (frame.Deposit other))
-    unfolding by_kind
-    by_deposit f body held other twins = in_lane f body _ _ (deposits (row_at h f.lane) (row_at K f.lane) (at_twins f.lane) f.serial held other twins)
+    kinds : (f : PlainFrame) (body other now : PlainBody) → TwinFrames two.aims f.lane f.serial body other
+        → TwinSays (by_kind h f body) (by_kind K (record f { body = now }) other)
+    unfolding by_kind is_proof
+    kinds f (frame.Proof share) (frame.Proof other) now twins =
+        in_lane f now _ _ (proves f.lane (row_at h f.lane) (row_at K f.lane) (row_twins f.lane) f.serial share other twins)
+    kinds f (frame.Deposit held) other now twins =
+        subst (λ b. TwinSays (by_kind h f (frame.Deposit held)) (by_kind K (record f { body = now }) b)) twins
+        (in_lane f now _ _ (deposits f.lane (row_at h f.lane) (row_at K f.lane) (row_twins f.lane) f.serial held))
+    kinds f (frame.Proof share) other now twins = absurd (let apart : true ≡ false = ap is_proof twins in cc apart)
+    kinds f body other now twins =
+        subst (λ b. TwinSays (by_kind h f body) (by_kind K (record f { body = now }) b)) twins
+        (record { server = twins_here; reply = refl })
 
-    by_proof : (f : PlainFrame) (body : PlainBody) (share other : ProofShare)
-        → TwinSays (by_kind h f (frame.Proof share)) (by_kind K (record f { body = body }) (frame.Proof other))
-    unfolding by_kind
-    by_proof f body share other = in_lane f body _ _ (proves (row_at h f.lane) (row_at K f.lane) (at_twins f.lane) f.serial share other)
-
-    same_deposit : (held : DepositBody) → TwinDeposits held held
-    same_deposit (deposit.Register key) = refl
-    same_deposit (deposit.Write root) = tt
-    same_deposit (deposit.Read token) = refl
-
-    same_kind : (f : PlainFrame) (body now : PlainBody) → TwinSays (by_kind h f body) (by_kind K (record f { body = now }) body)
-    unfolding by_kind
-    same_kind f (frame.Deposit held) now = by_deposit f now held held (same_deposit held)
-    same_kind f (frame.Proof share) now = by_proof f now share share
-    same_kind f body now = record { server = twins_here; reply = refl; settings = refl }
-
-    kinds : (f : PlainFrame) (body other now : PlainBody) → TwinFrames body other → TwinSays (by_kind h f body) (by_kind K (record f { body = now }) other)
-    kinds f (frame.Deposit (deposit.Write root)) (frame.Deposit (deposit.Write other)) now twins = by_deposit f now (deposit.Write root) (deposit.Write other) tt
-    kinds f (frame.Proof share) (frame.Proof other) now twins = by_proof f now share other
-    kinds f body other now twins = subst (λ b. TwinSays (by_kind h f body) (by_kind K (record f { body = now }) b)) twins (same_kind f body now)
-
-    same_whole : (found : Result PlainFrame Refusal) → TwinSays (on_whole h found) (on_whole K found)
+    client_says : (found other : Result PlainFrame Refusal) → MayRead two.aims found other → TwinSays (on_whole h found) (on_whole K other)
     unfolding on_whole
-    same_whole (Err why) = record { server = twins_here; reply = refl; settings = refl }
-    same_whole (Ok f) = same_kind f f.body f.body
-
-    client_says : (bytes other : List ℕ) → MayCome bytes other → TwinSays (client_turn h bytes) (client_turn K other)
-    unfolding on_whole
-    client_says bytes other may = elim may [
-      | inl same ↦ subst (λ b. TwinSays (on_whole h (whole bytes)) (on_whole K (whole b))) same (same_whole (whole bytes))
-      | inr twins ↦
-          subst (λ found. TwinSays (on_whole h found) (on_whole K (whole other))) (sym twins.is)
-          (subst (λ found. TwinSays (by_kind h twins.frame twins.frame.body) (on_whole K found)) (sym twins.was)
-          (kinds twins.frame twins.frame.body twins.body twins.body twins.twins))
-    ]
+    client_says (Err why) (Err other) may = subst (λ r. TwinSays (on_whole h (Err why)) (on_whole K (Err r))) may (record { server = twins_here; reply = refl })
+    client_says (Ok f) (Ok g) may =
+        subst (λ (x : PlainFrame). TwinSays (on_whole h (Ok f)) (on_whole K (Ok x))) may.0 (kinds f f.body g.body g.body may.1)
+    client_says (Err why) (Ok g) may = absurd may
+    client_says (Ok f) (Err why) may = absurd may
 
     -- ---- commands of the leader
 
     module _ (f : PlainFrame) where
       record TwinEffects (d e : Effect) : Type 0 where
-        server : TwinServers two d.server e.server
+        server : TwinServers two.aims d.server e.server
         body : d.body ≡ e.body
 
       effects_either : (b : Bool) (d e p q : Effect) → TwinEffects d e → TwinEffects p q → TwinEffects (cond b d p) (cond b e q)
       effects_either true d e p q u v = u
       effects_either false d e p q u v = v
 
-      rows_set : (r q : Row) → TwinRows two r q → AllZip (TwinRows two) (slice_set h.rows f.lane r) (slice_set rows f.lane q)
-      rows_set r q twins = zip_set (TwinRows two) h.rows rows f.lane r q row_twins twins
+      done_with : (want : Want) (bs ds : List Box) → AllZip (TwinBoxes two.aims) bs ds
+          → TwinServers two.aims (record (done h f want) { boxes = bs }) (record (done K f want) { boxes = ds })
+      done_with want bs ds zip =
+          set_twins f.lane (row f.serial (Done want)) (row f.serial (Done want)) (record { serial = refl; stage = refl }) bs ds zip h.draws
 
-      done_rows : (want : Want) → AllZip (TwinRows two) (slice_set h.rows f.lane (row f.serial (Done want))) (slice_set rows f.lane (row f.serial (Done want)))
-      done_rows want = rows_set (row f.serial (Done want)) (row f.serial (Done want)) (record { serial = refl; stage = refl })
-
-      done_twins : (want : Want) → TwinServers two (done h f want) (done K f want)
-      done_twins want = record { settings = refl; boxes = box_twins; rows = done_rows want; draws = refl; seed = refl }
+      done_twins : (want : Want) → TwinServers two.aims (done h f want) (done K f want)
+      done_twins want = done_with want h.boxes boxes box_twins
 
       refused_done : (want : Want) (why : Refusal) → TwinEffects (steps.refuses (done h f want) why) (steps.refuses (done K f want) why)
       refused_done want why = record { server = done_twins want; body = refl }
@@ -223,10 +213,10 @@ module _ (two : Two) where
       nothing = record { server = twins_here; body = refl }
 
       lengths : length h.boxes ≡ length boxes
-      lengths = zip_length (TwinBoxes two) h.boxes boxes box_twins
+      lengths = zip_length (TwinBoxes two.aims) h.boxes boxes box_twins
 
       places : (address : ℕ) → place_of address h.boxes ≡ place_of address boxes
-      places address = ap (λ xs. position (λ other. nat_eq other address) xs) (same_addresses two h.boxes boxes box_twins)
+      places address = ap (λ xs. position (λ other. nat_eq other address) xs) (same_addresses two.aims h.boxes boxes box_twins)
 
       registers : (address : ℕ) (key : List ℕ) (found : Option ℕ) → TwinEffects (register_at h f address key found) (register_at K f address key found)
       unfolding register_at
@@ -245,58 +235,53 @@ module _ (two : Two) where
           by true = refused_done Register (refusal.Full h.settings.boxes)
           by false =
               let new = new_box h.settings.width address key in
-              let more = zip_append (TwinBoxes two) h.boxes boxes new new box_twins (record { address = refl; key = refl; live = refl; share = λ is. refl }) in
-              record { server = record { settings = refl; boxes = more; rows = done_rows Register; draws = refl; seed = refl }; body = refl }
+              record {
+                server = done_with Register _ _ (zip_append (TwinBoxes two.aims) h.boxes boxes new new box_twins (same_box two.aims new));
+                body = refl;
+              }
 
-      registers_key : (address : ℕ) (key other : List ℕ) → key ≡ other → TwinEffects (register h f address (Some key)) (register K f address (Some other))
+      registers_key : (address : ℕ) (key : List ℕ) → TwinEffects (register h f address (Some key)) (register K f address (Some key))
       unfolding register
-      registers_key address key other same =
-          subst (λ x. TwinEffects (register_at h f address key (place_of address h.boxes)) (register_at K f address x (place_of address boxes))) same
-          (subst (λ found. TwinEffects (register_at h f address key (place_of address h.boxes)) (register_at K f address key found)) (places address)
-          (registers address key (place_of address h.boxes)))
+      registers_key address key =
+          subst (λ found. TwinEffects (register_at h f address key (place_of address h.boxes)) (register_at K f address key found)) (places address)
+          (registers address key (place_of address h.boxes))
 
-      begins : (leaders part : List ℕ) (root other : ℕ) → SameElsewhere two part root other
-          → TwinEffects (begin h f leaders part (Some root)) (begin K f leaders part (Some other))
+      begins : (leaders part : List ℕ) (root : ℕ) → TwinEffects (begin h f leaders part (Some root)) (begin K f leaders part (Some root))
       unfolding begin
-      begins leaders part root other elsewhere =
+      begins leaders part root =
           let w : Write = steps.begun h leaders part root in
-          let v : Write = steps.begun K leaders part other in
-          let twins : TwinRows two (row f.serial (Begun w)) (row f.serial (Begun v)) =
-          record { serial = refl; stage = record { part = refl; count = lengths; ckey = refl; elsewhere = elsewhere } } in
+          let v : Write = steps.begun K leaders part root in
+          let same : w ≡ v = ap (λ (n : ℕ). begun_with n) lengths in
           record {
-            server = record { settings = refl; boxes = box_twins; rows = rows_set (row f.serial (Begun w)) (row f.serial (Begun v)) twins; draws = refl; seed = refl };
+            server = set_twins f.lane (row f.serial (Begun w)) (row f.serial (Begun v)) (record { serial = refl; stage = same }) h.boxes boxes box_twins (h.draws + 1);
             body = ap (λ n. frame.LinkBegun n (steps.draw h)) lengths;
           }
+        where
+          begun_with : ℕ → Write
+          begun_with n = record (steps.begun h leaders part root) { count = n }
 
-      audits : (sigma : ℕ) (opened : Openings) (w v : Write) (share other : ProofShare) → TwinWrites two w v
-          → values_in two.here 1 w (steps.counted h w) share sigma opened ≡ values_in two.there 1 v (steps.counted K v) other sigma opened
+      audits : (sigma : ℕ) (opened : Openings) (w v : Write) (share other : ProofShare) → w ≡ v
+          → values_in (two.here.leaf f.lane f.serial) 1 w (steps.counted h w) share sigma opened ≡ values_in (two.there.leaf f.lane f.serial) 1 v (steps.counted K v) other sigma opened
           → TwinEffects (audit_in two.here h f sigma opened (Some (Some (w, share)))) (audit_in two.there K f sigma opened (Some (Some (v, other))))
       unfolding audit_in
       audits sigma opened w v share other twins same =
-          let one = values_in two.here 1 w (steps.counted h w) share sigma opened in
-          let next = values_in two.there 1 v (steps.counted K v) other sigma opened in
-          let stages : TwinRows two (row f.serial (Audited w one.closing)) (row f.serial (Audited v next.closing)) =
-          record { serial = refl; stage = (twins, ap (λ (x : Values). x.closing) same) } in
+          let one = values_in (two.here.leaf f.lane f.serial) 1 w (steps.counted h w) share sigma opened in
+          let next = values_in (two.there.leaf f.lane f.serial) 1 v (steps.counted K v) other sigma opened in
           record {
-            server = record { settings = refl; boxes = box_twins; rows = rows_set (row f.serial (Audited w one.closing)) (row f.serial (Audited v next.closing)) stages; draws = refl; seed = refl };
+            server = set_twins f.lane (row f.serial (Audited w one.closing)) (row f.serial (Audited v next.closing))
+                (record { serial = refl; stage = (twins, ap (λ (x : Values). x.closing) same) }) h.boxes boxes box_twins h.draws;
             body = ap (λ (x : Values). frame.LinkReply (frame.ReplyAudited x.opened x.closing)) same;
           }
 
-      settles : (leaders : Closing) (w v : Write) (own other : Closing) → TwinWrites two w v → own ≡ other
-          → TwinEffects (settle_in two.here h f leaders (Some (w, own))) (settle_in two.there K f leaders (Some (v, other)))
+      settles : (leaders : Closing) (w : Write) (own : Closing)
+          → TwinEffects (settle_in two.here h f leaders (Some (w, own))) (settle_in two.there K f leaders (Some (w, own)))
       unfolding settle_in
-      settles leaders w v own other twins same =
-          subst (λ c. TwinEffects (settled_at two.here h w own) (settled_at two.there K v c)) same (by (accepts leaders own))
+      settles leaders w own = by (accepts leaders own)
         where
-          settled_at : World → Server → Write → Closing → Effect
-          settled_at world s x c =
-              cond (accepts leaders c) (steps.replies_with (record (done s f Writes) { boxes = written_in world x s.boxes }) frame.ReplyAccepted)
-              (steps.replies_with (done s f Writes) frame.ReplyRejected)
-
           by : (yes : Bool) → TwinEffects
-              (cond yes (steps.replies_with (record (done h f Writes) { boxes = written_in two.here w h.boxes }) frame.ReplyAccepted) (steps.replies_with (done h f Writes) frame.ReplyRejected))
-              (cond yes (steps.replies_with (record (done K f Writes) { boxes = written_in two.there v boxes }) frame.ReplyAccepted) (steps.replies_with (done K f Writes) frame.ReplyRejected))
-          by true = record { server = record { settings = refl; boxes = written two w v twins h.boxes boxes box_twins; rows = done_rows Writes; draws = refl; seed = refl }; body = refl }
+              (cond yes (steps.replies_with (record (done h f Writes) { boxes = written_in (two.here.leaf f.lane f.serial) w h.boxes }) frame.ReplyAccepted) (steps.replies_with (done h f Writes) frame.ReplyRejected))
+              (cond yes (steps.replies_with (record (done K f Writes) { boxes = written_in (two.there.leaf f.lane f.serial) w boxes }) frame.ReplyAccepted) (steps.replies_with (done K f Writes) frame.ReplyRejected))
+          by true = record { server = done_with Writes _ _ (written two elsewhere f.lane f.serial w h.boxes boxes box_twins); body = refl }
           by false = record { server = done_twins Writes; body = refl }
 
       -- what is read of a box, in both worlds
@@ -328,42 +313,41 @@ module _ (two : Two) where
       refused_read (Some box) (Some twin) want why = refused_done want why
 
       -- a box and its twin, which is the box with another share
-      reads_live : (stays : Bool) (number held : ℕ) (box : Box) (share : List ℕ) → TwinBoxes two box (record box { share = share })
+      reads_live : (stays : Bool) (number held : ℕ) (box : Box) (share : List ℕ) → TwinBoxes two.aims box (record box { share = share })
           → Masked (Some box) (Some (record box { share = share }))
           → Reads (Some box) (Some (record box { share = share })) (read_live h f stays number held box) (read_live K f stays number held (record box { share = share }))
       unfolding read_live body_in
       reads_live stays number held box share twins masked =
           let other : Box = record box { share = share } in
-          let left : AllZip (TwinBoxes two) (with_read h.settings.width stays number box h.boxes) (with_read h.settings.width stays number other boxes) =
-          zip_set (TwinBoxes two) h.boxes boxes number _ _ box_twins (record { address = refl; key = refl; live = refl; share = λ is. refl }) in
+          let left : AllZip (TwinBoxes two.aims) (with_read h.settings.width stays number box h.boxes) (with_read h.settings.width stays number other boxes) =
+          zip_set (TwinBoxes two.aims) h.boxes boxes number _ _ box_twins (same_box two.aims _) in
           reads_either (Some box) (Some other) (nat_eq held (token box.key f.lane f.serial)) _ _ _ _
           (record {
-            server = record { settings = refl; boxes = left; rows = done_rows Read; draws = refl; seed = refl };
+            server = done_with Read _ _ left;
             body = ap (λ m. frame.LinkReply (frame.ReplyMasked m)) (masked box other refl refl);
           })
           (refused_done Read (refusal.BadToken number))
 
-      reads_at : (stays : Bool) (number held : ℕ) (found other : Option Box) → Both (TwinBoxes two) found other → Masked found other
+      reads_at : (stays : Bool) (number held : ℕ) (found other : Option Box) → Both (TwinBoxes two.aims) found other → Masked found other
           → Reads found other (read_at h f stays number held found) (read_at K f stays number held other)
       unfolding read_at
       reads_at stays number held None None twins masked = refused_read None None Read (refusal.NoBox number)
       reads_at stays number held (Some box) None twins masked = absurd twins
       reads_at stays number held None (Some box) twins masked = absurd twins
       reads_at stays number held (Some box) (Some twin) twins masked =
-          let is = twin_is two box twin twins in
+          let is = twin_is two.aims box twin twins in
           let other : Box = record box { share = twin.share } in
           subst (λ (t : Box). Reads (Some box) (Some t) (cond box.live (read_live h f stays number held box) (steps.refuses (done h f Read) (refusal.NoBox number)))
           (cond t.live (read_live K f stays number held t) (steps.refuses (done K f Read) (refusal.NoBox number)))) is
           (reads_either (Some box) (Some other) box.live _ _ _ _
-          (reads_live stays number held box twin.share (subst (TwinBoxes two box) (sym is) twins) (subst (λ (t : Box). Masked (Some box) (Some t)) (sym is) masked))
+          (reads_live stays number held box twin.share (subst (TwinBoxes two.aims box) (sym is) twins) (subst (λ (t : Box). Masked (Some box) (Some t)) (sym is) masked))
           (refused_read (Some box) (Some other) Read (refusal.NoBox number)))
 
-      reads : (stays : Bool) (number held other : ℕ) → held ≡ other → SameMasked two h K f number
-          → TwinEffects (read_in two.here h f number (read h f stays number (Some held))) (read_in two.there K f number (read K f stays number (Some other)))
+      reads : (stays : Bool) (number held : ℕ) → SameMasked two h K f number
+          → TwinEffects (read_in two.here h f number (read h f stays number (Some held))) (read_in two.there K f number (read K f stays number (Some held)))
       unfolding read
-      reads stays number held other same masked =
-          subst (λ t. Reads (slice_get h.boxes number) (slice_get boxes number) (read_at h f stays number held (slice_get h.boxes number)) (read_at K f stays number t (slice_get boxes number))) same
-          (reads_at stays number held (slice_get h.boxes number) (slice_get boxes number) (zip_get (TwinBoxes two) h.boxes boxes number box_twins) masked)
+      reads stays number held masked =
+          reads_at stays number held (slice_get h.boxes number) (slice_get boxes number) (zip_get (TwinBoxes two.aims) h.boxes boxes number box_twins) masked
 
       -- with nothing deposited a read is refused, in any world
       reads_nothing : (stays : Bool) (number : ℕ) → TwinEffects (read_in two.here h f number (read h f stays number None)) (read_in two.there K f number (read K f stays number None))
@@ -373,42 +357,54 @@ module _ (two : Two) where
           by : (found other : Option Box) → Reads found other (steps.no_deposit h) (steps.no_deposit K)
           by found other = unread found other
 
-      commands : (body : PlainBody) (x y : Stage) → TwinStages two x y → Views two h K f body x y → TwinEffects (command_in two.here h f body x) (command_in two.there K f body y)
+      deposited : (body : PlainBody) (held : DepositBody) → Views two h K f body (Deposited held) (Deposited held)
+          → TwinEffects (command_in two.here h f body (Deposited held)) (command_in two.there K f body (Deposited held))
       unfolding command_in audit_in settle_in command register begin audit settle
-      commands (frame.LinkRegister address) (Deposited (deposit.Register key)) (Deposited (deposit.Register other)) twins views = registers_key address key other twins
-      commands (frame.LinkRegister address) (Deposited (deposit.Register key)) y twins views = absurd twins
-      commands (frame.LinkRegister address) x (Deposited (deposit.Register other)) twins views = absurd twins
-      commands (frame.LinkBegin leaders part) (Deposited (deposit.Write root)) (Deposited (deposit.Write other)) twins views = begins leaders part root other views
-      commands (frame.LinkBegin leaders part) (Deposited (deposit.Write root)) y twins views = absurd twins
-      commands (frame.LinkBegin leaders part) x (Deposited (deposit.Write other)) twins views = absurd twins
-      commands (frame.LinkAudit sigma opened) (Proved w share) (Proved v other) twins views = audits sigma opened w v share other twins views
-      commands (frame.LinkAudit sigma opened) (Proved w share) y twins views = absurd twins
-      commands (frame.LinkAudit sigma opened) x (Proved v other) twins views = absurd twins
+      deposited (frame.LinkRegister address) (deposit.Register key) views = registers_key address key
+      deposited (frame.LinkBegin leaders part) (deposit.Write root) views = begins leaders part root
+      deposited (frame.LinkRead number) (deposit.Read held) views = reads true number held views
+      deposited (frame.LinkRetire number) (deposit.Read held) views = reads false number held views
+      deposited (frame.LinkRead number) held views = reads_nothing true number
+      deposited (frame.LinkRetire number) held views = reads_nothing false number
+      deposited body held views = nothing
+
+      commands : (body : PlainBody) (x y : Stage) → Stages f.lane f.serial x y → Views two h K f body x y → TwinEffects (command_in two.here h f body x) (command_in two.there K f body y)
+      unfolding command_in audit_in settle_in command register begin audit settle
+      commands body (Deposited held) (Deposited other) twins views =
+          subst (λ o. TwinEffects (command_in two.here h f body (Deposited held)) (command_in two.there K f body (Deposited o))) twins
+          (deposited body held (subst (λ o. Views two h K f body (Deposited held) (Deposited o)) (sym twins) views))
+      commands (frame.LinkAudit sigma opened) (Proved w share) (Proved v other) twins views = audits sigma opened w v share other twins.0 views
       commands (frame.LinkAudit sigma opened) (Begun w) (Begun v) twins views = refused_done Writes refusal.NotProved
-      commands (frame.LinkAudit sigma opened) (Begun w) y twins views = absurd twins
-      commands (frame.LinkAudit sigma opened) x (Begun v) twins views = absurd twins
-      commands (frame.LinkSettle leaders) (Audited w own) (Audited v other) twins views = settles leaders w v own other twins.0 twins.1
-      commands (frame.LinkSettle leaders) (Audited w own) y twins views = absurd twins
-      commands (frame.LinkSettle leaders) x (Audited v other) twins views = absurd twins
-      commands (frame.LinkRead number) (Deposited (deposit.Read held)) (Deposited (deposit.Read other)) twins views = reads true number held other twins views
-      commands (frame.LinkRead number) (Deposited (deposit.Read held)) y twins views = absurd twins
-      commands (frame.LinkRead number) x (Deposited (deposit.Read other)) twins views = absurd twins
-      commands (frame.LinkRetire number) (Deposited (deposit.Read held)) (Deposited (deposit.Read other)) twins views = reads false number held other twins views
-      commands (frame.LinkRetire number) (Deposited (deposit.Read held)) y twins views = absurd twins
-      commands (frame.LinkRetire number) x (Deposited (deposit.Read other)) twins views = absurd twins
-      commands (frame.LinkRead number) x y twins views = reads_nothing true number
-      commands (frame.LinkRetire number) x y twins views = reads_nothing false number
-      commands body x y twins views = nothing
+      commands (frame.LinkSettle leaders) (Audited w own) (Audited v other) twins views =
+          subst (λ v. TwinEffects (settle_in two.here h f leaders (Some (w, own))) (settle_in two.there K f leaders (Some (v, other)))) twins.0
+          (subst (λ c. TwinEffects (settle_in two.here h f leaders (Some (w, own))) (settle_in two.there K f leaders (Some (w, c)))) twins.1 (settles leaders w own))
+      commands (frame.LinkRead number) Idle Idle twins views = reads_nothing true number
+      commands (frame.LinkRead number) (Begun w) (Begun v) twins views = reads_nothing true number
+      commands (frame.LinkRead number) (Proved w share) (Proved v other) twins views = reads_nothing true number
+      commands (frame.LinkRead number) (Audited w own) (Audited v other) twins views = reads_nothing true number
+      commands (frame.LinkRead number) (Done want) (Done other) twins views = reads_nothing true number
+      commands (frame.LinkRetire number) Idle Idle twins views = reads_nothing false number
+      commands (frame.LinkRetire number) (Begun w) (Begun v) twins views = reads_nothing false number
+      commands (frame.LinkRetire number) (Proved w share) (Proved v other) twins views = reads_nothing false number
+      commands (frame.LinkRetire number) (Audited w own) (Audited v other) twins views = reads_nothing false number
+      commands (frame.LinkRetire number) (Done want) (Done other) twins views = reads_nothing false number
+      commands body Idle Idle twins views = nothing
+      commands body (Begun w) (Begun v) twins views = nothing
+      commands body (Proved w share) (Proved v other) twins views = nothing
+      commands body (Audited w own) (Audited v other) twins views = nothing
+      commands body (Done want) (Done other) twins views = nothing
+      commands body x y twins views = absurd twins
 
       -- the row's stage, where it has the command's serial
-      stage_twins : TwinStages two (stage_for (row_at h f.lane) f.serial) (stage_for (row_at K f.lane) f.serial)
+      stage_twins : Stages f.lane f.serial (stage_for (row_at h f.lane) f.serial) (stage_for (row_at K f.lane) f.serial)
       stage_twins =
-          subst (λ n. TwinStages two (stage_for (row_at h f.lane) f.serial) (cond (nat_eq n f.serial) (row_at K f.lane).stage Idle)) (at_twins f.lane).serial
-          (by (nat_eq (row_at h f.lane).serial f.serial))
+          subst (λ n. Stages f.lane f.serial (stage_for (row_at h f.lane) f.serial) (cond (nat_eq n f.serial) (row_at K f.lane).stage Idle)) (row_twins f.lane).serial
+          (by (nat_eq (row_at h f.lane).serial f.serial) refl)
         where
-          by : (same : Bool) → TwinStages two (cond same (row_at h f.lane).stage Idle) (cond same (row_at K f.lane).stage Idle)
-          by true = (at_twins f.lane).stage
-          by false = tt
+          by : (same : Bool) → nat_eq (row_at h f.lane).serial f.serial ≡ same
+              → Stages f.lane f.serial (cond same (row_at h f.lane).stage Idle) (cond same (row_at K f.lane).stage Idle)
+          by true is = subst (λ n. Stages f.lane n (row_at h f.lane).stage (row_at K f.lane).stage) (eqb-true _ _ is) (row_twins f.lane).stage
+          by false is = tt
 
       carries : Views two h K f f.body (stage_for (row_at h f.lane) f.serial) (stage_for (row_at K f.lane) f.serial)
           → TwinEffects (carries_in two.here h f) (carries_in two.there K f)
@@ -418,22 +414,27 @@ module _ (two : Two) where
           (commands f.body _ _ stage_twins views)
 
 -- any twin of h is such a one
-is_twin : (two : Two) (h k : Server) → TwinServers two h k → record h { boxes = k.boxes; rows = k.rows } ≡ k
-is_twin two h k twins =
+is_twin : (aims : Aims) (h k : Server) → TwinServers aims h k → record h { boxes = k.boxes; rows = k.rows } ≡ k
+is_twin aims h k twins =
     ap (λ s. with_these s h.draws h.seed) twins.settings ∙ ap (λ n. with_these k.settings n h.seed) twins.draws
     ∙ ap (λ b. with_these k.settings k.draws b) twins.seed
   where
     with_these : Settings → ℕ → List ℕ → Server
     with_these settings draws seed = record { settings = settings; boxes = k.boxes; rows = k.rows; draws = draws; seed = seed }
 
+-- one world, here and there
+in_one : Aims → Two
+in_one aims = record { here = real 1; there = real 1; aims = aims }
+
 pub helpers_answer_clients : HelpersAnswerClients
-helpers_answer_clients two h k bytes other twins may =
+unfolding in_one
+helpers_answer_clients aims h k bytes other twins may =
     let s = twins.server in
-    let says = client_says two h.server k.server.boxes k.server.rows s.boxes s.rows bytes other may in
-    let at = is_twin two h.server k.server s in (
+    let says = client_says (in_one aims) (λ lane serial part root address is. refl) h.server k.server.boxes k.server.rows s.boxes s.lanes s.rows (whole bytes) (whole other) may in
+    let at = is_twin aims h.server k.server s in (
       says.reply ∙ ap (λ (x : Server). (client_turn x other).reply) at,
       record {
-        server = subst (λ x. TwinServers two (client_turn h.server bytes).server (client_turn x other).server) at says.server;
+        server = subst (λ x. TwinServers aims (client_turn h.server bytes).server (client_turn x other).server) at says.server;
         carried = twins.carried;
         replies = twins.replies;
       },
@@ -441,10 +442,10 @@ helpers_answer_clients two h k bytes other twins may =
 
 -- ---- the link
 
-module _ (two : Two) (h k : Helper) (twins : TwinHelpers two h k) where
+module _ (two : Two) (elsewhere : SameElsewhere two) (h k : Helper) (twins : TwinHelpers two.aims h k) where
   record TwinLinks (t u : LinkTurn) : Type 0 where
     answer : t.answer ≡ u.answer
-    helper : TwinHelpers two t.helper u.helper
+    helper : TwinHelpers two.aims t.helper u.helper
 
   links_either : (b : Bool) (t u v w : LinkTurn) → TwinLinks t u → TwinLinks v w → TwinLinks (cond b t v) (cond b u w)
   links_either true t u v w p q = p
@@ -458,11 +459,11 @@ module _ (two : Two) (h k : Helper) (twins : TwinHelpers two h k) where
 
   -- the twin's server is h's with other boxes and rows
   effects : (f : PlainFrame) → SameView f
-      → TwinEffects two h.server k.server.boxes k.server.rows twins.server.boxes twins.server.rows f (carries_in two.here h.server f) (carries_in two.there k.server f)
+      → TwinEffects two elsewhere h.server k.server.boxes k.server.rows twins.server.boxes twins.server.lanes twins.server.rows f (carries_in two.here h.server f) (carries_in two.there k.server f)
   effects f views =
-      let at = is_twin two h.server k.server twins.server in
-      subst (λ x. TwinEffects two h.server k.server.boxes k.server.rows twins.server.boxes twins.server.rows f (carries_in two.here h.server f) (carries_in two.there x f)) at
-      (carries two h.server k.server.boxes k.server.rows twins.server.boxes twins.server.rows f
+      let at = is_twin two.aims h.server k.server twins.server in
+      subst (λ x. TwinEffects two elsewhere h.server k.server.boxes k.server.rows twins.server.boxes twins.server.lanes twins.server.rows f (carries_in two.here h.server f) (carries_in two.there x f)) at
+      (carries two elsewhere h.server k.server.boxes k.server.rows twins.server.boxes twins.server.lanes twins.server.rows f
       (subst (λ x. Views two h.server x f f.body (stage_for (row_at h.server f.lane) f.serial) (stage_for (row_at x f.lane) f.serial)) (sym at) views))
 
   carried : (f : PlainFrame) → SameView f → TwinLinks (carried_with h f (carries_in two.here h.server f)) (carried_with k f (carries_in two.there k.server f))
@@ -478,7 +479,7 @@ module _ (two : Two) (h k : Helper) (twins : TwinHelpers two h k) where
     };
   }
     where
-      both : TwinEffects two h.server k.server.boxes k.server.rows twins.server.boxes twins.server.rows f (carries_in two.here h.server f) (carries_in two.there k.server f)
+      both : TwinEffects two elsewhere h.server k.server.boxes k.server.rows twins.server.boxes twins.server.lanes twins.server.rows f (carries_in two.here h.server f) (carries_in two.there k.server f)
       both = effects f views
 
       kept : ℕ → List (List ℕ) → PlainBody → List (List ℕ)
@@ -517,49 +518,54 @@ module _ (two : Two) (h k : Helper) (twins : TwinHelpers two h k) where
   found_links (Some f) views = arrival f (views f refl)
 
 pub helpers_answer_leaders : HelpersAnswerLeaders
-helpers_answer_leaders two h k bytes twins views =
-    let links = found_links two h k twins (linked is_command h.server.settings.width bytes) views in
-    let both = subst (λ (s : Settings). TwinLinks two h k twins (on_link_in two.here h bytes) (if_command_in two.there k (linked is_command s.width bytes))) twins.server.settings links in
+helpers_answer_leaders two h k bytes elsewhere twins views =
+    let links = found_links two elsewhere h k twins (linked is_command h.server.settings.width bytes) views in
+    let both = subst (λ (s : Settings). TwinLinks two elsewhere h k twins (on_link_in two.here h bytes) (if_command_in two.there k (linked is_command s.width bytes))) twins.server.settings links in
     (both.answer, both.helper)
 
 -- ---- a run
 
-event_says : (two : Two) (h k : Helper) (event other : Event) → TwinHelpers two h k → Comes two h k event other
+event_says : (two : Two) → SameElsewhere two → (h k : Helper) (event other : Event) → TwinHelpers two.aims h k → Comes two h k event other
     → (helper_says two.here h event ≡ helper_says two.there k other)
-    × TwinHelpers two (helper_after two.here h event) (helper_after two.there k other)
-event_says two h k (FromClient bytes) (FromClient other) twins comes =
-    let step = helpers_answer_clients two h k bytes other twins comes in (ap spelling step.0, step.1)
-event_says two h k (FromLink bytes) (FromLink other) twins comes =
-    let step = helpers_answer_leaders two h k bytes twins comes.1 in
+    × TwinHelpers two.aims (helper_after two.here h event) (helper_after two.there k other)
+event_says two elsewhere h k (FromClient bytes) (FromClient other) twins comes =
+    let step = helpers_answer_clients two.aims h k bytes other twins comes in (ap spelling step.0, step.1)
+event_says two elsewhere h k (FromLink bytes) (FromLink other) twins comes =
+    let step = helpers_answer_leaders two h k bytes elsewhere twins comes.1 in
     subst (λ b. (helper.written (on_link_in two.here h bytes).answer ≡ helper.written (on_link_in two.there k b).answer)
-    × TwinHelpers two (on_link_in two.here h bytes).helper (on_link_in two.there k b).helper) comes.0
+    × TwinHelpers two.aims (on_link_in two.here h bytes).helper (on_link_in two.there k b).helper) comes.0
     (ap helper.written step.0, step.1)
-event_says two h k (FromClient bytes) (FromLink other) twins comes = absurd comes
-event_says two h k (FromLink bytes) (FromClient other) twins comes = absurd comes
+event_says two elsewhere h k LinkUp LinkUp twins comes = (refl, twins)
+event_says two elsewhere h k event other twins comes = absurd comes
 
-runs : (two : Two) (events others : List Event) (h k : Helper) → TwinHelpers two h k → Plays two h k events others
+runs : (two : Two) → SameElsewhere two → (events others : List Event) (h k : Helper) → TwinHelpers two.aims h k → Plays two h k events others
     → helper_sight two.here h events ≡ helper_sight two.there k others
 unfolding Plays helper_sight
-runs two [] [] h k twins plays = refl
-runs two (event ∷ events) (other ∷ others) h k twins plays =
-    let step = event_says two h k event other twins plays.0 in
-    let rest = runs two events others (helper_after two.here h event) (helper_after two.there k other) step.1 plays.1 in
+runs two elsewhere [] [] h k twins plays = refl
+runs two elsewhere (event ∷ events) (other ∷ others) h k twins plays =
+    let step = event_says two elsewhere h k event other twins plays.0 in
+    let rest = runs two elsewhere events others (helper_after two.here h event) (helper_after two.there k other) step.1 plays.1 in
     ap (λ b. b ∷ helper_sight two.here (helper_after two.here h event) events) step.0 ∙ ap (λ xs. helper_says two.there k other ∷ xs) rest
-runs two [] (other ∷ others) h k twins plays = absurd plays
-runs two (event ∷ events) [] h k twins plays = absurd plays
+runs two elsewhere [] (other ∷ others) h k twins plays = absurd plays
+runs two elsewhere (event ∷ events) [] h k twins plays = absurd plays
 
-idle_rows : (two : Two) (n : ℕ) → AllZip (TwinRows two) (replicate n helper.idle) (replicate n helper.idle)
-idle_rows two zero = tt
-idle_rows two (suc n) = (idle_twins two, idle_rows two n)
+idle_at : (n lane : ℕ) → slice_index_or (replicate n helper.idle) lane helper.idle ≡ helper.idle
+idle_at zero lane = refl
+idle_at (suc n) zero = refl
+idle_at (suc n) (suc lane) = idle_at n lane
 
-opened_twins : (two : Two) (settings : Settings) (seed : List ℕ) → TwinHelpers two (opened_helper settings seed) (opened_helper settings seed)
+idle_rows : (aims : Aims) (n lane : ℕ)
+    → TwinRows aims lane (slice_index_or (replicate n helper.idle) lane helper.idle) (slice_index_or (replicate n helper.idle) lane helper.idle)
+idle_rows aims n lane = subst (λ (r : Row). TwinRows aims lane r r) (sym (idle_at n lane)) (record { serial = refl; stage = tt })
+
+pub opened_twins : (aims : Aims) (settings : Settings) (seed : List ℕ) → TwinHelpers aims (opened_helper settings seed) (opened_helper settings seed)
 unfolding opened_server
-opened_twins two settings seed = record {
-  server = record { settings = refl; boxes = tt; rows = idle_rows two settings.lanes; draws = refl; seed = refl };
+opened_twins aims settings seed = record {
+  server = record { settings = refl; boxes = tt; lanes = refl; rows = idle_rows aims settings.lanes; draws = refl; seed = refl };
   carried = refl;
   replies = refl;
 }
 
 pub helper_sights_stay : HelperSightsStay
-helper_sights_stay two settings seed events others plays =
-    runs two events others (opened_helper settings seed) (opened_helper settings seed) (opened_twins two settings seed) plays
+helper_sights_stay two settings seed events others elsewhere plays =
+    runs two elsewhere events others (opened_helper settings seed) (opened_helper settings seed) (opened_twins two.aims settings seed) plays

@@ -1,4 +1,4 @@
-mod Lists
-mod HelperSteps
-mod LeaderSteps
+pub mod Lists
+pub mod HelperSteps
+pub mod LeaderSteps
 mod Real

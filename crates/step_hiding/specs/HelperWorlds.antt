@@ -18,18 +18,22 @@ use Rattle.step_rules.specs.HelperClients.{on_client}
 use Rattle.step_rules.specs.HelperCommands.{Effect, effect, replies_with, refuses, done, stage_for, counted}
 use Rattle.step_rules.specs.HelperCommands.{held_proof, held_closing, held_token, audited, audit, settle}
 use Rattle.step_rules.specs.HelperCommands.{read, command, carried_with, arrives, on_link_bytes}
-use Rattle.step_hiding.specs.Worlds.{World, real, values_in, written_in, masked_in}
+use Rattle.step_hiding.specs.Worlds.{World, real, values_in, written_in, masked_in, Event}
+use Rattle.step_hiding.specs.Worlds.{FromClient, FromLink, LinkUp}
 
 unfoldable pub audit_in : World → Server → PlainFrame → ℕ → Openings → Option (Option (Write × ProofShare))
     → Effect
 audit_in world h f sigma other (Some (Some p)) =
-    audited h f p.0 (values_in world 1 p.0 (counted h p.0) p.1 sigma other)
+    audited h f p.0 (values_in (world.leaf f.lane f.serial) 1 p.0 (counted h p.0) p.1 sigma other)
 audit_in world h f sigma other held = audit h f sigma other held
 
 unfoldable pub settle_in : World → Server → PlainFrame → Closing → Option (Write × Closing) → Effect
 settle_in world h f leaders (Some a) =
     if accepts leaders a.1
-    then replies_with (record (done h f Writes) { boxes = written_in world a.0 h.boxes }) frame.ReplyAccepted
+    then
+    replies_with
+    (record (done h f Writes) { boxes = written_in (world.leaf f.lane f.serial) a.0 h.boxes })
+    frame.ReplyAccepted
     else replies_with (done h f Writes) frame.ReplyRejected
 settle_in world h f leaders None = settle h f leaders None
 
@@ -74,19 +78,16 @@ HelpersAreReal = (h : Helper) (bytes : List ℕ) → on_link_in (real 1) h bytes
 
 -- ---- a run
 
--- bytes that come on a client's connection, or on the link
-pub data Event : Type 0 where
-  FromClient : (bytes : List ℕ) → Event
-  FromLink : (bytes : List ℕ) → Event
-
 abbrev pub helper_after : World → Helper → Event → Helper
 helper_after world h (FromClient bytes) = (on_client h bytes).helper
 helper_after world h (FromLink bytes) = (on_link_in world h bytes).helper
+helper_after world h LinkUp = h
 
 -- what the helper sends at it
 abbrev pub helper_says : World → Helper → Event → List ℕ
 helper_says world h (FromClient bytes) = spelling (on_client h bytes).reply
 helper_says world h (FromLink bytes) = written (on_link_in world h bytes).answer
+helper_says world h LinkUp = []
 
 -- all that it sends in a run, to clients and to the leader
 unfoldable pub helper_sight : World → Helper → List Event → List (List ℕ)

@@ -21,13 +21,14 @@ use Rattle.step_rules.specs.LeaderClients.{counted, sigma, if_room, issues_drawn
 use Rattle.step_rules.specs.LeaderClients.{on_client}
 use Rattle.step_rules.specs.LeaderReplies.{done, accepted, if_settled, if_read, by_command, refusal_in, fits}
 use Rattle.step_rules.specs.LeaderReplies.{if_fits, ignored, on_reply_bytes, resent}
-use Rattle.step_hiding.specs.Worlds.{World, real, opens_in, written_in, masked_in}
+use Rattle.step_hiding.specs.Worlds.{World, real, opens_in, written_in, masked_in, Event}
+use Rattle.step_hiding.specs.Worlds.{FromClient, FromLink, LinkUp}
 
 -- ---- frames of clients: what an audit opens
 
 abbrev pub audits_in : World → Leader → PlainFrame → Write → ProofShare → Turn
 audits_in world a f w share =
-    let opened = opens_in world w (counted a w) share (sigma a) in
+    let opened = opens_in (world.leaf f.lane f.serial) w (counted a w) share (sigma a) in
     issues_drawn a f (frame.LinkAudit (sigma a) opened) (Auditing a.next w share (sigma a) opened)
 
 unfoldable pub proof_world : World → Leader → PlainFrame → ProofShare → Stage → Turn
@@ -57,7 +58,8 @@ on_client_in world a bytes = whole_in world a (whole bytes)
 unfoldable pub accepted_in : World → Leader → PlainFrame → Stage → Option AckTurn
 accepted_in world a c (Settling number w own other) =
     if accepts own other
-    then Some (done (record a { boxes = written_in world w a.boxes }) c Writes frame.Accepted)
+    then Some (done (record a { boxes = written_in (world.leaf c.lane c.serial) w a.boxes }) c Writes
+    frame.Accepted)
     else None
 accepted_in world a c stage = accepted a c stage
 
@@ -106,12 +108,6 @@ pub record LeadersAreReal : Type 0 where
   pub replies : (a : Leader) (bytes : List ℕ) → on_reply_in (real 0) a bytes ≡ on_reply_bytes a bytes
 
 -- ---- a run
-
--- bytes that come on a client's connection, or on the link; or the link comes up again
-pub data Event : Type 0 where
-  FromClient : (bytes : List ℕ) → Event
-  FromLink : (bytes : List ℕ) → Event
-  LinkUp : Event
 
 abbrev pub leader_after : World → Leader → Event → Leader
 leader_after world a (FromClient bytes) = (on_client_in world a bytes).leader

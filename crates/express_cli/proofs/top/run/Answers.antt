@@ -4,7 +4,7 @@ use Rattle.schedule_text.specs.Grammar.{schedule_of}
 use Rattle.replay_world.specs.Played.{output_of}
 use Rattle.express_texts.specs.Batch.{batch_of}
 use Rattle.express_texts.specs.GameLines.{game_of}
-use Rattle.express_cli.specs.Around.{Around, Streams}
+use Rattle.express_cli.specs.Around.{Around, Streams, left_in}
 use Rattle.express_cli.specs.Ends.{bad_settings, status_of}
 use Rattle.express_cli.specs.Keeping.{InputCounts}
 use Rattle.express_cli.specs.Ran.{Ran}
@@ -27,21 +27,21 @@ came : Reads → (words : List Text) (streams : Streams) (net : Around) (end : E
 came law words streams net end ends source =
     let comes = ends.talks.comes in
     record {
-      headline = λ asks well. if_some streams.input.content (λ s is schedule spells short.
-          let did = work_done words streams net end Replay s comes asks well is short (λ n. law.schedules.not_both s.left schedule n spells) in
-          (did.1, took_as _ _ _ _ (did.2.2 ∙ ap output_of (law.schedules.same_value s.left did.2.0 schedule did.2.1 spells)) did.3));
-      batch = λ asks well. if_some streams.input.content (λ s is pairs spells short.
-          let did = work_done words streams net end Batch s comes asks well is short (λ n. law.pairs.not_both s.left pairs n spells) in
-          let sort = rw (law.pairs.same_value s.left did.2.0 pairs did.2.1 spells) at did.2.2 in
+      headline = λ asks well. if_some (left_in streams.input.content) (λ left is schedule spells short.
+          let did = work_done words streams net end Replay left comes asks well is short (λ n. law.schedules.not_both left schedule n spells) in
+          (did.1, took_as _ _ _ _ (did.2.2 ∙ ap output_of (law.schedules.same_value left did.2.0 schedule did.2.1 spells)) did.3));
+      batch = λ asks well. if_some (left_in streams.input.content) (λ left is pairs spells short.
+          let did = work_done words streams net end Batch left comes asks well is short (λ n. law.pairs.not_both left pairs n spells) in
+          let sort = rw (law.pairs.same_value left did.2.0 pairs did.2.1 spells) at did.2.2 in
           (did.1, (sort.0, sort.1, sort.2, took_as _ _ _ _ sort.3 did.3)));
-      cloak = λ asks well. if_some streams.input.content (λ s is game spells short.
-          let did = work_done words streams net end Cloak s comes asks well is short (λ n. law.games.not_both s.left game n spells) in
-          let shown = rw (law.games.same_value s.left did.2.0 game did.2.1 spells) at did.2.2 in
+      cloak = λ asks well. if_some (left_in streams.input.content) (λ left is game spells short.
+          let did = work_done words streams net end Cloak left comes asks well is short (λ n. law.games.not_both left game n spells) in
+          let shown = rw (law.games.same_value left did.2.0 game did.2.1 spells) at did.2.2 in
           (did.1, shown.0, took_as _ _ _ _ shown.1 did.3));
-      names_bad_line = λ command asks well. if_some streams.input.content (λ s is n bad short.
-          let did = input_done words streams net end (Work command) s comes asks well is short in
+      names_bad_line = λ command asks well. if_some (left_in streams.input.content) (λ left is n bad short.
+          let did = input_done words streams net end (Work command) left comes asks well is short in
           grind (arith, not_both law, same_line law, took_as));
-      refuses_too_long = λ some well. if_some streams.input.content (λ s is long.
+      refuses_too_long = λ some well. if_some (left_in streams.input.content) (λ left is long.
           let did = met words streams net end (OnInput some.0) comes some.1 well.sink well.memory in
           grind (arith, append-nil, took_as));
       mill = λ n asks sink memory.
@@ -51,8 +51,8 @@ came law words streams net end ends source =
       serve = by_settings Serve words streams net end comes;
       client = by_settings Client words streams net end comes;
       carry = by_settings Carry words streams net end comes;
-      names_bad_key = λ command asks well. if_some streams.input.content (λ s is key bad short.
-          let did = input_done words streams net end (Net command) s comes asks well is short in
+      names_bad_key = λ command asks well. if_some (left_in streams.input.content) (λ left is key bad short.
+          let did = input_done words streams net end (Net command) left comes asks well is short in
           let named : (status_of end ≡ 3) × (did.0 ≡ bad_settings key) = grind arith in
           (named.0, took_as _ _ did.0 _ named.1 did.2));
       statuses = grind arith;

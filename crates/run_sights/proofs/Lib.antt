@@ -1,0 +1,5 @@
+mod Moved
+mod Writes
+mod HelperSights
+mod LeaderSights
+mod Clients
