@@ -1,0 +1,6 @@
+//! The connections of a server of many, and the log beside them.
+#![tactic(auto)]
+
+mod wires;
+
+pub use wires::Wires;
