@@ -1,6 +1,9 @@
 //! The connections of a server of many, and the log beside them.
 #![tactic(auto)]
 
+mod call_log;
+mod history;
 mod wires;
 
+pub use call_log::CallLog;
 pub use wires::Wires;
