@@ -12,7 +12,7 @@ use Rattle.http1.specs.Message.{known_of}
 use Rattle.std.specs.Prelude.{Result}
 use Rattle.http_door.specs.declared.fault.DoorFault.{DoorFault}
 use Rattle.http_door.specs.declared.fault.DoorFault.TheVariants as fault
-use Rattle.http_door.specs.Heads.{TakesHead, HoldsRequest, LacksHead, NeverTakes, IsHeadAt, HasNoHead, body_len}
+use Rattle.http_door.specs.Heads.{TakesHead, HoldsRequest, LacksBody, LacksHead, NeverTakes, IsHeadAt, HasNoHead, body_len}
 use Rattle.http_door.specs.Hearing.{heard_at, heard_of, heard_with, closed}
 
 pub takes_unique : (held : List ℕ) (h k : RequestHead) (f g : Framing) (a b : List ℕ)
@@ -92,3 +92,13 @@ pub not_over : (held : List ℕ) (end n : ℕ) (body rest : List ℕ) → n ≡ 
     → end ≤ length held → length held < end + n → ⊥
 not_over held end n body rest size behind inside over =
     omega (arith, ap length behind, length-append body rest, length-drop end held)
+
+-- a body that is waited for isn't within the bytes
+pub not_lacking : (held : List ℕ) (spans : List HeaderSpan) (at : RequestSpans) (k : RequestHead) (g : Framing) (n : ℕ)
+    → LacksBody held → IsHeadAt held spans at k g → body_len k.method g ≡ Ok n → at.len + n ≤ length held → ⊥
+not_lacking held spans at k g n lacks found sized inside =
+    let same = found_same held spans at lacks.0 k lacks.1 g lacks.2 found lacks.4 in
+    let both : fine n ≡ fine lacks.3 = sym sized ∙ (λ i. body_len (same.0 i).method (same.1 i)) ∙ lacks.5 in
+    let size : n ≡ lacks.3 = cc in
+    let after = lacks.6 in
+    omega (arith, ap length same.2, length-drop at.len held)

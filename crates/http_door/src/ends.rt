@@ -1,8 +1,8 @@
 //! Where a request ends.
-ghost use Rattle.std.specs.Prelude.{◌≡◌, ◌⊎◌, ◌+◌, ◌≤◌, ℕ, List, length, Some, IfSome, IfNone};
+ghost use Rattle.std.specs.Prelude.{◌≡◌, ◌⊎◌, ◌+◌, ◌≤◌, ℕ, List, length, None, Some, IfSome, IfNone};
 ghost use Rattle.httparse.specs.Grammar.{RequestHead, print_request};
 ghost use Rattle.http_door.specs.declared.fault.DoorFault.{DoorFault as Fault};
-ghost use Rattle.http_door.specs.Heads.{HasNoHead, HoldsRequest, HoldsUnsized, LacksBody, LacksHead};
+ghost use Rattle.http_door.specs.Heads.{HasNoHead, HoldsRequest, HoldsUnsized, LacksBody, LacksHead, NeverTakes};
 
 use crate::head::{find_head, stated_len};
 use crate::limits::FIELDS_MAX;
@@ -15,6 +15,8 @@ pub fn whole(held: &[u8]) -> Option<usize>
         → result ≡ Some (length (print_request head) + length body) }
     ensures bad_length { (why : Fault) → HoldsUnsized held.now why → result ≡ Some (length held.now) }
     ensures headless { HasNoHead held.now → IfSome result (λ n. n ≡ length held.now) }
+    ensures never { HasNoHead held.now → IfSome result (λ n. NeverTakes held.now) }
+    ensures short { LacksBody held.now → result ≡ None }
     ensures waits { IfNone result (LacksHead held.now ⊎ LacksBody held.now) }
     ensures within { IfSome result (λ n. n ≤ length held.now) }
 {

@@ -1,5 +1,5 @@
 use Rattle.std.proofs.Common.{sym, ◌∙◌}
-use Rattle.http_door.proofs.HeadLaws.{none_refused, ends_at, not_over, sized_once}
+use Rattle.http_door.proofs.HeadLaws.{none_refused, ends_at, not_lacking, not_over, sized_once}
 use Rattle.http_door.proofs.ends.whole.Goals as goal
 
 pub returns-in_default-clause-request : goal.returns-in_default-clause-request
@@ -42,4 +42,22 @@ returns-in-Err-clause-request c head body rest holds =
     let sized = sym (c.stated_len.ensures.len found.1 found.2 found.3) ∙ c.in-Err.is in
     let same = sized_once _ _ _ head found.1 holds.framing found.2 _ found.3 holds.takes in
     let size = holds.size in
+    cc
+
+pub returns-in_default-clause-short : goal.returns-in_default-clause-short
+returns-in_default-clause-short c lacks =
+    absurd (none_refused _ c.in_default.ensures.why.never lacks.0 lacks.1 lacks.2 lacks.4)
+
+pub returns-in-Ok-stated_len-clause-short : goal.returns-in-Ok-stated_len-clause-short
+returns-in-Ok-stated_len-clause-short c lacks =
+    let found = rw c.in_ok-at.was at c.in-Ok.ensures.found in
+    let sized = sym (c.stated_len.ensures.len found.1 found.2 found.3) ∙ c.in-Ok-stated_len.is in
+    absurd (not_lacking _ _ _ found.1 found.2 _ lacks found.3 sized c.if-at-n.true)
+
+pub returns-in-Err-clause-short : goal.returns-in-Err-clause-short
+returns-in-Err-clause-short c lacks =
+    let found = rw c.in_ok-at.was at c.in-Ok.ensures.found in
+    let sized = sym (c.stated_len.ensures.len found.1 found.2 found.3) ∙ c.in-Err.is in
+    let same = sized_once _ _ _ lacks.0 found.1 lacks.1 found.2 _ found.3 lacks.4 in
+    let size = lacks.5 in
     cc
