@@ -1,0 +1,5 @@
+pub mod Clients
+pub mod Replies
+pub mod Steps
+pub mod Views
+pub mod Responses
