@@ -3,7 +3,9 @@
 
 mod call_log;
 mod history;
+mod record_log;
 mod wires;
 
 pub use call_log::CallLog;
+pub use record_log::RecordLog;
 pub use wires::Wires;

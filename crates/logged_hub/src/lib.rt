@@ -1,0 +1,13 @@
+//! The log beside the connections of a server of many.
+#![tactic(auto)]
+
+mod fault;
+mod filling;
+mod hub;
+mod reading;
+mod writing;
+
+pub use fault::LogFault;
+pub use filling::batch_of;
+pub use hub::LoggedHub;
+pub use reading::read_records;
