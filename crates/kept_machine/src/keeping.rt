@@ -43,6 +43,18 @@ impl KeptJournal {
         }
     }
 
+    /// The journal.
+    pub(crate) fn into_journal(self) -> Journal
+        ensures { result ≡ self }
+    {
+        let KeptJournal {
+            journal,
+            limit: _,
+            closed: _,
+        } = self;
+        journal
+    }
+
     /// How many bytes the records take.
     pub(crate) fn end(&self) -> u64
         ensures { result ≡ self.now.end }

@@ -1,7 +1,7 @@
 //! A machine that writes each record to a journal before it takes its step.
 ghost use Rattle.std.specs.Prelude.{◌≡◌, ◌≢◌, ◌≤◌, ◌<◌, ◌+◌, ◌^◌, ℕ, List, [], ◌∷◌, true, false, length, IfOk, IfErr, OnOk, OnErr};
 ghost use Rattle.node_journal.specs.Disk.{IsUntouched, Within};
-ghost use Rattle.node_journal.specs.Journal.{Passes};
+ghost use Rattle.node_journal.specs.Journal.{IsInPlace, Passes};
 ghost use Rattle.node_journal.specs.Records.{content, GivesNoByte, IsSized, IsUndamaged};
 ghost use Rattle.kept_machine.specs.Faults.{OnForeign, OnDamaged, OnNotEmpty, OnFull, OnNoMemory, OnStill, IsOfCreate, IsOfReopen, CountsFault};
 ghost use Rattle.kept_machine.specs.Keeps.{IsDurable, KeepsInput, sight};
@@ -15,6 +15,14 @@ use crate::reopening::{Found, find};
 use node_journal::{Disk, Journal, RECORD_MAX};
 use std::alloc::Global;
 use std::marker::Model;
+
+/// What a kept machine was made of: the machine, its journal and the journal's disk.
+#[derive(Drop)]
+pub struct KeptParts<M: Machine, D: Disk> {
+    pub machine: M,
+    pub journal: Journal,
+    pub disk: D,
+}
 
 /// A machine with its journal and the journal's disk.
 #[derive(Drop)]
@@ -154,6 +162,29 @@ impl<M: Machine, D: Disk> Kept<M, D> {
         ensures { result ≡ self.now.journal.end }
     {
         self.journal.end()
+    }
+
+    /// The machine, the journal at its end and the disk, for one that writes the records of several inputs together.
+    pub fn into_parts(self) -> KeptParts<M, D>
+        ensures machine { result.machine ≡ self.machine }
+        ensures journal { result.journal ≡ self.journal }
+        ensures disk { result.disk ≡ self.disk }
+        ensures sound { M.rules.is_sound result.machine }
+        ensures ready { result.journal.ready ≡ true }
+        ensures in_place { self.journal.closed ≡ false → IsInPlace result.journal (D.disk result.disk) }
+        ensures stands { self.journal.closed ≡ false → Stands M.rules result.machine (D.disk result.disk).reads }
+    {
+        let Kept {
+            alloc: _,
+            machine,
+            journal,
+            disk,
+        } = self;
+        KeptParts {
+            machine,
+            journal: journal.into_journal(),
+            disk,
+        }
     }
 
     /// The disk, as the last call left it.

@@ -13,5 +13,5 @@ mod reopening;
 mod replaying;
 
 pub use fault::KeepFault;
-pub use kept::{Kept, take};
+pub use kept::{Kept, KeptParts, take};
 pub use machine::{Machine, Takes};
