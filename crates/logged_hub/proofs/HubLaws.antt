@@ -11,7 +11,7 @@ use Rattle.logged_hub.specs.Calls.{entry_of, written, written_by}
 use Rattle.logged_hub.specs.State.{IsKept, IsReady, LeavesWhole}
 use Rattle.logged_hub.specs.declared.fault.LogFault.{LogFault}
 
-written-append : (a b : List Event) → written (a ++ b) ≡ written a ++ written b
+pub written-append : (a b : List Event) → written (a ++ b) ≡ written a ++ written b
 written-append [] b = refl
 written-append (e ∷ a) b = ap (λ (l : List (List ℕ)). written_by e ++ l) (written-append a b) ∙ sym (append_assoc (written_by e) (written a) (written b))
 

@@ -1,2 +1,3 @@
 pub mod HubLaws
 pub mod RecordLaws
+pub mod RunLaws

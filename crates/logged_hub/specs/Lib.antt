@@ -1,4 +1,5 @@
 pub mod Calls
 pub mod Logs
+pub mod Runs
 pub mod State
 pub mod Texts

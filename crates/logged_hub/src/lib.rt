@@ -4,6 +4,7 @@
 mod fault;
 mod filling;
 mod hub;
+pub mod laws;
 mod reading;
 mod writing;
 
