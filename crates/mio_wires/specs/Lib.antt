@@ -1,0 +1,3 @@
+pub mod Dials
+pub mod Openings
+pub mod Slots

@@ -1,0 +1,131 @@
+-- The connections at the places, by the bytes that went through their streams.
+use Rattle.std.specs.Prelude.{◌≡◌, ◌≢◌, ℕ, ◌-◌, ◌≤◌, ◌<◌, nat_le, Bool, true, false, not, ◌&&◌, ◌||◌, List, [], ◌++◌, length, take, Option, Some, None, is_some, slice_get, slice_set}
+use Rattle.many_words.specs.Doors.{is_dialled}
+use Rattle.many_words.specs.Events.{Event, Came, Ended, Blocked}
+use Rattle.many_words.specs.declared.door.Door.{Door}
+use Rattle.many_words.specs.declared.hub.Taken.{Taken}
+use Rattle.many_words.specs.declared.hub.Taken.TheVariants.{Bytes, Over, Pending}
+
+-- the bytes that the reads of a stream gave, and those that its writes took
+pub record Stream : Type 0 where
+  pub given : List ℕ
+  pub written : List ℕ
+
+abbrev pub given_of : Option Stream → List ℕ
+given_of None = []
+given_of (Some s) = s.given
+
+abbrev pub written_of : Option Stream → List ℕ
+written_of None = []
+written_of (Some s) = s.written
+
+-- A place: whether a connection is there, what its reads gave and its writes took, what is to be written behind that
+-- and how much of it may be, whether the peer sends no more, and whether the connection is of no use any more.
+pub record Slot : Type 0 where
+  pub room : ℕ
+  pub live : Bool
+  pub given : List ℕ
+  pub written : List ℕ
+  pub pending : List ℕ
+  pub ended : Bool
+  pub broken : Bool
+
+-- what was sent on the connection: what was written is a front of it
+abbrev pub sent : Slot → List ℕ
+sent s = s.written ++ s.pending
+
+-- no more is taken of it
+abbrev pub is_over : Slot → Bool
+is_over s = not s.live || (s.broken || s.ended)
+
+-- a place as this stream, if one is there, has come to it
+abbrev pub fresh : (room : ℕ) → Option Stream → Slot
+fresh room stream = record {
+  room = room;
+  live = is_some stream;
+  given = given_of stream;
+  written = written_of stream;
+  pending = [];
+  ended = false;
+  broken = false;
+}
+
+-- a place without a connection
+abbrev pub vacant : (room : ℕ) → Slot
+vacant room = fresh room None
+
+-- a connection through which nothing went yet
+abbrev pub connected : (room : ℕ) → Slot
+connected room = fresh room (Some (record { given = []; written = [] }))
+
+-- a write may have gone on: what was sent, what came and whose connection it is stay
+pub record Flushes (old new : Slot) : Type 0 where
+  pub room : new.room ≡ old.room
+  pub live : new.live ≡ old.live
+  pub given : new.given ≡ old.given
+  pub sent_same : sent new ≡ sent old
+  pub ended : new.ended ≡ old.ended
+  pub stays_broken : old.broken ≡ true → new.broken ≡ true
+
+-- what a take gives: bytes of this connection, behind those that it gave before
+abbrev pub Gave : Door → (old new : Slot) → Taken → List ℕ → Type 0
+Gave door old new (Bytes n) buf = (old.live ≡ true) × (n ≤ length buf) × (new.given ≡ old.given ++ take n buf)
+Gave door old new Over buf = (is_over new ≡ true) × (new.given ≡ old.given)
+Gave door old new Pending buf = (is_dialled door ≡ false) × (new.pending ≢ []) × (new.given ≡ old.given)
+
+pub record Takes (door : Door) (result : Taken) (buf : List ℕ) (old new : Slot) : Type 0 where
+  pub room : new.room ≡ old.room
+  pub live : new.live ≡ old.live
+  pub sent_same : sent new ≡ sent old
+  pub gave : Gave door old new result buf
+  pub unread : old.live ≡ false → result ≡ Over
+
+-- bytes have room behind what is to be written
+abbrev pub fits : Slot → List ℕ → Bool
+fits s bytes = s.live && (not s.broken && nat_le (length bytes) (s.room - length s.pending))
+
+abbrev pub sent_if : Bool → List ℕ → List ℕ → List ℕ
+sent_if true before bytes = before ++ bytes
+sent_if false before bytes = before
+
+-- bytes were sent behind those before, all of them if they have room and none if not; then the connection is broken
+pub record Sends (bytes : List ℕ) (old new : Slot) : Type 0 where
+  pub room : new.room ≡ old.room
+  pub live : new.live ≡ old.live
+  pub given : new.given ≡ old.given
+  pub ended : new.ended ≡ old.ended
+  pub whole : sent new ≡ sent_if (fits old bytes) (sent old) bytes
+  pub cut_off : old.live ≡ true → fits old bytes ≡ false → new.broken ≡ true
+
+-- one place changed so, and no other
+pub record ChangesAt (R : Slot → Slot → Type 0) (place : ℕ) (old new : List Slot) : Type 0 where
+  pub before : Slot
+  pub after : Slot
+  pub there : slice_get old place ≡ Some before
+  pub changes : R before after
+  pub is : new ≡ slice_set old place after
+
+-- so where there is such a place, and else none changed
+pub record ChangesOnly (R : Slot → Slot → Type 0) (place : ℕ) (old new : List Slot) : Type 0 where
+  pub at : place < length old → ChangesAt R place old new
+  pub nowhere : length old ≤ place → new ≡ old
+
+-- the connection goes
+abbrev pub Leaves : (old new : Slot) → Type 0
+Leaves old new = new ≡ vacant old.room
+
+-- a new connection takes the place
+abbrev pub Comes : (old new : Slot) → Type 0
+Comes old new = new ≡ connected old.room
+
+-- what a take of a place says to the history
+abbrev pub taken_event : ℕ → Taken → List ℕ → Event
+taken_event place (Bytes n) buf = Came place (take n buf)
+taken_event place Over buf = Ended place
+taken_event place Pending buf = Blocked place
+
+-- the moment of the last wait, the places, and the calls so far
+pub record Seen : Type 0 where
+  pub moment : ℕ
+  pub slots : List Slot
+  pub calls : List Event

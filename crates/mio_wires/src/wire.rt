@@ -1,0 +1,124 @@
+//! A connected stream.
+ghost use Rattle.std.specs.Prelude.{◌≡◌, ◌≢◌, ◌++◌, [], ◌≤◌, length, take, IfOk, OnErr};
+ghost use Rattle.std.specs.IoError.{error_kind};
+
+use express_outside::History;
+use mio::net::TcpStream;
+use mio::{Interest, Registry, Token};
+use std::io;
+use std::io::{ErrorKind, Read, Write};
+use std::marker::Model;
+use std::net::Shutdown;
+
+/// So many pieces are read and let go of a connection that is closed.
+const LAST_PIECES: usize = 4;
+
+/// So many bytes each of them has at most.
+const PIECE: usize = 4096;
+
+/// Why a call on a stream moved no bytes.
+#[derive(Clone, Copy, Debug, PartialEq, Eq)]
+pub enum Halt {
+    /// It would wait.
+    Blocked,
+    /// A signal came first: the call may be made again.
+    Interrupted,
+    /// Any other error.
+    Broken,
+}
+
+// What an error of the system is to a connection.
+fn halt_of(error: io::Error) -> Halt
+    ensures blocked { error_kind error ≡ ErrorKind.WouldBlock → result ≡ Halt.Blocked }
+    ensures interrupted { error_kind error ≡ ErrorKind.Interrupted → result ≡ Halt.Interrupted }
+    ensures broken { error_kind error ≢ ErrorKind.WouldBlock → error_kind error ≢ ErrorKind.Interrupted → result ≡ Halt.Broken }
+{
+    match error.kind() {
+        ErrorKind::WouldBlock => Halt::Blocked,
+        ErrorKind::Interrupted => Halt::Interrupted,
+        _ => Halt::Broken,
+    }
+}
+
+/// Has the readiness of a stream reported under the number of a place.
+pub fn register_at(stream: &mut TcpStream, registry: &Registry, place: usize) -> io::Result<()> {
+    let both = Interest::READABLE | Interest::WRITABLE;
+    registry.register(stream, Token(place), both)
+}
+
+/// A connected stream that never waits. It tells the bytes that its reads gave and its writes took.
+#[derive(Drop)]
+pub struct Wire {
+    stream: TcpStream,
+    given: History<u8>,
+    written: History<u8>,
+}
+
+impl Model for Wire {
+    ghost use Rattle.mio_wires.specs.Slots.{Stream};
+
+    ghost Value = { Stream };
+
+    ghost view = { λ w. record {
+      given = w.given;
+      written = w.written;
+    } };
+}
+
+impl Wire {
+    /// Nothing went through it yet.
+    pub fn new(stream: TcpStream) -> Wire
+        ensures { result ≡ record { given = []; written = [] } }
+    {
+        Wire {
+            stream,
+            given: History::new(),
+            written: History::new(),
+        }
+    }
+
+    /// One read, into the front of a buffer. Ok(0) for one that isn't empty is the end.
+    pub fn read(&mut self, buf: &mut [u8]) -> Result<usize, Halt>
+        ensures length { length buf.new ≡ length buf.old }
+        ensures bound { IfOk result (λ n. n ≤ length buf.new) }
+        ensures gave { IfOk result (λ n. self.new.given ≡ self.old.given ++ take n buf.new) }
+        ensures failed { OnErr result (self.new.given ≡ self.old.given) }
+        ensures written { self.new.written ≡ self.old.written }
+    {
+        let answer = self.stream.read(buf).map_err(halt_of);
+        if let Ok(count) = answer {
+            self.given.note_bytes(&buf[..count]);
+        }
+        answer
+    }
+
+    /// One write, which takes some of the bytes from the front on.
+    pub fn write(&mut self, bytes: &[u8]) -> Result<usize, Halt>
+        ensures bound { IfOk result (λ n. n ≤ length bytes.now) }
+        ensures wrote { IfOk result (λ n. self.new.written ≡ self.old.written ++ take n bytes.now) }
+        ensures failed { OnErr result (self.new.written ≡ self.old.written) }
+        ensures given { self.new.given ≡ self.old.given }
+    {
+        let answer = self.stream.write(bytes).map_err(halt_of);
+        if let Ok(count) = answer {
+            self.written.note_bytes(&bytes[..count]);
+        }
+        answer
+    }
+
+    /// Ends the writing, and lets some of what came and wasn't read go: where a stream is closed with bytes unread, the
+    /// system takes what was written and hasn't arrived back.
+    pub fn finish(self) {
+        let Wire { mut stream, .. } = self;
+        if stream.shutdown(Shutdown::Write).is_err() {
+            return;
+        }
+        let mut piece = [0u8; PIECE];
+        for _ in 0..LAST_PIECES {
+            match stream.read(&mut piece) {
+                Ok(0) | Err(_) => return,
+                Ok(_) => {}
+            }
+        }
+    }
+}
