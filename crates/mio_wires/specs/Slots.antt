@@ -1,15 +1,36 @@
 -- The connections at the places, by the bytes that went through their streams.
-use Rattle.std.specs.Prelude.{◌≡◌, ◌≢◌, ℕ, ◌-◌, ◌≤◌, ◌<◌, nat_le, Bool, true, false, not, ◌&&◌, ◌||◌, List, [], ◌++◌, length, take, Option, Some, None, is_some, slice_get, slice_set}
+use Rattle.std.specs.Prelude.{◌≡◌, ◌≢◌, ℕ, ◌-◌, ◌≤◌, ◌<◌, nat_le, Bool, true, false, not, ◌&&◌, ◌||◌, List, [], ◌++◌, length, take, ◌==◌, Option, Some, None, is_some, Result, Ok, Err, slice_get, slice_set}
 use Rattle.many_words.specs.Doors.{is_dialled}
 use Rattle.many_words.specs.Events.{Event, Came, Ended, Blocked}
 use Rattle.many_words.specs.declared.door.Door.{Door}
 use Rattle.many_words.specs.declared.hub.Taken.{Taken}
+use Rattle.mio_wires.specs.declared.wire.Halt.{Halt}
+use Rattle.mio_wires.specs.declared.wire.Halt.TheVariants.{Blocked as Blocks, Interrupted, Broken}
 use Rattle.many_words.specs.declared.hub.Taken.TheVariants.{Bytes, Over, Pending}
 
--- the bytes that the reads of a stream gave, and those that its writes took
+-- the bytes that the reads of a stream gave and those that its writes took, and whether a read found the end, or a call
+-- failed
 pub record Stream : Type 0 where
   pub given : List ℕ
   pub written : List ℕ
+  pub ended : Bool
+  pub failed : Bool
+
+-- nothing went through it yet
+abbrev pub new_stream : Stream
+new_stream = record { given = []; written = []; ended = false; failed = false }
+
+-- a read with room found the end
+abbrev pub is_end : (room : ℕ) → Result ℕ Halt → Bool
+is_end room (Ok n) = not (room == 0) && n == 0
+is_end room (Err why) = false
+
+-- a call failed for good
+abbrev pub is_broken : Result ℕ Halt → Bool
+is_broken (Ok n) = false
+is_broken (Err Blocks) = false
+is_broken (Err Interrupted) = false
+is_broken (Err Broken) = true
 
 abbrev pub given_of : Option Stream → List ℕ
 given_of None = []
@@ -19,8 +40,17 @@ abbrev pub written_of : Option Stream → List ℕ
 written_of None = []
 written_of (Some s) = s.written
 
+abbrev pub ended_of : Option Stream → Bool
+ended_of None = false
+ended_of (Some s) = s.ended
+
+abbrev pub failed_of : Option Stream → Bool
+failed_of None = false
+failed_of (Some s) = s.failed
+
 -- A place: whether a connection is there, what its reads gave and its writes took, what is to be written behind that
--- and how much of it may be, whether the peer sends no more, and whether the connection is of no use any more.
+-- and how much of it may be, whether a read found the end, whether a call failed, and whether it was cut off, since
+-- there was no room for what was to be sent.
 pub record Slot : Type 0 where
   pub room : ℕ
   pub live : Bool
@@ -28,15 +58,20 @@ pub record Slot : Type 0 where
   pub written : List ℕ
   pub pending : List ℕ
   pub ended : Bool
-  pub broken : Bool
+  pub failed : Bool
+  pub cut : Bool
 
 -- what was sent on the connection: what was written is a front of it
 abbrev pub sent : Slot → List ℕ
 sent s = s.written ++ s.pending
 
+-- nothing goes through it any more
+abbrev pub is_lost : Slot → Bool
+is_lost s = not s.live || (s.failed || s.cut)
+
 -- no more is taken of it
 abbrev pub is_over : Slot → Bool
-is_over s = not s.live || (s.broken || s.ended)
+is_over s = is_lost s || s.ended
 
 -- a place as this stream, if one is there, has come to it
 abbrev pub fresh : (room : ℕ) → Option Stream → Slot
@@ -46,8 +81,9 @@ fresh room stream = record {
   given = given_of stream;
   written = written_of stream;
   pending = [];
-  ended = false;
-  broken = false;
+  ended = ended_of stream;
+  failed = failed_of stream;
+  cut = false;
 }
 
 -- a place without a connection
@@ -56,7 +92,7 @@ vacant room = fresh room None
 
 -- a connection through which nothing went yet
 abbrev pub connected : (room : ℕ) → Slot
-connected room = fresh room (Some (record { given = []; written = [] }))
+connected room = fresh room (Some new_stream)
 
 -- a write may have gone on: what was sent, what came and whose connection it is stay
 pub record Flushes (old new : Slot) : Type 0 where
@@ -65,37 +101,43 @@ pub record Flushes (old new : Slot) : Type 0 where
   pub given : new.given ≡ old.given
   pub sent_same : sent new ≡ sent old
   pub ended : new.ended ≡ old.ended
-  pub stays_broken : old.broken ≡ true → new.broken ≡ true
+  pub cut : new.cut ≡ old.cut
 
 -- what a take gives: bytes of this connection, behind those that it gave before
-abbrev pub Gave : Door → (old new : Slot) → Taken → List ℕ → Type 0
-Gave door old new (Bytes n) buf = (old.live ≡ true) × (n ≤ length buf) × (new.given ≡ old.given ++ take n buf)
-Gave door old new Over buf = (is_over new ≡ true) × (new.given ≡ old.given)
-Gave door old new Pending buf = (is_dialled door ≡ false) × (new.pending ≢ []) × (new.given ≡ old.given)
+abbrev pub Gave : Door → (before : List ℕ) → Slot → Taken → List ℕ → Type 0
+Gave door before s (Bytes n) buf = (n ≤ length buf) × (s.given ≡ before ++ take n buf) × (is_dialled door ≡ false → s.pending ≡ [])
+Gave door before s Over buf = (is_over s ≡ true) × (s.given ≡ before)
+Gave door before s Pending buf = (is_dialled door ≡ false) × (s.pending ≢ []) × (s.given ≡ before)
 
-pub record Takes (door : Door) (result : Taken) (buf : List ℕ) (old new : Slot) : Type 0 where
+-- a take gave this; what was sent stays
+pub record Reads (door : Door) (result : Taken) (buf : List ℕ) (old new : Slot) : Type 0 where
   pub room : new.room ≡ old.room
   pub live : new.live ≡ old.live
+  pub cut : new.cut ≡ old.cut
   pub sent_same : sent new ≡ sent old
-  pub gave : Gave door old new result buf
-  pub unread : old.live ≡ false → result ≡ Over
+  pub gave : Gave door old.given new result buf
+
+-- so too, and of a place where nothing goes through any more nothing is taken
+pub record Takes (door : Door) (result : Taken) (buf : List ℕ) (old new : Slot) : Type 0 where
+  pub reads : Reads door result buf old new
+  pub lost : is_lost old ≡ true → result ≡ Over
 
 -- bytes have room behind what is to be written
 abbrev pub fits : Slot → List ℕ → Bool
-fits s bytes = s.live && (not s.broken && nat_le (length bytes) (s.room - length s.pending))
+fits s bytes = not (is_lost s) && nat_le (length bytes) (s.room - length s.pending)
 
 abbrev pub sent_if : Bool → List ℕ → List ℕ → List ℕ
 sent_if true before bytes = before ++ bytes
 sent_if false before bytes = before
 
--- bytes were sent behind those before, all of them if they have room and none if not; then the connection is broken
+-- bytes were sent behind those before, all of them if they have room and none if not; then the connection is cut off
 pub record Sends (bytes : List ℕ) (old new : Slot) : Type 0 where
   pub room : new.room ≡ old.room
   pub live : new.live ≡ old.live
   pub given : new.given ≡ old.given
   pub ended : new.ended ≡ old.ended
   pub whole : sent new ≡ sent_if (fits old bytes) (sent old) bytes
-  pub cut_off : old.live ≡ true → fits old bytes ≡ false → new.broken ≡ true
+  pub cut : new.cut ≡ (old.cut || (not (is_lost old) && not (fits old bytes)))
 
 -- one place changed so, and no other
 pub record ChangesAt (R : Slot → Slot → Type 0) (place : ℕ) (old new : List Slot) : Type 0 where

@@ -2,7 +2,7 @@
 ghost use Rattle.std.specs.Prelude.{◌≡◌, ◌++◌, ◌≤◌, ℕ, [], None, true, false, length, drop, IfOk, vec_capacity};
 ghost use Rattle.many_words.specs.Doors.{is_dialled};
 ghost use Rattle.many_words.specs.declared.hub.Taken.TheVariants.{Bytes, Pending};
-ghost use Rattle.mio_wires.specs.Slots.{Flushes, Takes, Sends, fresh, vacant, connected};
+ghost use Rattle.mio_wires.specs.Slots.{Flushes, Reads, Takes, Sends, is_lost, new_stream, fresh, vacant, connected};
 
 use crate::wire::{Halt, Wire};
 use many_words::{Door, Taken, push_all};
@@ -18,8 +18,8 @@ pub struct Slot {
     wire: Option<Wire>,
     room: usize,
     pending: Vec<u8>,
-    ended: bool,
-    broken: bool,
+    // There was no room for what was to be sent.
+    cut: bool,
     // A read, or a write, may find something.
     readable: bool,
     writable: bool,
@@ -27,7 +27,7 @@ pub struct Slot {
 
 impl Model for Slot {
     ghost use Rattle.std.specs.Prelude.{◌≤◌, is_some, vec_capacity};
-    ghost use Rattle.mio_wires.specs.Slots.{Slot as State, given_of, written_of};
+    ghost use Rattle.mio_wires.specs.Slots.{Slot as State, given_of, written_of, ended_of, failed_of};
 
     ghost Value = { State };
 
@@ -37,8 +37,9 @@ impl Model for Slot {
       given = given_of s.wire;
       written = written_of s.wire;
       pending = s.pending.items;
-      ended = s.ended;
-      broken = s.broken;
+      ended = ended_of s.wire;
+      failed = failed_of s.wire;
+      cut = s.cut;
     } };
 
     ghost invariant = { λ s. s.room ≤ vec_capacity s.pending };
@@ -64,8 +65,7 @@ impl Slot {
             wire: None,
             room,
             pending: Vec::with_capacity(alloc, room)?,
-            ended: false,
-            broken: false,
+            cut: false,
             readable: false,
             writable: false,
         })
@@ -77,15 +77,14 @@ impl Slot {
     {
         self.wire = wire;
         self.pending.clear();
-        self.ended = false;
-        self.broken = false;
+        self.cut = false;
         self.readable = true;
         self.writable = true;
     }
 
     /// A connection takes the place; the one that was there is dropped.
     pub fn connect(&mut self, wire: Wire)
-        requires { wire ≡ record { given = []; written = [] } }
+        requires { wire ≡ new_stream }
         ensures { self.new ≡ connected self.old.room }
     {
         self.put(Some(wire));
@@ -117,16 +116,21 @@ impl Slot {
         self.writable = self.writable || writable;
     }
 
-    /// Whether a write would go on at once.
-    pub fn is_ready(&self) -> bool {
-        self.writable && !self.broken && !self.pending.is_empty()
+    // Whether nothing goes through it any more.
+    fn is_lost(&self) -> bool
+        ensures { result ≡ is_lost self.now }
+    {
+        match &self.wire {
+            Some(wire) => self.cut || wire.has_failed(),
+            None => true,
+        }
     }
 
     // One write of what is pending, and whether another one may follow.
     fn write_once(&mut self) -> bool
         ensures { Flushes self.old self.new }
     {
-        if self.broken || !self.writable || self.pending.is_empty() {
+        if self.is_lost() || !self.writable || self.pending.is_empty() {
             return false;
         }
         let Some(wire) = &mut self.wire else {
@@ -138,8 +142,7 @@ impl Slot {
                 return true;
             }
             Err(Halt::Blocked) => self.writable = false,
-            Err(Halt::Interrupted) => {}
-            Err(Halt::Broken) => self.broken = true,
+            Err(Halt::Interrupted | Halt::Broken) => {}
         }
         false
     }
@@ -157,29 +160,44 @@ impl Slot {
 
     // One read.
     fn read_once(&mut self, door: Door, buf: &mut [u8]) -> Taken
-        requires { self.old.ended ≡ false }
+        requires unblocked { is_dialled door ≡ false → self.old.pending ≡ [] }
         ensures length { length buf.new ≡ length buf.old }
         ensures bound { (n : ℕ) → result ≡ Bytes n → n ≤ length buf.new }
         ensures pending { result ≡ Pending → is_dialled door ≡ false }
-        ensures takes { Takes door result buf.new self.old self.new }
+        ensures reads { Reads door result buf.new self.old self.new }
     {
         let Some(wire) = &mut self.wire else {
             return Taken::Over;
         };
+        if wire.has_ended() {
+            return Taken::Over;
+        }
         if !self.readable || buf.is_empty() {
             return Taken::Bytes(0);
         }
         match wire.read(buf) {
-            Ok(0) => self.ended = true,
+            Ok(0) | Err(Halt::Broken) => return Taken::Over,
             Ok(count) => return Taken::Bytes(count),
-            Err(Halt::Blocked) => {
-                self.readable = false;
-                return Taken::Bytes(0);
-            }
-            Err(Halt::Interrupted) => return Taken::Bytes(0),
-            Err(Halt::Broken) => self.broken = true,
+            Err(Halt::Blocked) => self.readable = false,
+            Err(Halt::Interrupted) => {}
         }
-        Taken::Over
+        Taken::Bytes(0)
+    }
+
+    // So where what is pending was written as far as it goes.
+    fn take_flushed(&mut self, door: Door, buf: &mut [u8]) -> Taken
+        ensures length { length buf.new ≡ length buf.old }
+        ensures bound { (n : ℕ) → result ≡ Bytes n → n ≤ length buf.new }
+        ensures pending { result ≡ Pending → is_dialled door ≡ false }
+        ensures reads { Reads door result buf.new self.old self.new }
+    {
+        if self.is_lost() {
+            return Taken::Over;
+        }
+        if !door.is_dialled() && !self.pending.is_empty() {
+            return Taken::Pending;
+        }
+        self.read_once(door, buf)
     }
 
     /// The bytes that came of the connection, into the front of a buffer. While output is pending nothing is taken, unless the
@@ -190,29 +208,23 @@ impl Slot {
         ensures pending { result ≡ Pending → is_dialled door ≡ false }
         ensures takes { Takes door result buf.new self.old self.new }
     {
+        if self.is_lost() {
+            return Taken::Over;
+        }
         self.flush();
-        if self.broken || self.wire.is_none() {
-            return Taken::Over;
-        }
-        if !door.is_dialled() && !self.pending.is_empty() {
-            return Taken::Pending;
-        }
-        if self.ended {
-            return Taken::Over;
-        }
-        self.read_once(door, buf)
+        self.take_flushed(door, buf)
     }
 
-    /// Bytes that are written behind what is pending, as the stream takes them. A connection that has no room for them is broken
-    /// from then on: its peer doesn't read.
+    /// Bytes that are written behind what is pending, as the stream takes them. A connection that has no room for them is cut
+    /// off: its peer doesn't read.
     pub fn send(&mut self, bytes: &[u8])
         ensures { Sends bytes.now self.old self.new }
     {
-        if self.broken || self.wire.is_none() {
+        if self.is_lost() {
             return;
         }
         if self.room.saturating_sub(self.pending.len()) < bytes.len() {
-            self.broken = true;
+            self.cut = true;
             return;
         }
         push_all(&mut self.pending, bytes);

@@ -1,6 +1,7 @@
 //! A connected stream.
-ghost use Rattle.std.specs.Prelude.{◌≡◌, ◌≢◌, ◌++◌, [], ◌≤◌, length, take, IfOk, OnErr};
+ghost use Rattle.std.specs.Prelude.{◌≡◌, ◌≢◌, ◌++◌, ◌≤◌, ◌||◌, Err, length, take, IfOk, OnErr};
 ghost use Rattle.std.specs.IoError.{error_kind};
+ghost use Rattle.mio_wires.specs.Slots.{new_stream, is_end, is_broken};
 
 use express_outside::History;
 use mio::net::TcpStream;
@@ -52,6 +53,8 @@ pub struct Wire {
     stream: TcpStream,
     given: History<u8>,
     written: History<u8>,
+    ended: bool,
+    failed: bool,
 }
 
 impl Model for Wire {
@@ -62,18 +65,22 @@ impl Model for Wire {
     ghost view = { λ w. record {
       given = w.given;
       written = w.written;
+      ended = w.ended;
+      failed = w.failed;
     } };
 }
 
 impl Wire {
     /// Nothing went through it yet.
     pub fn new(stream: TcpStream) -> Wire
-        ensures { result ≡ record { given = []; written = [] } }
+        ensures { result ≡ new_stream }
     {
         Wire {
             stream,
             given: History::new(),
             written: History::new(),
+            ended: false,
+            failed: false,
         }
     }
 
@@ -84,12 +91,39 @@ impl Wire {
         ensures gave { IfOk result (λ n. self.new.given ≡ self.old.given ++ take n buf.new) }
         ensures failed { OnErr result (self.new.given ≡ self.old.given) }
         ensures written { self.new.written ≡ self.old.written }
+        ensures ended { self.new.ended ≡ (self.old.ended || is_end (length buf.old) result) }
+        ensures broke { self.new.failed ≡ (self.old.failed || is_broken result) }
     {
         let answer = self.stream.read(buf).map_err(halt_of);
-        if let Ok(count) = answer {
-            self.given.note_bytes(&buf[..count]);
+        match answer {
+            Ok(count) => {
+                self.given.note_bytes(&buf[..count]);
+                self.ended = self.ended || !buf.is_empty() && count == 0;
+            }
+            Err(why) => self.fail(why),
         }
         answer
+    }
+
+    // A call moved no bytes for this reason.
+    fn fail(&mut self, why: Halt)
+        ensures { self.new ≡ record self.old { failed = self.old.failed || is_broken (Err why) } }
+    {
+        self.failed = self.failed || why == Halt::Broken;
+    }
+
+    /// Whether a read found the end.
+    pub fn has_ended(&self) -> bool
+        ensures { result ≡ self.now.ended }
+    {
+        self.ended
+    }
+
+    /// Whether a call failed for good.
+    pub fn has_failed(&self) -> bool
+        ensures { result ≡ self.now.failed }
+    {
+        self.failed
     }
 
     /// One write, which takes some of the bytes from the front on.
@@ -98,10 +132,13 @@ impl Wire {
         ensures wrote { IfOk result (λ n. self.new.written ≡ self.old.written ++ take n bytes.now) }
         ensures failed { OnErr result (self.new.written ≡ self.old.written) }
         ensures given { self.new.given ≡ self.old.given }
+        ensures ended { self.new.ended ≡ self.old.ended }
+        ensures broke { self.new.failed ≡ (self.old.failed || is_broken result) }
     {
         let answer = self.stream.write(bytes).map_err(halt_of);
-        if let Ok(count) = answer {
-            self.written.note_bytes(&bytes[..count]);
+        match answer {
+            Ok(count) => self.written.note_bytes(&bytes[..count]),
+            Err(why) => self.fail(why),
         }
         answer
     }

@@ -15,11 +15,11 @@ pub fn any_port() -> SocketAddr {
     SocketAddr::from((Ipv4Addr::LOCALHOST, 0))
 }
 
-/// A server with three places: the other server's, an operator's and a client's, or both of them clients'.
+/// A server with three places, of which the first one is the other server's.
 pub fn opened(rt: &HostRuntime, other: OtherServer) -> Result<MioWires<HostRuntime>, WiresFault> {
     let settings = WiresSettings {
         clients: any_port(),
-        status: None,
+        status: Some(any_port()),
         other,
         places: 3,
         outstanding: 2,

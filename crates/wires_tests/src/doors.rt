@@ -1,5 +1,5 @@
 //! Doors at which nobody waits, or that can't be had.
-use crate::bench::{any_port, opened};
+use crate::bench::{any_port, hears, opened, opens, reach};
 use many_wires::Wires;
 use many_words::{Door, Taken};
 use mio_wires::{MioWires, OtherServer, WiresFault, WiresSettings};
@@ -19,6 +19,21 @@ fn a_door_where_nobody_waits_has_none(rt: HostRuntime) -> Result<(), Fail> {
         wires.take(3, Door::Clients, &mut [0; 9]),
     ];
     assert!(rt; before <= wires.wait() && taken == [Taken::Over; 2]);
+    Ok(())
+}
+
+#[test]
+fn each_door_has_its_own_connections(rt: HostRuntime) -> Result<(), Fail> {
+    let mut wires = opened(&rt, OtherServer::Listen(any_port()))?;
+    let operator = reach(&rt, &mut wires, Door::Status)?;
+    let came = opens(&mut wires, 1, Door::Status);
+    wires.send(1, b"all");
+    let others = [
+        wires.knocks(Door::Clients),
+        wires.open(2, Door::Clients),
+        wires.open(0, Door::Link),
+    ];
+    assert!(rt; came && hears(&operator, b"all") && others == [false; 3]);
     Ok(())
 }
 
