@@ -147,8 +147,8 @@ impl Slot {
         false
     }
 
-    /// Writes what is pending, as far as the stream takes it.
-    pub fn flush(&mut self)
+    // Writes what is pending, as far as the stream takes it.
+    fn flush(&mut self)
         ensures { Flushes self.old self.new }
     {
         for _ in 0..MOST_WRITES {
