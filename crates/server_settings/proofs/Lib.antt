@@ -1,0 +1,3 @@
+pub mod FaultLaws
+pub mod TableLaws
+pub mod UnknownLaws

@@ -1,0 +1,19 @@
+//! What an operator says to a server for many, and what it prints.
+#![tactic(auto)]
+
+mod asking;
+mod counts;
+mod given;
+mod help;
+mod owner;
+mod start;
+mod stop;
+mod task;
+
+pub use asking::asked_of;
+pub use counts::{Counts, LinkTurn, OpenCounts, WorkCounts};
+pub use help::{HELP, VERSION};
+pub use owner::OwnerLine;
+pub use start::Start;
+pub use stop::Stop;
+pub use task::{LAST_LANE, ServerTask};
