@@ -7,3 +7,5 @@ mod answers;
 mod asked;
 #[cfg(test)]
 mod refused;
+#[cfg(test)]
+mod wires;

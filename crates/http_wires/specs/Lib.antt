@@ -3,3 +3,4 @@ pub mod Replies
 pub mod Steps
 pub mod Views
 pub mod Responses
+pub mod Runs

@@ -3,6 +3,7 @@
 #![tactic(auto)]
 
 mod client;
+pub mod laws;
 mod places;
 mod reply;
 mod wires;

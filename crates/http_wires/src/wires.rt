@@ -66,6 +66,13 @@ impl<W: Wires> HttpWires<W> {
             calls: CallLog::new(),
         })
     }
+
+    /// The wires below.
+    pub fn below(&self) -> &W
+        ensures { result.now ≡ self.now.wires }
+    {
+        &self.wires
+    }
 }
 
 impl<W: Wires> Wires for HttpWires<W> {

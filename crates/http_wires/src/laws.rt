@@ -1,0 +1,7 @@
+//! What holds of each connection of the clients' door. The function is empty: its contract is the law.
+ghost use Rattle.http_wires.specs.Runs.{RequestsAreAskedInOrder};
+
+/// The asks that were given of a connection are those of the requests that came of it, one behind another.
+pub fn requests_are_asked_in_order()
+    ensures { RequestsAreAskedInOrder }
+{}
