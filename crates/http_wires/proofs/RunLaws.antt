@@ -1,5 +1,5 @@
 -- Requests are asked in the order in which they came.
-use Rattle.std.proofs.Common.{◌≡◌, ℕ, ◌⊎◌, inl, inr, Bool, true, false, List, [], ◌∷◌, ◌++◌, length, take, drop, refl, sym, ap, ◌∙◌, subst, append_assoc, append-nil, arith}
+use Rattle.std.proofs.Common.{◌≡◌, ℕ, inl, inr, Bool, true, false, List, [], ◌∷◌, ◌++◌, length, take, drop, refl, sym, ap, ◌∙◌, subst, append_assoc, append-nil, arith}
 use Rattle.std.specs.Prelude.{Option, Some, ◌==◌, not}
 use Rattle.std.specs.List.{flat_map}
 use Rattle.std.proofs.lemmas.Bool.{ne_eqb}
@@ -108,11 +108,14 @@ hears_on came gave p q turn none (inl w) now = same_client came gave p q w.1 now
 hears_on came gave p q turn none (inr w) now = asked w.3 where
   heard : PlainHeard
   heard = w.0
+
   reads : Reads came (now.requests ++ w.0 ∷ []) w.1
   reads = reads_next came now.requests now.rest w.1 w.0
       (subst (λ (t : List ℕ). Hears t w.0 w.1) (at_held p.turn p.held now.rest turn now.held) w.2) now.reads
+
   gave_all : gave ≡ flat_map asked_bytes now.requests
   gave_all = sym (append-nil gave) ∙ ap (λ (t : List ℕ). gave ++ t) (sym none) ∙ now.asks
+
   asked : IsAsked w.0 w.1 p q → AsksWhatCame came gave q
   asked (inl is) =
       same_client came gave _ q is (record {
@@ -134,8 +137,8 @@ goes_by came gave (turn.Server keeps) p q is none goes now = same_client came ga
 goes_by came gave turn.Over p q is none goes now =
     same_client came gave _ q goes
     (record { requests = now.requests; rest = now.rest; reads = now.reads; asks = now.asks; held = over }) where
-  over : HoldsRest p.turn [] now.rest
-  over = subst (λ (u : Turn). HoldsRest u [] now.rest) (sym is) tt
+      over : HoldsRest p.turn [] now.rest
+      over = subst (λ (u : Turn). HoldsRest u [] now.rest) (sym is) tt
 
 -- ---- takes
 

@@ -1,5 +1,5 @@
 -- One connection of the clients' door.
-use Rattle.std.specs.Prelude.{◌≡◌, ℕ, ◌⊎◌, Bool, true, false, ◌&&◌, not, List, [], ◌++◌, length, take, drop, min, Option, ◌==◌, if◌then◌else◌}
+use Rattle.std.specs.Prelude.{◌≡◌, ℕ, ◌⊎◌, Bool, true, false, ◌&&◌, not, List, [], ◌++◌, length, take, drop, min, Option, ◌==◌}
 use Rattle.httparse.specs.Grammar.{RequestHead}
 use Rattle.http_door.specs.declared.fault.DoorFault.{DoorFault}
 use Rattle.http_door.specs.Heads.{HasNoHead, HoldsRequest, HoldsUnsized, IsHeadCause, LacksBody, LacksHead, NeverTakes}

@@ -1,5 +1,5 @@
 -- A connection of the clients' door since it was opened.
-use Rattle.std.specs.Prelude.{◌≡◌, ℕ, ◌⊎◌, false, List, [], ◌∷◌, ◌++◌, length, take, drop, Some}
+use Rattle.std.specs.Prelude.{◌≡◌, ℕ, false, List, [], ◌∷◌, ◌++◌, length, take, drop, Some}
 use Rattle.std.specs.List.{flat_map}
 use Rattle.http_door.specs.Hearing.{PlainHeard}
 use Rattle.door_asks.specs.Asks.{ask_bytes}

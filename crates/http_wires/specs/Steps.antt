@@ -1,5 +1,5 @@
 -- What each call does at all places, and below.
-use Rattle.std.specs.Prelude.{◌≡◌, ℕ, ◌⊎◌, Bool, true, false, List, length, take, Option, Some, None, slice_get, slice_set}
+use Rattle.std.specs.Prelude.{◌≡◌, ℕ, ◌⊎◌, Bool, true, false, List, take, Option, Some, None, slice_get, slice_set}
 use Rattle.many_words.specs.declared.door.Door.{Door}
 use Rattle.many_words.specs.declared.hub.Taken.{Taken}
 use Rattle.many_words.specs.declared.hub.Taken.TheVariants.{Bytes, Over, Pending}

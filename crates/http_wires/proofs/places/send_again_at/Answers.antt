@@ -9,14 +9,13 @@ pub returns-in-Some : goal.returns-in-Some
 returns-in-Some g c =
     let there = ap (λ t. is_some (client_at t c.args.place)) (sym c.deref.ensures.value) ∙ sym c.is_http.ensures ∙ c.if-not-is_http.false in
     let sent = c.in-Some.ensures.response in
-    rw (client_is c.args.clients.now.items c.args.place c.index_mut.result.now c.index_mut.ensures.value there)
-    (
+    rw (client_is c.args.clients.now.items c.args.place c.index_mut.result.now c.index_mut.ensures.value there) (
       _,
       inl (
         sent.0.0,
         sent.0.1,
         subst (λ (t : List ℕ). Adds (g.W.Wires.told c.args.wires.now) (g.W.Wires.told c.send_again-in-Some.new.self) (SentAgain c.args.place t))
-        sent.0.2 c.send_again-in-Some.ensures,
+            sent.0.2 c.send_again-in-Some.ensures,
         sent.1,
       ),
       refl,

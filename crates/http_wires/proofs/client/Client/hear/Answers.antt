@@ -1,4 +1,4 @@
-use Rattle.std.proofs.Common.{◌≡◌, List, ℕ, ◌++◌, take, refl, sym, ap, ◌∙◌, inl, inr}
+use Rattle.std.proofs.Common.{List, ℕ, ◌++◌, take, refl, sym, ap, ◌∙◌, inl, inr}
 use Rattle.http_door.specs.Hearing.{plain_heard}
 use Rattle.http_wires.specs.declared.client.Turn.TheVariants as turn
 use Rattle.http_wires.proofs.Hearing.{hears, whole_of}
