@@ -1,9 +1,8 @@
 -- What a journal will write, and what a crash leaves of its disk.
-use Rattle.std.proofs.Common.{◌≡◌, ◌⊎◌, inl, inr, ℕ, ◌+◌, ◌≤◌, List, [], ◌∷◌, ◌++◌, None, true, false, refl, sym, ◌∙◌, ap, arith}
-use Rattle.node_journal.specs.Disk.{DiskSeen, LeavesOnly, Within}
+use Rattle.std.proofs.Common.{◌≡◌, ◌⊎◌, inl, inr, ℕ, ◌+◌, ◌≤◌, List, [], ◌∷◌, ◌++◌, true, ◌∙◌, ap, arith}
+use Rattle.node_journal.specs.Disk.{DiskSeen, LeavesOnly}
 use Rattle.node_journal.specs.Records.{content, EndsAt, IsUndamaged, LeavesBeforeOrAfter, IsBeforeOrAfter}
-use Rattle.node_journal.specs.Journal.{JournalState, IsInPlace, LacksSpace, LeavesWithOrWithout}
-use Rattle.kept_machine.specs.Keeps.{IsFaultBefore}
+use Rattle.node_journal.specs.Journal.{JournalState, IsInPlace}
 use Rattle.kept_machine.specs.Kept.{Holds, LeavesRecords}
 
 undamaged_end : (limit end : ℕ) (d : List ℕ) → EndsAt end d → end + 1 ≤ limit → IsUndamaged limit 0 d

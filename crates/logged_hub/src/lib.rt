@@ -11,4 +11,4 @@ mod writing;
 pub use fault::LogFault;
 pub use filling::batch_of;
 pub use hub::LoggedHub;
-pub use reading::read_records;
+pub use reading::{HeldRecords, read_records};

@@ -94,7 +94,7 @@ fn records_of_frames_together(rt: HostRuntime) -> Result<(), Fail> {
     let (_, disk) = hub.into_parts();
     assert!(rt; disk.bytes() == &THREE[..]);
     let mut disk = disk;
-    assert!(rt; read_records(&mut disk, LIMIT).is_ok());
+    assert_eq!(rt; read_records(&mut disk, LIMIT)?.count, 3);
     Ok(())
 }
 
