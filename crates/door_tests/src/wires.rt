@@ -67,8 +67,9 @@ impl Wires for Line {
     fn leave(&mut self, _: usize) {}
 
     fn send(&mut self, _: usize, bytes: &[u8]) {
-        self.count = bytes.len().min(512);
-        self.sent[..self.count].copy_from_slice(&bytes[..self.count]);
+        let count = bytes.len().min(512);
+        self.sent[..count].copy_from_slice(&bytes[..count]);
+        self.count = count;
     }
 
     fn send_again(&mut self, place: usize, bytes: &[u8]) {

@@ -1,3 +1,4 @@
 pub mod Hearing
 pub mod PlaceLaws
+pub mod RoomLaws
 pub mod RunLaws

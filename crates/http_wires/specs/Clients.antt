@@ -67,6 +67,11 @@ abbrev pub IsAsked : PlainHeard → List ℕ → Client → Client → Type 0
 IsAsked heard rest p q =
     (q ≡ asking heard rest p) ⊎ (LacksRoom heard.asked 8265 × (q ≡ record p { turn = turn.Over }))
 
+-- whatever is heard, an ask has room for it
+abbrev pub EachAskHasRoom : Type 0
+EachAskHasRoom =
+    (held : List ℕ) (heard : PlainHeard) (rest : List ℕ) → Hears held heard rest → LacksRoom heard.asked 8265 → ⊥
+
 -- more must come
 abbrev pub Lacks : List ℕ → Type 0
 Lacks held = LacksHead held ⊎ LacksBody held
