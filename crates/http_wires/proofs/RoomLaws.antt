@@ -38,8 +38,13 @@ two n body short = omega (arith, ap length (take-append-drop n body))
 three : (body : List ℕ) → length body ≤ 8262
     → length (take 16 body ++ (take 32 (drop 16 body) ++ drop 32 (drop 16 body))) ≤ 8262
 three body short =
-    omega (arith, length-append (take 16 body) (take 32 (drop 16 body) ++ drop 32 (drop 16 body)),
-    ap length (take-append-drop 32 (drop 16 body)), length-take 16 body, length-drop 16 body)
+    omega (
+      arith,
+      length-append (take 16 body) (take 32 (drop 16 body) ++ drop 32 (drop 16 body)),
+      ap length (take-append-drop 32 (drop 16 body)),
+      length-take 16 body,
+      length-drop 16 body,
+    )
 
 request : (p : Path) (body : List ℕ) → length body ≤ 8262 → Short (asked_in (request_of p body))
 request path.Frame body short = read_if (nat_le 16 (length body)) (Frame (ticket_at body) (drop 16 body)) (two 16 body short)
@@ -105,6 +110,7 @@ pub has_room : (held : List ℕ) (heard : PlainHeard) (rest : List ℕ) → Hear
 has_room held heard rest hears lacks = long heard.asked lacks short where
   asked_is : (h k : PlainHeard) → h ≡ k → Short k.asked → Short h.asked
   asked_is h k e s = subst (λ (x : PlainHeard). Short x.asked) (sym e) s
+
   whole : (head : RequestHead) (framing : Framing) (after : List ℕ) (n : ℕ) → TakesHead held head framing after
       → body_len head.method framing ≡ Ok n → (length after < n) ⊎ (n ≤ length after) → ⊥
   whole head framing after n takes size (inl less) = hears.whole.body (head, framing, after, n, takes, size, less)
@@ -118,12 +124,15 @@ has_room held heard rest hears lacks = long heard.asked lacks short where
       let body = sized head.method framing n size in
       long heard.asked lacks (asked_is heard _ (hears.request head (take n after) (drop n after) holds).0
       (asked_short head (take n after) (omega (arith, len, body))))
+
   taken : (head : RequestHead) (framing : Framing) (after : List ℕ) → TakesHead held head framing after
       → (size : Result ℕ DoorFault) → body_len head.method framing ≡ size → ⊥
   taken head framing after takes (Ok n) size = whole head framing after n takes size (cases_lt (length after) n)
   taken head framing after takes (Err why) size =
       long heard.asked lacks (asked_is heard _ (hears.unsized why (head, framing, after, takes, size)).0 (refused why))
+
   none : HasNoHead held
   none head framing after takes = taken head framing after takes (body_len head.method framing) refl
+
   short : Short heard.asked
   short = let refusal = (hears.headless none).0 in asked_is heard _ refusal.1 (refused refusal.0)
