@@ -9,6 +9,7 @@ pub flushed_reads : (door : Door) (result : Taken) (buf : List ℕ) (old mid new
 flushed_reads door result buf old mid new flush reads = record {
   room = reads.room ∙ flush.room;
   live = reads.live ∙ flush.live;
+  door = reads.door ∙ flush.door;
   cut = reads.cut ∙ flush.cut;
   sent_same = reads.sent_same ∙ flush.sent_same;
   gave = subst (λ before. Gave door before new result buf) flush.given reads.gave;

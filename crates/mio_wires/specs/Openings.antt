@@ -3,7 +3,7 @@ use Rattle.std.specs.Prelude.{◌≡◌, ℕ, zero, suc, ◌*◌, ◌-◌, ◌^�
 use Rattle.std.specs.declared.net.socket_addr.SocketAddr.{SocketAddr}
 use Rattle.many_words.specs.declared.door.Door.{Door as Entrance}
 use Rattle.many_words.specs.declared.door.Door.TheVariants.{Clients, Status, Link, Dialled}
-use Rattle.mio_wires.specs.Slots.{Slot, vacant}
+use Rattle.mio_wires.specs.Slots.{Slot, Seen, vacant}
 use Rattle.mio_wires.specs.declared.fault.WiresFault.{WiresFault}
 use Rattle.mio_wires.specs.declared.fault.WiresFault.TheVariants.{Door, System, OutOfMemory}
 use Rattle.mio_wires.specs.declared.settings.OtherServer.{OtherServer}
@@ -51,3 +51,11 @@ other_room outstanding = min (max outstanding 1 * answer_room) (2 ^ 64 - 1)
 abbrev pub vacant_slots : (places outstanding : ℕ) → List Slot
 vacant_slots zero outstanding = []
 vacant_slots (suc n) outstanding = vacant (other_room outstanding) ∷ replicate n (vacant answer_room)
+
+-- as connections are opened: none is there, and no call was made
+abbrev pub opened : WiresSettings → Seen
+opened settings = record {
+  moment = 0;
+  slots = vacant_slots settings.places settings.outstanding;
+  calls = [];
+}

@@ -8,17 +8,18 @@ use Rattle.mio_wires.specs.declared.wire.Halt.{Halt}
 use Rattle.mio_wires.specs.declared.wire.Halt.TheVariants.{Blocked as Blocks, Interrupted, Broken}
 use Rattle.many_words.specs.declared.hub.Taken.TheVariants.{Bytes, Over, Pending}
 
--- the bytes that the reads of a stream gave and those that its writes took, and whether a read found the end, or a call
--- failed
+-- the door that a stream came through, the bytes that its reads gave and those that its writes took, and
+-- whether a read found the end, or a call failed
 pub record Stream : Type 0 where
+  pub door : Door
   pub given : List ℕ
   pub written : List ℕ
   pub ended : Bool
   pub failed : Bool
 
 -- nothing went through it yet
-abbrev pub new_stream : Stream
-new_stream = record { given = []; written = []; ended = false; failed = false }
+abbrev pub new_stream : Door → Stream
+new_stream door = record { door = door; given = []; written = []; ended = false; failed = false }
 
 -- a read with room found the end
 abbrev pub is_end : (room : ℕ) → Result ℕ Halt → Bool
@@ -31,6 +32,10 @@ is_broken (Ok n) = false
 is_broken (Err Blocks) = false
 is_broken (Err Interrupted) = false
 is_broken (Err Broken) = true
+
+abbrev pub door_of : Option Stream → Option Door
+door_of None = None
+door_of (Some s) = Some s.door
 
 abbrev pub given_of : Option Stream → List ℕ
 given_of None = []
@@ -48,12 +53,13 @@ abbrev pub failed_of : Option Stream → Bool
 failed_of None = false
 failed_of (Some s) = s.failed
 
--- A place: whether a connection is there, what its reads gave and its writes took, what is to be written behind that
--- and how much of it may be, whether a read found the end, whether a call failed, and whether it was cut off, since
--- there was no room for what was to be sent.
+-- A place: whether a connection is there and which door it came through, what its reads gave and its writes
+-- took, what is to be written behind that and how much of it may be, whether a read found the end, whether a
+-- call failed, and whether it was cut off, since there was no room for what was to be sent.
 pub record Slot : Type 0 where
   pub room : ℕ
   pub live : Bool
+  pub door : Option Door
   pub given : List ℕ
   pub written : List ℕ
   pub pending : List ℕ
@@ -78,6 +84,7 @@ abbrev pub fresh : (room : ℕ) → Option Stream → Slot
 fresh room stream = record {
   room = room;
   live = is_some stream;
+  door = door_of stream;
   given = given_of stream;
   written = written_of stream;
   pending = [];
@@ -90,14 +97,15 @@ fresh room stream = record {
 abbrev pub vacant : (room : ℕ) → Slot
 vacant room = fresh room None
 
--- a connection through which nothing went yet
-abbrev pub connected : (room : ℕ) → Slot
-connected room = fresh room (Some new_stream)
+-- a connection that came through this door, and through which nothing went yet
+abbrev pub connected : (room : ℕ) → Door → Slot
+connected room door = fresh room (Some (new_stream door))
 
 -- a write may have gone on: what was sent, what came and whose connection it is stay
 pub record Flushes (old new : Slot) : Type 0 where
   pub room : new.room ≡ old.room
   pub live : new.live ≡ old.live
+  pub door : new.door ≡ old.door
   pub given : new.given ≡ old.given
   pub sent_same : sent new ≡ sent old
   pub ended : new.ended ≡ old.ended
@@ -105,17 +113,19 @@ pub record Flushes (old new : Slot) : Type 0 where
 
 -- what a take gives: bytes of this connection, behind those that it gave before
 abbrev pub Gave : Door → (before : List ℕ) → Slot → Taken → List ℕ → Type 0
-Gave door before s (Bytes n) buf = (n ≤ length buf) × (s.given ≡ before ++ take n buf) × (is_dialled door ≡ false → s.pending ≡ [])
+Gave door before s (Bytes n) buf =
+    (n ≤ length buf) × (s.given ≡ before ++ take n buf) × (is_dialled door ≡ false → s.pending ≡ [])
 Gave door before s Over buf = (is_over s ≡ true) × (s.given ≡ before)
 Gave door before s Pending buf = (is_dialled door ≡ false) × (s.pending ≢ []) × (s.given ≡ before)
 
 -- a take gave this; what was sent stays
-pub record Reads (door : Door) (result : Taken) (buf : List ℕ) (old new : Slot) : Type 0 where
+pub record Reads (entrance : Door) (result : Taken) (buf : List ℕ) (old new : Slot) : Type 0 where
   pub room : new.room ≡ old.room
   pub live : new.live ≡ old.live
+  pub door : new.door ≡ old.door
   pub cut : new.cut ≡ old.cut
   pub sent_same : sent new ≡ sent old
-  pub gave : Gave door old.given new result buf
+  pub gave : Gave entrance old.given new result buf
 
 -- so too, and of a place where nothing goes through any more nothing is taken
 pub record Takes (door : Door) (result : Taken) (buf : List ℕ) (old new : Slot) : Type 0 where
@@ -130,10 +140,12 @@ abbrev pub sent_if : Bool → List ℕ → List ℕ → List ℕ
 sent_if true before bytes = before ++ bytes
 sent_if false before bytes = before
 
--- bytes were sent behind those before, all of them if they have room and none if not; then the connection is cut off
+-- bytes were sent behind those before, all of them if they have room and none if not; then the connection is
+-- cut off
 pub record Sends (bytes : List ℕ) (old new : Slot) : Type 0 where
   pub room : new.room ≡ old.room
   pub live : new.live ≡ old.live
+  pub door : new.door ≡ old.door
   pub given : new.given ≡ old.given
   pub ended : new.ended ≡ old.ended
   pub whole : sent new ≡ sent_if (fits old bytes) (sent old) bytes
@@ -156,9 +168,9 @@ pub record ChangesOnly (R : Slot → Slot → Type 0) (place : ℕ) (old new : L
 abbrev pub Leaves : (old new : Slot) → Type 0
 Leaves old new = new ≡ vacant old.room
 
--- a new connection takes the place
-abbrev pub Comes : (old new : Slot) → Type 0
-Comes old new = new ≡ connected old.room
+-- a new connection of this door takes the place
+abbrev pub Comes : Door → (old new : Slot) → Type 0
+Comes door old new = new ≡ connected old.room door
 
 -- what a take of a place says to the history
 abbrev pub taken_event : ℕ → Taken → List ℕ → Event

@@ -35,7 +35,8 @@ fn progress_of(stream: &TcpStream) -> Progress {
     }
 }
 
-/// The other server's address, and the connect that is under way, if one is. It tells when each one was begun.
+/// The other server's address, and the connect that is under way, if one is. It tells when each one was
+/// begun.
 #[derive(Drop)]
 pub struct Dial {
     address: SocketAddr,
@@ -104,8 +105,8 @@ impl Dial {
         None
     }
 
-    /// The connection to the other server, once a connect has made it. A connect is begun where none is under way and a second
-    /// has passed since the last one was begun.
+    /// The connection to the other server, once a connect has made it. A connect is begun where none is under
+    /// way and a second has passed since the last one was begun.
     pub fn dial<N: Net>(
         &mut self,
         net: &N,

@@ -1,5 +1,9 @@
 //! A door at which connections wait.
-use crate::wire::register_at;
+ghost use Rattle.std.specs.Prelude.{◌≡◌, IfOk, IfSome};
+ghost use Rattle.mio_wires.specs.Slots.{new_stream};
+
+use crate::wire::{Wire, register_at};
+use many_words::Door;
 use mio::net::{TcpListener, TcpStream};
 use mio::{Interest, Registry, Token};
 use std::io;
@@ -9,7 +13,8 @@ use std::net::{Net, SocketAddr};
 /// So many accepts follow each other, where each fails for the fault of its own connection.
 const MOST_ACCEPTS: u32 = 10;
 
-/// So many milliseconds a door is left alone whose accept failed for the system's fault, as where no file can be opened.
+/// So many milliseconds a door is left alone whose accept failed for the system's fault, as where no file can
+/// be opened.
 const PAUSE: u64 = 100;
 
 /// What an accept that gave no connection says of the door.
@@ -31,9 +36,10 @@ fn refusal_of(error: io::Error) -> Refusal {
     }
 }
 
-/// A listener, and the connection of it that is taken next.
+/// The listener of a door, and the connection of it that is taken next.
 #[derive(Drop)]
 pub struct Doorway {
+    door: Door,
     listener: TcpListener,
     next: Option<TcpStream>,
     // An accept may find one, but not before this moment.
@@ -45,13 +51,17 @@ impl Doorway {
     /// Listens at an address. That connections wait is reported under this token.
     pub fn open<N: Net>(
         net: &N,
-        at: SocketAddr,
         registry: &Registry,
+        door: Door,
+        at: SocketAddr,
         token: Token,
-    ) -> io::Result<Doorway> {
+    ) -> io::Result<Doorway>
+        ensures { IfOk result (λ doorway. doorway.door ≡ door) }
+    {
         let mut listener = TcpListener::bind(net, at)?;
         registry.register(&mut listener, token, Interest::READABLE)?;
         Ok(Doorway {
+            door,
             listener,
             next: None,
             ready: true,
@@ -65,11 +75,13 @@ impl Doorway {
     }
 
     /// A connection was reported.
-    pub fn wake(&mut self) {
+    pub fn wake(&mut self)
+        ensures { self.new.door ≡ self.old.door }
+    {
         self.ready = true;
     }
 
-    fn accept(&mut self) -> Result<TcpStream, Refusal> {
+    fn accept(&self) -> Result<TcpStream, Refusal> {
         match self.listener.accept() {
             Ok((stream, _)) => Ok(stream),
             Err(error) => Err(refusal_of(error)),
@@ -77,7 +89,9 @@ impl Doorway {
     }
 
     // Has the next connection in hand, if one waits.
-    fn fetch(&mut self, now: u64) {
+    fn fetch(&mut self, now: u64)
+        ensures { self.new.door ≡ self.old.door }
+    {
         for _ in 0..MOST_ACCEPTS {
             match self.accept() {
                 Ok(stream) => {
@@ -98,7 +112,9 @@ impl Doorway {
     }
 
     /// Whether a connection waits.
-    pub fn knocks(&mut self, now: u64) -> bool {
+    pub fn knocks(&mut self, now: u64) -> bool
+        ensures { self.new.door ≡ self.old.door }
+    {
         if self.next.is_none() && self.ready && self.from <= now {
             self.fetch(now);
         }
@@ -106,13 +122,16 @@ impl Doorway {
     }
 
     /// The next connection, whose readiness is reported under the number of a place.
-    pub fn take(&mut self, registry: &Registry, place: usize, now: u64) -> Option<TcpStream> {
+    pub fn take(&mut self, registry: &Registry, place: usize, now: u64) -> Option<Wire>
+        ensures of { IfSome result (λ wire. wire ≡ new_stream self.old.door) }
+        ensures door { self.new.door ≡ self.old.door }
+    {
         if !self.knocks(now) {
             return None;
         }
         let mut stream = self.next.take()?;
         let _ = stream.set_nodelay(true);
         register_at(&mut stream, registry, place).ok()?;
-        Some(stream)
+        Some(Wire::new(stream, self.door))
     }
 }

@@ -10,8 +10,8 @@ pub enum OtherServer {
     Dial(SocketAddr),
 }
 
-/// The addresses at which clients and operators come, the other server, how many places there are, the other server's
-/// among them, and how many frames may be on their way to the other server at once.
+/// The addresses at which clients and operators come, the other server, how many places there are, the other
+/// server's among them, and how many frames may be on their way to the other server at once.
 #[derive(Clone, Copy, Debug, PartialEq, Eq)]
 pub struct WiresSettings {
     pub clients: SocketAddr,

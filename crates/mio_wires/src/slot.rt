@@ -27,13 +27,14 @@ pub struct Slot {
 
 impl Model for Slot {
     ghost use Rattle.std.specs.Prelude.{◌≤◌, is_some, vec_capacity};
-    ghost use Rattle.mio_wires.specs.Slots.{Slot as State, given_of, written_of, ended_of, failed_of};
+    ghost use Rattle.mio_wires.specs.Slots.{Slot as State, door_of, given_of, written_of, ended_of, failed_of};
 
     ghost Value = { State };
 
     ghost view = { λ s. record {
       room = s.room;
       live = is_some s.wire;
+      door = door_of s.wire;
       given = given_of s.wire;
       written = written_of s.wire;
       pending = s.pending.items;
@@ -84,8 +85,8 @@ impl Slot {
 
     /// A connection takes the place; the one that was there is dropped.
     pub fn connect(&mut self, wire: Wire)
-        requires { wire ≡ new_stream }
-        ensures { self.new ≡ connected self.old.room }
+        requires { wire ≡ new_stream wire.door }
+        ensures { self.new ≡ connected self.old.room wire.door }
     {
         self.put(Some(wire));
     }
@@ -200,8 +201,8 @@ impl Slot {
         self.read_once(door, buf)
     }
 
-    /// The bytes that came of the connection, into the front of a buffer. While output is pending nothing is taken, unless the
-    /// server dialled.
+    /// The bytes that came of the connection, into the front of a buffer. While output is pending nothing is
+    /// taken, unless the server dialled.
     pub fn take(&mut self, door: Door, buf: &mut [u8]) -> Taken
         ensures length { length buf.new ≡ length buf.old }
         ensures bound { (n : ℕ) → result ≡ Bytes n → n ≤ length buf.new }
@@ -215,8 +216,8 @@ impl Slot {
         self.take_flushed(door, buf)
     }
 
-    /// Bytes that are written behind what is pending, as the stream takes them. A connection that has no room for them is cut
-    /// off: its peer doesn't read.
+    /// Bytes that are written behind what is pending, as the stream takes them. A connection that has no room
+    /// for them is cut off: its peer doesn't read.
     pub fn send(&mut self, bytes: &[u8])
         ensures { Sends bytes.now self.old self.new }
     {

@@ -4,7 +4,7 @@ ghost use Rattle.std.specs.Bool.{OnTrue, OnFalse};
 ghost use Rattle.many_words.specs.Events.{Adds, Waited, Opened, Asked, Closed, Dropped, Unanswered, Sent, SentAgain};
 ghost use Rattle.many_words.specs.Takes.{Gives};
 ghost use Rattle.many_words.specs.declared.hub.Taken.TheVariants.{Bytes, Over};
-ghost use Rattle.mio_wires.specs.Openings.{NamesItsDoor, vacant_slots};
+ghost use Rattle.mio_wires.specs.Openings.{NamesItsDoor, opened};
 ghost use Rattle.mio_wires.specs.Slots.{taken_event, ChangesAt, ChangesOnly, Takes, Sends, Leaves, Comes};
 
 use crate::doors::Doors;
@@ -12,7 +12,6 @@ use crate::fault::WiresFault;
 use crate::settings::WiresSettings;
 use crate::slot::Slot;
 use crate::slots::{note_reports, send_at, take_at, vacant_slots};
-use crate::wire::Wire;
 use many_wires::{CallLog, Wires};
 use many_words::{Door, Taken};
 use mio::{Events, Poll};
@@ -56,10 +55,10 @@ impl<R: Net + Clock + Copy> Model for MioWires<R> {
 }
 
 impl<R: Net + Clock + Copy> MioWires<R> {
-    /// Listens at the doors of the settings. This alone takes memory: for each place as much as may be pending of one
-    /// answer, and for the other server's as much as of all that may be on their way to it.
+    /// Listens at the doors of the settings. This alone takes memory: for each place as much as may be
+    /// pending of one answer, and for the other server's as much as of all that may be on their way to it.
     pub fn open(alloc: Global, rt: R, settings: &WiresSettings) -> Result<MioWires<R>, WiresFault>
-        ensures opened { IfOk result (λ w. w ≡ record { moment = 0; slots = vacant_slots settings.now.places settings.now.outstanding; calls = [] }) }
+        ensures opened { IfOk result (λ w. w ≡ opened settings.now) }
         ensures names { IfErr result (NamesItsDoor settings.now) }
     {
         let poll = Poll::new(&rt).map_err(WiresFault::of_system)?;
@@ -81,9 +80,7 @@ impl<R: Net + Clock + Copy> MioWires<R> {
     }
 
     /// Where the server listens for those of a door, as where the settings left the port to the system.
-    pub fn address(&mut self, door: Door) -> Option<SocketAddr>
-        ensures { self.new ≡ self.old }
-    {
+    pub fn address(&self, door: Door) -> Option<SocketAddr> {
         self.doors.address(door)
     }
 
@@ -97,7 +94,8 @@ impl<R: Net + Clock + Copy> MioWires<R> {
         }
     }
 
-    // Waits until a socket is reported, at most for a while, and not at all where something is known to be ready.
+    // Waits until a socket is reported, at most for a while, and not at all where something is known to be
+    // ready.
     fn await_reports(&mut self)
         ensures { self.new ≡ self.old }
     {
@@ -110,20 +108,20 @@ impl<R: Net + Clock + Copy> MioWires<R> {
 
     // Puts the next connection of a door at a place, if one waits there.
     fn admit(&mut self, place: usize, door: Door) -> bool
-        ensures opened { OnTrue result (ChangesAt Comes place self.old.slots self.new.slots) }
+        ensures opened { OnTrue result (ChangesAt (Comes door) place self.old.slots self.new.slots) }
         ensures none { OnFalse result (self.new.slots ≡ self.old.slots) }
         ensures rest { (self.new.moment ≡ self.old.moment) × (self.new.calls ≡ self.old.calls) }
     {
         if place >= self.slots.len() {
             return false;
         }
-        let stream = self
+        let wire = self
             .doors
             .take(&self.rt, self.poll.registry(), door, place, self.moment);
-        let Some(stream) = stream else {
+        let Some(wire) = wire else {
             return false;
         };
-        self.slots[place].connect(Wire::new(stream));
+        self.slots[place].connect(wire);
         self.more = true;
         true
     }
@@ -170,7 +168,7 @@ impl<R: Net + Clock + Copy> Wires for MioWires<R> {
     fn open(&mut self, place: usize, door: Door) -> bool
         ensures opened { OnTrue result (Adds (Some self.old.calls) (Some self.new.calls) (Opened place door)) }
         ensures none { OnFalse result (Adds (Some self.old.calls) (Some self.new.calls) (Asked place door)) }
-        ensures came { OnTrue result (ChangesAt Comes place self.old.slots self.new.slots) }
+        ensures came { OnTrue result (ChangesAt (Comes door) place self.old.slots self.new.slots) }
         ensures left { OnFalse result (self.new.slots ≡ self.old.slots) }
         ensures moment { self.new.moment ≡ self.old.moment }
     {

@@ -4,6 +4,7 @@ ghost use Rattle.std.specs.IoError.{error_kind};
 ghost use Rattle.mio_wires.specs.Slots.{new_stream, is_end, is_broken};
 
 use express_outside::History;
+use many_words::Door;
 use mio::net::TcpStream;
 use mio::{Interest, Registry, Token};
 use std::io;
@@ -32,7 +33,8 @@ pub enum Halt {
 fn halt_of(error: io::Error) -> Halt
     ensures blocked { error_kind error ≡ ErrorKind.WouldBlock → result ≡ Halt.Blocked }
     ensures interrupted { error_kind error ≡ ErrorKind.Interrupted → result ≡ Halt.Interrupted }
-    ensures broken { error_kind error ≢ ErrorKind.WouldBlock → error_kind error ≢ ErrorKind.Interrupted → result ≡ Halt.Broken }
+    ensures broken { error_kind error ≢ ErrorKind.WouldBlock → error_kind error ≢ ErrorKind.Interrupted
+        → result ≡ Halt.Broken }
 {
     match error.kind() {
         ErrorKind::WouldBlock => Halt::Blocked,
@@ -47,9 +49,11 @@ pub fn register_at(stream: &mut TcpStream, registry: &Registry, place: usize) ->
     registry.register(stream, Token(place), both)
 }
 
-/// A connected stream that never waits. It tells the bytes that its reads gave and its writes took.
+/// A connected stream that never waits, and the door that it came through. It tells the bytes that its reads
+/// gave and its writes took.
 #[derive(Drop)]
 pub struct Wire {
+    door: Door,
     stream: TcpStream,
     given: History<u8>,
     written: History<u8>,
@@ -63,6 +67,7 @@ impl Model for Wire {
     ghost Value = { Stream };
 
     ghost view = { λ w. record {
+      door = w.door;
       given = w.given;
       written = w.written;
       ended = w.ended;
@@ -72,10 +77,11 @@ impl Model for Wire {
 
 impl Wire {
     /// Nothing went through it yet.
-    pub fn new(stream: TcpStream) -> Wire
-        ensures { result ≡ new_stream }
+    pub fn new(stream: TcpStream, door: Door) -> Wire
+        ensures { result ≡ new_stream door }
     {
         Wire {
+            door,
             stream,
             given: History::new(),
             written: History::new(),
@@ -91,6 +97,7 @@ impl Wire {
         ensures gave { IfOk result (λ n. self.new.given ≡ self.old.given ++ take n buf.new) }
         ensures failed { OnErr result (self.new.given ≡ self.old.given) }
         ensures written { self.new.written ≡ self.old.written }
+        ensures door { self.new.door ≡ self.old.door }
         ensures ended { self.new.ended ≡ (self.old.ended || is_end (length buf.old) result) }
         ensures broke { self.new.failed ≡ (self.old.failed || is_broken result) }
     {
@@ -132,6 +139,7 @@ impl Wire {
         ensures wrote { IfOk result (λ n. self.new.written ≡ self.old.written ++ take n bytes.now) }
         ensures failed { OnErr result (self.new.written ≡ self.old.written) }
         ensures given { self.new.given ≡ self.old.given }
+        ensures door { self.new.door ≡ self.old.door }
         ensures ended { self.new.ended ≡ self.old.ended }
         ensures broke { self.new.failed ≡ (self.old.failed || is_broken result) }
     {
@@ -143,8 +151,8 @@ impl Wire {
         answer
     }
 
-    /// Ends the writing, and lets some of what came and wasn't read go: where a stream is closed with bytes unread, the
-    /// system takes what was written and hasn't arrived back.
+    /// Ends the writing, and lets some of what came and wasn't read go: where a stream is closed with bytes
+    /// unread, the system takes what was written and hasn't arrived back.
     pub fn finish(self) {
         let Wire { mut stream, .. } = self;
         if stream.shutdown(Shutdown::Write).is_err() {
