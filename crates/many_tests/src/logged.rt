@@ -1,5 +1,5 @@
 //! A log beside connections: its bytes, a disk that fails, and a crash at each call.
-ghost use Rattle.std.specs.Prelude.{None};
+ghost use Rattle.std.specs.Prelude.{◌≤◌, length, None, IfSome};
 
 use express_words::NoMemory;
 use logged_hub::{LogFault, LoggedHub, batch_of, read_records};
@@ -64,7 +64,9 @@ fn hub(alloc: Global, disk: MemoryDisk) -> Result<LoggedHub<NoWires, MemoryDisk>
     Ok(LoggedHub::open(NoWires, journal, disk, held, batch))
 }
 
-fn entry(alloc: Global, place: usize, noted: Option<&[u8]>) -> Result<Entry, AllocError> {
+fn entry(alloc: Global, place: usize, noted: Option<&[u8]>) -> Result<Entry, AllocError>
+    requires { IfSome noted (λ bytes. length bytes.now ≤ 2) }
+{
     let mut entry = Entry::empty(alloc)?;
     entry.fill(place, Door::Clients, &[7], noted);
     Ok(entry)
@@ -85,7 +87,7 @@ fn records_of_frames_together(rt: HostRuntime) -> Result<(), Fail> {
     let entries = entries(alloc)?;
     let mut hub = hub(alloc, disk(alloc, &[], 0)?)?;
     assert_eq!(rt; hub.log(&entries), Ok(()));
-    assert_eq!(rt; hub.log(&entries[1..2]), Ok(()));
+    assert_eq!(rt; hub.log(entries.get(1..2).unwrap_or(&[])), Ok(()));
     assert_eq!(rt; hub.log(&entries), Err(Failed));
     assert_eq!(rt;
         hub.fault(),
@@ -107,20 +109,19 @@ fn once_failed_it_stays_so(rt: HostRuntime) -> Result<(), Fail> {
     assert_eq!(rt; hub.log(&entries), Err(Failed));
     assert_eq!(rt; hub.fault(), Some(LogFault::Journal(JournalFault::Disk(1))));
     assert_eq!(rt; hub.log(&entries), Err(Failed));
-    assert_eq!(rt; hub.log(&entries[1..2]), Err(Failed));
+    assert_eq!(rt; hub.log(entries.get(1..2).unwrap_or(&[])), Err(Failed));
     let (_, disk) = hub.into_parts();
     assert!(rt; disk.left().get(6) == Some(&0));
     Ok(())
 }
 
-// Whether a crash at this call, in which so many bytes arrive, leaves all records, or none of the batch.
+// Whether a crash at this call, in which these bytes arrive, leaves all records, or none of the batch.
 fn leaves_all_or_none(
     alloc: Global,
     entries: &[Entry],
     number: u64,
-    arrived: usize,
+    arriving: &[u8],
 ) -> Result<bool, Fail> {
-    let arriving = THREE.get(7..7 + arrived).unwrap_or(&[]);
     let mut hub = hub(alloc, disk(alloc, arriving, number)?)?;
     let done = hub.log(entries).is_ok();
     let (_, disk) = hub.into_parts();
@@ -135,7 +136,7 @@ fn a_crash_leaves_all_or_none(rt: HostRuntime) -> Result<(), Fail> {
     let entries = entries(alloc)?;
     for number in 8..13 {
         for arrived in 0..14 {
-            assert!(rt; leaves_all_or_none(alloc, &entries, number, arrived)?);
+            assert!(rt; leaves_all_or_none(alloc, &entries, number, &THREE[7..7 + arrived])?);
         }
     }
     Ok(())
