@@ -1,0 +1,7 @@
+pub mod Announced
+pub mod Doors
+pub mod Helpers
+pub mod Laws
+pub mod Leaders
+pub mod Packets
+pub mod Passing
