@@ -5,7 +5,7 @@ ghost use Rattle.many_words.specs.Events.{Adds, Waited, Opened, Asked, Closed, D
 ghost use Rattle.many_words.specs.Takes.{Gives};
 ghost use Rattle.kept_machine.specs.Kept.{Holds};
 ghost use Rattle.node_journal.specs.Disk.{LeavesOnly, Within};
-ghost use Rattle.logged_hub.specs.State.{IsReady, LeavesWhole, records_in, told_of};
+ghost use Rattle.logged_hub.specs.State.{IsKept, IsReady, LeavesWhole, records_in, told_of};
 ghost use Rattle.logged_hub.specs.Logs.{Counts, IsFaultOf};
 ghost use Rattle.logged_hub.specs.Runs.{GoesOn};
 
@@ -74,9 +74,11 @@ impl<W: Wires, D: Disk> LoggedHub<W, D> {
         }
     }
 
-    /// Why the log failed, if it did.
+    /// Why the log failed, if it did. Whatever was called so far, the disk has the records of the log; once it failed, a crash
+    /// leaves all of the last batch or none of it.
     pub fn fault(&self) -> Option<LogFault>
-        ensures { result ≡ self.now.fault }
+        ensures fault { result ≡ self.now.fault }
+        ensures kept { IsKept (D.disk self.now.disk) self.now.journal self.now.batch.records (records_in self.now) self.now.fault }
     {
         self.fault
     }
