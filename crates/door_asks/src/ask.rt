@@ -55,6 +55,7 @@ fn request_len(request: &Request<'_>) -> Option<usize>
 // The length of the body, where it is one that the door takes.
 fn body_len(asked: &Asked<'_>) -> Option<u16>
     ensures len { IfSome result (λ n. n ≡ length (asked_body (plain_asked asked.now))) }
+    ensures taken { IfSome result (λ n. length (asked_body (plain_asked asked.now)) ≤ body_max) }
     ensures long { IfNone result (body_max < length (asked_body (plain_asked asked.now))) }
 {
     let len = match asked {
@@ -109,10 +110,13 @@ fn put_ask(out: &mut [u8], head: &[u8], asked: &Asked<'_>) -> Option<usize>
 /// than the door takes one.
 pub fn write_ask(asked: &Asked<'_>, out: &mut [u8]) -> Option<usize>
     ensures written { IfSome result (λ n. IsPut out.old out.new (ask_bytes (plain_asked asked.now)) n) }
+    ensures taken { IfSome result (λ n. length (asked_body (plain_asked asked.now)) ≤ body_max) }
     ensures short { IfNone result (LacksRoom (plain_asked asked.now) (length out.old)) }
 {
-    let [high, low] = body_len(asked)?.to_be_bytes();
-    put_ask(out, &[kind_of(asked), high, low], asked)
+    let len = body_len(asked)?;
+    let [high, low] = len.to_be_bytes();
+    let end = put_ask(out, &[kind_of(asked), high, low], asked)?;
+    Some(end)
 }
 
 // What stands first in bytes that begin with an ask: its kind, the length of its body, and what stands behind.
