@@ -30,13 +30,13 @@ class Frame:
         self.body = content[BODY:]
 
 
-def path_of(folder):
-    return os.path.join(folder, "express.journal")
+def path_of(folder, name="express.journal"):
+    return os.path.join(folder, name)
 
 
-def frames(folder):
-    """The frames of the journal in a folder, up to the first closed gate."""
-    with open(path_of(folder), "rb") as file:
+def frames(folder, name="express.journal"):
+    """The frames of the journal of this name in a folder, up to the first closed gate."""
+    with open(path_of(folder, name), "rb") as file:
         content = file.read()
     at = 0
     while at < len(content) and content[at] == 1:

@@ -110,6 +110,7 @@ class Run:
         self.servers = {role: self.server(room, role) for role in ROLES}
         self.addresses = [processes.digits(16) for _ in range(SIZES.boxes)]
         self.target = random.choice(self.addresses)
+        self.writer = WRITER  # the lane of who writes
         self.sent, self.second = None, None  # what was opened in place of what should be; the number of a second audit
         self.seed, self.lines = processes.digits(32), []  # the owner's, and what the writer's program wrote
         self.wrote = threading.Event()
@@ -164,14 +165,25 @@ class Run:
         for server in self.servers.values():
             server.stop()
 
+    def check(self):
+        """Nothing is wrong with what an accomplice was answered: `keep` takes whatever it is sent."""
+
     # -- what the operator has
 
     def role(self):
         return ROLES[self.viewer]
 
+    def journal(self):
+        """The frames of the own journal."""
+        return journals.frames(self.servers[self.role()].folder)
+
+    def ask(self, role, content):
+        """What a server answers to these bytes of an accomplice."""
+        return ask(self.ports[role], content)
+
     def frames(self, kind):
         """The frames of this kind from clients in the own journal, on other lanes than the owner's."""
-        found = journals.frames(self.servers[self.role()].folder)
+        found = self.journal()
         return [frame for frame in found if frame.is_clients and frame.kind == kind and frame.lane != OWNER]
 
     def command(self, kind):

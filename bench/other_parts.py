@@ -85,6 +85,8 @@ class Asker:
     """What the operator does on the link: it asks one question with each write, until there are no more. Of a
     yes neither its program notices anything nor an owner."""
 
+    accomplice = None
+
     def __init__(self):
         self.questions, self.asked = [], {}
 
@@ -195,3 +197,29 @@ def work(programs, runs):
               f" runs; the writer was told {words}; the owner read what that says in {read}", flush=True)
         if not all(outcome.is_as_said(asking) for outcome in outcomes):
             raise plain.Differs("docs/PRIVACY.md says that each question is answered, and what is noticed")
+
+
+def ask_in_vain(begin, asking):
+    """Whether the helper's judgement answered any question, in a pair that this begins: there a proof names its statement,
+    and the helper has another one than the client."""
+    with tempfile.TemporaryDirectory() as room:
+        leader = Asker()
+        run = begin(room, 0, leader)
+        try:
+            run.start()
+            run.register()
+            leader.questions = asking.questions(run)
+            run.write()
+            return any(one.answer is not None for one in leader.asked.values()), len(leader.asked)
+        finally:
+            run.stop()
+
+
+def work_in_vain(server, begin, runs):
+    """Prints a line for each question of a client's write, and raises Differs where one was answered, or none was asked."""
+    for asking in (one for one in ASKINGS if one.run is client_run):
+        found = [ask_in_vain(begin, asking) for _ in range(runs)]
+        answered, asked = sum(one for one, _ in found), sum(count for _, count in found)
+        print(f"{server}, leader, {asking.name}: {answered} of {asked} answered", flush=True)
+        if answered or not asked:
+            raise plain.Differs("docs/PRIVACY.md says that no question is answered there")
