@@ -9,8 +9,8 @@ use logged_hub::read_records;
 use server_run::LOG_LIMIT;
 use server_settings::{Key, ServerSettings, read_settings};
 use server_words::{HELP, OwnerLine, ServerTask, Stop, VERSION};
-use std::fs::File;
 use std::fs;
+use std::fs::File;
 
 fn print(rt: &HostRuntime, text: &str) -> Result<(), Stop> {
     let _told = print!(rt; "{text}");

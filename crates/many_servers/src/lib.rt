@@ -15,4 +15,6 @@ mod refusing;
 pub use announced::{announced_in, announced_record};
 pub use helper::HelperServer;
 pub use leader::LeaderServer;
-pub use packet::{LEASED_LEN, PACKET_MAX, leased_in, leased_record, packet_len, record_in, write_packet};
+pub use packet::{
+    LEASED_LEN, PACKET_MAX, leased_in, leased_record, packet_len, record_in, write_packet,
+};

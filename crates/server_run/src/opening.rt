@@ -26,7 +26,11 @@ pub struct OpenLog<M: Machine, D: Disk> {
 }
 
 // The machine of a disk with no byte, whose log begins with this record, or else that of the log that stands there.
-fn keep<M: Machine + Drop, D: Disk + Drop>(alloc: Global, first: &[u8], disk: D) -> Result<Kept<M, D>, KeepFault>
+fn keep<M: Machine + Drop, D: Disk + Drop>(
+    alloc: Global,
+    first: &[u8],
+    disk: D,
+) -> Result<Kept<M, D>, KeepFault>
     requires opening { M.rules.is_opening first.now }
     requires sized { IsSized first.now }
     ensures open { IfOk result (λ k. k.journal.closed ≡ false) }

@@ -12,7 +12,7 @@ returns-in-Ok-clause-says c =
     let ask = c.args.ask.now in
     let lease = c.in-Ok.lease in
     ap (λ (bytes : List ℕ). Commands (Some (record { lane = lease.lane; serial = lease.serial })) bytes)
-        (c.write_packet.ensures.written ∙ ap packet c.announced_record.ensures)
+    (c.write_packet.ensures.written ∙ ap packet c.announced_record.ensures)
     ∙ sym (ap given_told (of-lease s ask lease c.lease.new.self c.in-Ok.ensures.told))
 
 pub returns-in-Err-clause-says : goal.returns-in-Err-clause-says
