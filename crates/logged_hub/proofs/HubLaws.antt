@@ -1,5 +1,5 @@
 -- What stands on the disk of a hub, behind a call.
-use Rattle.std.proofs.Common.{◌≡◌, ◌⊎◌, inl, inr, ℕ, false, List, [], ◌∷◌, ◌++◌, Option, Some, None, IsSome, is_some, map, refl, sym, ◌∙◌, ap, subst, append_assoc, append-nil}
+use Rattle.std.proofs.Common.{◌≡◌, ◌⊎◌, inl, inr, ℕ, true, false, List, [], ◌∷◌, ◌++◌, Option, Some, None, IsSome, is_some, map, refl, sym, ◌∙◌, ap, subst, append_assoc, append-nil}
 use Rattle.kept_machine.specs.Kept.{Holds}
 use Rattle.many_words.specs.Events.{Event, Entry, Logged, records_of}
 use Rattle.node_journal.specs.Batches.{AppendedAll, LeavesAllOrNone, LeavesBeforeOrAll, IsBeforeOrAll}
@@ -66,6 +66,10 @@ records-of-held (r ∷ records) = ap (λ (l : List (List ℕ)). r ∷ l) (record
 pub no-fault : (fault : Option LogFault) → false ≡ is_some fault → fault ≡ None
 no-fault None is = refl
 no-fault (Some why) is = cc
+
+pub some-fault : (fault : Option LogFault) → true ≡ is_some fault → IsSome fault
+some-fault None is = cc
+some-fault (Some why) is = refl
 
 pub kept-logged : (disk : DiskSeen) (now : DiskSeen) (journal : JournalState) (batch held : List (List ℕ)) (fault : Option LogFault) (calls calls_now : List Event) (entries : List Entry)
     → fault ≡ None → calls_now ≡ calls ++ Logged entries ∷ [] → IsReady journal now → Holds (held ++ written calls) disk.reads

@@ -1,5 +1,6 @@
 //! Connections and a clock, and the log beside them.
-ghost use Rattle.std.specs.Prelude.{◌≡◌, ◌≤◌, ◌⊎◌, ◌++◌, ℕ, List, [], length, true, false, None, IfSome, IsSome, IsOk, IsErr, OnOk, OnErr};
+ghost use Rattle.std.specs.Prelude.{◌≡◌, ◌≤◌, ◌⊎◌, ◌++◌, ℕ, List, [], length, true, false, None, IfSome, IsSome, IsOk, IsErr, OnOk, OnErr, refl};
+ghost use Rattle.std.proofs.Common.{◌∙◌};
 ghost use Rattle.std.specs.Bool.{OnTrue, OnFalse};
 ghost use Rattle.many_words.specs.Events.{Adds, Waited, Opened, Asked, Closed, Dropped, Logged, LogFailed, Unanswered, Sent, SentAgain, records_of};
 ghost use Rattle.many_words.specs.Takes.{Gives};
@@ -7,7 +8,7 @@ ghost use Rattle.kept_machine.specs.Kept.{Holds};
 ghost use Rattle.node_journal.specs.Disk.{LeavesOnly, Within};
 ghost use Rattle.logged_hub.specs.State.{IsKept, IsReady, LeavesWhole, records_in, told_of};
 ghost use Rattle.logged_hub.specs.Logs.{Counts, IsFaultOf};
-ghost use Rattle.logged_hub.specs.Runs.{GoesOn};
+ghost use Rattle.logged_hub.specs.Runs.{Fails, Proceeds, calls_then};
 
 use crate::fault::LogFault;
 use crate::writing::write_all;
@@ -108,9 +109,21 @@ impl<W: Wires, D: Disk> LoggedHub<W, D> {
 impl<W: Wires, D: Disk> Hub for LoggedHub<W, D> {
     ghost told = { told_of };
 
+    ghost goes_on = { Proceeds W.told D.disk };
+
+    ghost fails = { Fails W.told D.disk };
+
+    ghost goes_on_none = { λ hub. record { calls = ([], refl); fault = refl } };
+
+    ghost goes_on_then = { λ old mid new one two. record {
+      calls =
+          (one.calls.0 ++ two.calls.0, calls_then W.told D.disk one.calls.0 two.calls.0 old mid new one.calls.1 two.calls.1);
+      fault = two.fault ∙ one.fault;
+    } };
+
     fn wait(&mut self) -> u64
         ensures told { Adds (told_of self.old) (told_of self.new) (Waited result) }
-        ensures goes_on { GoesOn W.told D.disk self.old self.new }
+        ensures goes_on { Proceeds W.told D.disk self.old self.new }
     {
         let now = self.wires.wait();
         self.calls.note_waited(now);
@@ -120,7 +133,7 @@ impl<W: Wires, D: Disk> Hub for LoggedHub<W, D> {
     fn open(&mut self, place: usize, door: Door) -> bool
         ensures opened { OnTrue result (Adds (told_of self.old) (told_of self.new) (Opened place door)) }
         ensures none { OnFalse result (Adds (told_of self.old) (told_of self.new) (Asked place door)) }
-        ensures goes_on { GoesOn W.told D.disk self.old self.new }
+        ensures goes_on { Proceeds W.told D.disk self.old self.new }
     {
         if self.wires.open(place, door) {
             self.calls.note_opened(place, door);
@@ -134,7 +147,7 @@ impl<W: Wires, D: Disk> Hub for LoggedHub<W, D> {
     fn take(&mut self, place: usize, door: Door, buf: &mut [u8]) -> Taken
         ensures length { length buf.new ≡ length buf.old }
         ensures gives { Gives (told_of self.old) (told_of self.new) place door result buf.new }
-        ensures goes_on { GoesOn W.told D.disk self.old self.new }
+        ensures goes_on { Proceeds W.told D.disk self.old self.new }
     {
         let taken = self.wires.take(place, door, buf);
         match taken {
@@ -147,7 +160,7 @@ impl<W: Wires, D: Disk> Hub for LoggedHub<W, D> {
 
     fn close(&mut self, place: usize)
         ensures told { Adds (told_of self.old) (told_of self.new) (Closed place) }
-        ensures goes_on { GoesOn W.told D.disk self.old self.new }
+        ensures goes_on { Proceeds W.told D.disk self.old self.new }
     {
         self.wires.close(place);
         self.calls.note_closed(place);
@@ -155,14 +168,14 @@ impl<W: Wires, D: Disk> Hub for LoggedHub<W, D> {
 
     fn knocks(&mut self, door: Door) -> bool
         ensures told { told_of self.new ≡ told_of self.old }
-        ensures goes_on { GoesOn W.told D.disk self.old self.new }
+        ensures goes_on { Proceeds W.told D.disk self.old self.new }
     {
         self.wires.knocks(door)
     }
 
     fn drop_for_another(&mut self, place: usize)
         ensures told { Adds (told_of self.old) (told_of self.new) (Dropped place) }
-        ensures goes_on { GoesOn W.told D.disk self.old self.new }
+        ensures goes_on { Proceeds W.told D.disk self.old self.new }
     {
         self.wires.drop_for_another(place);
         self.calls.note_dropped(place);
@@ -192,7 +205,8 @@ impl<W: Wires, D: Disk> Hub for LoggedHub<W, D> {
         ensures batch { self.old.fault ≡ None → OnErr result ((self.new.disk ≡ self.old.disk)
             ⊎ (self.new.batch.records ≡ records_of entries.now)) }
         ensures room { self.new.batch.room ≡ self.old.batch.room }
-        ensures goes_on { GoesOn W.told D.disk self.old self.new }
+        ensures goes_on { OnOk result (Proceeds W.told D.disk self.old self.new) }
+        ensures fails { OnErr result (Fails W.told D.disk self.old self.new) }
     {
         if self.fault.is_some() {
             self.calls.note_log_failed();
@@ -213,7 +227,7 @@ impl<W: Wires, D: Disk> Hub for LoggedHub<W, D> {
 
     fn leave(&mut self, place: usize)
         ensures told { Adds (told_of self.old) (told_of self.new) (Unanswered place) }
-        ensures goes_on { GoesOn W.told D.disk self.old self.new }
+        ensures goes_on { Proceeds W.told D.disk self.old self.new }
     {
         self.wires.leave(place);
         self.calls.note_unanswered(place);
@@ -221,7 +235,7 @@ impl<W: Wires, D: Disk> Hub for LoggedHub<W, D> {
 
     fn send(&mut self, place: usize, bytes: &[u8])
         ensures told { Adds (told_of self.old) (told_of self.new) (Sent place bytes.now) }
-        ensures goes_on { GoesOn W.told D.disk self.old self.new }
+        ensures goes_on { Proceeds W.told D.disk self.old self.new }
     {
         self.wires.send(place, bytes);
         self.calls.note_sent(place, bytes);
@@ -229,7 +243,7 @@ impl<W: Wires, D: Disk> Hub for LoggedHub<W, D> {
 
     fn send_again(&mut self, place: usize, bytes: &[u8])
         ensures told { Adds (told_of self.old) (told_of self.new) (SentAgain place bytes.now) }
-        ensures goes_on { GoesOn W.told D.disk self.old self.new }
+        ensures goes_on { Proceeds W.told D.disk self.old self.new }
     {
         self.wires.send_again(place, bytes);
         self.calls.note_sent_again(place, bytes);

@@ -73,6 +73,10 @@ pub on_err : {T E P : Type 0} (r : Result T E) → OnErr r P → true ≡ is_err
 on_err (Ok v) p is = absurd (no_true is)
 on_err (Err e) p is = p
 
+pub if_err : {T E P : Type 0} (r : Result T E) → P → OnErr r P
+if_err (Ok v) p = tt
+if_err (Err e) p = p
+
 pub on_ok : {T E P : Type 0} (r : Result T E) → OnOk r P → false ≡ is_err r → P
 on_ok (Ok v) p is = p
 on_ok (Err e) p is = absurd (no_true (sym is))

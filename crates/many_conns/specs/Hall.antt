@@ -1,5 +1,5 @@
 -- The server of many connections as a machine that takes the events of its outside one by one.
-use Rattle.std.specs.Prelude.{◌≡◌, ℕ, ◌<◌, ◌≤◌, min, Bool, true, false, ◌⊎◌, All}
+use Rattle.std.specs.Prelude.{◌≡◌, ℕ, zero, suc, ◌<◌, ◌≤◌, min, Bool, true, false, ◌⊎◌, All}
 use Rattle.std.specs.Prelude.{List, [], ◌∷◌, ◌++◌, length, map, Option, Some, None, unwrap_or}
 use Rattle.std.specs.Prelude.{slice_get, slice_set}
 use Rattle.many_words.specs.declared.door.Door.{Door}
@@ -281,6 +281,12 @@ pub record Rounds {S : Type 0} (rules : Rules S) (old new : Option (List Event))
   pub waits : Waits rules h now awake
   pub told : Adds old between (Waited now)
   pub leads : Leads rules between new awake t
+
+-- from old to new so many rounds were made, one after another
+abbrev pub RoundsOf : {S : Type 0} → Rules S → ℕ → (old new : Option (List Event)) → Hall S → Hall S → Type 0
+RoundsOf rules zero old new h t = (new ≡ old) × (t ≡ h)
+RoundsOf {S} rules (suc n) old new h t = (between : Option (List Event)) × (m : Hall S)
+    × RoundsOf rules n old between h m × Rounds rules between new m t
 
 -- what stays as it was while connections come, bring bytes and go
 pub record Keeps {S : Type 0} (old new : Hall S) : Type 0 where

@@ -7,3 +7,4 @@ pub mod Places
 pub mod Routes
 pub mod Rules
 pub mod Waiting
+pub mod Ends

@@ -4,7 +4,8 @@ ghost use Rattle.std.specs.Bool.{OnTrue, OnFalse};
 ghost use Rattle.many_words.specs.Events.{Adds, Waited};
 ghost use Rattle.many_conns.specs.Doors.{free_places};
 ghost use Rattle.many_words.specs.Doors.{is_peer};
-ghost use Rattle.many_conns.specs.Hall.{Keeps, Leads, Rounds, IsSettled, IsInTime, IsAsked, IsLooked, IsServed, IsSomeAt, Waits};
+ghost use Rattle.many_conns.specs.Ends.{BreaksOff};
+ghost use Rattle.many_conns.specs.Hall.{Keeps, Leads, Rounds, RoundsOf, IsSettled, IsInTime, IsAsked, IsLooked, IsServed, IsSomeAt, Waits};
 
 use crate::answering::{ANSWER_MAX, Answering};
 use crate::batch::Batch;
@@ -111,6 +112,7 @@ impl<S: Answering> Hall<S> {
         requires nothing_owed { self.old.owed ≡ [] }
         requires there { place < length self.old.places }
         ensures leads { Leads S.rules (H.told hub.old) (H.told hub.new) self.old self.new }
+        ensures goes_on { H.goes_on hub.old hub.new }
         ensures in_time { IsSomeAt self.new.places place (IsInTime S.rules.whole self.old.patience self.old.now) }
         ensures others { take place self.new.places ≡ take place self.old.places }
         ensures looked { All IsLooked self.old.places → All IsLooked self.new.places }
@@ -134,6 +136,7 @@ impl<S: Answering> Hall<S> {
         requires nothing_owed { self.old.owed ≡ [] }
         requires there { place < length self.old.places }
         ensures leads { Leads S.rules (H.told hub.old) (H.told hub.new) self.old self.new }
+        ensures goes_on { H.goes_on hub.old hub.new }
         ensures asked { IsSomeAt self.new.places place IsAsked }
         ensures others { take place self.new.places ≡ take place self.old.places }
         ensures keeps { Keeps self.old self.new }
@@ -157,6 +160,7 @@ impl<S: Answering> Hall<S> {
         requires there { place < length self.old.places }
         requires asked { IsSomeAt self.old.places place IsAsked }
         ensures leads { Leads S.rules (H.told hub.old) (H.told hub.new) self.old self.new }
+        ensures goes_on { H.goes_on hub.old hub.new }
         ensures looked { IsSomeAt self.new.places place IsLooked }
         ensures others { take place self.new.places ≡ take place self.old.places }
         ensures keeps { Keeps self.old self.new }
@@ -174,6 +178,7 @@ impl<S: Answering> Hall<S> {
         requires looked { All IsLooked self.old.places }
         requires served { IsServed S.rules self.old }
         ensures leads { Leads S.rules (H.told hub.old) (H.told hub.new) self.old self.new }
+        ensures goes_on { H.goes_on hub.old hub.new }
         ensures settled { IsSettled S.rules self.new }
     {
         for place in 0..self.places.len() {
@@ -188,6 +193,7 @@ impl<S: Answering> Hall<S> {
         requires no_peer { is_peer door ≡ false }
         ensures served { self.new.served ≡ self.old.served }
         ensures leads { Leads S.rules (H.told hub.old) (H.told hub.new) self.old self.new }
+        ensures goes_on { H.goes_on hub.old hub.new }
         ensures nothing_owed { self.new.owed ≡ [] }
     {
         let Some(place) = oldest(&self.places, door) else {
@@ -208,6 +214,7 @@ impl<S: Answering> Hall<S> {
         requires nothing_owed { self.old.owed ≡ [] }
         ensures served { self.new.served ≡ self.old.served }
         ensures leads { Leads S.rules (H.told hub.old) (H.told hub.new) self.old self.new }
+        ensures goes_on { H.goes_on hub.old hub.new }
         ensures looked { All IsLooked self.new.places }
         ensures nothing_owed { self.new.owed ≡ [] }
     {
@@ -222,6 +229,7 @@ impl<S: Answering> Hall<S> {
         requires settled { IsSettled S.rules self.old }
         ensures waits { Waits S.rules self.old self.new.now self.new }
         ensures told { Adds (H.told hub.old) (H.told hub.new) (Waited self.new.now) }
+        ensures goes_on { H.goes_on hub.old hub.new }
         ensures nothing_owed { self.new.owed ≡ [] }
         ensures unserved { self.new.served ≡ false }
     {
@@ -237,6 +245,8 @@ impl<S: Answering> Hall<S> {
         requires unserved { self.old.served ≡ false }
         requires looked { All IsLooked self.old.places }
         ensures leads { Leads S.rules (H.told hub.old) (H.told hub.new) self.old self.new }
+        ensures goes_on { OnOk result (H.goes_on hub.old hub.new) }
+        ensures breaks_off { OnErr result (BreaksOff H.goes_on H.fails hub.old hub.new) }
         ensures looked { OnOk result (All IsLooked self.new.places) }
         ensures served { OnOk result (IsServed S.rules self.new) }
         ensures stays { OnErr result (self.new ≡ self.old) }
@@ -265,6 +275,7 @@ impl<S: Answering> Hall<S> {
     // Answers the frame that is owed its answer first, if one is.
     fn answer_one<H: Hub>(&mut self, hub: &mut H) -> bool
         ensures leads { Leads S.rules (H.told hub.old) (H.told hub.new) self.old self.new }
+        ensures goes_on { H.goes_on hub.old hub.new }
         ensures fewer { OnTrue result (length self.new.owed < length self.old.owed) }
         ensures none { OnFalse result (self.new.owed ≡ []) }
         ensures same { OnFalse result (self.new ≡ self.old) }
@@ -289,6 +300,7 @@ impl<S: Answering> Hall<S> {
     // Answers all that is owed, in the order of the log.
     fn answer_all<H: Hub>(&mut self, hub: &mut H)
         ensures leads { Leads S.rules (H.told hub.old) (H.told hub.new) self.old self.new }
+        ensures goes_on { H.goes_on hub.old hub.new }
         ensures nothing_owed { self.new.owed ≡ [] }
         ensures looked { All IsLooked self.old.places → All IsLooked self.new.places }
         ensures served { IsServed S.rules self.old → IsServed S.rules self.new }
@@ -302,6 +314,8 @@ impl<S: Answering> Hall<S> {
     pub fn round<H: Hub>(&mut self, hub: &mut H) -> Result<(), Stop>
         requires settled { IsSettled S.rules self.old }
         ensures leads { Leads S.rules (H.told hub.old) (H.told hub.new) self.old self.new }
+        ensures goes_on { OnOk result (H.goes_on hub.old hub.new) }
+        ensures breaks_off { OnErr result (BreaksOff H.goes_on H.fails hub.old hub.new) }
         ensures rounds { OnOk result (Rounds S.rules (H.told hub.old) (H.told hub.new) self.old self.new) }
         ensures settled { OnOk result (IsSettled S.rules self.new) }
     {
@@ -319,6 +333,9 @@ impl<S: Answering> Hall<S> {
     pub fn serve<H: Hub>(&mut self, hub: &mut H, rounds: u64) -> Result<(), Stop>
         requires settled { IsSettled S.rules self.old }
         ensures leads { Leads S.rules (H.told hub.old) (H.told hub.new) self.old self.new }
+        ensures goes_on { OnOk result (H.goes_on hub.old hub.new) }
+        ensures breaks_off { OnErr result (BreaksOff H.goes_on H.fails hub.old hub.new) }
+        ensures rounds { OnOk result (RoundsOf S.rules rounds (H.told hub.old) (H.told hub.new) self.old self.new) }
         ensures settled { OnOk result (IsSettled S.rules self.new) }
     {
         for _ in 0..rounds {

@@ -148,7 +148,8 @@ impl Place {
 
     /// Looks at the connection: takes what came of it, as far as there is room.
     pub fn look<H: Hub>(&mut self, hub: &mut H, place: usize) -> Taken
-        ensures { Looks (H.told hub.old) (H.told hub.new) place result self.old self.new }
+        ensures looks { Looks (H.told hub.old) (H.told hub.new) place result self.old self.new }
+        ensures goes_on { H.goes_on hub.old hub.new }
     {
         let mut piece = [0u8; PIECE];
         let space = (ROOM - self.held.len()).min(PIECE);

@@ -145,7 +145,8 @@ pub fn route(
 /// Sends what is to be sent for the frame of this place, or says that nothing is.
 pub fn deliver<H: Hub>(hub: &mut H, place: usize, send: Option<Send>, out: &[u8])
     requires within { IfSome send (λ send. send.count ≤ length out.now) }
-    ensures { Delivers (H.told hub.old) (H.told hub.new) place (sent_bytes out.now send) }
+    ensures delivers { Delivers (H.told hub.old) (H.told hub.new) place (sent_bytes out.now send) }
+    ensures goes_on { H.goes_on hub.old hub.new }
 {
     match send {
         Some(send) => hub.send(send.place, &out[..send.count]),
@@ -159,6 +160,7 @@ fn resend_one<S: Answering, H: Hub>(server: &S, hub: &mut H, place: usize, index
     ensures none { OnFalse result (slice_get (S.rules.outstanding server.now) index ≡ None) }
     ensures told { OnFalse result (H.told hub.new ≡ H.told hub.old) }
     ensures few { length (S.rules.outstanding server.now) < 2 ^ 32 }
+    ensures goes_on { H.goes_on hub.old hub.new }
 {
     let mut out = [0u8; ANSWER_MAX];
     let Some(count) = server.outstanding(index, &mut out) else {
@@ -170,7 +172,8 @@ fn resend_one<S: Answering, H: Hub>(server: &S, hub: &mut H, place: usize, index
 
 // Sends all commands that are unanswered again, from the oldest on.
 fn resend_all<S: Answering, H: Hub>(server: &S, hub: &mut H, place: usize)
-    ensures { Resends (H.told hub.old) (H.told hub.new) place (S.rules.outstanding server.now) }
+    ensures resends { Resends (H.told hub.old) (H.told hub.new) place (S.rules.outstanding server.now) }
+    ensures goes_on { H.goes_on hub.old hub.new }
 {
     let mut index = 0;
     'resending: while resend_one(server, hub, place, index) {
@@ -180,7 +183,8 @@ fn resend_all<S: Answering, H: Hub>(server: &S, hub: &mut H, place: usize)
 
 /// Sends all commands that are unanswered again to a place, from the oldest on, if the server dials the connection there.
 pub fn resend<S: Answering, H: Hub>(server: &S, hub: &mut H, door: Door, place: usize)
-    ensures { Resends (H.told hub.old) (H.told hub.new) place (resent_at door (S.rules.outstanding server.now)) }
+    ensures resends { Resends (H.told hub.old) (H.told hub.new) place (resent_at door (S.rules.outstanding server.now)) }
+    ensures goes_on { H.goes_on hub.old hub.new }
 {
     if !door.is_dialled() {
         return;

@@ -212,6 +212,15 @@ fn copy_front(bytes: &[u8], buf: &mut [u8])
 impl Hub for MemoryHub {
     ghost told = { λ h. told_of h.whole h.notes.items };
 
+    // There is nothing but its history.
+    ghost goes_on = { λ old new. Unit {0} };
+
+    ghost fails = { λ old new. Unit {0} };
+
+    ghost goes_on_none = { λ hub. tt };
+
+    ghost goes_on_then = { λ old mid new one two. tt };
+
     fn wait(&mut self) -> u64 {
         self.clock = self.clock.saturating_add(1);
         let now = self.clock;

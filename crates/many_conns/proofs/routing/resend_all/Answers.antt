@@ -5,6 +5,7 @@ use Rattle.many_conns.proofs.routing.resend_all.Goals as goal
 pub resending-init : goal.resending-init
 resending-init g c = record {
   sent = resends_none _ _;
+  goes_on = g.met.H.Hub.goes_on_none _;
   within = omega arith;
 }
 
@@ -14,6 +15,7 @@ resending-preserved g c =
     let lt : c.resending.index < length (g.S.Answering.rules.outstanding c.args.server.now) = in_range _ _ _ sent.there in
     record {
       sent = resends_more _ _ _ _ _ _ c.resending.invariant.sent sent;
+      goes_on = g.met.H.Hub.goes_on_then _ _ _ c.resending.invariant.goes_on c.resend_one.ensures.goes_on;
       within = omega arith;
     }
 
@@ -25,5 +27,5 @@ resending-smaller g c =
 pub overflow_add-index : goal.overflow_add-index
 overflow_add-index g c = omega (arith, c.resend_one.ensures.few, c.resending.invariant.within)
 
-pub returns : goal.returns
-returns g c = resends_all _ _ _ _ _ _ c.resending.invariant.sent c.resending-test.ensures.none c.resending-test.ensures.told
+pub returns-clause-resends : goal.returns-clause-resends
+returns-clause-resends g c = resends_all _ _ _ _ _ _ c.resending.invariant.sent c.resending-test.ensures.none c.resending-test.ensures.told

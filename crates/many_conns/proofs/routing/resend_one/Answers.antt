@@ -5,5 +5,5 @@ pub returns-clause-sent : goal.returns-clause-sent
 returns-clause-sent g c = record {
   command = take c.in-Some.count c.outstanding.new.out;
   there = sym c.in-Some.ensures.outstanding;
-  told = c.send_again.ensures;
+  told = c.send_again.ensures.told;
 }

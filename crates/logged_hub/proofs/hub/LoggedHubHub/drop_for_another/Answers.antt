@@ -1,6 +1,6 @@
 use Rattle.std.proofs.Common.{refl, subst}
 use Rattle.many_words.specs.Events.{Dropped}
-use Rattle.logged_hub.specs.Runs.{GoesOn}
+use Rattle.logged_hub.specs.Runs.{Proceeds}
 use Rattle.logged_hub.specs.State.{HubState}
 use Rattle.logged_hub.proofs.HubLaws.{kept-beside}
 use Rattle.logged_hub.proofs.RunLaws.{beside}
@@ -22,5 +22,5 @@ returns-clause-goes_on g c =
       held = c.self.inside.held;
       calls = c.self.inside.calls;
     } in
-    subst (λ (k : HubState g.row.W.Denot g.row.D.Denot). GoesOn g.W.Wires.told g.D.Disk.disk k (record hub { wires = c.drop_for_another.new.self; calls = c.note_dropped.new.self })) c.self.view_is
+    subst (λ (k : HubState g.row.W.Denot g.row.D.Denot). Proceeds g.W.Wires.told g.D.Disk.disk k (record hub { wires = c.drop_for_another.new.self; calls = c.note_dropped.new.self })) c.self.view_is
     (beside g.W.Wires.told g.D.Disk.disk g.met.D.Disk.only_now hub c.drop_for_another.new.self c.note_dropped.new.self (Dropped c.args.place) refl refl c.drop_for_another.ensures c.note_dropped.ensures)

@@ -1,5 +1,5 @@
 use Rattle.std.proofs.Common.{subst}
-use Rattle.logged_hub.specs.Runs.{GoesOn}
+use Rattle.logged_hub.specs.Runs.{Proceeds}
 use Rattle.logged_hub.specs.State.{HubState}
 use Rattle.logged_hub.proofs.RunLaws.{unseen}
 use Rattle.logged_hub.proofs.hub.LoggedHubHub.knocks.Goals as goal
@@ -15,5 +15,5 @@ returns-clause-goes_on g c =
       held = c.self.inside.held;
       calls = c.self.inside.calls;
     } in
-    subst (λ (k : HubState g.row.W.Denot g.row.D.Denot). GoesOn g.W.Wires.told g.D.Disk.disk k (record hub { wires = c.knocks.new.self })) c.self.view_is
+    subst (λ (k : HubState g.row.W.Denot g.row.D.Denot). Proceeds g.W.Wires.told g.D.Disk.disk k (record hub { wires = c.knocks.new.self })) c.self.view_is
     (unseen g.W.Wires.told g.D.Disk.disk g.met.D.Disk.only_now hub c.knocks.new.self c.knocks.ensures)

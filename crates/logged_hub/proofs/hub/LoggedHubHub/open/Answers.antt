@@ -1,6 +1,6 @@
 use Rattle.std.proofs.Common.{refl, subst}
 use Rattle.many_words.specs.Events.{Opened, Asked}
-use Rattle.logged_hub.specs.Runs.{GoesOn}
+use Rattle.logged_hub.specs.Runs.{Proceeds}
 use Rattle.logged_hub.specs.State.{HubState}
 use Rattle.logged_hub.proofs.HubLaws.{kept-beside}
 use Rattle.logged_hub.proofs.RunLaws.{beside}
@@ -27,7 +27,7 @@ returns-then-open-clause-goes_on g c =
       held = c.self.inside.held;
       calls = c.self.inside.calls;
     } in
-    subst (λ (k : HubState g.row.W.Denot g.row.D.Denot). GoesOn g.W.Wires.told g.D.Disk.disk k (record hub { wires = c.open.new.self; calls = c.note_opened.new.self })) c.self.view_is
+    subst (λ (k : HubState g.row.W.Denot g.row.D.Denot). Proceeds g.W.Wires.told g.D.Disk.disk k (record hub { wires = c.open.new.self; calls = c.note_opened.new.self })) c.self.view_is
     (beside g.W.Wires.told g.D.Disk.disk g.met.D.Disk.only_now hub c.open.new.self c.note_opened.new.self (Opened c.args.place c.args.door) refl refl c.if-open.ensures.opened c.note_opened.ensures)
 
 pub returns-else-open-clause-goes_on : goal.returns-else-open-clause-goes_on
@@ -41,5 +41,5 @@ returns-else-open-clause-goes_on g c =
       held = c.self.inside.held;
       calls = c.self.inside.calls;
     } in
-    subst (λ (k : HubState g.row.W.Denot g.row.D.Denot). GoesOn g.W.Wires.told g.D.Disk.disk k (record hub { wires = c.open.new.self; calls = c.note_asked.new.self })) c.self.view_is
+    subst (λ (k : HubState g.row.W.Denot g.row.D.Denot). Proceeds g.W.Wires.told g.D.Disk.disk k (record hub { wires = c.open.new.self; calls = c.note_asked.new.self })) c.self.view_is
     (beside g.W.Wires.told g.D.Disk.disk g.met.D.Disk.only_now hub c.open.new.self c.note_asked.new.self (Asked c.args.place c.args.door) refl refl c.if-open.ensures.none c.note_asked.ensures)

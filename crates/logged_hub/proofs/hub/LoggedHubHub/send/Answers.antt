@@ -1,6 +1,6 @@
 use Rattle.std.proofs.Common.{refl, subst}
 use Rattle.many_words.specs.Events.{Sent}
-use Rattle.logged_hub.specs.Runs.{GoesOn}
+use Rattle.logged_hub.specs.Runs.{Proceeds}
 use Rattle.logged_hub.specs.State.{HubState}
 use Rattle.logged_hub.proofs.HubLaws.{kept-beside}
 use Rattle.logged_hub.proofs.RunLaws.{beside}
@@ -22,5 +22,5 @@ returns-clause-goes_on g c =
       held = c.self.inside.held;
       calls = c.self.inside.calls;
     } in
-    subst (λ (k : HubState g.row.W.Denot g.row.D.Denot). GoesOn g.W.Wires.told g.D.Disk.disk k (record hub { wires = c.send.new.self; calls = c.note_sent.new.self })) c.self.view_is
+    subst (λ (k : HubState g.row.W.Denot g.row.D.Denot). Proceeds g.W.Wires.told g.D.Disk.disk k (record hub { wires = c.send.new.self; calls = c.note_sent.new.self })) c.self.view_is
     (beside g.W.Wires.told g.D.Disk.disk g.met.D.Disk.only_now hub c.send.new.self c.note_sent.new.self (Sent c.args.place c.args.bytes.now) refl refl c.send.ensures c.note_sent.ensures)

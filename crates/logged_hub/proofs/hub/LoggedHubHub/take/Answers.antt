@@ -1,6 +1,6 @@
 use Rattle.std.proofs.Common.{refl, subst, take}
 use Rattle.many_words.specs.Events.{Came, Ended, Blocked}
-use Rattle.logged_hub.specs.Runs.{GoesOn}
+use Rattle.logged_hub.specs.Runs.{Proceeds}
 use Rattle.logged_hub.specs.State.{HubState}
 use Rattle.logged_hub.proofs.HubLaws.{kept-beside}
 use Rattle.logged_hub.proofs.RunLaws.{beside}
@@ -32,7 +32,7 @@ returns-in-Bytes-clause-goes_on g c =
       held = c.self.inside.held;
       calls = c.self.inside.calls;
     } in
-    subst (λ (k : HubState g.row.W.Denot g.row.D.Denot). GoesOn g.W.Wires.told g.D.Disk.disk k (record hub { wires = c.take-taken.new.self; calls = c.note_came.new.self })) c.self.view_is
+    subst (λ (k : HubState g.row.W.Denot g.row.D.Denot). Proceeds g.W.Wires.told g.D.Disk.disk k (record hub { wires = c.take-taken.new.self; calls = c.note_came.new.self })) c.self.view_is
     (beside g.W.Wires.told g.D.Disk.disk g.met.D.Disk.only_now hub c.take-taken.new.self c.note_came.new.self (Came c.args.place (take c.in-Bytes.count c.take-taken.new.buf)) refl refl c.in-Bytes.ensures.gives.1 c.note_came.ensures)
 
 pub returns-in-Over-clause-goes_on : goal.returns-in-Over-clause-goes_on
@@ -46,7 +46,7 @@ returns-in-Over-clause-goes_on g c =
       held = c.self.inside.held;
       calls = c.self.inside.calls;
     } in
-    subst (λ (k : HubState g.row.W.Denot g.row.D.Denot). GoesOn g.W.Wires.told g.D.Disk.disk k (record hub { wires = c.take-taken.new.self; calls = c.note_ended.new.self })) c.self.view_is
+    subst (λ (k : HubState g.row.W.Denot g.row.D.Denot). Proceeds g.W.Wires.told g.D.Disk.disk k (record hub { wires = c.take-taken.new.self; calls = c.note_ended.new.self })) c.self.view_is
     (beside g.W.Wires.told g.D.Disk.disk g.met.D.Disk.only_now hub c.take-taken.new.self c.note_ended.new.self (Ended c.args.place) refl refl c.in-Over.ensures.gives c.note_ended.ensures)
 
 pub returns-in-Pending-clause-goes_on : goal.returns-in-Pending-clause-goes_on
@@ -60,5 +60,5 @@ returns-in-Pending-clause-goes_on g c =
       held = c.self.inside.held;
       calls = c.self.inside.calls;
     } in
-    subst (λ (k : HubState g.row.W.Denot g.row.D.Denot). GoesOn g.W.Wires.told g.D.Disk.disk k (record hub { wires = c.take-taken.new.self; calls = c.note_blocked.new.self })) c.self.view_is
+    subst (λ (k : HubState g.row.W.Denot g.row.D.Denot). Proceeds g.W.Wires.told g.D.Disk.disk k (record hub { wires = c.take-taken.new.self; calls = c.note_blocked.new.self })) c.self.view_is
     (beside g.W.Wires.told g.D.Disk.disk g.met.D.Disk.only_now hub c.take-taken.new.self c.note_blocked.new.self (Blocked c.args.place) refl refl c.in-Pending.ensures.gives.1 c.note_blocked.ensures)

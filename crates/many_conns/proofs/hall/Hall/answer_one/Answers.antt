@@ -19,7 +19,7 @@ returns-clause-leads g c =
     (says_of rules c.self.inside.server _ entry _ _ _ c.step-said.ensures.says c.door-door.ensures c.frame.ensures c.record.ensures)
     c.route-send.ensures.sends c.route-send.ensures.places
     (c.step-said.ensures.after ∙ ap (after_noted rules c.self.inside.server) c.record.ensures)
-    c.deliver.ensures
+    c.deliver.ensures.delivers
 
 pub returns-clause-looked : goal.returns-clause-looked
 returns-clause-looked g c = λ looked.

@@ -12,6 +12,7 @@ loop-place-preserved g c =
     let count = inv.count ∙ sym one.keeps.count in
     record {
       leads = leads_then _ _ _ _ _ _ _ inv.leads one.leads;
+      goes_on = g.met.H.Hub.goes_on_then _ _ _ inv.goes_on one.goes_on;
       nothing_owed = one.keeps.owed ∙ inv.nothing_owed;
       count = count;
       looked = one.looked inv.looked;

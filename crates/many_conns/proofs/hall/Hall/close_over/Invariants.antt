@@ -5,6 +5,7 @@ use Rattle.many_conns.proofs.hall.Hall.close_over.Given as goal
 abbrev pub invariant-loop-place : goal.invariant-loop-place
 invariant-loop-place g l = record {
   leads : Leads g.S.Answering.rules (g.H.Hub.told l.fn.hub) (g.H.Hub.told l.hub) l.fn.self l.self;
+  goes_on : g.H.Hub.goes_on l.fn.hub l.hub;
   nothing_owed : l.self.owed ≡ [];
   count : l.place-end ≡ length l.self.places;
   looked : All IsLooked l.self.places;

@@ -48,3 +48,13 @@ pub returns-clause-looked : goal.returns-clause-looked
 returns-clause-looked g c =
     subst (All IsLooked) (sym c.take_all.ensures)
     (taken_looked c.self.inside.now c.entries-3.result.now c.self.inside.places.items (subst (λ h. All IsLooked h.places) (sym c.self.view_is) c.requires.looked))
+
+pub returns-then-is_err-clause-breaks_off : goal.returns-then-is_err-clause-breaks_off
+returns-then-is_err-clause-breaks_off g c = record {
+  before = c.args.hub.now;
+  went_on = g.met.H.Hub.goes_on_none _;
+  failed = on_err c.log.result c.log.ensures.fails c.if-is_err.ensures.value;
+}
+
+pub returns-clause-goes_on : goal.returns-clause-goes_on
+returns-clause-goes_on g c = on_ok c.log.result c.log.ensures.goes_on c.if-is_err.ensures.value

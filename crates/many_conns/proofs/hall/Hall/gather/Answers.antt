@@ -11,6 +11,7 @@ loop-place-preserved g c =
     let two = c.look_at.ensures in
     record {
       leads = leads_then _ _ _ _ _ _ _ inv.leads (leads_then _ _ _ _ _ _ _ one.leads two.leads);
+      goes_on = g.met.H.Hub.goes_on_then _ _ _ inv.goes_on (g.met.H.Hub.goes_on_then _ _ _ one.goes_on two.goes_on);
       nothing_owed = two.keeps.owed ∙ (one.keeps.owed ∙ inv.nothing_owed);
       served = two.keeps.served ∙ (one.keeps.served ∙ inv.served);
       count = inv.count ∙ (sym one.keeps.count ∙ sym two.keeps.count);

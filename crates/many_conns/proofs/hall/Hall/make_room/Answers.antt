@@ -9,4 +9,4 @@ returns-clause-leads g c =
     drops_at _ _ _ _ _ _ _ _ _ _ _ _ _ _ _ _ c.args.door _ (sym c.self.view_is) c.requires.nothing_owed
     (subst (λ k. IsOldestAt c.args.door k c.in-Some.place) c.deref.ensures.value c.in-Some.ensures)
     c.requires.no_peer c.index.ensures (no_frame_of _ _ _ c.frame.ensures.frame c.if-is_some.ensures) c.index_mut.ensures.value c.vacate.ensures
-    (subst (λ t. Adds t (g.H.Hub.told c.drop_for_another.new.self) (Dropped c.in-Some.place)) c.knocks.ensures c.drop_for_another.ensures)
+    (subst (λ t. Adds t (g.H.Hub.told c.drop_for_another.new.self) (Dropped c.in-Some.place)) c.knocks.ensures.told c.drop_for_another.ensures.told)

@@ -12,7 +12,7 @@ pub returns-clause-leads : goal.returns-clause-leads
 returns-clause-leads g c =
     opens_at _ _ _ _ _ _ _ _ _ _ _ _ _ _ _ _ _ _ (sym c.self.view_is) c.requires.nothing_owed c.requires.there
     c.index_mut-slot.ensures.value c.door-door.ensures (sym c.is_free.ensures ∙ c.if-not-is_free.false) c.open-2.ensures c.if-not-open.ensures.opened
-    c.resend.ensures
+    c.resend.ensures.resends
 
 pub returns-then-not-open-clause-asked : goal.returns-then-not-open-clause-asked
 returns-then-not-open-clause-asked g c =
