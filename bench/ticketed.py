@@ -40,14 +40,14 @@ def post(port, path, body):
 
 class Pair:
     """Two servers in folders of their own, with the keys of an owner's lane. The leader dials its helper, or whoever stands
-    between."""
+    between. `front` has the words by role that a server's own are put behind when it starts."""
 
-    def __init__(self, path, room, sizes, owners, between=None):
-        self.path, self.room, self.sizes, self.owners = path, room, sizes, owners
+    def __init__(self, path, room, sizes, owners, between=None, places=1024):
+        self.path, self.room, self.sizes, self.owners, self.places = path, room, sizes, owners, places
         *doors, self.link = processes.lasting_ports(3)
         self.ports = dict(zip(ROLES, doors))
         self.dialled = between(self.link) if between else self.link
-        self.running, self.keys = {}, {}
+        self.running, self.keys, self.front = {}, {}, {}
         for role in ROLES:
             os.mkdir(os.path.join(room, role))
             with open(self.settings(role), "w", encoding="ascii") as file:
@@ -68,6 +68,7 @@ window = {self.sizes.window}
 clients = "127.0.0.1:{self.ports[role]}"
 link = "127.0.0.1:{self.dialled if role == "leader" else self.link}"
 folder = "{os.path.join(self.room, role)}"
+places = {self.places}
 """
 
     def says(self, *words):
@@ -79,18 +80,32 @@ folder = "{os.path.join(self.room, role)}"
 
     def start(self):
         for role in reversed(ROLES):
-            run = subprocess.Popen([self.path, "run", self.settings(role)], stdout=subprocess.PIPE, text=True)
-            line = run.stdout.readline()
-            if not line.startswith(f"started as {role}"):
-                raise plain.Differs(f"the {role} says {line!r}")
-            self.running[role] = run
+            self.begin(role)
+        for role in ROLES:
+            self.wait_until_started(role)
 
-    def kill(self):
-        for run in self.running.values():
+    def begin(self, role):
+        """Starts a server's process."""
+        command = [*self.front.get(role, ()), self.path, "run", self.settings(role)]
+        self.running[role] = subprocess.Popen(command, stdout=subprocess.PIPE, text=True)
+
+    def wait_until_started(self, role):
+        line = self.running[role].stdout.readline()
+        if not line.startswith(f"started as {role}"):
+            raise plain.Differs(f"the {role} says {line!r}")
+
+    def kill(self, roles=ROLES):
+        for run in [self.running.pop(role) for role in roles if role in self.running]:
             run.kill()
             run.wait()
             run.stdout.close()
-        self.running.clear()
+
+    def ended(self, role):
+        """What a server that ends by itself says at last, and its status."""
+        run = self.running.pop(role)
+        line = run.stdout.read().strip()
+        run.stdout.close()
+        return line, run.wait(timeout=PATIENCE)
 
 
 class Bridge:
