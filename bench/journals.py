@@ -34,23 +34,28 @@ def path_of(folder, name="express.journal"):
     return os.path.join(folder, name)
 
 
-def frames(folder, name="express.journal"):
-    """The frames of the journal of this name in a folder, up to the first closed gate."""
+def records(folder, name="express.journal"):
+    """The records of the journal of this name in a folder, up to the first closed gate, each with its place."""
     with open(path_of(folder, name), "rb") as file:
         content = file.read()
     at = 0
     while at < len(content) and content[at] == 1:
         length, = struct.unpack_from(">I", content, at + 1)
-        record = content[at + 5 : at + 5 + length]
-        if record[0] in (CLIENT, SERVER):
-            yield Frame(at, record[0], record[1:])
+        yield at, content[at + 5 : at + 5 + length]
         at += 5 + length
 
 
-def requests(folder, role):
+def frames(folder, name="express.journal"):
+    """The frames among these records."""
+    for at, record in records(folder, name):
+        if record[0] in (CLIENT, SERVER):
+            yield Frame(at, record[0], record[1:])
+
+
+def requests(folder, role, name="express.journal"):
     """By lane and serial, the different frames that began a request there."""
     found = collections.defaultdict(set)
-    for frame in frames(folder):
+    for frame in frames(folder, name):
         if frame.is_clients and frame.kind in BEGINNINGS[role]:
             found[frame.lane, frame.serial].add(frame.content)
     return found
