@@ -9,18 +9,22 @@ WIDE=x86-64-v3 # the target of newer processors; the other is the toolchain's de
 PIECES='644 share/man/man1/express.1 man/express.1
 644 share/man/man1/express-drill.1 man/express-drill.1
 644 share/man/man1/express-desk.1 man/express-desk.1
+644 share/man/man1/express-server.1 man/express-server.1
 644 share/man/man5/express.toml.5 man/express.toml.5
 644 share/bash-completion/completions/express completions/express.bash
 644 share/bash-completion/completions/express-drill completions/express.bash
 644 share/bash-completion/completions/express-desk completions/express.bash
+644 share/bash-completion/completions/express-server completions/express.bash
 644 lib/systemd/system/express-helper.service units/express-helper.service
 644 lib/systemd/system/express-leader.service units/express-leader.service
+644 lib/systemd/system/express-server.service units/express-server.service
 755 lib/express/set-aside units/set-aside
 755 lib/express/pair bin/pair
 644 share/doc/express/OPERATIONS.md docs/OPERATIONS.md
 644 share/doc/express/PRIVACY.md docs/PRIVACY.md
 644 share/doc/express/DESK.md docs/DESK.md
 644 share/doc/express/FRAMES.md docs/FRAMES.md
+644 share/doc/express/DOOR.md docs/DOOR.md
 644 share/doc/express/examples/README.md examples/README.md
 644 share/doc/express/examples/owner.toml examples/owner.toml
 644 share/doc/express/examples/writer.toml examples/writer.toml
@@ -41,6 +45,12 @@ PIECES='644 share/man/man1/express.1 man/express.1
 644 share/doc/express/deploy/torrc.leader deploy/torrc.leader
 644 share/doc/express/deploy/onion.haproxy.cfg deploy/onion.haproxy.cfg
 755 share/doc/express/deploy/onion-key deploy/onion-key
+644 share/doc/express/deploy/server.helper.toml deploy/server.helper.toml
+644 share/doc/express/deploy/server.leader.toml deploy/server.leader.toml
+644 share/doc/express/deploy/server.helper.stunnel.conf deploy/server.helper.stunnel.conf
+644 share/doc/express/deploy/server.leader.stunnel.conf deploy/server.leader.stunnel.conf
+644 share/doc/express/deploy/server.torrc.helper deploy/server.torrc.helper
+644 share/doc/express/deploy/server.torrc.leader deploy/server.torrc.leader
 644 lib/systemd/system/express-link.service units/express-link.service'
 
 # Whether this program stands as it was built, and the sources as they were then.

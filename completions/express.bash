@@ -1,4 +1,4 @@
-# Completion of express, express-drill and express-desk for bash.
+# Completion of express, express-drill, express-desk and express-server for bash.
 
 _express_commands='serve keep client carry replay batch cloak mill'
 
@@ -29,6 +29,19 @@ _express_desk() {
     fi
 }
 
+_express_server_commands='run status check owner'
+
+# Each command has a file behind it, and `owner` a lane, for which nothing is offered.
+_express_server() {
+    local word=${COMP_WORDS[COMP_CWORD]}
+    COMPREPLY=()
+    if ((COMP_CWORD == 2)) && [[ " $_express_server_commands " == *" ${COMP_WORDS[1]} "* ]]; then
+        mapfile -t COMPREPLY < <(compgen -f -- "$word")
+    elif ((COMP_CWORD == 1)); then
+        mapfile -t COMPREPLY < <(compgen -W "$_express_server_commands --help --version" -- "$word")
+    fi
+}
+
 # The program, and then a port, for which nothing is offered.
 _express_drill() {
     COMPREPLY=()
@@ -39,4 +52,5 @@ _express_drill() {
 
 complete -o filenames -F _express express
 complete -o filenames -F _express_desk express-desk
+complete -o filenames -F _express_server express-server
 complete -o filenames -F _express_drill express-drill
