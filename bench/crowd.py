@@ -1,6 +1,7 @@
 """Those who come to a server's door beside honest clients: connections on which a request drips, a byte a
 second, and others that come anew, bring half of a head, and stay."""
 
+import collections
 import selectors
 import socket
 import threading
@@ -8,6 +9,7 @@ import time
 
 HEAD = b"POST /frame HTTP/1.1\r\nHost: localhost\r\nX-Slow: " + b"a" * 4096
 HALF = 40  # bytes of a head
+REST = 1   # seconds until who was cut comes again
 
 
 class Crowd:
@@ -17,6 +19,7 @@ class Crowd:
     def __init__(self, ports, drips, anew, seconds):
         self.ports, self.drips, self.anew, self.seconds = ports, drips, anew, seconds
         self.selector, self.sent = selectors.DefaultSelector(), {}
+        self.waiting = collections.deque()  # who comes again: when, and at which port
         self.came, self.dripped, self.cut = 0, 0, 0
         self.begun, self.is_over = time.monotonic(), threading.Event()
         self.thread = threading.Thread(target=self.work, daemon=True)
@@ -49,12 +52,13 @@ class Crowd:
             for key, _ in self.selector.select(0.01):
                 self.hear(key)
             turn += 1
+            self.come_again()
             self.come(time.monotonic() - self.begun)
             for door in list(self.sent)[turn % 50::50]:  # each about twice a second
                 self.drip(door)
 
     def hear(self, key):
-        """Whatever comes of a server, or the end: one that drips is dialled again."""
+        """Whatever comes of a server, or the end: one that drips comes again after a rest."""
         try:
             if key.fileobj.recv(1 << 12):
                 return
@@ -66,7 +70,11 @@ class Crowd:
         self.selector.unregister(key.fileobj)
         key.fileobj.close()
         if self.sent.pop(key.fileobj, None) is not None:
-            self.sent[self.dial(key.data)] = 0
+            self.waiting.append((time.monotonic() + REST, key.data))
+
+    def come_again(self):
+        while self.waiting and self.waiting[0][0] < time.monotonic():
+            self.sent[self.dial(self.waiting.popleft()[1])] = 0
 
     def come(self, seconds):
         while self.came < min(self.anew, self.anew * seconds / self.seconds):
