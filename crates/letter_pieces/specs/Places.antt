@@ -32,7 +32,7 @@ places id (suc n) = swap (places id n ++ n ∷ []) n (drawn id n % suc n)
 
 -- the places of a part of a letter, on a card of so many addresses
 abbrev pub part_places : ℕ → ℕ → ℕ → List ℕ
-part_places addresses id part = take copies (drop (copies * part) (places id addresses))
+part_places addresses id part = take copies (drop (part * copies) (places id addresses))
 
 -- the places of a piece: to these addresses it is written, and to no other
 abbrev pub places_of : ℕ → Piece → List ℕ

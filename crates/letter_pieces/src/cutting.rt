@@ -46,7 +46,7 @@ pub fn parts_for(addresses: usize, width: usize, length: usize) -> Result<u8, Le
     if length > most {
         return Err(LetterFault::TooLong(most as u32));
     }
-    Ok(length.div_ceil(width - HEADER) as u8)
+    Ok(parts_at(width, length) as u8)
 }
 
 /// The piece of a letter's part, for boxes of `width` bytes.
@@ -61,7 +61,15 @@ pub fn piece_of(text: &[u8], letter: LetterId, width: usize, part: u8) -> Piece<
     Piece {
         letter,
         part,
-        parts: text.len().div_ceil(room).max(1) as u8,
+        parts: parts_at(width, text.len()) as u8,
         text: &rest[..room.min(rest.len())],
     }
+}
+
+#[tactic(auto, unfolding(file_carry::specs::Parts::count_of))]
+fn parts_at(width: usize, length: usize) -> usize
+    requires { 28 < width }
+    ensures { result ≡ parts_of width length }
+{
+    length.div_ceil(width - HEADER).max(1)
 }

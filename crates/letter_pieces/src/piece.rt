@@ -46,7 +46,7 @@ pub fn write_piece(piece: &Piece, out: &mut [u8])
     ensures { out.new ≡ encoded (length out.old) (content piece.now) }
 {
     let (head, body) = out.split_at_mut(HEADER);
-    head.copy_from_slice(&header(*piece));
+    head.copy_from_slice(&header(piece));
     fill(body, piece.text);
 }
 
@@ -70,7 +70,7 @@ pub fn read_piece(bytes: &[u8]) -> Option<Piece<'_>>
         parts: head[PART_AT + 1],
         text,
     };
-    if is_written(piece, head, rest) {
+    if is_written(&piece, head, rest) {
         Some(piece)
     } else {
         None
@@ -78,9 +78,9 @@ pub fn read_piece(bytes: &[u8]) -> Option<Piece<'_>>
 }
 
 // Whether a box of these bytes in front and behind is the piece, whose text stands between them.
-fn is_written(piece: Piece, head: &[u8], rest: &[u8]) -> bool
-    requires { length piece.text.now < 2 ^ 16 }
-    ensures { IsTrue result ↔ IsWritten (content piece) head.now rest.now }
+fn is_written(piece: &Piece, head: &[u8], rest: &[u8]) -> bool
+    requires { length piece.now.text.now < 2 ^ 16 }
+    ensures { IsTrue result ↔ IsWritten (content piece.now) head.now rest.now }
 {
     if piece.text.is_empty() || piece.part >= piece.parts {
         return false;
@@ -90,25 +90,26 @@ fn is_written(piece: Piece, head: &[u8], rest: &[u8]) -> bool
 }
 
 // A piece but for its text.
-fn header(piece: Piece) -> [u8; 28]
-    requires { length piece.text.now < 2 ^ 16 }
-    ensures { result ≡ header (content piece) }
+fn header(piece: &Piece) -> [u8; 28]
+    requires { length piece.now.text.now < 2 ^ 16 }
+    ensures { result ≡ header (content piece.now) }
 {
-    let front = front(piece);
+    let fields = front(piece);
     let mut hasher = Sha256::new();
-    hasher.update(front);
+    hasher.update(fields);
     hasher.update(piece.text);
-    let digest = hasher.finalize();
+    let whole = hasher.finalize();
     let mut bytes = [0; HEADER];
-    bytes[..DIGEST_AT].copy_from_slice(&front);
-    bytes[DIGEST_AT..].copy_from_slice(&digest[..16]);
+    let (front, digest) = bytes.split_at_mut(DIGEST_AT);
+    front.copy_from_slice(&fields);
+    digest.copy_from_slice(&whole[..16]);
     bytes
 }
 
 // What the digest is over, but for the text.
-fn front(piece: Piece) -> [u8; 12]
-    requires { length piece.text.now < 2 ^ 16 }
-    ensures { result ≡ front (content piece) }
+fn front(piece: &Piece) -> [u8; 12]
+    requires { length piece.now.text.now < 2 ^ 16 }
+    ensures { result ≡ front (content piece.now) }
 {
     let mut bytes = [0; DIGEST_AT];
     bytes[..ID_AT].copy_from_slice(&(piece.text.len() as u16).to_be_bytes());

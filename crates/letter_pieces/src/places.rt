@@ -51,7 +51,7 @@ impl Places {
 
     /// The places of a part: three of them, or fewer where the card has no more.
     pub fn of_part(&self, part: u8) -> &[u8]
-        ensures { result.now ≡ take copies (drop (copies * part) self.now) }
+        ensures { result.now ≡ take copies (drop (part * copies) self.now) }
     {
         let order = &self.order[..self.count];
         let from = (COPIES * usize::from(part)).min(order.len());
