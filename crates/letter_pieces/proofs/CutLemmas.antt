@@ -1,5 +1,5 @@
 -- How many parts a letter has, and that they are its text.
-use Rattle.std.proofs.Common.{◌≡◌, ℕ, zero, suc, ◌+◌, ◌-◌, ◌*◌, ◌/◌, ◌<◌, ◌≤◌, max, min, inl, inr, List, [], ◌∷◌, ◌++◌, length, map, take, drop, refl, ap, sym, ◌∙◌, arith}
+use Rattle.std.proofs.Common.{◌≡◌, ℕ, zero, suc, ◌+◌, ◌-◌, ◌*◌, ◌/◌, ◌^◌, ◌<◌, ◌≤◌, max, min, inl, inr, List, [], ◌∷◌, ◌++◌, length, map, take, drop, refl, ap, sym, ◌∙◌, arith}
 use Rattle.std.specs.List.{range_with_len, flat_map}
 use Rattle.std.specs.Int.{div_ceil}
 use Rattle.std.proofs.lemmas.Nat.{mul-le}
@@ -9,7 +9,7 @@ use Rattle.std.proofs.lemmas.List.{append-nil, map-id, take_all, take-take, take
 use Rattle.std.proofs.lemmas.List.Concat.{flat_map-append}
 use Rattle.std.proofs.lemmas.List.Folds.{flat_map-map}
 use Rattle.std.proofs.lemmas.List.FromFn.{map-range_with_len_more}
-use Rattle.file_carry.specs.Parts.{count_of, content_of}
+use Rattle.file_carry.specs.Parts.{IsPartWidth, count_of, content_of}
 use Rattle.file_carry.proofs.CutLaws.{covers, reaches, last_used, content_length}
 use Rattle.letter_pieces.specs.Sizes.{IsCard, room, most_parts, most_text}
 use Rattle.letter_pieces.specs.Pieces.{Piece, Fits, parts_of, piece_of, pieces_of, joined}
@@ -78,23 +78,29 @@ blocks_join size xs (suc n) =
 pub parts_have_places : PartsHavePlaces
 parts_have_places addresses width id text l = parts_most addresses width (length text) l.card l.length_fits.most
 
-pub parts_fit : PartsFit
-parts_fit addresses width id text part l below =
-    let wide : 32 ≤ width = l.card.width_is.0 in
-    let count = parts_have_places addresses width id text l in
-    let few = few_parts addresses width l.card in
+-- each part of a letter is a piece, where their number is a byte
+pub part_fits : (width id : ℕ) (text : List ℕ) (part : ℕ) → IsPartWidth width → id < 2 ^ 64 → 1 ≤ length text
+    → parts_of width (length text) < 256 → part < parts_of width (length text) → Fits width (piece_of width id text part)
+part_fits width id text part wide id_fits least few below =
     let size : ℕ = room width in
-    let some : 0 < size = omega (arith, wide) in
-    let begin = begins (length text) size part some l.length_fits.some below in
+    let most : 32 ≤ width = wide.0 in
+    let some : 0 < size = omega (arith, most) in
+    let begin = begins (length text) size part some least below in
     let len = content_length text size part in
     record {
-      width_is = l.card.width_is;
-      letter_fits = l.id_fits;
-      parts_fit = omega (arith, count, few);
+      width_is = wide;
+      letter_fits = id_fits;
+      parts_fit = few;
       part_fits = below;
       some = omega (arith, begin, len, some);
       most = omega (arith, len);
     }
+
+pub parts_fit : PartsFit
+parts_fit addresses width id text part l below =
+    let count = parts_have_places addresses width id text l in
+    let few = few_parts addresses width l.card in
+    part_fits width id text part l.card.width_is l.id_fits l.length_fits.some (omega (arith, count, few)) below
 
 pub pieces_join : PiecesJoin
 pieces_join addresses width id text l =

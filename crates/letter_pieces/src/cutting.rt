@@ -2,11 +2,11 @@
 ghost use Rattle.std.specs.Prelude.{◌≡◌, ◌<◌, ◌≤◌, ◌↔◌, length, IsOk, IfOk, IfErr};
 ghost use Rattle.file_carry.specs.Parts.{IsPartWidth};
 ghost use Rattle.letter_pieces.specs.Sizes.{IsCard, room, copies, most_parts, most_text, IsLetterLength};
-ghost use Rattle.letter_pieces.specs.Pieces.{parts_of, piece_of};
+ghost use Rattle.letter_pieces.specs.Pieces.{encoded, parts_of, piece_of};
 ghost use Rattle.letter_pieces.specs.Reading.{content, fault_of};
 
 use crate::fault::LetterFault;
-use crate::piece::{HEADER, LetterId, Piece};
+use crate::piece::{HEADER, LetterId, Piece, write_piece};
 
 /// A card has at most so many addresses.
 pub const MOST_ADDRESSES: usize = 64;
@@ -49,7 +49,19 @@ pub fn parts_for(addresses: usize, width: usize, length: usize) -> Result<u8, Le
     Ok(parts_at(width, length) as u8)
 }
 
-/// The piece of a letter's part, for boxes of `width` bytes.
+/// Writes a part of a letter, which is counted from 0, into `out`, which is as long as a box.
+pub fn cut_into(text: &[u8], letter: LetterId, part: u8, out: &mut [u8])
+    requires width { IsPartWidth (length out.old) }
+    requires some { 1 ≤ length text.now }
+    requires parts { parts_of (length out.old) (length text.now) < 256 }
+    requires part { part < parts_of (length out.old) (length text.now) }
+    ensures { out.new ≡ encoded (length out.old) (piece_of (length out.old) letter.0 text.now part) }
+{
+    let piece = piece_of(text, letter, out.len(), part);
+    write_piece(&piece, out);
+}
+
+/// The piece of a letter's part, which is counted from 0, for boxes of `width` bytes.
 pub fn piece_of(text: &[u8], letter: LetterId, width: usize, part: u8) -> Piece<'_>
     requires width { IsPartWidth width }
     requires part { part < parts_of width (length text.now) }

@@ -77,16 +77,17 @@ pub fn read_piece(bytes: &[u8]) -> Option<Piece<'_>>
     }
 }
 
-// Whether a box of these bytes in front and behind is the piece, whose text stands between them.
+// Whether a box of these bytes in front and behind is the piece, whose text stands between them. The digest, which
+// costs most, comes last.
 fn is_written(piece: &Piece, head: &[u8], rest: &[u8]) -> bool
     requires { length piece.now.text.now < 2 ^ 16 }
     ensures { IsTrue result ↔ IsWritten (content piece.now) head.now rest.now }
 {
-    if piece.text.is_empty() || piece.part >= piece.parts {
+    if piece.text.is_empty() || piece.part >= piece.parts || !is_zeros(rest) {
         return false;
     }
     let header = header(piece);
-    is_zeros(rest) && head == header.as_slice()
+    head == header.as_slice()
 }
 
 // A piece but for its text.
