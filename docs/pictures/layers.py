@@ -11,7 +11,7 @@ GROUPS = [
     ("the field, the audit, what one server sees", "#dcf5e4", "tower_field field_tables poly_roots write_sketch "
      "snip_proof batch_audit write_hiding run_hiding"),
     ("frames, texts and files", "#fdecc8", "wire_frames schedule_text express_texts settings_text "
-     "file_carry desk_letters desk_texts desk_tries"),
+     "file_carry desk_letters letter_pieces desk_texts desk_tries"),
     ("stores", "#e2e8f0", "block_region lane_table link_order share_store box_registry server_boxes"),
     ("servers and client", "#fbdcd3", "helper_core leader_core client_core"),
     ("on sockets and disks", "#cfeff2", "node_journal kept_machine node_restart node_serve node_client client_run"),
