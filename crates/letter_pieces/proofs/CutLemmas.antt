@@ -1,5 +1,6 @@
 -- How many parts a letter has, and that they are its text.
-use Rattle.std.proofs.Common.{◌≡◌, ℕ, zero, suc, ◌+◌, ◌-◌, ◌*◌, ◌/◌, ◌^◌, ◌<◌, ◌≤◌, max, min, inl, inr, List, [], ◌∷◌, ◌++◌, length, map, take, drop, refl, ap, sym, ◌∙◌, arith}
+use Rattle.std.proofs.Common.{◌≡◌, ℕ, zero, suc, ◌+◌, ◌-◌, ◌*◌, ◌/◌, ◌^◌, ◌<◌, ◌≤◌, max, min, inl, inr, List}
+use Rattle.std.proofs.Common.{[], ◌∷◌, ◌++◌, length, map, take, drop, refl, ap, sym, ◌∙◌, arith}
 use Rattle.std.specs.List.{range_with_len, flat_map}
 use Rattle.std.specs.Int.{div_ceil}
 use Rattle.std.proofs.lemmas.Nat.{mul-le}
@@ -22,8 +23,10 @@ count_most len size most some least fits =
     let c : ℕ = div_ceil len size in
     let b : c * size < len + size = (div_ceil_times len size some).1 in
     elim (cases_lt most c) as (λ _. max 1 c ≤ most) [
-      | inl more ↦ (let le : (most + 1) * size ≤ c * size = mul-le (most + 1) size c size (omega arith) (omega arith) in
-      absurd (let no : ⊥ = omega (arith, b, le, fits) in no))
+      | inl more ↦ (
+          let le : (most + 1) * size ≤ c * size =
+          mul-le (most + 1) size c size (omega arith) (omega arith) in
+          absurd (let no : ⊥ = omega (arith, b, le, fits) in no))
       | inr few ↦ omega (arith, few)
     ]
 
@@ -42,7 +45,9 @@ begins len size zero some least below = omega arith
 begins len size (suc k) some least below =
     elim (cases_eq (suc k + 1) (count_of len size)) as (λ _. suc k * size < len) [
       | inl last ↦ last_used len size (suc k) some last (omega arith)
-      | inr more ↦ (let whole = reaches len size (suc k) some (omega (arith, below, more)) in omega (arith, whole, some))
+      | inr more ↦ (
+          let whole = reaches len size (suc k) some (omega (arith, below, more)) in
+          omega (arith, whole, some))
     ]
 
 pub range_more : (n : ℕ) → range_with_len 0 (suc n) ≡ range_with_len 0 n ++ n ∷ []
@@ -76,11 +81,13 @@ blocks_join size xs (suc n) =
 -- ---- laws
 
 pub parts_have_places : PartsHavePlaces
-parts_have_places addresses width id text l = parts_most addresses width (length text) l.card l.length_fits.most
+parts_have_places addresses width id text l =
+    parts_most addresses width (length text) l.card l.length_fits.most
 
 -- each part of a letter is a piece, where their number is a byte
 pub part_fits : (width id : ℕ) (text : List ℕ) (part : ℕ) → IsPartWidth width → id < 2 ^ 64 → 1 ≤ length text
-    → parts_of width (length text) < 256 → part < parts_of width (length text) → Fits width (piece_of width id text part)
+    → parts_of width (length text) < 256 → part < parts_of width (length text)
+    → Fits width (piece_of width id text part)
 part_fits width id text part wide id_fits least few below =
     let size : ℕ = room width in
     let most : 32 ≤ width = wide.0 in
@@ -100,7 +107,8 @@ pub parts_fit : PartsFit
 parts_fit addresses width id text part l below =
     let count = parts_have_places addresses width id text l in
     let few = few_parts addresses width l.card in
-    part_fits width id text part l.card.width_is l.id_fits l.length_fits.some (omega (arith, count, few)) below
+    part_fits width id text part l.card.width_is l.id_fits l.length_fits.some
+    (omega (arith, count, few)) below
 
 pub pieces_join : PiecesJoin
 pieces_join addresses width id text l =

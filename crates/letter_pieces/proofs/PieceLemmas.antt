@@ -1,9 +1,11 @@
 -- What stands where in a piece's box, and that bytes whose fields are a piece's hold it.
-use Rattle.std.proofs.Common.{◌≡◌, ℕ, zero, suc, ◌+◌, ◌-◌, ◌<◌, ◌≤◌, ◌^◌, true, List, [], ◌∷◌, ◌++◌, length, get_or, take, drop, replicate, refl, ap, sym, subst, ◌∙◌, arith}
+use Rattle.std.proofs.Common.{◌≡◌, ℕ, zero, suc, ◌+◌, ◌-◌, ◌<◌, ◌≤◌, ◌^◌, true, List, [], ◌∷◌, ◌++◌, length}
+use Rattle.std.proofs.Common.{get_or, take, drop, replicate, refl, ap, sym, subst, ◌∙◌, arith}
 use Rattle.std.specs.Int.{w16, w64, from_be_bytes}
 use Rattle.std.proofs.lemmas.Nat.{from_be_bytes-to_be_bytes_2, from_be_bytes-to_be_bytes_8}
 use Rattle.std.proofs.lemmas.Bool.{eqb-true, and_parts}
-use Rattle.std.proofs.lemmas.List.{take_at, drop_at, length-append, length-replicate, length-take, length-drop, take-take, take-append-drop, drop-take, get_or-take}
+use Rattle.std.proofs.lemmas.List.{take_at, drop_at, length-append, length-replicate, length-take}
+use Rattle.std.proofs.lemmas.List.{length-drop, take-take, take-append-drop, drop-take, get_or-take}
 use Rattle.sha2.specs.Sha256.{sha256}
 use Rattle.sha2.proofs.Facts256.{length-sha256}
 use Rattle.file_carry.specs.Boxes.{is_zeros}
@@ -25,7 +27,11 @@ length-header p = omega (arith, length-digest p, length-append (front p) (digest
 
 length-filled : (n : ℕ) (text : List ℕ) → length text ≤ n → length (filled n text) ≡ n
 length-filled n text h =
-    omega (arith, length-append text (replicate (n - length text) 0), length-replicate {A = ℕ} (n - length text) 0)
+    omega (
+      arith,
+      length-append text (replicate (n - length text) 0),
+      length-replicate {A = ℕ} (n - length text) 0,
+    )
 
 length-encoded : (width : ℕ) (p : Piece) → Fits width p → length (encoded width p) ≡ width
 unfolding encoded
@@ -51,7 +57,8 @@ decoded bytes = record {
 abbrev pub piece_by : ℕ → ℕ → ℕ → List ℕ → Piece
 piece_by letter part parts text = record { letter = letter; part = part; parts = parts; text = text }
 
-pub same_piece : (p q : Piece) → p.letter ≡ q.letter → p.part ≡ q.part → p.parts ≡ q.parts → p.text ≡ q.text → p ≡ q
+pub same_piece : (p q : Piece) → p.letter ≡ q.letter → p.part ≡ q.part → p.parts ≡ q.parts
+    → p.text ≡ q.text → p ≡ q
 same_piece p q letter part parts text =
     ap (λ n. piece_by n p.part p.parts p.text) letter
     ∙ ap (λ n. piece_by q.letter n p.parts p.text) part
@@ -91,7 +98,8 @@ module _ (width : ℕ) (p : Piece) (f : Fits width p) where
       ∙ ap (take (length p.text)) back
       ∙ take_at p.text (replicate (room width - length p.text) 0) (length p.text) refl
 
-  rest_read : drop (length_in (encoded width p)) (drop 28 (encoded width p)) ≡ replicate (room width - length p.text) 0
+  rest_read : drop (length_in (encoded width p)) (drop 28 (encoded width p))
+      ≡ replicate (room width - length p.text) 0
   rest_read =
       ap (λ n. drop n (drop 28 (encoded width p))) used_read
       ∙ ap (drop (length p.text)) back
@@ -130,13 +138,14 @@ zeros_is (b ∷ bytes) h =
     ap (λ (n : ℕ). n ∷ bytes) (eqb-true b 0 p.0) ∙ ap (λ (t : List ℕ). 0 ∷ t) (zeros_is bytes p.1)
 
 -- bytes with a piece's header, its text and zeros behind it hold it
-pub spelled : (p : Piece) (used : ℕ) (bytes : List ℕ) → IsPartWidth (length bytes) → p.letter < 2 ^ 64 → p.parts < 256
-    → used ≤ length bytes - 28 → p.text ≡ take used (drop 28 bytes)
+pub spelled : (p : Piece) (used : ℕ) (bytes : List ℕ) → IsPartWidth (length bytes)
+    → p.letter < 2 ^ 64 → p.parts < 256 → used ≤ length bytes - 28 → p.text ≡ take used (drop 28 bytes)
     → IsWritten p (take 28 bytes) (drop used (drop 28 bytes)) → Spells p bytes
 unfolding encoded
 spelled p used bytes wide letter parts most text w =
     let body : List ℕ = drop 28 bytes in
-    let len : length p.text ≡ used = ap length text ∙ omega (arith, length-take used body, length-drop 28 bytes) in
+    let len : length p.text ≡ used =
+    ap length text ∙ omega (arith, length-take used body, length-drop 28 bytes) in
     let left : room (length bytes) - length p.text ≡ length (drop used body) =
     omega (arith, len, length-drop used body, length-drop 28 bytes) in
     let back : filled (room (length bytes)) p.text ≡ body =

@@ -1,22 +1,27 @@
 -- The places of a letter are the card's addresses, each once.
-use Rattle.std.proofs.Common.{◌≡◌, ◌≢◌, ℕ, zero, suc, ◌+◌, ◌-◌, ◌*◌, ◌/◌, ◌%◌, ◌^◌, ◌<◌, ◌≤◌, max, min, Bool, eqb, inl, inr, List, [], ◌∷◌, ◌++◌, length, get_or, map, set, take, drop, refl, ap, ap₂, sym, subst, ◌∙◌, arith}
+use Rattle.std.proofs.Common.{◌≡◌, ◌≢◌, ℕ, zero, suc, ◌+◌, ◌-◌, ◌*◌, ◌/◌, ◌%◌, ◌^◌, ◌<◌, ◌≤◌, max, min, Bool}
+use Rattle.std.proofs.Common.{eqb, inl, inr, List, [], ◌∷◌, ◌++◌, length, get_or, map, set, take, drop, refl}
+use Rattle.std.proofs.Common.{ap, ap₂, sym, subst, ◌∙◌, arith}
 use Rattle.std.specs.Prelude.{All, AllPairs, IsPermutation}
 use Rattle.std.specs.List.{range_with_len, flat_map, swap}
 use Rattle.std.proofs.lemmas.Nat.{mod_below}
 use Rattle.std.proofs.lemmas.Bool.{cases_eq, eq-eqb, ne_eqb}
 use Rattle.std.proofs.lemmas.Bool.Decides.{Decides-eqb}
-use Rattle.std.proofs.lemmas.List.{length-append, length-take, length-drop, length-set, length_push, take_more_set, get_or-take}
+use Rattle.std.proofs.lemmas.List.{length-append, length-take, length-drop, length-set, length_push}
+use Rattle.std.proofs.lemmas.List.{take_more_set, get_or-take}
 use Rattle.std.proofs.lemmas.List.Edits.{length-swap, swap_is}
 use Rattle.std.proofs.lemmas.List.Folds.{flat_map-map}
 use Rattle.std.proofs.lemmas.List.FromFn.{length-range_with_len, get_or-range_with_len}
-use Rattle.std.proofs.lemmas.List.Sorted.{IsPermutation-refl, IsPermutation-trans, IsPermutation-append_left, IsPermutation-swap, All-permutation}
+use Rattle.std.proofs.lemmas.List.Sorted.{IsPermutation-refl, IsPermutation-trans, IsPermutation-append_left}
+use Rattle.std.proofs.lemmas.List.Sorted.{IsPermutation-swap, All-permutation}
 use Rattle.std.proofs.lemmas.Map.Keys.{IsDistinct-IsPermutation}
 use Rattle.std.proofs.lemmas.Map.Made.{AllPairs-from_IsDistinct, IsDistinct-from_AllPairs}
 use Rattle.rand_chacha.specs.ChaCha.{ChaCha, next_word, word_at}
 use Rattle.letter_pieces.specs.Sizes.{copies, most_parts}
 use Rattle.letter_pieces.specs.Pieces.{Piece, parts_of, piece_of, pieces_of}
 use Rattle.letter_pieces.specs.Places.{draw_key, at_draw, drawn, places, part_places, places_of}
-use Rattle.letter_pieces.specs.Laws.{PlacesPermuted, PartsAreCopied, letter_places, PlacesDiffer, PlacesAreOnTheCard}
+use Rattle.letter_pieces.specs.Laws.{PlacesPermuted, PartsAreCopied, letter_places, PlacesDiffer}
+use Rattle.letter_pieces.specs.Laws.{PlacesAreOnTheCard}
 use Rattle.letter_pieces.proofs.CutLemmas.{range_more, blocks_join}
 
 -- ---- a draw
@@ -25,7 +30,8 @@ abbrev at_word : ℕ → ℕ → ChaCha
 at_word id n = record { key = draw_key id; stream = 0; word_pos = n }
 
 -- two words one behind the other are the draw that begins with them
-pub drawn_is : (id i low high : ℕ) (s t : ChaCha) → i < 64 → (low, s) ≡ next_word 10 (at_draw id i) → (high, t) ≡ next_word 10 s
+pub drawn_is : (id i low high : ℕ) (s t : ChaCha) → i < 64 → (low, s) ≡ next_word 10 (at_draw id i)
+    → (high, t) ≡ next_word 10 s
     → (low + high * 2 ^ 32 ≡ drawn id i) × (t ≡ at_draw id (i + 1))
 unfolding drawn
 drawn_is id i low high s t h first second =
@@ -53,13 +59,15 @@ take_set (suc n) [] i y = refl
 take_set (suc n) (x ∷ xs) zero y = refl
 take_set (suc n) (x ∷ xs) (suc i) y = ap (λ (t : List ℕ). x ∷ t) (take_set n xs i y)
 
-take_swap : (n : ℕ) (xs : List ℕ) (i j : ℕ) → i < n → j < n → n ≤ length xs → take n (swap xs i j) ≡ swap (take n xs) i j
+take_swap : (n : ℕ) (xs : List ℕ) (i j : ℕ) → i < n → j < n → n ≤ length xs
+    → take n (swap xs i j) ≡ swap (take n xs) i j
 take_swap n xs i j below under fits =
     let len : length (take n xs) ≡ n = omega (arith, length-take n xs) in
     ap (take n) (sym (swap_is xs i j 0 (omega arith) (omega arith)))
     ∙ take_set n (set xs i (get_or xs j 0)) j (get_or xs i 0)
     ∙ ap (λ (t : List ℕ). set t j (get_or xs i 0)) (take_set n xs i (get_or xs j 0))
-    ∙ ap₂ (λ a b. set (set (take n xs) i a) j b) (sym (get_or-take n xs j 0 under)) (sym (get_or-take n xs i 0 below))
+    ∙ ap₂ (λ a b. set (set (take n xs) i a) j b)
+    (sym (get_or-take n xs j 0 under)) (sym (get_or-take n xs i 0 below))
     ∙ swap_is (take n xs) i j 0 (omega (arith, len)) (omega (arith, len))
 
 -- one more address put last, and changed with one of all so far
@@ -90,9 +98,9 @@ permuted (suc n) id =
 
 eqb_flips : (x y : ℕ) → eqb x y ≡ eqb y x
 eqb_flips x y = elim (cases_eq x y) as (λ _. eqb x y ≡ eqb y x) [
-      | inl same ↦ eq-eqb x y same ∙ sym (eq-eqb y x (sym same))
-      | inr other ↦ ne_eqb x y other ∙ sym (ne_eqb y x (λ e. other (sym e)))
-    ]
+  | inl same ↦ eq-eqb x y same ∙ sym (eq-eqb y x (sym same))
+  | inr other ↦ ne_eqb x y other ∙ sym (ne_eqb y x (λ e. other (sym e)))
+]
 
 range_differs : (n : ℕ) → AllPairs (λ a b. a ≢ b) (range_with_len 0 n)
 range_differs n i j d below within e =
@@ -117,7 +125,14 @@ places_below n id =
 
 pub copied : PartsAreCopied
 copied n id part below =
-    omega (arith, below, length-take copies (drop (part * copies) (places id n)), length-drop (part * copies) (places id n), length-places id n)
+    let rest : List ℕ = drop (part * copies) (places id n) in
+    omega (
+      arith,
+      below,
+      length-take copies rest,
+      length-drop (part * copies) (places id n),
+      length-places id n,
+    )
 
 -- the places of a letter's pieces are the front of its places
 front_is : (n width id : ℕ) (text : List ℕ)
@@ -131,7 +146,9 @@ front_differs : (m : ℕ) (xs : List ℕ) → AllPairs (λ a b. a ≢ b) xs → 
 front_differs m xs differ i j d below within e =
     let len = length-take m xs in
     differ i j d below (omega (arith, len, within))
-    (sym (get_or-take m xs i d (omega (arith, len, within, below))) ∙ e ∙ get_or-take m xs j d (omega (arith, len, within)))
+    (sym (get_or-take m xs i d (omega (arith, len, within, below)))
+    ∙ e
+    ∙ get_or-take m xs j d (omega (arith, len, within)))
 
 pub differ : PlacesDiffer
 differ n width id text =
@@ -141,7 +158,8 @@ differ n width id text =
 front_below : (n m : ℕ) (xs : List ℕ) → All (λ a. a < n) xs → All (λ a. a < n) (take m xs)
 front_below n m xs all k d within =
     let len = length-take m xs in
-    subst (λ a. a < n) (sym (get_or-take m xs k d (omega (arith, len, within)))) (all k d (omega (arith, len, within)))
+    subst (λ a. a < n) (sym (get_or-take m xs k d (omega (arith, len, within))))
+    (all k d (omega (arith, len, within)))
 
 pub on_the_card : PlacesAreOnTheCard
 on_the_card n width id text =

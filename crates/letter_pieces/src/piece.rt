@@ -77,8 +77,8 @@ pub fn read_piece(bytes: &[u8]) -> Option<Piece<'_>>
     }
 }
 
-// Whether a box of these bytes in front and behind is the piece, whose text stands between them. The digest, which
-// costs most, comes last.
+// Whether a box of these bytes in front and behind is the piece, whose text stands between them. The digest,
+// which costs most, comes last.
 fn is_written(piece: &Piece, head: &[u8], rest: &[u8]) -> bool
     requires { length piece.now.text.now < 2 ^ 16 }
     ensures { IsTrue result ↔ IsWritten (content piece.now) head.now rest.now }

@@ -13,7 +13,8 @@ const LAST: [u8; 48] = [
 
 const ID: LetterId = LetterId(0x0102_0304_0506_0708);
 
-const PIECES: &str = "[0, 20, 1, 2, 3, 4, 5, 6, 7, 8, 0, 2, 41, 93, 208, 221, 71, 207, 52, 41, 13, 82, 238, 166, 94, \
+const PIECES: &str =
+    "[0, 20, 1, 2, 3, 4, 5, 6, 7, 8, 0, 2, 41, 93, 208, 221, 71, 207, 52, 41, 13, 82, 238, 166, 94, \
     190, 168, 165, 65, 116, 32, 110, 105, 110, 101, 44, 32, 98, 121, 32, 116, 104, 101, 32, 115, 105, \
     100, 101]\n\
     Some(Piece { letter: LetterId(72623859790382856), part: 0, parts: 2, text: [65, 116, 32, 110, \
@@ -58,7 +59,12 @@ fn letters(rt: HostRuntime) -> Result<(), Fail> {
 // Boxes that hold no piece: an empty one, a short one, and the letter's last piece with a byte changed.
 fn none_told(alloc: Global) -> Result<String, Fail> {
     let mut told = String::new(alloc);
-    write!(told, "{:?} {:?}", read_piece(&[0; 48]), read_piece(&LAST[..32]))?;
+    write!(
+        told,
+        "{:?} {:?}",
+        read_piece(&[0; 48]),
+        read_piece(&LAST[..32])
+    )?;
     for at in [0, 9, 10, 11, 27, 33, 47] {
         let mut bytes = LAST;
         bytes[at] ^= 1;
@@ -69,5 +75,8 @@ fn none_told(alloc: Global) -> Result<String, Fail> {
 
 #[test]
 fn none(rt: HostRuntime) -> Result<(), Fail> {
-    is_told(none_told(rt.alloc()), "None None None None None None None None None")
+    is_told(
+        none_told(rt.alloc()),
+        "None None None None None None None None None",
+    )
 }

@@ -19,7 +19,8 @@ returns-then-is_written c =
     let bytes : List ℕ = c.args.bytes.now in
     let head : List ℕ = c.split_at.result.0.now in
     let used : ℕ = c.from-used.result in
-    let p : Piece = piece_by c.letter_in.result.0 (get_or head 10 0) (get_or head 11 0) c.split_at-2.result.0.now in
+    let p : Piece =
+    piece_by c.letter_in.result.0 (get_or head 10 0) (get_or head 11 0) c.split_at-2.result.0.now in
     let read : IsRead p used head c.split_at-2.result.1.now bytes = record {
       used_is = c.from-used.ensures ∙ c.length_in.ensures;
       letter = c.letter_in.ensures;
@@ -40,7 +41,8 @@ returns-else-is_written c =
     let bytes : List ℕ = c.args.bytes.now in
     let head : List ℕ = c.split_at.result.0.now in
     let used : ℕ = c.from-used.result in
-    let p : Piece = piece_by c.letter_in.result.0 (get_or head 10 0) (get_or head 11 0) c.split_at-2.result.0.now in
+    let p : Piece =
+    piece_by c.letter_in.result.0 (get_or head 10 0) (get_or head 11 0) c.split_at-2.result.0.now in
     let read : IsRead p used head c.split_at-2.result.1.now bytes = record {
       used_is = c.from-used.ensures ∙ c.length_in.ensures;
       letter = c.letter_in.ensures;

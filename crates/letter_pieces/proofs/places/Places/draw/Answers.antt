@@ -19,5 +19,6 @@ loop-i-preserved c =
       size = omega (arith, size, c.swap.ensures.len, length-set c.loop-i.order i i);
       at = c.draw.ensures.next id i below c.loop-i.invariant.at;
       first = ap (take (i + 1)) c.swap.ensures.after
-          ∙ place_more id i _ c.loop-i.order (omega (arith, size)) c.loop-i.invariant.first (ap (λ n. n % (i + 1)) draw);
+          ∙ place_more id i _ c.loop-i.order (omega (arith, size)) c.loop-i.invariant.first
+          (ap (λ n. n % (i + 1)) draw);
     }
