@@ -1,0 +1,6 @@
+mod EndLaws
+mod FateLaws
+mod PartLaws
+mod RunLaws
+mod StandingLaws
+mod TryLaws

@@ -1,0 +1,4 @@
+pub mod Copies
+pub mod Fate
+pub mod Laws
+pub mod Runs
