@@ -1,6 +1,6 @@
 -- How many parts a letter has, and that they are its text.
-use Rattle.std.proofs.Common.{◌≡◌, ℕ, zero, suc, ◌+◌, ◌-◌, ◌*◌, ◌/◌, ◌^◌, ◌<◌, ◌≤◌, max, min, inl, inr, List}
-use Rattle.std.proofs.Common.{[], ◌∷◌, ◌++◌, length, map, take, drop, refl, ap, sym, ◌∙◌, arith}
+use Rattle.std.proofs.Common.{◌≡◌, ℕ, zero, suc, ◌+◌, ◌*◌, ◌^◌, ◌<◌, ◌≤◌, max, inl, inr, List}
+use Rattle.std.proofs.Common.{[], ◌∷◌, ◌++◌, length, take, drop, ap, sym, ◌∙◌, arith}
 use Rattle.std.specs.List.{range_with_len, flat_map}
 use Rattle.std.specs.Int.{div_ceil}
 use Rattle.std.proofs.lemmas.Nat.{mul-le}
@@ -10,11 +10,11 @@ use Rattle.std.proofs.lemmas.List.{append-nil, map-id, take_all, take-take, take
 use Rattle.std.proofs.lemmas.List.Concat.{flat_map-append}
 use Rattle.std.proofs.lemmas.List.Folds.{flat_map-map}
 use Rattle.std.proofs.lemmas.List.FromFn.{map-range_with_len_more}
-use Rattle.file_carry.specs.Parts.{IsPartWidth, count_of, content_of}
+use Rattle.file_carry.specs.Parts.{IsPartWidth, count_of}
 use Rattle.file_carry.proofs.CutLaws.{covers, reaches, last_used, content_length}
 use Rattle.letter_pieces.specs.Sizes.{IsCard, room, most_parts, most_text}
-use Rattle.letter_pieces.specs.Pieces.{Piece, Fits, parts_of, piece_of, pieces_of, joined}
-use Rattle.letter_pieces.specs.Laws.{IsLetter, PartsFit, PartsHavePlaces, PiecesJoin}
+use Rattle.letter_pieces.specs.Pieces.{Piece, Fits, parts_of, piece_of}
+use Rattle.letter_pieces.specs.Laws.{PartsFit, PartsHavePlaces, PiecesJoin}
 
 -- where so many parts of one size hold a text, it is cut into no more
 pub count_most : (len size most : ℕ) → 0 < size → 1 ≤ most → len ≤ most * size → count_of len size ≤ most

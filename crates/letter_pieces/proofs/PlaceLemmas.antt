@@ -1,13 +1,13 @@
 -- The places of a letter are the card's addresses, each once.
-use Rattle.std.proofs.Common.{◌≡◌, ◌≢◌, ℕ, zero, suc, ◌+◌, ◌-◌, ◌*◌, ◌/◌, ◌%◌, ◌^◌, ◌<◌, ◌≤◌, max, min, Bool}
-use Rattle.std.proofs.Common.{eqb, inl, inr, List, [], ◌∷◌, ◌++◌, length, get_or, map, set, take, drop, refl}
+use Rattle.std.proofs.Common.{◌≡◌, ◌≢◌, ℕ, zero, suc, ◌+◌, ◌*◌, ◌%◌, ◌^◌, ◌<◌, ◌≤◌}
+use Rattle.std.proofs.Common.{eqb, inl, inr, List, [], ◌∷◌, ◌++◌, length, get_or, set, take, drop, refl}
 use Rattle.std.proofs.Common.{ap, ap₂, sym, subst, ◌∙◌, arith}
 use Rattle.std.specs.Prelude.{All, AllPairs, IsPermutation}
-use Rattle.std.specs.List.{range_with_len, flat_map, swap}
+use Rattle.std.specs.List.{range_with_len, swap}
 use Rattle.std.proofs.lemmas.Nat.{mod_below}
 use Rattle.std.proofs.lemmas.Bool.{cases_eq, eq-eqb, ne_eqb}
 use Rattle.std.proofs.lemmas.Bool.Decides.{Decides-eqb}
-use Rattle.std.proofs.lemmas.List.{length-append, length-take, length-drop, length-set, length_push}
+use Rattle.std.proofs.lemmas.List.{length-take, length-drop, length-set, length_push}
 use Rattle.std.proofs.lemmas.List.{take_more_set, get_or-take}
 use Rattle.std.proofs.lemmas.List.Edits.{length-swap, swap_is}
 use Rattle.std.proofs.lemmas.List.Folds.{flat_map-map}
@@ -17,9 +17,9 @@ use Rattle.std.proofs.lemmas.List.Sorted.{IsPermutation-swap, All-permutation}
 use Rattle.std.proofs.lemmas.Map.Keys.{IsDistinct-IsPermutation}
 use Rattle.std.proofs.lemmas.Map.Made.{AllPairs-from_IsDistinct, IsDistinct-from_AllPairs}
 use Rattle.rand_chacha.specs.ChaCha.{ChaCha, next_word, word_at}
-use Rattle.letter_pieces.specs.Sizes.{copies, most_parts}
-use Rattle.letter_pieces.specs.Pieces.{Piece, parts_of, piece_of, pieces_of}
-use Rattle.letter_pieces.specs.Places.{draw_key, at_draw, drawn, places, part_places, places_of}
+use Rattle.letter_pieces.specs.Sizes.{copies}
+use Rattle.letter_pieces.specs.Pieces.{parts_of, piece_of}
+use Rattle.letter_pieces.specs.Places.{draw_key, at_draw, drawn, places, places_of}
 use Rattle.letter_pieces.specs.Laws.{PlacesPermuted, PartsAreCopied, letter_places, PlacesDiffer}
 use Rattle.letter_pieces.specs.Laws.{PlacesAreOnTheCard}
 use Rattle.letter_pieces.proofs.CutLemmas.{range_more, blocks_join}

@@ -6,7 +6,7 @@
 use Rattle.std.specs.Prelude.{ℕ, zero, suc, ◌+◌, ◌*◌, ◌%◌, ◌^◌, List, [], ◌∷◌, ◌++◌, swap, take, drop}
 use Rattle.std.specs.Int.{w64, to_be_bytes}
 use Rattle.sha2.specs.Sha256.{sha256}
-use Rattle.rand_chacha.specs.ChaCha.{ChaCha, key_of, next_word, word_at}
+use Rattle.rand_chacha.specs.ChaCha.{ChaCha, key_of, word_at}
 use Rattle.letter_pieces.specs.Sizes.{copies}
 use Rattle.letter_pieces.specs.Pieces.{Piece}
 

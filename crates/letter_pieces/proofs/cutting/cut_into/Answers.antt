@@ -1,5 +1,5 @@
-use Rattle.std.proofs.Common.{◌≡◌, ◌∙◌, ℕ, List, length, ap, sym, subst, arith}
-use Rattle.letter_pieces.specs.Pieces.{Piece, Fits, encoded}
+use Rattle.std.proofs.Common.{ℕ, length, sym, subst, arith}
+use Rattle.letter_pieces.specs.Pieces.{Piece, Fits}
 use Rattle.letter_pieces.proofs.CutLemmas.{part_fits}
 use Rattle.letter_pieces.proofs.cutting.cut_into.Goals as goal
 

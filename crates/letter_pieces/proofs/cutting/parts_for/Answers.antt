@@ -1,6 +1,4 @@
-use Rattle.std.proofs.Common.{◌≡◌, ◌≤◌, arith}
-use Rattle.letter_pieces.specs.Sizes.{most_parts, most_text}
-use Rattle.letter_pieces.specs.Pieces.{parts_of}
+use Rattle.std.proofs.Common.{arith}
 use Rattle.letter_pieces.proofs.CutLemmas.{parts_most, few_parts}
 use Rattle.letter_pieces.proofs.cutting.parts_for.Goals as goal
 

@@ -1,4 +1,4 @@
-use Rattle.std.proofs.Common.{◌≡◌, ℕ, ◌*◌, ◌-◌, ◌≤◌, length, arith}
+use Rattle.std.proofs.Common.{ℕ, ◌-◌, length, arith}
 use Rattle.file_carry.proofs.CutLaws.{starts}
 use Rattle.letter_pieces.proofs.cutting.piece_of.Goals as goal
 

@@ -1,4 +1,4 @@
-use Rattle.std.proofs.Common.{◌≡◌, ◌∙◌, ◌++◌, ℕ, List, take, ap, ap₂}
+use Rattle.std.proofs.Common.{◌∙◌, ◌++◌, ℕ, List, take, ap, ap₂}
 use Rattle.sha2.specs.Sha256.{sha256}
 use Rattle.letter_pieces.specs.Pieces.{digest_of}
 use Rattle.letter_pieces.proofs.piece.header.Goals as goal

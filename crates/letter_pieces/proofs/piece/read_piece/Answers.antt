@@ -1,4 +1,4 @@
-use Rattle.std.proofs.Common.{◌≡◌, ◌∙◌, ◌<◌, ◌≤◌, ◌-◌, ℕ, List, length, get_or, take, drop, ap, refl, arith}
+use Rattle.std.proofs.Common.{◌≡◌, ◌∙◌, ℕ, List, get_or, take, drop, ap, refl, arith}
 use Rattle.std.proofs.lemmas.List.{get_or-take}
 use Rattle.letter_pieces.specs.Fields.{length_in}
 use Rattle.letter_pieces.specs.Pieces.{Piece}

@@ -1,4 +1,4 @@
-use Rattle.std.proofs.Common.{◌≡◌, ◌∙◌, ℕ, ◌+◌, ◌*◌, ◌%◌, ◌^◌, ap, arith}
+use Rattle.std.proofs.Common.{◌≡◌, ◌∙◌, ◌+◌, ◌*◌, ◌%◌, ◌^◌, ap, arith}
 use Rattle.rand_chacha.specs.ChaCha.{next_word}
 use Rattle.letter_pieces.proofs.PlaceLemmas.{drawn_is}
 use Rattle.letter_pieces.proofs.places.draw.Goals as goal

@@ -1,4 +1,4 @@
-use Rattle.std.proofs.Common.{◌≡◌, ◌∙◌, ℕ, ◌+◌, ◌%◌, ◌<◌, List, take, length, ap, refl, arith}
+use Rattle.std.proofs.Common.{◌∙◌, ℕ, ◌+◌, ◌%◌, ◌<◌, take, ap, refl, arith}
 use Rattle.std.proofs.lemmas.List.{length-set}
 use Rattle.letter_pieces.specs.Places.{places}
 use Rattle.letter_pieces.proofs.PlaceLemmas.{place_more}
