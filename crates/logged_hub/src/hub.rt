@@ -84,6 +84,20 @@ impl<W: Wires, D: Disk> LoggedHub<W, D> {
         self.fault
     }
 
+    /// The connections.
+    pub fn wires(&self) -> &W
+        ensures { result.now ≡ self.now.wires }
+    {
+        &self.wires
+    }
+
+    /// How many bytes the log's records take.
+    pub fn log_end(&self) -> u64
+        ensures { result ≡ self.now.journal.end }
+    {
+        self.journal.end()
+    }
+
     /// The connections and the disk, as the last call left them.
     pub fn into_parts(self) -> (W, D)
         ensures wires { result.0 ≡ self.wires }

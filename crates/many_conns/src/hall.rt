@@ -107,6 +107,13 @@ impl<S: Answering> Hall<S> {
         })
     }
 
+    /// The server behind its doors, as the last round left it.
+    pub fn server(&self) -> &S
+        ensures { result.now ≡ self.entry.now.server }
+    {
+        &self.server
+    }
+
     // Closes the connection at a place, if its time is over.
     fn close_one<H: Hub>(&mut self, hub: &mut H, place: usize)
         requires nothing_owed { self.old.owed ≡ [] }
