@@ -1,0 +1,5 @@
+use Rattle.server_status.proofs.TallyLaws.{goes_on}
+use Rattle.server_status.proofs.counting.CountingWiresWires.leave.Goals as goal
+
+pub invariant_of-self : goal.invariant_of-self
+invariant_of-self g c = goes_on _ _ _ _ _ c.note_unanswered.ensures c.self.invariant c.answer.ensures

@@ -1,0 +1,6 @@
+pub mod Figures
+pub mod Lines
+pub mod Statuses
+pub mod Tallies
+pub mod Texts
+pub mod Views

@@ -1,0 +1,8 @@
+-- Connections that count.
+use Rattle.std.specs.Prelude.{List}
+use Rattle.many_words.specs.Events.{Event}
+
+-- the connections below, and all calls so far
+pub record View (W : Type 0) : Type 0 where
+  pub wires : W
+  pub calls : List Event
