@@ -6,15 +6,10 @@ use Rattle.server_settings.specs.declared.fault.SettingsFault.{SettingsFault}
 use Rattle.server_settings.specs.declared.fault.SettingsFault.TheVariants as fault
 use Rattle.server_settings.specs.Faults.{bad_text}
 use Rattle.server_settings.specs.Keys.{key_name}
-use Rattle.server_words.specs.declared.counts.Counts.{Counts}
-use Rattle.server_words.specs.declared.counts.LinkTurn.{LinkTurn}
-use Rattle.server_words.specs.declared.counts.OpenCounts.{OpenCounts}
-use Rattle.server_words.specs.declared.counts.WorkCounts.{WorkCounts}
-use Rattle.server_words.specs.declared.counts.LinkTurn.TheVariants.{Up, Down}
 use Rattle.server_words.specs.declared.owner.OwnerLine.{OwnerLine}
 use Rattle.server_words.specs.declared.start.Start.{Start}
 use Rattle.server_words.specs.declared.stop.Stop.{Stop}
-use Rattle.server_words.specs.declared.stop.Stop.TheVariants.{Ended, Words, Settings, Unopened, LogFailed, Address, NoMemory}
+use Rattle.server_words.specs.declared.stop.Stop.TheVariants.{Ended, Words, Settings, Unopened, LogFailed, Address, NoMemory, NoServer}
 
 abbrev pub role_text : Role → List ℕ
 role_text Leader = codes "leader"
@@ -30,32 +25,6 @@ start_text start =
     ++ (codes " bytes, " ++ (decimal start.records
     ++ codes " records")))))))))))
 
-abbrev pub turn_text : LinkTurn → List ℕ
-turn_text Up = codes "link up"
-turn_text Down = codes "link down"
-
-abbrev pub open_text : OpenCounts → List ℕ
-open_text counts =
-    codes "open clients " ++ (decimal counts.clients
-    ++ (codes " links " ++ (decimal counts.links
-    ++ (codes " statuses " ++ decimal counts.statuses))))
-
-abbrev pub work_text : WorkCounts → List ℕ
-work_text counts =
-    codes "dropped " ++ (decimal counts.dropped
-    ++ (codes ", closed " ++ (decimal counts.closed
-    ++ (codes ", frames " ++ (decimal counts.frames
-    ++ (codes ", rounds " ++ (decimal counts.rounds
-    ++ (codes ", batches " ++ (decimal counts.batches
-    ++ (codes ", largest " ++ decimal counts.largest))))))))))
-
-abbrev pub counts_text : Counts → List ℕ
-counts_text counts =
-    open_text counts.open ++ (codes ", " ++ (work_text counts.work
-    ++ (codes ", log " ++ (decimal counts.bytes
-    ++ (codes " bytes, outstanding " ++ (decimal counts.outstanding
-    ++ (codes ", leases " ++ decimal counts.leases)))))))
-
 abbrev pub owner_text : OwnerLine → List ℕ
 owner_text line = codes "lane " ++ (decimal line.lane ++ (codes " key " ++ line.digits))
 
@@ -69,6 +38,7 @@ status_of Unopened = 4
 status_of LogFailed = 5
 status_of (Address key) = 6
 status_of NoMemory = 7
+status_of NoServer = 8
 
 -- settings that aren't read
 abbrev pub stop_of : SettingsFault → Stop
@@ -83,6 +53,7 @@ cause_text Unopened = codes "the folder or the log can't be opened"
 cause_text LogFailed = codes "the log failed while the server ran"
 cause_text (Address key) = codes "the address under " ++ (key_name key ++ codes " can't be used")
 cause_text NoMemory = codes "out of memory"
+cause_text NoServer = codes "no server answers at the address under status"
 
 abbrev pub stop_text : Stop → List ℕ
 stop_text stop = codes "stopped with status " ++ (decimal (status_of stop) ++ (codes ", " ++ cause_text stop))

@@ -17,6 +17,6 @@ express-server WORD ..
 
 A server may be ended at any moment, also by a kill: what it answered is in its log. The exit status is
 0 when it is done, 2 for words that aren't these, 3 for bad settings, 4 when the folder or the log can't
-be opened, 5 when the log failed while the server ran, 6 when an address can't be used, and 7 when no
-memory is left.
+be opened, 5 when the log failed while the server ran, 6 when an address can't be used or there is none, 7
+when no memory is left, and 8 when no server answers at the address under status.
 ";

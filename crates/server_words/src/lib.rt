@@ -2,7 +2,6 @@
 #![tactic(auto)]
 
 mod asking;
-mod counts;
 mod given;
 mod help;
 mod owner;
@@ -11,7 +10,6 @@ mod stop;
 mod task;
 
 pub use asking::asked_of;
-pub use counts::{Counts, LinkTurn, OpenCounts, WorkCounts};
 pub use help::{HELP, VERSION};
 pub use owner::OwnerLine;
 pub use start::Start;

@@ -23,6 +23,8 @@ pub enum Stop {
     Address(Key),
     /// No memory is left.
     NoMemory,
+    /// No server answers at the status door.
+    NoServer,
 }
 
 impl Stop {
@@ -38,6 +40,7 @@ impl Stop {
             Stop::LogFailed => 5,
             Stop::Address(_) => 6,
             Stop::NoMemory => 7,
+            Stop::NoServer => 8,
         }
     }
 }
@@ -79,6 +82,7 @@ impl fmt::Display for Cause<'_> {
             Stop::LogFailed => f.write_str("the log failed while the server ran"),
             Stop::Address(key) => write!(f, "the address under {key} can't be used"),
             Stop::NoMemory => f.write_str("out of memory"),
+            Stop::NoServer => f.write_str("no server answers at the address under status"),
         }
     }
 }
