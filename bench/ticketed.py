@@ -5,6 +5,7 @@ import hashlib
 import http.client
 import os
 import random
+import re
 import socket
 import struct
 import subprocess
@@ -19,6 +20,10 @@ SERVER = os.path.join(processes.TOP, "crates/express_server/out/express_server")
 LOG = "express-server.log"
 OWNER = 0  # the lane of an owner, which has a key at each server
 CHALLENGE = 7
+STATUS = (r"serving (?P<seconds>\d+) seconds, link (?P<link>up|down), links (?P<links>\d+), clients (?P<clients>\d+), "
+          r"dropped (?P<dropped>\d+), closed (?P<closed>\d+), frames (?P<frames>\d+), rounds (?P<rounds>\d+), "
+          r"batches (?P<batches>\d+), largest (?P<largest>\d+), log (?P<log>\d+) bytes, boxes (?P<boxes>\d+), "
+          r"lanes (?P<lanes>\d+), leases (?P<leases>\d+), outstanding (?P<outstanding>\d+)\n")
 OCTETS = {"Content-Type": "application/octet-stream"}
 PATIENCE = 600  # seconds for an answer before it counts as one that never comes
 
@@ -44,8 +49,9 @@ class Pair:
 
     def __init__(self, path, room, sizes, owners, between=None, places=1024):
         self.path, self.room, self.sizes, self.owners, self.places = path, room, sizes, owners, places
-        *doors, self.link = processes.lasting_ports(3)
+        *doors, self.link = processes.lasting_ports(5)
         self.ports = dict(zip(ROLES, doors))
+        self.statuses = dict(zip(ROLES, doors[len(ROLES):]))
         self.dialled = between(self.link) if between else self.link
         self.running, self.keys, self.front = {}, {}, {}
         for role in ROLES:
@@ -67,6 +73,7 @@ strangers = {self.sizes.lanes - self.owners}
 window = {self.sizes.window}
 clients = "127.0.0.1:{self.ports[role]}"
 link = "127.0.0.1:{self.dialled if role == "leader" else self.link}"
+status = "127.0.0.1:{self.statuses[role]}"
 folder = "{os.path.join(self.room, role)}"
 places = {self.places}
 """
@@ -78,10 +85,10 @@ places = {self.places}
             raise plain.Differs(f"{words} ended with status {run.returncode} and {run.stdout!r}")
         return run.stdout
 
-    def start(self):
-        for role in reversed(ROLES):
+    def start(self, roles=tuple(reversed(ROLES))):
+        for role in roles:
             self.begin(role)
-        for role in ROLES:
+        for role in roles:
             self.wait_until_started(role)
 
     def begin(self, role):
@@ -103,9 +110,20 @@ places = {self.places}
     def ended(self, role):
         """What a server that ends by itself says at last, and its status."""
         run = self.running.pop(role)
-        line = run.stdout.read().strip()
+        line = run.stdout.read().strip().rpartition("\n")[2]
         run.stdout.close()
         return line, run.wait(timeout=PATIENCE)
+
+    def stands(self, role):
+        """A server's line, by the program's own word: its figures by their names, and whether the link stands. None where
+        no server is there."""
+        run = subprocess.run([self.path, "status", self.settings(role)], capture_output=True, text=True, timeout=PATIENCE)
+        if run.returncode == 8:
+            return None
+        line = re.fullmatch(STATUS, run.stdout)
+        if run.returncode or not line:
+            raise plain.Differs(f"the {role}'s status ended with {run.returncode} and {run.stdout!r}")
+        return {name: int(value) if value.isdigit() else value for name, value in line.groupdict().items()}
 
 
 class Bridge:

@@ -1,11 +1,15 @@
 //! A server for many: the program, over the system's own files, sockets and clock.
 #![tactic(auto)]
 
+mod console;
 mod keys;
 mod logs;
 mod running;
+mod status_door;
 mod tasks;
+mod watch;
 
+use console::Console;
 use express_outside::stand_in;
 use server_words::{Stop, asked_of};
 use std::process::ExitCode;
@@ -35,9 +39,11 @@ fn begin(rt: &HostRuntime) -> Result<(), Stop> {
     done
 }
 
-// Tells why the program ends, where it can be told.
+// Tells why the program ends, where it can be told at once: a server whose log failed doesn't wait for a reader.
 fn tell(rt: &HostRuntime, stop: &Stop) -> u8 {
-    let _told = println!(rt; "{stop}");
+    if let (Ok(mut console), Ok(line)) = (Console::open(rt), format!(in rt.alloc(); "{stop}")) {
+        console.print(rt, line.as_str());
+    }
     stop.status()
 }
 

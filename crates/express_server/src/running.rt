@@ -5,6 +5,8 @@ ghost use Rattle.logged_hub.specs.State.{IsReady};
 ghost use Rattle.many_conns.specs.Hall.{IsSettled};
 
 use crate::logs::{LogDisk, disk_at, open_helper, open_leader, opening_of, path_of};
+use crate::status_door::{StatusDoor, socket_of};
+use crate::watch::Watch;
 use express_words::Role;
 use http_door::HeaderValue;
 use http_wires::HttpWires;
@@ -14,10 +16,9 @@ use many_servers::{HelperServer, LeaderServer};
 use many_wires::RecordLog;
 use mio_wires::{MioWires, OtherServer, WiresFault, WiresSettings};
 use node_journal::{Disk, Journal};
-use server_run::run_server;
-use server_settings::{Address, Key, ServerSettings};
+use server_settings::{Key, ServerSettings};
+use server_status::{CountingWires, Figured, run_viewed};
 use server_words::{Start, Stop};
-use std::net::{SocketAddr, ToSocketAddrs};
 
 /// So many frames a round takes at most.
 const FRAMES: usize = 128;
@@ -43,17 +44,8 @@ struct Log<'a> {
     count: u64,
 }
 
-/// The connections of a server: sockets, and HTTP at the clients' door.
-type ServerWires = HttpWires<MioWires<HostRuntime>>;
-
-// The first address of a name, under this key.
-fn socket_of(rt: &HostRuntime, key: Key, address: &Address) -> Result<SocketAddr, Stop> {
-    let mut found = address
-        .as_str()
-        .to_socket_addrs(rt)
-        .map_err(|_| Stop::Address(key))?;
-    found.next().ok_or(Stop::Address(key))
-}
+/// The connections of a server: sockets, and HTTP at the clients' door; and what they do is counted.
+type ServerWires = CountingWires<HttpWires<MioWires<HostRuntime>>>;
 
 fn stop_of(fault: WiresFault) -> Stop {
     match fault {
@@ -86,7 +78,10 @@ fn open_wires(rt: &HostRuntime, settings: &ServerSettings) -> Result<ServerWires
         Some(origin) => HeaderValue::of(origin.as_str().as_bytes()),
         None => None,
     };
-    HttpWires::open(rt.alloc(), wires, places, origin.as_ref()).map_err(|_| Stop::NoMemory)
+    match HttpWires::open(rt.alloc(), wires, places, origin.as_ref()) {
+        Ok(wires) => Ok(CountingWires::new(wires)),
+        Err(_) => Err(Stop::NoMemory),
+    }
 }
 
 // The loop of a server, before its first round.
@@ -117,7 +112,7 @@ fn open_hall<S: Answering + Drop>(
 }
 
 // Serves until the log fails.
-fn serve<'a, S: Answering + Drop>(
+fn serve<'a, S: Answering + Figured + Drop>(
     rt: &HostRuntime,
     settings: &ServerSettings,
     server: S,
@@ -140,9 +135,10 @@ fn serve<'a, S: Answering + Drop>(
     let mut hall = open_hall(rt, settings, server)?;
     let wires = open_wires(rt, settings)?;
     let batch = batch_of(rt.alloc(), FRAMES)?;
+    let mut watch = Watch::open(rt, StatusDoor::of(rt, settings)?)?;
     let mut hub = LoggedHub::open(wires, journal, disk, held, batch);
-    let _told = println!(rt; "{start}");
-    run_server(&mut hall, &mut hub, ROUNDS).map_err(|_| Stop::LogFailed)
+    watch.begin(&start);
+    run_viewed(&mut hall, &mut hub, &mut watch, ROUNDS).map_err(|_| Stop::LogFailed)
 }
 
 fn run_helper(rt: &HostRuntime, settings: &ServerSettings) -> Result<(), Stop> {
@@ -173,11 +169,8 @@ fn run_leader(rt: &HostRuntime, settings: &ServerSettings) -> Result<(), Stop> {
     serve(rt, settings, server, log)
 }
 
-/// Runs the server of the settings. No server tells its state at a door yet, so one with such a door isn't run.
+/// Runs the server of the settings.
 pub fn run(rt: &HostRuntime, settings: &ServerSettings) -> Result<(), Stop> {
-    if settings.doors.status.is_some() {
-        return Err(Stop::Address(Key::Status));
-    }
     match settings.role {
         Role::Helper => run_helper(rt, settings),
         Role::Leader => run_leader(rt, settings),

@@ -2,12 +2,13 @@
 use crate::keys::give;
 use crate::logs::{opening_of, path_of};
 use crate::running::run;
+use crate::status_door::ask;
 use express_outside::{FileDisk, JournalFile, Place, random_seed};
 use express_words::Text;
 use lane_gate::{Note, Ticket};
 use logged_hub::read_records;
 use server_run::LOG_LIMIT;
-use server_settings::{Key, ServerSettings, read_settings};
+use server_settings::{ServerSettings, read_settings};
 use server_words::{HELP, OwnerLine, ServerTask, Stop, VERSION};
 use std::fs;
 use std::fs::File;
@@ -81,7 +82,6 @@ pub fn do_task(rt: &HostRuntime, task: &ServerTask) -> Result<(), Stop> {
         ServerTask::Help => print(rt, HELP),
         ServerTask::Version => print(rt, VERSION),
         ServerTask::Check(path) => check(rt, path),
-        // No server tells its state at a door yet.
-        ServerTask::Status(_) => Err(Stop::Address(Key::Status)),
+        ServerTask::Status(path) => ask(rt, &settings_at(rt, path)?),
     }
 }

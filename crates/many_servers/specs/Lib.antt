@@ -1,5 +1,6 @@
 pub mod Announced
 pub mod Doors
+pub mod Figures
 pub mod Helpers
 pub mod Laws
 pub mod Leaders
