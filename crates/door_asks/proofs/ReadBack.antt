@@ -6,6 +6,7 @@ use Rattle.std.proofs.lemmas.Bool.{eq-eqb}
 use Rattle.std.proofs.lemmas.Bool.Decides.{nat_tests}
 use Rattle.std.proofs.lemmas.List.{take_at, drop_at}
 use Rattle.std.proofs.lemmas.Nat.{from_be_bytes-to_be_bytes_2, from_be_bytes-to_be_bytes_4}
+use Rattle.lane_leases.specs.declared.ended.End.TheVariants as ends
 use Rattle.http_door.specs.declared.fault.DoorFault.{DoorFault}
 use Rattle.http_door.specs.declared.fault.DoorFault.TheVariants as fault
 use Rattle.http_door.specs.Hearing.{PlainAsked, Request, Preflight, Refused}
@@ -95,6 +96,8 @@ answer_back (reply.Frame frame) fits = refl
 answer_back (reply.Lease lane serial) fits =
     λ i. Some (reply.Lease (from_be_bytes-to_be_bytes_2 lane fits.0 i) (from_be_bytes-to_be_bytes_4 serial fits.1 i))
 answer_back reply.NotYours fits = refl
+answer_back (reply.Ended ends.Written) fits = refl
+answer_back (reply.Ended ends.NotWritten) fits = refl
 answer_back reply.Busy fits = refl
 answer_back reply.Preflight fits = refl
 answer_back (reply.Refused why) fits = ap (option_map reply.Refused) (fault_back why)

@@ -1,5 +1,6 @@
 -- What is asked, as bytes: a kind (1 byte), the length of the body (2 bytes, big-endian), and the body.
-use Rattle.std.specs.Prelude.{ℕ, ◌+◌, ◌<◌, ◌⊎◌, List, [], ◌∷◌, ◌++◌, length, drop, get_or, Option, Some, None, option_map, if◌then◌else◌, nat_le, ◌==◌}
+use Rattle.std.specs.Prelude.{ℕ, ◌+◌, ◌<◌, ◌⊎◌, List, [], ◌∷◌, ◌++◌, length, drop, get_or, Option, Some, None}
+use Rattle.std.specs.Prelude.{option_map, if◌then◌else◌, nat_le, ◌==◌}
 use Rattle.std.specs.Int.{w16, to_be_bytes, from_be_bytes}
 use Rattle.http_door.specs.declared.request.Path.{Path}
 use Rattle.http_door.specs.declared.request.Path.TheVariants as path

@@ -2,7 +2,8 @@
 use Rattle.std.specs.Prelude.{◌≡◌, ℕ, ◌<◌, ◌^◌, List, ◌++◌, length, Some}
 use Rattle.http_door.specs.Hearing.{PlainAsked, Request, Preflight, Refused}
 use Rattle.http_door.specs.Laws.{IsSendable}
-use Rattle.http_door.specs.Replies.{PlainReply, Frame, Lease, NotYours, Busy, Preflight as PreflightReply, Refused as RefusedReply}
+use Rattle.http_door.specs.Replies.{PlainReply, Frame, Lease, NotYours, Ended, Busy}
+use Rattle.http_door.specs.Replies.{Preflight as PreflightReply, Refused as RefusedReply}
 use Rattle.door_asks.specs.Asks.{ask_bytes, ask_end, asked_in}
 use Rattle.door_asks.specs.Answers.{answer_bytes, answer_in}
 
@@ -17,6 +18,7 @@ abbrev pub IsAnswer : PlainReply → Type 0
 IsAnswer (Frame frame) = Unit {0}
 IsAnswer (Lease lane serial) = (lane < 2 ^ 16) × (serial < 2 ^ 32)
 IsAnswer NotYours = Unit {0}
+IsAnswer (Ended end) = Unit {0}
 IsAnswer Busy = Unit {0}
 IsAnswer PreflightReply = Unit {0}
 IsAnswer (RefusedReply why) = Unit {0}

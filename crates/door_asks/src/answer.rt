@@ -1,12 +1,15 @@
 //! What is answered, as bytes.
-ghost use Rattle.std.specs.Prelude.{◌≡◌, ◌<◌, length, option_map, IfSome, IfNone};
+ghost use Rattle.std.specs.Prelude.{◌≡◌, ◌<◌, ◌∷◌, [], length, option_map, IfSome, IfNone};
 ghost use Rattle.http_door.specs.Output.{IsPut};
 ghost use Rattle.http_door.specs.Replies.{plain_reply};
-ghost use Rattle.door_asks.specs.Answers.{alone, answer_bytes, answer_in, lease_in, refusal_in, reply_at, reply_number, reply_rest};
+ghost use Rattle.door_asks.specs.Answers.{alone, answer_bytes, answer_in, ended_in, refusal_in, reply_at};
+ghost use Rattle.door_asks.specs.Answers.{reply_number, reply_rest};
+ghost use Rattle.lane_leases.specs.Records.{end_number};
 
 use crate::fault::{fault_byte, fault_of};
 use crate::output::put_all;
 use http_door::Reply;
+use lane_leases::End;
 
 // The number of its kind.
 fn kind_of(reply: &Reply<'_>) -> u8
@@ -19,6 +22,16 @@ fn kind_of(reply: &Reply<'_>) -> u8
         Reply::Busy => 4,
         Reply::Preflight => 5,
         Reply::Refused(_) => 6,
+        Reply::Ended(_) => 7,
+    }
+}
+
+fn end_byte(end: End) -> &'static [u8]
+    ensures { result.now ≡ end_number end ∷ [] }
+{
+    match end {
+        End::Written => &[1],
+        End::NotWritten => &[2],
     }
 }
 
@@ -37,20 +50,8 @@ pub fn write_answer(reply: &Reply<'_>, out: &mut [u8]) -> Option<usize>
         }
         Reply::NotYours | Reply::Busy | Reply::Preflight => put_all(out, &[&kind, b"", b""]),
         Reply::Refused(why) => put_all(out, &[&kind, fault_byte(why), b""]),
+        Reply::Ended(end) => put_all(out, &[&kind, end_byte(end), b""]),
     }
-}
-
-fn lease_of(rest: &[u8]) -> Option<Reply<'_>>
-    ensures { option_map plain_reply result ≡ lease_in rest.now }
-{
-    let (lane, behind) = rest.split_first_chunk::<2>()?;
-    let (serial, []) = behind.split_first_chunk::<4>()? else {
-        return None;
-    };
-    Some(Reply::Lease {
-        lane: u16::from_be_bytes(*lane),
-        serial: u32::from_be_bytes(*serial),
-    })
 }
 
 fn refusal_of(rest: &[u8]) -> Option<Reply<'_>>
@@ -60,6 +61,16 @@ fn refusal_of(rest: &[u8]) -> Option<Reply<'_>>
         return None;
     };
     Some(Reply::Refused(fault_of(*number)?))
+}
+
+fn ended_of(rest: &[u8]) -> Option<Reply<'_>>
+    ensures { option_map plain_reply result ≡ ended_in rest.now }
+{
+    match rest {
+        [1] => Some(Reply::Ended(End::Written)),
+        [2] => Some(Reply::Ended(End::NotWritten)),
+        _ => None,
+    }
 }
 
 // This answer, where nothing follows.
@@ -74,11 +85,12 @@ fn reply_at(kind: u8, rest: &[u8]) -> Option<Reply<'_>>
 {
     match kind {
         1 => Some(Reply::Frame(rest)),
-        2 => lease_of(rest),
+        2 => Reply::lease_in(rest),
         3 => alone(Reply::NotYours, rest),
         4 => alone(Reply::Busy, rest),
         5 => alone(Reply::Preflight, rest),
         6 => refusal_of(rest),
+        7 => ended_of(rest),
         _ => None,
     }
 }

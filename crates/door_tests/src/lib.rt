@@ -6,6 +6,10 @@ mod answers;
 #[cfg(test)]
 mod asked;
 #[cfg(test)]
+mod exchanged;
+#[cfg(test)]
 mod refused;
+#[cfg(test)]
+mod replies;
 #[cfg(test)]
 mod wires;

@@ -30,7 +30,7 @@ use Rattle.http_door.specs.Fields.{has_octets, fields_of}
 use Rattle.http_door.specs.Heads.{body_len}
 use Rattle.http_door.specs.Requests.{PlainRequest, Frame, Proof, Lease, path_text, path_of, request_path, request_body, request_of}
 use Rattle.http_door.specs.Hearing.{heard_of, asked_where, asked_in}
-use Rattle.http_door.specs.Sending.{sent_fields, sent_head}
+use Rattle.http_door.specs.Sending.{sent_fields, sent_head, sent_text}
 use Rattle.http_door.specs.Laws.{IsSendable, HasWidths, heard_whole, RequestsComeAsSent}
 use Rattle.http_door.proofs.SendingLaws.{head_is}
 
@@ -63,25 +63,25 @@ digit_plain c digit = grind (arith, nat_tests)
 graphic_plain : Plain is_ascii_graphic
 graphic_plain c graphic = grind (arith, nat_tests)
 
-host_trimmed : (host : List ℕ) → is_value host ≡ true → is_trimmed_value host ≡ true
+pub host_trimmed : (host : List ℕ) → is_value host ≡ true → is_trimmed_value host ≡ true
 host_trimmed host value =
     let parts = and_parts _ _ value in
     let rest = and_parts _ (is_visible host) parts.1 in
     trimmed is_ascii_graphic graphic_plain host rest.1
 
-host_short : (host : List ℕ) → is_value host ≡ true → length host ≤ 255
+pub host_short : (host : List ℕ) → is_value host ≡ true → length host ≤ 255
 host_short host value =
     let parts = and_parts _ _ value in
     let rest = and_parts _ (is_visible host) parts.1 in
     leb-true (length host) 255 rest.0
 
-record IsDecimal (n : ℕ) : Type 0 where
-  trim : is_trimmed_value (decimal n) ≡ true
-  number : is_number (decimal n) ≡ true
-  value : digits_value 10 (decimal n) ≡ n
-  short : length (decimal n) ≤ 5
+pub record IsDecimal (n : ℕ) : Type 0 where
+  pub trim : is_trimmed_value (decimal n) ≡ true
+  pub number : is_number (decimal n) ≡ true
+  pub value : digits_value 10 (decimal n) ≡ n
+  pub short : length (decimal n) ≤ 5
 
-decimal_is : (n : ℕ) → n ≤ 8262 → IsDecimal n
+pub decimal_is : (n : ℕ) → n ≤ 8262 → IsDecimal n
 decimal_is n low =
     let numeral = decimal_is_IsNumeral n (omega arith) in
     let digits = decimal_digits (decimal n) numeral.0.1 in
@@ -105,7 +105,7 @@ line_is path.Frame = refl
 line_is path.Proof = refl
 line_is path.Lease = refl
 
-accepted : (line : Bool) (hs : List Header) → line ≡ true → are_headers hs ≡ true → head_refusal line hs ≡ None
+pub accepted : (line : Bool) (hs : List Header) → line ≡ true → are_headers hs ≡ true → head_refusal line hs ≡ None
 accepted line hs p q = rw p (rw q refl)
 
 one_host : (host : List ℕ) (n : ℕ) → has_one_host 1 (known_fields (sent_fields host n)) ≡ true
@@ -125,7 +125,7 @@ framing_is : (host : List ℕ) (n : ℕ) → request_framing (method_kind (codes
 unfolding known_fields eq_ignore_case elements
 framing_is host n = refl
 
-length_is : (n : ℕ) → IsDecimal n → content_length (decimal n ∷ []) ≡ Sized.Value n
+pub length_is : (n : ℕ) → IsDecimal n → content_length (decimal n ∷ []) ≡ Sized.Value n
 length_is n is = rw is.number (ap Sized.Value is.value)
 
 framed : (host : List ℕ) (n : ℕ) → IsDecimal n
@@ -183,6 +183,18 @@ heard_back r host head sendable is same =
     let asked =
     (λ i. asked_where (target i) (method i) (type i) (request_body r)) ∙ ap asked_in (request_back r sendable.widths) in
     λ i. record { asked = asked i; keeps = ((λ j. (minor j == 1) && kept j) ∙ refl) i }
+
+-- a request whose body is taken has no more than a head and a body
+pub sent_short : (r : PlainRequest) (host : List ℕ) → length (request_body r) ≤ 8262 → is_value host ≡ true
+    → length (sent_text r host) ≤ 12358
+sent_short r host low value =
+    let n = length (request_body r) in
+    let target = path_text (request_path r) in
+    let short = (decimal_is n low).short in
+    let bound =
+    head_short target host (decimal n) (path_short (request_path r)) (host_short host value) short in
+    let text = request_text (codes "POST") target 1 (sent_fields host n) in
+    omega (arith, ap length (head_is target host n), bound, length-append text (request_body r))
 
 pub coming : RequestsComeAsSent
 coming r host rest sendable value =

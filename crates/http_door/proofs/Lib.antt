@@ -1,6 +1,9 @@
 pub mod ComingLaws
 pub mod HeadLaws
 pub mod OutputLaws
+pub mod ReadBack
+pub mod ReadOnce
 pub mod ReplyLaws
 pub mod RequestLaws
+pub mod ResponseLaws
 pub mod SendingLaws

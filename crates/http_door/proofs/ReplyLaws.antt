@@ -74,7 +74,7 @@ reply_is r origin keeps =
     pieces (reply_status r) (reply_reason r) _ _ _ _ (reply_body r) (own_fields r) (length_fields r) (origin_fields origin)
     (close_fields keeps) refl refl refl refl
 
-total : (r : PlainReply) (origin : Option (List ℕ)) (keeps : Bool) → length (reply_text r origin keeps)
+pub total : (r : PlainReply) (origin : Option (List ℕ)) (keeps : Bool) → length (reply_text r origin keeps)
     ≡ length (start_of r) + (length (length_of r) + (length (origin_text origin) + (length (close_of keeps) + length (reply_body r))))
 total r origin keeps =
     ap length (sym (reply_is r origin keeps))

@@ -3,7 +3,9 @@ pub mod Heads
 pub mod Hearing
 pub mod Laws
 pub mod Output
+pub mod Reading
 pub mod Replies
+pub mod Responses
 pub mod Values
 pub mod Requests
 pub mod Sending

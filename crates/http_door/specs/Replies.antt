@@ -1,9 +1,12 @@
 -- The door's answers, as HTTP's responses.
-use Rattle.std.specs.Prelude.{ℕ, Bool, true, false, List, [], ◌∷◌, ◌++◌, length, Option, Some, None, codes, decimal}
+use Rattle.std.specs.Prelude.{ℕ, Bool, true, false, List, [], ◌∷◌, ◌++◌, length, take, drop, Option, Some}
+use Rattle.std.specs.Prelude.{None, if◌then◌else◌, ◌==◌, codes, decimal}
 use Rattle.std.specs.Borrow.{Bor}
-use Rattle.std.specs.Int.{w16, w32, to_be_bytes}
+use Rattle.std.specs.Int.{w16, w32, to_be_bytes, from_be_bytes}
 use Rattle.http1.specs.Fields.{Header}
 use Rattle.http1.specs.Head.{print_headers, response_text}
+use Rattle.lane_leases.specs.declared.ended.End.{End}
+use Rattle.lane_leases.specs.declared.ended.End.TheVariants as ends
 use Rattle.http_door.specs.declared.fault.DoorFault.{DoorFault}
 use Rattle.http_door.specs.declared.fault.DoorFault.TheVariants as fault
 use Rattle.http_door.specs.declared.reply.Reply.{Reply}
@@ -15,6 +18,7 @@ pub data PlainReply : Type 0 where
   Frame : (frame : List ℕ) → PlainReply
   Lease : (lane serial : ℕ) → PlainReply
   NotYours : PlainReply
+  Ended : (end : End) → PlainReply
   Busy : PlainReply
   Preflight : PlainReply
   Refused : (why : DoorFault) → PlainReply
@@ -23,6 +27,7 @@ abbrev pub plain_reply : Reply → PlainReply
 plain_reply (reply.Frame frame) = Frame frame.now
 plain_reply (reply.Lease lane serial) = Lease lane serial
 plain_reply reply.NotYours = NotYours
+plain_reply (reply.Ended end) = Ended end
 plain_reply reply.Busy = Busy
 plain_reply reply.Preflight = Preflight
 plain_reply (reply.Refused why) = Refused why
@@ -31,6 +36,7 @@ abbrev pub reply_status : PlainReply → ℕ
 reply_status (Frame frame) = 200
 reply_status (Lease lane serial) = 200
 reply_status NotYours = 409
+reply_status (Ended end) = 410
 reply_status Busy = 503
 reply_status Preflight = 204
 reply_status (Refused why) = fault_status why
@@ -39,6 +45,7 @@ abbrev pub reply_reason : PlainReply → List ℕ
 reply_reason (Frame frame) = codes "OK"
 reply_reason (Lease lane serial) = codes "OK"
 reply_reason NotYours = codes "Conflict"
+reply_reason (Ended end) = codes "Gone"
 reply_reason Busy = codes "Service Unavailable"
 reply_reason Preflight = codes "No Content"
 reply_reason (Refused why) = fault_text why
@@ -47,10 +54,21 @@ reply_reason (Refused why) = fault_text why
 abbrev pub lease_body : ℕ → ℕ → List ℕ
 lease_body lane serial = to_be_bytes w16 lane ++ to_be_bytes w32 serial
 
+-- the lease that a body is
+abbrev pub lease_in : List ℕ → Option PlainReply
+lease_in body =
+    if length body == 6
+    then Some (Lease (from_be_bytes w16 (take 2 body)) (from_be_bytes w32 (drop 2 body))) else None
+
+abbrev pub end_text : End → List ℕ
+end_text ends.Written = codes "written"
+end_text ends.NotWritten = codes "not written"
+
 abbrev pub reply_body : PlainReply → List ℕ
 reply_body (Frame frame) = frame
 reply_body (Lease lane serial) = lease_body lane serial
 reply_body NotYours = codes "not yours"
+reply_body (Ended end) = end_text end
 reply_body Busy = []
 reply_body Preflight = []
 reply_body (Refused why) = []
@@ -69,6 +87,7 @@ abbrev pub own_fields : PlainReply → List Header
 own_fields (Frame frame) = (codes "Content-Type", codes "application/octet-stream") ∷ []
 own_fields (Lease lane serial) = (codes "Content-Type", codes "application/octet-stream") ∷ []
 own_fields NotYours = (codes "Content-Type", codes "text/plain") ∷ []
+own_fields (Ended end) = (codes "Content-Type", codes "text/plain") ∷ []
 own_fields Busy = (codes "Retry-After", codes "1") ∷ []
 own_fields Preflight =
     (codes "Access-Control-Allow-Methods", codes "POST")
@@ -84,6 +103,7 @@ length_fields Preflight = []
 length_fields (Frame frame) = length_field frame ∷ []
 length_fields (Lease lane serial) = length_field (lease_body lane serial) ∷ []
 length_fields NotYours = length_field (codes "not yours") ∷ []
+length_fields (Ended end) = length_field (end_text end) ∷ []
 length_fields Busy = length_field [] ∷ []
 length_fields (Refused why) = length_field [] ∷ []
 

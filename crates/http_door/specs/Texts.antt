@@ -1,7 +1,9 @@
--- The statuses of faults and their reason phrases.
-use Rattle.std.specs.Prelude.{ℕ, List, codes}
+-- The statuses of faults and their reason phrases, and why an answer isn't taken.
+use Rattle.std.specs.Prelude.{ℕ, List, ◌++◌, codes, decimal}
 use Rattle.http_door.specs.declared.fault.DoorFault.{DoorFault}
 use Rattle.http_door.specs.declared.fault.DoorFault.TheVariants as fault
+use Rattle.http_door.specs.declared.reply_fault.ReplyFault.{ReplyFault}
+use Rattle.http_door.specs.declared.reply_fault.ReplyFault.TheVariants as reply_fault
 
 abbrev pub fault_status : DoorFault → ℕ
 fault_status fault.Malformed = 400
@@ -20,3 +22,8 @@ fault_text fault.NoLength = codes "Length Required"
 fault_text fault.LongBody = codes "Content Too Large"
 fault_text fault.NotOctets = codes "Unsupported Media Type"
 fault_text fault.LongHead = codes "Request Header Fields Too Large"
+
+abbrev pub reply_fault_text : ReplyFault → List ℕ
+reply_fault_text reply_fault.Malformed = codes "no response of HTTP that is taken"
+reply_fault_text (reply_fault.Foreign status) =
+    codes "a response of the status " ++ (decimal status ++ codes " that isn't the door's")

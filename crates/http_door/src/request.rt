@@ -1,7 +1,8 @@
 //! What a client asks at the door.
 ghost use Rattle.std.specs.Prelude.{◌≡◌, ◌<◌, ◌≤◌, length, take, drop, MatchOption, option_map};
 ghost use Rattle.http_door.specs.declared.request.Path.TheVariants as path;
-ghost use Rattle.http_door.specs.Requests.{path_text, path_of, plain_request, request_of, ticket_at};
+ghost use Rattle.http_door.specs.Requests.{path_text, path_of, plain_request, request_of, request_path};
+ghost use Rattle.http_door.specs.Requests.{ticket_at};
 
 use lane_gate::{StatementHash, Ticket, TicketHash};
 
@@ -112,6 +113,17 @@ fn lease_of(body: &[u8]) -> Option<Request<'_>>
 }
 
 impl Request<'_> {
+    /// Where it goes.
+    pub fn path(&self) -> Path
+        ensures { result ≡ request_path (plain_request self.now) }
+    {
+        match self {
+            Request::Frame { .. } => Path::Frame,
+            Request::Proof { .. } => Path::Proof,
+            Request::Lease { .. } => Path::Lease,
+        }
+    }
+
     /// The request that this body is at this path.
     pub fn of(path: Path, body: &[u8]) -> Option<Request<'_>>
         ensures { option_map plain_request result ≡ request_of path body.now }

@@ -2,23 +2,13 @@
 ghost use Rattle.std.specs.Prelude.{◌≡◌, ◌≤◌, ◌+◌, ◌<◌, [], ◌++◌, ◌^◌, length, IfSome, IfNone};
 ghost use Rattle.http1.specs.Text.{concat_slices};
 ghost use Rattle.http_door.specs.Output.{IsPut, IsPutAt};
-ghost use Rattle.http_door.specs.Requests.{plain_request, request_body, request_path};
+ghost use Rattle.http_door.specs.Requests.{plain_request, request_body};
 ghost use Rattle.http_door.specs.Sending.{sent_head, sent_text};
 
 use crate::output::put_all;
-use crate::request::{Path, Request};
+use crate::request::Request;
 use crate::value::HeaderValue;
 use itoa::Buffer;
-
-fn path_of(request: &Request<'_>) -> Path
-    ensures { result ≡ request_path (plain_request request.now) }
-{
-    match *request {
-        Request::Frame { .. } => Path::Frame,
-        Request::Proof { .. } => Path::Proof,
-        Request::Lease { .. } => Path::Lease,
-    }
-}
 
 // The length of its body; None: no buffer holds it.
 fn body_len(request: &Request<'_>) -> Option<usize>
@@ -98,7 +88,7 @@ pub fn write_request(request: &Request<'_>, host: &HeaderValue<'_>, out: &mut [u
     let mut buffer = Buffer::new();
     let n = body_len(request)?;
     let digits = buffer.format(n).as_bytes();
-    let head = head_parts(path_of(request).text(), host.bytes(), digits);
+    let head = head_parts(request.path().text(), host.bytes(), digits);
     let started = put_all(out, 0, &head)?;
     put_body(out, started, request)
 }

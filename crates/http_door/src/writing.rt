@@ -6,7 +6,7 @@ ghost use Rattle.http_door.specs.Output.{IsPut, IsPutAt};
 ghost use Rattle.http_door.specs.Replies.{origin_value, plain_reply, length_fields, close_fields, reply_body, reply_text, start_text, origin_text};
 
 use crate::output::{put_all, put_at};
-use crate::reply::{Reply, body_len, lease_body, own_field};
+use crate::reply::{Reply, body_len, end_text, lease_body, own_field};
 use crate::value::HeaderValue;
 use itoa::Buffer;
 
@@ -68,6 +68,7 @@ fn put_body(out: &mut [u8], at: usize, reply: &Reply<'_>) -> Option<usize>
         Reply::Frame(frame) => put_at(out, at, frame),
         Reply::Lease { lane, serial } => put_at(out, at, &lease_body(lane, serial)),
         Reply::NotYours => put_at(out, at, b"not yours"),
+        Reply::Ended(end) => put_at(out, at, end_text(end)),
         Reply::Busy | Reply::Preflight | Reply::Refused(_) => put_at(out, at, b""),
     }
 }

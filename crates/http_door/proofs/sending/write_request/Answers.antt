@@ -9,14 +9,14 @@ use Rattle.http_door.proofs.sending.write_request.Goals as goal
 
 pub returns-in_err-started-clause-short : goal.returns-in_err-started-clause-short
 returns-in_err-started-clause-short c =
-    let path = c.text.ensures ∙ ap path_text c.path_of.ensures in
+    let path = c.text.ensures ∙ ap path_text c.path.ensures in
     let digits = c.as_bytes-digits.ensures.value ∙ c.format.ensures.text ∙ ap decimal c.in_ok-n.ensures.len in
     let heads = c.head_parts-head.ensures ∙ (λ i. sent_head (path i) (c.bytes.ensures.bytes i) (digits i)) in
     rw c.from_residual-in_err-started.ensures (over_head _ _ _ _ heads (omega (arith, c.in_err-started.ensures.short)))
 
 pub returns-clause-written : goal.returns-clause-written
 returns-clause-written c =
-    let path = c.text.ensures ∙ ap path_text c.path_of.ensures in
+    let path = c.text.ensures ∙ ap path_text c.path.ensures in
     let digits = c.as_bytes-digits.ensures.value ∙ c.format.ensures.text ∙ ap decimal c.in_ok-n.ensures.len in
     let heads = c.head_parts-head.ensures ∙ (λ i. sent_head (path i) (c.bytes.ensures.bytes i) (digits i)) in
     let first = put_first _ _ _ _ c.in_ok-started.ensures.put in
@@ -26,7 +26,7 @@ returns-clause-written c =
 
 pub returns-clause-short : goal.returns-clause-short
 returns-clause-short c =
-    let path = c.text.ensures ∙ ap path_text c.path_of.ensures in
+    let path = c.text.ensures ∙ ap path_text c.path.ensures in
     let digits = c.as_bytes-digits.ensures.value ∙ c.format.ensures.text ∙ ap decimal c.in_ok-n.ensures.len in
     let heads = c.head_parts-head.ensures ∙ (λ i. sent_head (path i) (c.bytes.ensures.bytes i) (digits i)) in
     let first = put_first _ _ _ _ c.in_ok-started.ensures.put in
