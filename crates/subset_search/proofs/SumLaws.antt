@@ -4,7 +4,8 @@ use Rattle.std.specs.List.{All}
 use Rattle.std.proofs.lemmas.List.{get_or-map, length-map}
 use Rattle.std.proofs.lemmas.List.Elements.{All-head, All-tail, All-map, All-get_or}
 use Rattle.express_words.specs.Bytes.{xor_bytes}
-use Rattle.express_words.proofs.Bytes.{xor_bytes_comm, xor_bytes_assoc, xor_bytes_self, xor_bytes_zeros, length-xor_bytes}
+use Rattle.express_words.proofs.Bytes.{xor_bytes_comm, xor_bytes_assoc, xor_bytes_self, xor_bytes_zeros}
+use Rattle.express_words.proofs.Bytes.{length-xor_bytes}
 use Rattle.subset_search.specs.Subsets.{added, boxes_at}
 
 -- boxes of one width
@@ -27,14 +28,17 @@ pub added-xor : (s p : List ℕ) (ps : List (List ℕ)) → added (xor_bytes s p
 added-xor s p [] = refl
 added-xor s p (q ∷ ps) = ap (λ (t : List ℕ). added t ps) (xor_swap s p q) ∙ added-xor (xor_bytes s q) p ps
 
-pub length-added : (w : ℕ) (s : List ℕ) (ps : List (List ℕ)) → length s ≡ w → AreWide w ps → length (added s ps) ≡ w
+pub length-added : (w : ℕ) (s : List ℕ) (ps : List (List ℕ)) → length s ≡ w → AreWide w ps
+    → length (added s ps) ≡ w
 length-added w s [] h wide = h
 length-added w s (p ∷ ps) h wide =
     length-added w (xor_bytes s p) ps
-    (length-xor w s p h (All-head (λ box. length box ≡ w) p ps wide)) (All-tail (λ box. length box ≡ w) p ps wide)
+    (length-xor w s p h (All-head (λ box. length box ≡ w) p ps wide))
+    (All-tail (λ box. length box ≡ w) p ps wide)
 
 -- what is added twice is gone
-pub added-back : (w : ℕ) (s : List ℕ) (ps : List (List ℕ)) → length s ≡ w → AreWide w ps → added (added s ps) ps ≡ s
+pub added-back : (w : ℕ) (s : List ℕ) (ps : List (List ℕ)) → length s ≡ w → AreWide w ps → added (added s ps)
+    ps ≡ s
 added-back w s [] h wide = refl
 added-back w s (p ∷ ps) h wide =
     let hp : length p ≡ w = All-head (λ box. length box ≡ w) p ps wide in
@@ -46,7 +50,8 @@ added-back w s (p ∷ ps) h wide =
 -- ---- boxes at indices
 
 pub boxes_wide : {B : Type 0} (items : B → List ℕ) (all : List B) (indices : List ℕ) (w : ℕ) →
-    All (λ i. i < length all) indices → All (λ b. length (items b) ≡ w) all → AreWide w (boxes_at (map items all) indices)
+    All (λ i. i < length all) indices → All (λ b. length (items b) ≡ w) all
+    → AreWide w (boxes_at (map items all) indices)
 boxes_wide items all indices w within widths =
     let wide : AreWide w (map items all) = All-map (λ box. length box ≡ w) items all widths in
     All-map (λ box. length box ≡ w) (λ i. get_or (map items all) i []) indices
@@ -62,5 +67,6 @@ box_read items all indices n x lt within read =
     ∙ get_or-map items all (get_or indices n 0) x [] within
     ∙ ap items (sym read)
 
-pub length-boxes_at : (all : List (List ℕ)) (indices : List ℕ) → length (boxes_at all indices) ≡ length indices
+pub length-boxes_at : (all : List (List ℕ)) (indices : List ℕ) → length (boxes_at all indices)
+    ≡ length indices
 length-boxes_at all indices = length-map indices (λ i. get_or all i [])

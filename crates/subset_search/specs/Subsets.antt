@@ -1,5 +1,6 @@
 -- Boxes that are added to another, byte by byte in GF(2)^8 (exclusive or).
-use Rattle.std.specs.Prelude.{◌≢◌, ℕ, zero, suc, List, [], ◌∷◌, Bool, false, if◌then◌else◌, map, slice_index_or, All, AllPairs}
+use Rattle.std.specs.Prelude.{◌≢◌, ℕ, zero, suc, List, [], ◌∷◌, Bool, false, if◌then◌else◌, map}
+use Rattle.std.specs.Prelude.{slice_index_or, All, AllPairs}
 use Rattle.std.specs.List.{Contains}
 use Rattle.express_words.specs.Bytes.{xor_bytes}
 

@@ -1,5 +1,6 @@
 //! The search.
-ghost use Rattle.std.specs.Prelude.{◌≡◌, ◌<◌, ◌≤◌, ◌↔◌, ℕ, List, Bool, false, length, map, All, IsTrue, slice_index_or};
+ghost use Rattle.std.specs.Prelude.{◌≡◌, ◌<◌, ◌≤◌, ◌↔◌, ℕ, List, Bool, false, length, map, All, IsTrue};
+ghost use Rattle.std.specs.Prelude.{slice_index_or};
 ghost use Rattle.subset_search.specs.Subsets.{added, IsSubset, chosen_below, boxes_at, HasNone};
 
 use dpf_rules::xor_into;
@@ -14,9 +15,10 @@ pub trait Target {
         ensures { IsTrue result ↔ IsMet self.now sum.now };
 }
 
-/// Adds to `sum` a subset of the candidates, named by their indices among `boxes`, with which it meets the target, and
-/// notes in `chosen` which they are; nothing is added where there is none. All 2^n subsets of n candidates are tried in
-/// the order of the reflected Gray code: one box is added or taken away between two of them.
+/// Adds to `sum` a subset of the candidates, named by their indices among `boxes`, with which it meets the
+/// target, and notes in `chosen` which they are; nothing is added where there is none. All 2^n subsets of n
+/// candidates are tried in the order of the reflected Gray code: one box is added or taken away between two
+/// of them.
 pub fn find_subset<B: AsSlice<u8>, T: Target>(
     target: &T,
     sum: &mut [u8],
@@ -29,8 +31,10 @@ pub fn find_subset<B: AsSlice<u8>, T: Target>(
     requires room { length candidates.now ≤ length chosen.old }
     ensures found { IsTrue result → T.IsMet target.now sum.new }
     ensures added { IsTrue result
-        → sum.new ≡ added sum.old (chosen_below (length candidates.now) (boxes_at (map B.items boxes.now) candidates.now) chosen.new) }
-    ensures none { result ≡ false → HasNone (T.IsMet target.now) sum.old (boxes_at (map B.items boxes.now) candidates.now) }
+        → sum.new ≡ added sum.old
+        (chosen_below (length candidates.now) (boxes_at (map B.items boxes.now) candidates.now) chosen.new) }
+    ensures none { result ≡ false
+        → HasNone (T.IsMet target.now) sum.old (boxes_at (map B.items boxes.now) candidates.now) }
     ensures kept { result ≡ false → sum.new ≡ sum.old }
     ensures length { length sum.new ≡ length sum.old }
     ensures chosen { length chosen.new ≡ length chosen.old }
@@ -69,11 +73,14 @@ fn search<B: AsSlice<u8>, T: Target>(
     ensures found { IsTrue result → T.IsMet target.now sum.new }
     ensures none { result ≡ false
         → (choice : List Bool)
-        → T.IsMet target.now (added (added sum.old (chosen_below count (boxes_at (map B.items boxes.now) candidates.now) chosen.old))
+        → T.IsMet target.now
+        (added (added sum.old (chosen_below count (boxes_at (map B.items boxes.now) candidates.now)
+        chosen.old))
         (chosen_below count (boxes_at (map B.items boxes.now) candidates.now) choice)) → ⊥ }
     ensures same { added sum.new (chosen_below count (boxes_at (map B.items boxes.now) candidates.now) chosen.new)
         ≡ added sum.old (chosen_below count (boxes_at (map B.items boxes.now) candidates.now) chosen.old) }
-    ensures above { (k : ℕ) → count ≤ k → slice_index_or chosen.new k false ≡ slice_index_or chosen.old k false }
+    ensures above { (k : ℕ) → count ≤ k
+        → slice_index_or chosen.new k false ≡ slice_index_or chosen.old k false }
     ensures length { length sum.new ≡ length sum.old }
     ensures chosen { length chosen.new ≡ length chosen.old }
 {
@@ -101,7 +108,8 @@ fn take_away<B: AsSlice<u8>>(
     requires widths { All (λ box. length (B.items box) ≡ length sum.old) boxes.now }
     requires count { count ≤ length candidates.now }
     requires room { length candidates.now ≤ length chosen.now }
-    ensures sum { sum.new ≡ added sum.old (chosen_below count (boxes_at (map B.items boxes.now) candidates.now) chosen.now) }
+    ensures sum { sum.new
+        ≡ added sum.old (chosen_below count (boxes_at (map B.items boxes.now) candidates.now) chosen.now) }
     ensures length { length sum.new ≡ length sum.old }
 {
     if count == 0 {

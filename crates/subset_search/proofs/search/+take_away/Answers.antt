@@ -1,4 +1,5 @@
-use Rattle.std.proofs.Common.{◌≡◌, ◌<◌, ◌-◌, ℕ, suc, List, [], Bool, false, length, get_or, map, sym, ap, ◌∙◌, subst, arith}
+use Rattle.std.proofs.Common.{◌≡◌, ◌<◌, ◌-◌, ℕ, suc, List, [], Bool, false, length, get_or, map, sym, ap, ◌∙◌}
+use Rattle.std.proofs.Common.{subst, arith}
 use Rattle.express_words.specs.Bytes.{xor_bytes}
 use Rattle.subset_search.specs.Subsets.{added, chosen_below, boxes_at}
 use Rattle.subset_search.proofs.SumLaws.{box_read}
@@ -13,17 +14,21 @@ returns-clause-sum g t c =
     let boxes : List (List ℕ) = boxes_at (map g.B.AsSlice.items c.args.boxes.now) c.args.candidates.now in
     let chosen : Bool = get_or c.args.chosen.now n false in
     let in_candidates : n < length c.args.candidates.now = omega (arith, c.requires.count) in
-    let joined : c.if-chosen-last.sum ≡ with_box chosen c.args.sum.now (get_or boxes n []) = elim c.if-chosen-last.branch [
+    let joined : c.if-chosen-last.sum ≡ with_box chosen c.args.sum.now (get_or boxes n []) =
+    elim c.if-chosen-last.branch [
       | then-chosen-last w ↦
           w.sum-is ∙ w.xor_into.ensures
           ∙ ap (xor_bytes c.args.sum.now)
-          (w.as_slice.ensures ∙ sym (box_read g.B.AsSlice.items c.args.boxes.now c.args.candidates.now n w.index-boxes-candidates.result in_candidates
+          (w.as_slice.ensures ∙ sym (box_read g.B.AsSlice.items c.args.boxes.now c.args.candidates.now n
+          w.index-boxes-candidates.result in_candidates
           (c.requires.candidates n 0 in_candidates) w.index-boxes-candidates.is))
           ∙ sym (ap (λ (b : Bool). with_box b c.args.sum.now (get_or boxes n [])) w.if-chosen-last.true)
       | else-chosen-last w ↦
-          w.sum-is ∙ sym (ap (λ (b : Bool). with_box b c.args.sum.now (get_or boxes n [])) w.if-chosen-last.false)
+          w.sum-is ∙ sym (ap (λ (b : Bool). with_box b c.args.sum.now (get_or boxes n []))
+          w.if-chosen-last.false)
     ] in
-    subst (λ (m : ℕ). c.take_away.new.sum ≡ added c.args.sum.now (chosen_below m boxes c.args.chosen.now)) (sym is)
+    subst (λ (m : ℕ). c.take_away.new.sum ≡ added c.args.sum.now (chosen_below m boxes c.args.chosen.now))
+    (sym is)
     (c.take_away.ensures.sum
     ∙ ap (λ (x : List ℕ). added x (chosen_below n boxes c.args.chosen.now)) joined
     ∙ added_with chosen c.args.sum.now (get_or boxes n []) (chosen_below n boxes c.args.chosen.now)
