@@ -6,12 +6,12 @@ from drawing import FAINT, GROUND, INK, Picture
 BASE = "express_words"  # nearly all stand on it, so no line is drawn to it
 GROUPS = [
     ("definitions and laws", "#efe3f7", "mailbox_rules token_rules dpf_rules tower_numbers tower_laws audit_rules "
-     "frame_rules step_rules step_tokens run_rules"),
+     "frame_rules step_rules step_tokens run_rules known_pieces"),
     ("the point function", "#dbeafe", "chacha_expand dpf_keys dpf_eval"),
     ("the field, the audit, what one server sees", "#dcf5e4", "tower_field field_tables poly_roots write_sketch "
      "snip_proof batch_audit write_hiding run_hiding"),
     ("frames, texts and files", "#fdecc8", "wire_frames schedule_text express_texts settings_text "
-     "file_carry desk_letters letter_pieces desk_texts desk_tries"),
+     "file_carry desk_letters letter_pieces desk_texts desk_tries subset_search"),
     ("stores", "#e2e8f0", "block_region lane_table link_order share_store box_registry server_boxes"),
     ("servers and client", "#fbdcd3", "helper_core leader_core client_core"),
     ("on sockets and disks", "#cfeff2", "node_journal kept_machine node_restart node_serve node_client client_run"),
