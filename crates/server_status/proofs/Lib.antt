@@ -1,2 +1,1 @@
-pub mod FigureLaws
 pub mod TallyLaws

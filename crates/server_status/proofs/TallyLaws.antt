@@ -1,5 +1,5 @@
 -- One call more.
-use Rattle.std.proofs.Common.{◌≡◌, List, [], ◌∷◌, ◌++◌, refl, sym, ◌∙◌, ap, subst}
+use Rattle.std.proofs.Common.{◌≡◌, List, [], ◌∷◌, ◌++◌, refl, sym, ◌∙◌, ap}
 use Rattle.many_words.specs.Events.{Event}
 use Rattle.server_status.specs.declared.tally.Tally.{Tally}
 use Rattle.server_status.specs.Tallies.{counted, none, tallied, tallied_from}

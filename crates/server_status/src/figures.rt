@@ -39,16 +39,14 @@ fn lease_number(row: &GateRow) -> u64
     }
 }
 
-// The highest number of a lease.
-#[tactic(auto, using(crate::proofs::FigureLaws::last_snoc))]
+// The highest number of a lease: of at most 256 rows, one after another.
 fn last_lease(rows: &[GateRow]) -> u64
     ensures { result ≡ last_lease rows.now }
 {
-    let mut last = 0;
-    for row in rows {
-        last = lease_number(row).max(last);
+    match rows {
+        [] => 0,
+        [row, rest @ ..] => lease_number(row).max(last_lease(rest)),
     }
-    last
 }
 
 /// The figures of a server with this gate, so many boxes, and so many commands that are outstanding.
