@@ -1,0 +1,9 @@
+pub mod Draws
+pub mod Inside
+pub mod Laws
+pub mod Letters
+pub mod MachineLaws
+pub mod Machines
+pub mod Nexts
+pub mod Notes
+pub mod Plans
