@@ -37,6 +37,10 @@ never_not : (out : Bool) → by_proof out Unknown Written ≡ NotWritten → ⊥
 never_not true h = cc
 never_not false h = cc
 
+never_none : (out : Bool) → by_proof out Unknown Again ≡ NotWritten → ⊥
+never_none true h = cc
+never_none false h = cc
+
 pub told_not : (out : Bool) (a : Answer) → fate_by out a ≡ NotWritten → (out ≡ false) ⊎ (excludes a ≡ true)
 unfolding fate_by
 told_not out answer.Lost h = cc
@@ -46,7 +50,7 @@ told_not out answer.EndedNotWritten h = inr refl
 told_not out answer.Fits h = cc
 told_not out answer.Accepted h = absurd (never_not out h)
 told_not out (answer.Refused r) h = refused_not out r h
-told_not out answer.Other h = inl (by_proof_not out Again h (λ e. cc))
+told_not out answer.Other h = absurd (never_none out h)
 
 refused_written : (out : Bool) (r : Refusal) → fate_by_refusal out r ≡ Written → ⊥
 unfolding fate_by_refusal

@@ -36,4 +36,4 @@ fate_by out answer.EndedNotWritten = NotWritten
 fate_by out answer.Fits = GoesOn
 fate_by out answer.Accepted = by_proof out Unknown Written
 fate_by out (answer.Refused r) = fate_by_refusal out r
-fate_by out answer.Other = by_proof out NotWritten Again
+fate_by out answer.Other = by_proof out Unknown Again

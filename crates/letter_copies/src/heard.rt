@@ -50,11 +50,13 @@ pub enum Fate {
 /// | `again`, `linkdown` | again | again |
 /// | ended as not written | not written | not written |
 /// | `rejected`, `notproved`, `nodeposit` | not written | not written |
-/// | `malformed`, `version`, another frame | not written | again |
+/// | `malformed`, `version` | not written | again |
+/// | another frame | unknown | again |
 /// | not yours, `stale`, `phase`, any other refusal | not written | unknown |
 ///
-/// A leader settles a write only once it has taken its last proof, so before that nothing is written. Only a copy of the
-/// try's own notes can have sent that proof meanwhile: so what is told as written before it is unknown.
+/// A leader settles a write only once it has taken its last proof, so before that nothing is written. Only who has a copy
+/// of the try's own notes can have sent that proof meanwhile: so what is told as written before it is unknown, and so is
+/// what no server answers at that step.
 #[tactic(auto, unfolding(crate::specs::Fate::fate_by, crate::specs::Fate::fate_by_refusal))]
 pub fn fate_by(proof_out: bool, answer: Answer) -> Fate
     ensures { result ≡ fate_by proof_out answer }
@@ -67,8 +69,9 @@ pub fn fate_by(proof_out: bool, answer: Answer) -> Fate
         Answer::Accepted | Answer::EndedWritten => Fate::Unknown,
         Answer::Refused(refusal) => fate_by_refusal(proof_out, refusal),
         Answer::NotYours if proof_out => Fate::Unknown,
+        Answer::NotYours => Fate::NotWritten,
         Answer::Other if proof_out => Fate::Again,
-        Answer::NotYours | Answer::Other => Fate::NotWritten,
+        Answer::Other => Fate::Unknown,
     }
 }
 
