@@ -60,7 +60,7 @@ fits_alone out answer.EndedNotWritten e = absurd (unwritten e)
 fits_alone out answer.Fits e = refl
 fits_alone out answer.Accepted e = absurd (never out fate.Unknown fate.Written unknown written e)
 fits_alone out (answer.Refused r) e = absurd (no_refusal out r e)
-fits_alone out answer.Other e = absurd (never out fate.NotWritten fate.Again unwritten again e)
+fits_alone out answer.Other e = absurd (never out fate.Unknown fate.Again unknown again e)
 
 nothing_is_over : (s : CopiesState) (copy : ℕ) (standing : Option Standing)
     → (written_nothing s copy standing).next ≢ GoOn
