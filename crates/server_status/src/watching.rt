@@ -1,9 +1,12 @@
 //! A server runs while somebody watches.
-ghost use Rattle.std.specs.Prelude.{◌≡◌, OnOk};
-ghost use Rattle.many_conns.specs.Hall.{IsSettled, Leads};
+ghost use Rattle.std.specs.Prelude.{◌≡◌, OnOk, OnErr};
+ghost use Rattle.many_conns.specs.Ends.{BreaksOff};
+ghost use Rattle.many_conns.specs.Hall.{IsSettled, Leads, RoundsOf};
+ghost use Rattle.logged_hub.specs.Runs.{CallByCall, Fails, Proceeds};
 ghost use Rattle.logged_hub.specs.State.{IsKept, records_in, told_of};
 ghost use Rattle.server_status.specs.Statuses.{link_of, status_in};
 ghost use Rattle.server_status.specs.Tallies.{tallied};
+ghost use Rattle.server_status.specs.Views.{calls_of};
 
 use crate::counting::CountingWires;
 use crate::figures::{Figured, Figures};
@@ -69,6 +72,10 @@ pub fn run_viewed<S: Answering + Figured, W: Wires, D: Disk, V: Viewer>(
     ensures leads { Leads S.rules (told_of hub.old) (told_of hub.new) hall.old hall.new }
     ensures settled { OnOk result (IsSettled S.rules hall.new) }
     ensures kept { IsKept (D.disk hub.new.disk) hub.new.journal hub.new.batch.records (records_in hub.new) hub.new.fault }
+    ensures any_moment { CallByCall calls_of D.disk hub.old hub.new }
+    ensures rounds { OnOk result (RoundsOf S.rules rounds (told_of hub.old) (told_of hub.new) hall.old hall.new) }
+    ensures whole { OnOk result (hub.new.fault ≡ hub.old.fault) }
+    ensures ends { OnErr result (BreaksOff (Proceeds calls_of D.disk) (Fails calls_of D.disk) hub.old hub.new) }
 {
     for _ in 0..rounds {
         run_server(hall, hub, 1)?;
