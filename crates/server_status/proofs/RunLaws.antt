@@ -21,9 +21,10 @@ module _ {W D : Type 0} (tells : W → Option (List Event)) (shows : D → DiskS
   pub calls_none : (hub : HubState W D) → Proceeds tells shows hub hub
   calls_none hub = record { calls = ([], refl); fault = refl }
 
-  pub calls_more : (old mid new : HubState W D) → CallByCall tells shows old mid → CallByCall tells shows mid new
-      → CallByCall tells shows old new
-  calls_more old mid new one two = (one.0 ++ two.0, calls_then tells shows one.0 two.0 old mid new one.1 two.1)
+  pub calls_more : (old mid new : HubState W D) → CallByCall tells shows old mid
+      → CallByCall tells shows mid new → CallByCall tells shows old new
+  calls_more old mid new one two =
+      (one.0 ++ two.0, calls_then tells shows one.0 two.0 old mid new one.1 two.1)
 
   pub goes_more : (old mid new : HubState W D) → Proceeds tells shows old mid → Proceeds tells shows mid new
       → Proceeds tells shows old new

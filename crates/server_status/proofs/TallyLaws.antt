@@ -13,7 +13,7 @@ pub tallied_snoc : (events : List Event) (e : Event) → tallied (events ++ e �
 tallied_snoc events e = from_snoc none events e
 
 -- a tally that goes on with the call
-pub goes_on : (events now : List Event) (e : Event) (t u : Tally) → now ≡ events ++ e ∷ [] → t ≡ tallied events
-    → u ≡ counted t e → u ≡ tallied now
+pub goes_on : (events now : List Event) (e : Event) (t u : Tally) → now ≡ events ++ e ∷ []
+    → t ≡ tallied events → u ≡ counted t e → u ≡ tallied now
 goes_on events now e t u is was counts =
     counts ∙ ap (λ k. counted k e) was ∙ sym (tallied_snoc events e) ∙ sym (ap tallied is)

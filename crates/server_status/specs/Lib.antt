@@ -1,5 +1,6 @@
 pub mod Figures
 pub mod Lines
+pub mod Printed
 pub mod Statuses
 pub mod Tallies
 pub mod Texts

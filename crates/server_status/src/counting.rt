@@ -10,8 +10,8 @@ use many_wires::{CallLog, Wires};
 use many_words::{Door, Taken};
 use std::marker::Model;
 
-/// Connections at places over other ones, whose calls it passes on as they are and counts. The place 0 is the other
-/// server's.
+/// Connections at places over other ones, whose calls it passes on as they are and counts. The place 0 is the
+/// other server's.
 #[derive(Drop)]
 pub struct CountingWires<W: Wires> {
     wires: W,

@@ -16,8 +16,8 @@ pub struct Due {
     pub minute: bool,
 }
 
-/// What was printed last: how the link stood and how many connections it had had, and the second from which on the next
-/// minute's line is due.
+/// What was printed last: how the link stood and how many connections it had had, and the second from which on
+/// the next minute's line is due.
 #[derive(Clone, Copy, Debug, PartialEq, Eq)]
 pub struct Lines {
     pub link: LinkTurn,

@@ -4,8 +4,8 @@ ghost use Rattle.server_status.specs.Tallies.{answered, closed_at, dropped_at, m
 
 use crate::status::WorkCounts;
 
-/// What a server's connections did since it started. The place 0 is the other server's, all others are clients'. A count
-/// stays at the largest number of 64 bits once it is there.
+/// What a server's connections did since it started. The place 0 is the other server's, all others are clients'.
+/// A count stays at the largest number of 64 bits once it is there.
 #[derive(Clone, Copy, Debug, PartialEq, Eq)]
 pub struct Tally {
     /// The moment of the last wait, in milliseconds since the start.

@@ -61,7 +61,8 @@ pub fn status_of<S: Answering + Figured, W: Wires, D: Disk>(
     status_in(&hub.wires().tally(), hub.log_end(), hall.server().figures())
 }
 
-/// Runs a server for so many rounds, as [`run_server`] does, and tells the viewer behind each round how it stands.
+/// Runs a server for so many rounds, as [`run_server`] does, and tells the viewer behind each round how it
+/// stands.
 pub fn run_viewed<S: Answering + Figured, W: Wires, D: Disk, V: Viewer>(
     hall: &mut Hall<S>,
     hub: &mut LoggedHub<CountingWires<W>, D>,

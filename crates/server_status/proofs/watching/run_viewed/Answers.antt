@@ -19,11 +19,12 @@ loop-preserved g c = record {
   leads = leads_then {S = g.row.S.Denot} g.S.Answering.rules (told_of c.args.hub.now) (told_of c.loop.hub)
       (told_of c.run_server.new.hub) c.args.hall.now c.loop.hall c.run_server.new.hall
       c.loop.invariant.leads c.run_server.ensures.leads;
-  goes_on = goes_more calls_of g.D.Disk.disk c.args.hub.now c.loop.hub c.run_server.new.hub c.loop.invariant.goes_on
+  goes_on = goes_more calls_of g.D.Disk.disk c.args.hub.now c.loop.hub c.run_server.new.hub
+      c.loop.invariant.goes_on
       (record { calls = c.run_server.ensures.any_moment; fault = c.in_ok-run_server.ensures.whole });
-  rounds = one_more {S = g.row.S.Denot} g.S.Answering.rules c.loop.counter (told_of c.args.hub.now) (told_of c.loop.hub)
-      (told_of c.run_server.new.hub) c.args.hall.now c.loop.hall c.run_server.new.hall
-      c.loop.invariant.rounds c.in_ok-run_server.ensures.rounds;
+  rounds = one_more {S = g.row.S.Denot} g.S.Answering.rules c.loop.counter
+      (told_of c.args.hub.now) (told_of c.loop.hub) (told_of c.run_server.new.hub)
+      c.args.hall.now c.loop.hall c.run_server.new.hall c.loop.invariant.rounds c.in_ok-run_server.ensures.rounds;
   settled = c.in_ok-run_server.ensures.settled;
 }
 
