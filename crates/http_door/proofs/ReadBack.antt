@@ -171,17 +171,22 @@ first_coding hs = refl
 -- the fields of an answer whose body has n bytes
 module _ (a c d : List Header) (n : ℕ) where
   abbrev all : List Header
-  all = (codes "Cache-Control", codes "no-store") ∷ (a ++ (((codes "Content-Length", decimal n) ∷ []) ++ (c ++ d)))
+  all = (codes "Cache-Control", codes "no-store")
+    ∷ (a ++ (((codes "Content-Length", decimal n) ∷ []) ++ (c ++ d)))
 
   all_sizes : FramesNothing a → FramesNothing c → FramesNothing d → sizes all ≡ decimal n ∷ []
   all_sizes p q r =
-      first_size _ ∙ sizes-append a _ ∙ ap (λ (t : List (List ℕ)). t ++ sizes (((codes "Content-Length", decimal n) ∷ []) ++ (c ++ d))) p.size
+      first_size _ ∙ sizes-append a _
+        ∙ ap (λ (t : List (List ℕ)). t ++ sizes (((codes "Content-Length", decimal n) ∷ []) ++ (c ++ d)))
+        p.size
       ∙ sizes-append ((codes "Content-Length", decimal n) ∷ []) (c ++ d)
       ∙ (λ i. one_size n i ++ (sizes-append c d ∙ (λ j. q.size j ++ r.size j)) i)
 
   all_codings : FramesNothing a → FramesNothing c → FramesNothing d → codings all ≡ []
   all_codings p q r =
-      first_coding _ ∙ codings-append a _ ∙ ap (λ (t : List (List ℕ)). t ++ codings (((codes "Content-Length", decimal n) ∷ []) ++ (c ++ d))) p.coding
+      first_coding _ ∙ codings-append a _
+        ∙ ap (λ (t : List (List ℕ)). t ++ codings (((codes "Content-Length", decimal n) ∷ []) ++ (c ++ d)))
+        p.coding
       ∙ codings-append ((codes "Content-Length", decimal n) ∷ []) (c ++ d)
       ∙ (λ i. no_coding n i ++ (codings-append c d ∙ (λ j. q.coding j ++ r.coding j)) i)
 
@@ -194,7 +199,8 @@ known_size : (hs : List Header) (n : ℕ) → n ≤ 8262 → sizes hs ≡ decima
 unfolding known_fields
 known_size hs n low one = ap content_length one ∙ length_is n (decimal_is n low)
 
-framed : (status n : ℕ) (k : KnownFields) → has_no_body Other status ≡ false → k.transfer_encoding ≡ Coding.Absent
+framed : (status n : ℕ) (k : KnownFields) → has_no_body Other status ≡ false
+  → k.transfer_encoding ≡ Coding.Absent
     → k.content_length ≡ Sized.Value n → response_framing Other status 1 k ≡ Ok (Length n)
 framed status n k body coding size =
     rw body (λ i. by_fields 1 UntilClose (Ok UntilClose) (coding i) (size i))
@@ -204,9 +210,11 @@ framed_one n low = grind (arith, nat_tests)
 
 -- a body of an answer that isn't a preflight's
 abbrev Bodied : PlainReply → Type 0
-Bodied r = (has_no_body Other (reply_status r) ≡ false) × (length_fields r ≡ (codes "Content-Length", decimal (length (reply_body r))) ∷ [])
+Bodied r = (has_no_body Other (reply_status r) ≡ false)
+  × (length_fields r ≡ (codes "Content-Length", decimal (length (reply_body r))) ∷ [])
 
-framing_of : (r : PlainReply) (origin : Option (List ℕ)) (keeps : Bool) → length (reply_body r) ≤ 8262 → Bodied r
+framing_of : (r : PlainReply) (origin : Option (List ℕ)) (keeps : Bool) → length (reply_body r) ≤ 8262
+  → Bodied r
     → framed_len (response_framing Other (reply_status r) 1 (known_fields (reply_fields r origin keeps)))
     ≡ Some (length (reply_body r))
 framing_of r origin keeps low bodied =
@@ -216,7 +224,8 @@ framing_of r origin keeps low bodied =
     let close = close_frames keeps in
     let hs = all (own_fields r) (origin_fields origin) (close_fields keeps) n in
     let same : reply_fields r origin keeps ≡ hs =
-    λ i. (codes "Cache-Control", codes "no-store") ∷ (own_fields r ++ (bodied.1 i ++ (origin_fields origin ++ close_fields keeps))) in
+    λ i. (codes "Cache-Control", codes "no-store")
+      ∷ (own_fields r ++ (bodied.1 i ++ (origin_fields origin ++ close_fields keeps))) in
     let coding = known_coding hs (all_codings _ _ _ n own from close) in
     let size = known_size hs n low (all_sizes _ _ _ n own from close) in
     ap (λ (q : List Header). framed_len (response_framing Other (reply_status r) 1 (known_fields q))) same
@@ -231,13 +240,20 @@ len_of NotYours origin keeps low = framing_of NotYours origin keeps low (refl, r
 len_of (Ended end) origin keeps low = framing_of (Ended end) origin keeps low (refl, refl)
 len_of Busy origin keeps low = framing_of Busy origin keeps low (refl, refl)
 len_of Preflight origin keeps low = refl
-len_of (Refused fault.Malformed) origin keeps low = framing_of (Refused fault.Malformed) origin keeps low (refl, refl)
-len_of (Refused fault.NoPath) origin keeps low = framing_of (Refused fault.NoPath) origin keeps low (refl, refl)
-len_of (Refused fault.Method) origin keeps low = framing_of (Refused fault.Method) origin keeps low (refl, refl)
-len_of (Refused fault.NoLength) origin keeps low = framing_of (Refused fault.NoLength) origin keeps low (refl, refl)
-len_of (Refused fault.LongBody) origin keeps low = framing_of (Refused fault.LongBody) origin keeps low (refl, refl)
-len_of (Refused fault.NotOctets) origin keeps low = framing_of (Refused fault.NotOctets) origin keeps low (refl, refl)
-len_of (Refused fault.LongHead) origin keeps low = framing_of (Refused fault.LongHead) origin keeps low (refl, refl)
+len_of (Refused fault.Malformed) origin keeps low = framing_of (Refused fault.Malformed) origin keeps low
+  (refl, refl)
+len_of (Refused fault.NoPath) origin keeps low = framing_of (Refused fault.NoPath) origin keeps low
+  (refl, refl)
+len_of (Refused fault.Method) origin keeps low = framing_of (Refused fault.Method) origin keeps low
+  (refl, refl)
+len_of (Refused fault.NoLength) origin keeps low = framing_of (Refused fault.NoLength) origin keeps low
+  (refl, refl)
+len_of (Refused fault.LongBody) origin keeps low = framing_of (Refused fault.LongBody) origin keeps low
+  (refl, refl)
+len_of (Refused fault.NotOctets) origin keeps low = framing_of (Refused fault.NotOctets) origin keeps low
+  (refl, refl)
+len_of (Refused fault.LongHead) origin keeps low = framing_of (Refused fault.LongHead) origin keeps low
+  (refl, refl)
 
 -- ---- its head is short
 
@@ -284,7 +300,8 @@ close_short false = omega arith
 head_text : PlainReply → Option (List ℕ) → Bool → List ℕ
 head_text r origin keeps = response_text 1 (reply_status r) (reply_reason r) (reply_fields r origin keeps)
 
-text_short : (r : PlainReply) (origin : Option (List ℕ)) (keeps : Bool) → length (decimal (length (reply_body r))) ≤ 5
+text_short : (r : PlainReply) (origin : Option (List ℕ)) (keeps : Bool)
+  → length (decimal (length (reply_body r))) ≤ 5
     → IsOrigin origin
     → length (response_text 1 (reply_status r) (reply_reason r) (reply_fields r origin keeps)) ≤ 4096
 text_short r origin keeps few is =
@@ -295,7 +312,8 @@ text_short r origin keeps few is =
       length_short r few,
       origin_short origin is,
       close_short keeps,
-      length-append (response_text 1 (reply_status r) (reply_reason r) (reply_fields r origin keeps)) (reply_body r),
+      length-append (response_text 1 (reply_status r) (reply_reason r) (reply_fields r origin keeps))
+        (reply_body r),
     )
 
 -- ---- and has few fields
@@ -374,7 +392,8 @@ answered path.Frame (Lease lane serial) origin keeps fits = absurd fits
 answered path.Proof (Lease lane serial) origin keeps fits = absurd fits
 answered path.Lease (Lease lane serial) origin keeps fits =
     rw (lease_octets lane serial origin keeps)
-    (λ i. Some (Lease (from_be_bytes-to_be_bytes_2 lane fits.0 i) (from_be_bytes-to_be_bytes_4 serial fits.1 i)))
+    (λ i. Some (Lease (from_be_bytes-to_be_bytes_2 lane fits.0 i)
+      (from_be_bytes-to_be_bytes_4 serial fits.1 i)))
 answered p NotYours origin keeps fits = refl
 answered p (Ended ends.Written) origin keeps fits = refl
 answered p (Ended ends.NotWritten) origin keeps fits = refl
@@ -400,7 +419,8 @@ body_short p Busy fits = omega arith
 body_short p Preflight fits = omega arith
 body_short p (Refused why) fits = omega arith
 
-module _ (p : Path) (r : PlainReply) (origin : Option (List ℕ)) (keeps : Bool) (fits : Fits p r) (is : IsOrigin origin) where
+module _ (p : Path) (r : PlainReply) (origin : Option (List ℕ)) (keeps : Bool) (fits : Fits p r)
+  (is : IsOrigin origin) where
   abbrev hs : List Header
   hs = reply_fields r origin keeps
 
@@ -411,13 +431,16 @@ module _ (p : Path) (r : PlainReply) (origin : Option (List ℕ)) (keeps : Bool)
   back rest =
       let d = (decimal_is (length (reply_body r)) (body_short p r fits)).trim in
       response_reads_back 1 (reply_status r) (reply_reason r) hs rest
-      (accepted (is_status_line 1 (reply_status r) (reply_reason r)) hs (line_sent r) (sent r origin keeps d is))
+      (accepted (is_status_line 1 (reply_status r) (reply_reason r)) hs (line_sent r)
+        (sent r origin keeps d is))
 
   held : (rest : List ℕ) → HoldsResponse (reply_text r origin keeps ++ rest) head (reply_body r) rest
   held rest =
       let read = back (reply_body r ++ rest) in
       let low = body_short p r fits in
-      let text = append_assoc (response_text 1 (reply_status r) (reply_reason r) hs) (reply_body r) rest in record {
+      let text =
+            append_assoc (response_text 1 (reply_status r) (reply_reason r) hs) (reply_body r) rest in
+      record {
         takes = record {
           reads = subst (λ (t : List ℕ). ReadsResponse t head (reply_body r ++ rest)) (sym text) read.reads;
           strict = (text_short r origin keeps (decimal_is (length (reply_body r)) low).short is, read.strict);
@@ -431,12 +454,14 @@ module _ (p : Path) (r : PlainReply) (origin : Option (List ℕ)) (keeps : Bool)
   says : reply_of p head (reply_body r) ≡ Some r
   says =
       let read = back [] in
-      (λ i. reply_at p (read.code i) (has_octets (read.fields i)) (reply_body r)) ∙ answered p r origin keeps fits
+      (λ i. reply_at p (read.code i) (has_octets (read.fields i)) (reply_body r))
+        ∙ answered p r origin keeps fits
 
 pub back_as_written : AnswersAreReadBack
 back_as_written p r origin keeps rest read fits is readable =
     read_once p (reply_text r origin keeps ++ rest) r read
-    (head p r origin keeps fits is, reply_body r, rest, held p r origin keeps fits is rest, says p r origin keeps fits is)
+    (head p r origin keeps fits is, reply_body r, rest, held p r origin keeps fits is rest,
+      says p r origin keeps fits is)
     readable
 
 pub cut_as_awaited : CutAnswersAreAwaited
@@ -444,4 +469,5 @@ cut_as_awaited p r origin keeps front rest read fits is cut more readable =
     let whole = held p r origin keeps fits is [] in
     let text = append-nil (reply_text r origin keeps) ∙ cut in
     read_later p front rest (head p r origin keeps fits is) (reply_body r) read
-    (subst (λ (t : List ℕ). HoldsResponse t (head p r origin keeps fits is) (reply_body r) []) text whole) more readable
+    (subst (λ (t : List ℕ). HoldsResponse t (head p r origin keeps fits is) (reply_body r) []) text whole)
+      more readable
