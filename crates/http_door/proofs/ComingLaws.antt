@@ -106,7 +106,7 @@ line_is path.Proof = refl
 line_is path.Lease = refl
 
 pub accepted : (line : Bool) (hs : List Header) → line ≡ true → are_headers hs ≡ true
-  → head_refusal line hs ≡ None
+    → head_refusal line hs ≡ None
 accepted line hs p q = rw p (rw q refl)
 
 one_host : (host : List ℕ) (n : ℕ) → has_one_host 1 (known_fields (sent_fields host n)) ≡ true

@@ -172,21 +172,21 @@ first_coding hs = refl
 module _ (a c d : List Header) (n : ℕ) where
   abbrev all : List Header
   all = (codes "Cache-Control", codes "no-store")
-    ∷ (a ++ (((codes "Content-Length", decimal n) ∷ []) ++ (c ++ d)))
+      ∷ (a ++ (((codes "Content-Length", decimal n) ∷ []) ++ (c ++ d)))
 
   all_sizes : FramesNothing a → FramesNothing c → FramesNothing d → sizes all ≡ decimal n ∷ []
   all_sizes p q r =
       first_size _ ∙ sizes-append a _
-        ∙ ap (λ (t : List (List ℕ)). t ++ sizes (((codes "Content-Length", decimal n) ∷ []) ++ (c ++ d)))
-        p.size
+      ∙ ap (λ (t : List (List ℕ)). t ++ sizes (((codes "Content-Length", decimal n) ∷ []) ++ (c ++ d)))
+      p.size
       ∙ sizes-append ((codes "Content-Length", decimal n) ∷ []) (c ++ d)
       ∙ (λ i. one_size n i ++ (sizes-append c d ∙ (λ j. q.size j ++ r.size j)) i)
 
   all_codings : FramesNothing a → FramesNothing c → FramesNothing d → codings all ≡ []
   all_codings p q r =
       first_coding _ ∙ codings-append a _
-        ∙ ap (λ (t : List (List ℕ)). t ++ codings (((codes "Content-Length", decimal n) ∷ []) ++ (c ++ d)))
-        p.coding
+      ∙ ap (λ (t : List (List ℕ)). t ++ codings (((codes "Content-Length", decimal n) ∷ []) ++ (c ++ d)))
+      p.coding
       ∙ codings-append ((codes "Content-Length", decimal n) ∷ []) (c ++ d)
       ∙ (λ i. no_coding n i ++ (codings-append c d ∙ (λ j. q.coding j ++ r.coding j)) i)
 
@@ -200,7 +200,7 @@ unfolding known_fields
 known_size hs n low one = ap content_length one ∙ length_is n (decimal_is n low)
 
 framed : (status n : ℕ) (k : KnownFields) → has_no_body Other status ≡ false
-  → k.transfer_encoding ≡ Coding.Absent
+    → k.transfer_encoding ≡ Coding.Absent
     → k.content_length ≡ Sized.Value n → response_framing Other status 1 k ≡ Ok (Length n)
 framed status n k body coding size =
     rw body (λ i. by_fields 1 UntilClose (Ok UntilClose) (coding i) (size i))
@@ -211,10 +211,10 @@ framed_one n low = grind (arith, nat_tests)
 -- a body of an answer that isn't a preflight's
 abbrev Bodied : PlainReply → Type 0
 Bodied r = (has_no_body Other (reply_status r) ≡ false)
-  × (length_fields r ≡ (codes "Content-Length", decimal (length (reply_body r))) ∷ [])
+    × (length_fields r ≡ (codes "Content-Length", decimal (length (reply_body r))) ∷ [])
 
 framing_of : (r : PlainReply) (origin : Option (List ℕ)) (keeps : Bool) → length (reply_body r) ≤ 8262
-  → Bodied r
+    → Bodied r
     → framed_len (response_framing Other (reply_status r) 1 (known_fields (reply_fields r origin keeps)))
     ≡ Some (length (reply_body r))
 framing_of r origin keeps low bodied =
@@ -225,7 +225,7 @@ framing_of r origin keeps low bodied =
     let hs = all (own_fields r) (origin_fields origin) (close_fields keeps) n in
     let same : reply_fields r origin keeps ≡ hs =
     λ i. (codes "Cache-Control", codes "no-store")
-      ∷ (own_fields r ++ (bodied.1 i ++ (origin_fields origin ++ close_fields keeps))) in
+    ∷ (own_fields r ++ (bodied.1 i ++ (origin_fields origin ++ close_fields keeps))) in
     let coding = known_coding hs (all_codings _ _ _ n own from close) in
     let size = known_size hs n low (all_sizes _ _ _ n own from close) in
     ap (λ (q : List Header). framed_len (response_framing Other (reply_status r) 1 (known_fields q))) same
@@ -241,19 +241,19 @@ len_of (Ended end) origin keeps low = framing_of (Ended end) origin keeps low (r
 len_of Busy origin keeps low = framing_of Busy origin keeps low (refl, refl)
 len_of Preflight origin keeps low = refl
 len_of (Refused fault.Malformed) origin keeps low = framing_of (Refused fault.Malformed) origin keeps low
-  (refl, refl)
+    (refl, refl)
 len_of (Refused fault.NoPath) origin keeps low = framing_of (Refused fault.NoPath) origin keeps low
-  (refl, refl)
+    (refl, refl)
 len_of (Refused fault.Method) origin keeps low = framing_of (Refused fault.Method) origin keeps low
-  (refl, refl)
+    (refl, refl)
 len_of (Refused fault.NoLength) origin keeps low = framing_of (Refused fault.NoLength) origin keeps low
-  (refl, refl)
+    (refl, refl)
 len_of (Refused fault.LongBody) origin keeps low = framing_of (Refused fault.LongBody) origin keeps low
-  (refl, refl)
+    (refl, refl)
 len_of (Refused fault.NotOctets) origin keeps low = framing_of (Refused fault.NotOctets) origin keeps low
-  (refl, refl)
+    (refl, refl)
 len_of (Refused fault.LongHead) origin keeps low = framing_of (Refused fault.LongHead) origin keeps low
-  (refl, refl)
+    (refl, refl)
 
 -- ---- its head is short
 
@@ -301,7 +301,7 @@ head_text : PlainReply → Option (List ℕ) → Bool → List ℕ
 head_text r origin keeps = response_text 1 (reply_status r) (reply_reason r) (reply_fields r origin keeps)
 
 text_short : (r : PlainReply) (origin : Option (List ℕ)) (keeps : Bool)
-  → length (decimal (length (reply_body r))) ≤ 5
+    → length (decimal (length (reply_body r))) ≤ 5
     → IsOrigin origin
     → length (response_text 1 (reply_status r) (reply_reason r) (reply_fields r origin keeps)) ≤ 4096
 text_short r origin keeps few is =
@@ -313,7 +313,7 @@ text_short r origin keeps few is =
       origin_short origin is,
       close_short keeps,
       length-append (response_text 1 (reply_status r) (reply_reason r) (reply_fields r origin keeps))
-        (reply_body r),
+          (reply_body r),
     )
 
 -- ---- and has few fields
@@ -393,7 +393,7 @@ answered path.Proof (Lease lane serial) origin keeps fits = absurd fits
 answered path.Lease (Lease lane serial) origin keeps fits =
     rw (lease_octets lane serial origin keeps)
     (λ i. Some (Lease (from_be_bytes-to_be_bytes_2 lane fits.0 i)
-      (from_be_bytes-to_be_bytes_4 serial fits.1 i)))
+    (from_be_bytes-to_be_bytes_4 serial fits.1 i)))
 answered p NotYours origin keeps fits = refl
 answered p (Ended ends.Written) origin keeps fits = refl
 answered p (Ended ends.NotWritten) origin keeps fits = refl
@@ -420,7 +420,7 @@ body_short p Preflight fits = omega arith
 body_short p (Refused why) fits = omega arith
 
 module _ (p : Path) (r : PlainReply) (origin : Option (List ℕ)) (keeps : Bool) (fits : Fits p r)
-  (is : IsOrigin origin) where
+    (is : IsOrigin origin) where
   abbrev hs : List Header
   hs = reply_fields r origin keeps
 
@@ -432,14 +432,14 @@ module _ (p : Path) (r : PlainReply) (origin : Option (List ℕ)) (keeps : Bool)
       let d = (decimal_is (length (reply_body r)) (body_short p r fits)).trim in
       response_reads_back 1 (reply_status r) (reply_reason r) hs rest
       (accepted (is_status_line 1 (reply_status r) (reply_reason r)) hs (line_sent r)
-        (sent r origin keeps d is))
+      (sent r origin keeps d is))
 
   held : (rest : List ℕ) → HoldsResponse (reply_text r origin keeps ++ rest) head (reply_body r) rest
   held rest =
       let read = back (reply_body r ++ rest) in
       let low = body_short p r fits in
       let text =
-            append_assoc (response_text 1 (reply_status r) (reply_reason r) hs) (reply_body r) rest in
+      append_assoc (response_text 1 (reply_status r) (reply_reason r) hs) (reply_body r) rest in
       record {
         takes = record {
           reads = subst (λ (t : List ℕ). ReadsResponse t head (reply_body r ++ rest)) (sym text) read.reads;
@@ -455,13 +455,17 @@ module _ (p : Path) (r : PlainReply) (origin : Option (List ℕ)) (keeps : Bool)
   says =
       let read = back [] in
       (λ i. reply_at p (read.code i) (has_octets (read.fields i)) (reply_body r))
-        ∙ answered p r origin keeps fits
+      ∙ answered p r origin keeps fits
 
 pub back_as_written : AnswersAreReadBack
 back_as_written p r origin keeps rest read fits is readable =
-    read_once p (reply_text r origin keeps ++ rest) r read
-    (head p r origin keeps fits is, reply_body r, rest, held p r origin keeps fits is rest,
-      says p r origin keeps fits is)
+    read_once p (reply_text r origin keeps ++ rest) r read (
+      head p r origin keeps fits is,
+      reply_body r,
+      rest,
+      held p r origin keeps fits is rest,
+      says p r origin keeps fits is,
+    )
     readable
 
 pub cut_as_awaited : CutAnswersAreAwaited
@@ -470,4 +474,4 @@ cut_as_awaited p r origin keeps front rest read fits is cut more readable =
     let text = append-nil (reply_text r origin keeps) ∙ cut in
     read_later p front rest (head p r origin keeps fits is) (reply_body r) read
     (subst (λ (t : List ℕ). HoldsResponse t (head p r origin keeps fits is) (reply_body r) []) text whole)
-      more readable
+    more readable

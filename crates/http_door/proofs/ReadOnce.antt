@@ -26,7 +26,7 @@ taken_again : (held more : List ℕ) (h k : ResponseHead) (a b : List ℕ) → T
 taken_again held more h k a b x y = response_prefix_free held more k h a b x.reads y.reads
 
 taken_once : (held : List ℕ) (h k : ResponseHead) (a b : List ℕ) → TakesResponse held h a
-  → TakesResponse held k b
+    → TakesResponse held k b
     → (h ≡ k) × (a ≡ b)
 taken_once held h k a b x y = response_unique held h k a b x.reads y.reads
 
@@ -43,7 +43,7 @@ held_once held h k b r c q x y =
     (same.0, front_is b r c q same.1 size)
 
 not_awaited : (held : List ℕ) (h : ResponseHead) (b r : List ℕ) → HoldsResponse held h b r → AwaitsBody held
-  → ⊥
+    → ⊥
 not_awaited held h b r holds waits =
     let same = taken_once held h waits.0 (b ++ r) waits.1 holds.takes waits.3 in
     let sizes : Some (length b) ≡ Some waits.2 = sym holds.size ∙ ap reply_len same.0 ∙ waits.4 in
@@ -52,7 +52,7 @@ not_awaited held h b r holds waits =
     omega (arith, ap length same.1, length-append b r)
 
 not_never : (held : List ℕ) (h : ResponseHead) (a : List ℕ) → TakesResponse held h a → NeverTakesResponse held
-  → ⊥
+    → ⊥
 not_never held h a takes never =
     never [] h a (subst (λ (t : List ℕ). TakesResponse t h a) (sym (append-nil held)) takes)
 
@@ -66,7 +66,7 @@ read_once path held r (Ok (Some s)) (h, b, q, holds, is) (k, c, p, again, same) 
     let both : Some s ≡ Some r = sym same ∙ sym (λ i. reply_of path (one.0 i) (one.1 i)) ∙ is in
     ap (λ (o : Option PlainReply). Ok o) both
 read_once path held r (Err Malformed) (h, b, q, holds, is) (inl never) =
-  absurd (not_never held h _ holds.takes never)
+    absurd (not_never held h _ holds.takes never)
 read_once path held r (Err Malformed) (h, b, q, holds, is) (inr (k, a, takes, unsized)) =
     let one = taken_once held h k _ a holds.takes takes in
     let both : Some (length b) ≡ None = sym holds.size ∙ ap reply_len one.0 ∙ unsized in

@@ -15,15 +15,20 @@ never_strict held none more head after takes =
     absurd (omega arith)
 
 pub few_fields : (held : List ℕ) (spans : List HeaderSpan) (count : ℕ) (fields : List Field)
-  → length spans ≡ 64
+    → length spans ≡ 64
     → AreFieldsAt held spans count fields → length fields ≤ 64
 few_fields held spans count fields room are =
-    omega (arith, ap length are, length-map (take count spans) (header_bytes held),
-      length-map fields name_and_value, length-take count spans)
+    omega (
+      arith,
+      ap length are,
+      length-map (take count spans) (header_bytes held),
+      length-map fields name_and_value,
+      length-take count spans,
+    )
 
 -- a head, and behind it no less than its body
 pub holds_reply : (held : List ℕ) (head : ResponseHead) (after : List ℕ) (n : ℕ)
-  → TakesResponse held head after
+    → TakesResponse held head after
     → reply_len head ≡ Some n → n ≤ length after → HoldsResponse held head (take n after) (drop n after)
 holds_reply held head after n takes size inside = record {
   takes = subst (λ (t : List ℕ). TakesResponse held head t) (sym (take-append-drop n after)) takes;

@@ -6,7 +6,7 @@ use Rattle.door_exchange.proofs.reading.read_answer.Given as goal
 abbrev pub invariant-reading : goal.invariant-reading
 invariant-reading g l = record {
   gave : Gave (g.S.Counted.seen l.fn.source).content (g.S.Counted.seen l.source).content
-    (take l.count l.came);
+      (take l.count l.came);
   small : l.count ≤ 12358;
   wanted : IsWanted l.path (take l.count l.came);
   unfailed : (g.S.Counted.seen l.source).faults ≡ (g.S.Counted.seen l.fn.source).faults;

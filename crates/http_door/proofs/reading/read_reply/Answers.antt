@@ -15,7 +15,7 @@ returns-in-Some-reply_of-clause-read c =
       _,
       holds_reply _ found.1 _ c.in-Some-reply_len.size found.2.takes size (rw all at c.if-after-size.false),
       sym (rw all at (c.reply_of.ensures found.1 found.2.parts))
-        ∙ ap (option_map plain_reply) c.in-Some-reply_of.is,
+          ∙ ap (option_map plain_reply) c.in-Some-reply_of.is,
     )
 
 pub returns-in-None-clause-read : goal.returns-in-None-clause-read
@@ -27,6 +27,8 @@ returns-in-None-clause-read c =
       _,
       _,
       holds_reply _ found.1 _ c.in-Some-reply_len.size found.2.takes size (rw all at c.if-after-size.false),
-      (sym (rw all at (c.reply_of.ensures found.1 found.2.parts)) ∙ ap (option_map plain_reply) c.in-None.is,
-        sym found.2.parts.code),
+      (
+        sym (rw all at (c.reply_of.ensures found.1 found.2.parts)) ∙ ap (option_map plain_reply) c.in-None.is,
+        sym found.2.parts.code,
+      ),
     )

@@ -14,30 +14,35 @@ returns-in-Ok-Partial-clause-never c =
 pub returns-in-Ok-Complete-clause-never : goal.returns-in-Ok-Complete-clause-never
 returns-in-Ok-Complete-clause-never c =
     let found : IsResponseOf c.args.held.now c.parse_response.new.headers c.in-Ok-Complete.head =
-          search rules in
-    (refl, never_strict _
-      (response_refused 4096 64 _ found.0 _ found.1.reads (λ strict. omega (arith, strict.0, found.1.len))))
+    search rules in (
+      refl,
+      never_strict _
+          (response_refused 4096 64 _ found.0 _ found.1.reads
+          (λ strict. omega (arith, strict.0, found.1.len))),
+    )
 
 pub returns-in-Ok-Complete-2-clause-never : goal.returns-in-Ok-Complete-2-clause-never
 returns-in-Ok-Complete-2-clause-never c =
     let found : IsResponseOf c.args.held.now c.parse_response.new.headers c.in-Ok-Complete.head =
-          search rules in
+    search rules in
     let text = take_front c.args.held.now (print_response found.0)
-          (drop c.in-Ok-Complete.head.len c.args.held.now) c.in-Ok-Complete.head.len found.1.reads.1
-          found.1.len in
-    let is = c.has_no_bare_lf.ensures ∙ ap (lf_follows_cr 0) text in
-    (refl, never_strict _ (response_refused 4096 64 _ found.0 _ found.1.reads
-      (λ strict. cc (is, strict.1, c.if-not-has_no_bare_lf.true))))
+    (drop c.in-Ok-Complete.head.len c.args.held.now) c.in-Ok-Complete.head.len found.1.reads.1
+    found.1.len in
+    let is = c.has_no_bare_lf.ensures ∙ ap (lf_follows_cr 0) text in (
+      refl,
+      never_strict _ (response_refused 4096 64 _ found.0 _ found.1.reads
+          (λ strict. cc (is, strict.1, c.if-not-has_no_bare_lf.true))),
+    )
 
 pub returns-in-Ok-Complete-3-clause-found : goal.returns-in-Ok-Complete-3-clause-found
 returns-in-Ok-Complete-3-clause-found c =
     let found : IsResponseOf c.args.held.now c.parse_response.new.headers c.in-Ok-Complete.head =
-          search rules in
+    search rules in
     let within : IsResponseWithin c.args.held.now c.parse_response.new.headers c.in-Ok-Complete.head =
-          search rules in
+    search rules in
     let text = take_front c.args.held.now (print_response found.0)
-          (drop c.in-Ok-Complete.head.len c.args.held.now) c.in-Ok-Complete.head.len found.1.reads.1
-          found.1.len in
+    (drop c.in-Ok-Complete.head.len c.args.held.now) c.in-Ok-Complete.head.len found.1.reads.1
+    found.1.len in
     let is = c.has_no_bare_lf.ensures ∙ ap (lf_follows_cr 0) text in (
       within,
       found.0,
@@ -46,7 +51,7 @@ returns-in-Ok-Complete-3-clause-found c =
           reads = found.1.reads;
           strict = (omega (arith, found.1.len), cc (is, c.if-not-has_no_bare_lf.false));
           few = few_fields c.args.held.now c.parse_response.new.headers c.in-Ok-Complete.head.headers
-            found.0.fields (omega (arith, c.requires, c.parse_response.auto.headers)) found.1.fields;
+              found.0.fields (omega (arith, c.requires, c.parse_response.auto.headers)) found.1.fields;
         };
         parts = found.1;
       },
