@@ -1,4 +1,4 @@
-use Rattle.std.proofs.Common.{ℕ, ◌-◌, take, length, rules, arith}
+use Rattle.std.proofs.Common.{ℕ, ◌-◌, take, rules, arith}
 use Rattle.std.proofs.lemmas.List.{length-take}
 use Rattle.door_exchange.proofs.TakingLaws.{front, gave_more, gave_none, gave_zero, more_wanted, put}
 use Rattle.door_exchange.proofs.TakingLaws.{whole_read}
