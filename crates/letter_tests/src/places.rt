@@ -1,4 +1,6 @@
 //! Places, which `bench/letter_vectors` drew.
+ghost use Rattle.std.specs.Prelude.{◌≤◌};
+
 use crate::told::is_told;
 use letter_pieces::{LetterId, Places, most_parts};
 use std::alloc::{AllocError, Global};
