@@ -11,4 +11,6 @@ mod pieces;
 #[cfg(test)]
 mod places;
 #[cfg(test)]
+mod read;
+#[cfg(test)]
 mod told;

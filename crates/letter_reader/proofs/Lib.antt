@@ -1,0 +1,5 @@
+mod AwaitLaws
+mod FoundLaws
+mod MarkLaws
+mod TellLaws
+mod TriedLaws
