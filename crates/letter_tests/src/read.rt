@@ -1,4 +1,4 @@
-//! Boxes in which letters met, read: what `bench/letter_vectors` makes of four letters on sixteen addresses.
+//! Boxes in which letters met, read: four letters on sixteen addresses, put into boxes by another program.
 ghost use Rattle.std.specs.Prelude.{◌≡◌, ◌↔◌, IsTrue};
 ghost use Rattle.letter_reader.specs.Reader.{AreBoxes};
 
