@@ -84,6 +84,16 @@ fn ask_at(rt: &HostRuntime, at: SocketAddr, room: &mut [u8]) -> io::Result<usize
     read_line(&mut stream, room)
 }
 
+fn print_line(rt: &HostRuntime, came: &[u8]) -> Result<(), Stop> {
+    match line_in(came) {
+        Some(line) => {
+            let _told = println!(rt; "{line}");
+            Ok(())
+        }
+        None => Err(Stop::NoServer),
+    }
+}
+
 /// Asks the server of these settings how it stands, and prints its line.
 pub fn ask(rt: &HostRuntime, settings: &ServerSettings) -> Result<(), Stop> {
     let Some(address) = &settings.doors.status else {
@@ -92,11 +102,8 @@ pub fn ask(rt: &HostRuntime, settings: &ServerSettings) -> Result<(), Stop> {
     let at = socket_of(rt, Key::Status, address)?;
     let mut room = [0; LINE];
     let count = ask_at(rt, at, &mut room).map_err(|_| Stop::NoServer)?;
-    match line_in(&room[..count]) {
-        Some(line) => {
-            let _told = println!(rt; "{line}");
-            Ok(())
-        }
+    match room.get(..count) {
+        Some(came) => print_line(rt, came),
         None => Err(Stop::NoServer),
     }
 }
