@@ -25,12 +25,12 @@ pub digits_utf8 : (digits : List ℕ) → all_ascii_digits digits ≡ true → I
 digits_utf8 digits h = IsUtf8-from_ascii digits (digits_ascii digits h)
 
 -- a text that ends with five digits and an LF
-record EndsWithDigits (text : List ℕ) : Type 0 where
-  front : List ℕ
-  digits : List ℕ
-  text_is : text ≡ front ++ (digits ++ 10 ∷ [])
-  five : length digits ≡ 5
-  all : all_ascii_digits digits ≡ true
+pub record EndsWithDigits (text : List ℕ) : Type 0 where
+  pub front : List ℕ
+  pub digits : List ℕ
+  pub text_is : text ≡ front ++ (digits ++ 10 ∷ [])
+  pub five : length digits ≡ 5
+  pub all : all_ascii_digits digits ≡ true
 
 digit_is : (x : ℕ) → is_ascii_digit (digit_of x) ≡ true
 digit_is x = low_digit (x % 10) (omega arith)
@@ -60,7 +60,7 @@ behind front text e = record {
   all = e.all;
 }
 
-ends : (said content : List ℕ) (contents : List (List ℕ)) → EndsWithDigits (printed_from said (content ∷ contents))
+pub ends : (said content : List ℕ) (contents : List (List ℕ)) → EndsWithDigits (printed_from said (content ∷ contents))
 unfolding printed_from
 ends said content [] = subst EndsWithDigits (sym (append-nil (checked said content ++ 10 ∷ []))) (line_ends said content)
 ends said content (next ∷ contents) =
@@ -69,7 +69,7 @@ ends said content (next ∷ contents) =
 sheet_ends : (s : Sheet) → EndsWithDigits (printed s)
 sheet_ends s = ends [] _ _
 
-long_text : (text : List ℕ) → EndsWithDigits text → 6 ≤ length text
+pub long_text : (text : List ℕ) → EndsWithDigits text → 6 ≤ length text
 long_text text e =
     let five = e.five in
     let len : length text ≡ length e.front + (length e.digits + 1) =
@@ -77,7 +77,7 @@ long_text text e =
     omega (arith, len, five)
 
 -- and between the sixth byte from the end and the last
-between : (text : List ℕ) (e : EndsWithDigits text) → take 5 (drop (length text - 6) text) ≡ e.digits
+pub between : (text : List ℕ) (e : EndsWithDigits text) → take 5 (drop (length text - 6) text) ≡ e.digits
 between text e =
     let five = e.five in
     let len : length text ≡ length e.front + (length e.digits + 1) =

@@ -22,13 +22,13 @@ use Rattle.desk_texts.specs.Spelling.{numbers_text, lasting_text, dated_text, ca
 use Rattle.desk_texts.proofs.DayLaws.{day_found, day_only}
 
 -- the bounds of numbers are below 2 ^ 64
-below_64 : 64 < 2 ^ 64
+pub below_64 : 64 < 2 ^ 64
 below_64 = omega arith
 
-below_255 : 255 < 2 ^ 64
+pub below_255 : 255 < 2 ^ 64
 below_255 = omega arith
 
-below_4096 : 4096 < 2 ^ 64
+pub below_4096 : 4096 < 2 ^ 64
 below_4096 = omega arith
 
 pub some_is : {A : Type 0} (x y : A) → Some x ≡ Some y → x ≡ y

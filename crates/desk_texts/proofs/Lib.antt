@@ -1,12 +1,12 @@
-mod CheckLaws
-mod DayLaws
-mod DigitLaws
-mod FindLaws
-mod HeadLaws
-mod LoopLaws
-mod PlaceLaws
-mod PrintLaws
-mod SheetLaws
-mod SizeLaws
-mod TextLaws
-mod TrimLaws
+pub mod CheckLaws
+pub mod DayLaws
+pub mod DigitLaws
+pub mod FindLaws
+pub mod HeadLaws
+pub mod LoopLaws
+pub mod PlaceLaws
+pub mod PrintLaws
+pub mod SheetLaws
+pub mod SizeLaws
+pub mod TextLaws
+pub mod TrimLaws

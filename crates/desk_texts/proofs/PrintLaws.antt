@@ -39,7 +39,7 @@ use Rattle.desk_texts.proofs.TrimLaws.{trim_other}
 
 -- ---- no line has an LF in it
 
-HasNoLf-append : (xs ys : List ℕ) → HasNoLf xs → HasNoLf ys → HasNoLf (xs ++ ys)
+pub HasNoLf-append : (xs ys : List ℕ) → HasNoLf xs → HasNoLf ys → HasNoLf (xs ++ ys)
 HasNoLf-append [] ys h k = k
 HasNoLf-append (x ∷ xs) ys h k = (h.0, HasNoLf-append xs ys h.1 k)
 
@@ -48,13 +48,13 @@ no_lf_at [] i h e = absurd (omega (arith, e))
 no_lf_at (x ∷ xs) zero h e = h.0 e
 no_lf_at (x ∷ xs) (suc i) h e = no_lf_at xs i h.1 e
 
-HasNoLf-encode_with : (t bytes : List ℕ) → HasNoLf t → HasNoLf (encode_with t bytes)
+pub HasNoLf-encode_with : (t bytes : List ℕ) → HasNoLf t → HasNoLf (encode_with t bytes)
 unfolding encode_with
 HasNoLf-encode_with t [] h = tt
 HasNoLf-encode_with t (b ∷ bytes) h =
     (no_lf_at t (b / 16) h, (no_lf_at t (b % 16) h, HasNoLf-encode_with t bytes h))
 
-HasNoLf-digits : HasNoLf lower_digits
+pub HasNoLf-digits : HasNoLf lower_digits
 HasNoLf-digits = search arith
 
 all_digits : (ds : List ℕ) → all_ascii_digits ds ≡ true → HasNoLf ds
@@ -67,15 +67,15 @@ all_digits (d ∷ ds) h =
     digit_not : (c : ℕ) → is_ascii_digit c ≡ true → c ≢ 10
     digit_not c k e = grind (arith, nat_tests)
 
-HasNoLf-decimal : (n : ℕ) → n < 2 ^ 64 → HasNoLf (decimal n)
+pub HasNoLf-decimal : (n : ℕ) → n < 2 ^ 64 → HasNoLf (decimal n)
 HasNoLf-decimal n small = all_digits (decimal n) (digits_decimal numerals n small)
 
 -- a word and a number
-spaced : (n : ℕ) (rest : List ℕ) → n < 2 ^ 64 → HasNoLf rest → HasNoLf (codes " " ++ (decimal n ++ rest))
+pub spaced : (n : ℕ) (rest : List ℕ) → n < 2 ^ 64 → HasNoLf rest → HasNoLf (codes " " ++ (decimal n ++ rest))
 spaced n rest small h =
     HasNoLf-append (codes " ") (decimal n ++ rest) (search arith) (HasNoLf-append (decimal n) rest (HasNoLf-decimal n small) h)
 
-spaced_last : (n : ℕ) → n < 2 ^ 64 → HasNoLf (codes " " ++ decimal n)
+pub spaced_last : (n : ℕ) → n < 2 ^ 64 → HasNoLf (codes " " ++ decimal n)
 spaced_last n small = HasNoLf-append (codes " ") (decimal n) (search arith) (HasNoLf-decimal n small)
 
 numbers_no_lf : (h : CardHead) (rest : List ℕ) → IsCard h → HasNoLf rest → HasNoLf (numbers_text h rest)
@@ -93,7 +93,7 @@ zeros_no_lf (suc n) = ((λ e. absurd (omega (arith, e))), zeros_no_lf n)
 filled_no_lf : (width n : ℕ) → n < 2 ^ 64 → HasNoLf (zero_filled width n)
 filled_no_lf width n small = HasNoLf-append _ (decimal n) (zeros_no_lf (width - length (decimal n))) (HasNoLf-decimal n small)
 
-day_no_lf : (d : Day) → IsDay d → HasNoLf (day_text d)
+pub day_no_lf : (d : Day) → IsDay d → HasNoLf (day_text d)
 day_no_lf d is =
     let year = is.year in let month = is.last_month in let day = (short_day d is).1 in
     let tail1 = HasNoLf-append (codes "-") (zero_filled 2 d.day) (search arith) (filled_no_lf 2 d.day (omega (arith, day))) in
@@ -122,17 +122,17 @@ head_no_lf (Pair h) is =
 byte_no_lf : (b : ℕ) → is_place_byte b ≡ true → b ≢ 10
 byte_no_lf b h e = grind (arith, nat_tests)
 
-bytes_no_lf : (text : List ℕ) → list_all is_place_byte text ≡ true → HasNoLf text
+pub bytes_no_lf : (text : List ℕ) → list_all is_place_byte text ≡ true → HasNoLf text
 bytes_no_lf [] h = tt
 bytes_no_lf (b ∷ text) h =
     let p = and_parts (is_place_byte b) (list_all is_place_byte text) h in
     ((λ e. byte_no_lf b p.0 e), bytes_no_lf text p.1)
 
-abbrev AreLfFree : List (List ℕ) → Type 0
+abbrev pub AreLfFree : List (List ℕ) → Type 0
 AreLfFree [] = Unit {0}
 AreLfFree (line ∷ lines) = HasNoLf line × AreLfFree lines
 
-addresses_no_lf : (addresses : List ℕ) → AreLfFree (map address_text addresses)
+pub addresses_no_lf : (addresses : List ℕ) → AreLfFree (map address_text addresses)
 addresses_no_lf [] = tt
 addresses_no_lf (a ∷ addresses) =
     (HasNoLf-append (codes "address ") (address_digits a) (search arith) (HasNoLf-encode_with lower_digits _ HasNoLf-digits), addresses_no_lf addresses)
@@ -198,14 +198,14 @@ stays said content =
         ap (λ i. get_or (x ∷ (xs ++ ys)) i 0) (let e : suc (length xs) + 5 ≡ suc (length xs + 5) = omega arith in e)
         ∙ past xs ys
 
-all_stay : (said : List ℕ) (contents : List (List ℕ))
+pub all_stay : (said : List ℕ) (contents : List (List ℕ))
     → map trimmed (checked_lines said contents) ≡ checked_lines said contents
 all_stay said [] = refl
 all_stay said (content ∷ contents) =
     ap (λ (t : List ℕ). t ∷ map trimmed (checked_lines (with_content said content) contents)) (stays said content)
     ∙ ap (λ (ts : List (List ℕ)). checked said content ∷ ts) (all_stay (with_content said content) contents)
 
-are_lines : (said : List ℕ) (contents : List (List ℕ)) → AreLfFree contents
+pub are_lines : (said : List ℕ) (contents : List (List ℕ)) → AreLfFree contents
     → AreLines (checked_lines said contents) (printed_from said contents)
 unfolding printed_from
 are_lines said [] h = refl
@@ -227,10 +227,10 @@ are_lines said (content ∷ next ∷ contents) h = (
 begins_by : (word rest : List ℕ) → is_some (after word (word ++ rest)) ≡ true
 begins_by word rest = ap is_some (after_only word rest)
 
-begins_card : (rest : List ℕ) → begins_sheet (codes "express card " ++ rest) ≡ true
+pub begins_card : (rest : List ℕ) → begins_sheet (codes "express card " ++ rest) ≡ true
 begins_card rest = rw (begins_by (codes "express card ") rest) refl
 
-begins_pair : (rest : List ℕ) → begins_sheet (codes "express pair " ++ rest) ≡ true
+pub begins_pair : (rest : List ℕ) → begins_sheet (codes "express pair " ++ rest) ≡ true
 begins_pair rest = rw (begins_by (codes "express pair ") rest) (some_or (is_some (after (codes "express card ") (codes "express pair " ++ rest))))
   where
     some_or : (t : Bool) → t || true ≡ true
@@ -245,7 +245,7 @@ head_begins (Card h) rest = at_until h.until
     at_until (Some day) = begins_card _
 head_begins (Pair h) rest = begins_pair _
 
-nothing_before : (line : List ℕ) (lines : List (List ℕ)) → begins_sheet line ≡ true
+pub nothing_before : (line : List ℕ) (lines : List (List ℕ)) → begins_sheet line ≡ true
     → from_first (line ∷ lines) ≡ line ∷ lines
 nothing_before line lines begins =
     ap (λ k. drop k (line ∷ lines)) (sym (line_found 0 line (line ∷ lines) (line ∷ lines) lines (omega arith) refl begins (from_start (line ∷ lines))))

@@ -20,10 +20,10 @@ pub record Reads {A : Type 0} (read : List ℕ → Option A) (Spells : A → Lis
 reads_head : Reads head_of SpellsHead
 reads_head = record { found = head_found; only = head_only }
 
-reads_place : (word : List ℕ) → Reads (place_of word) (SpellsPlace word)
+pub reads_place : (word : List ℕ) → Reads (place_of word) (SpellsPlace word)
 reads_place word = record { found = place_found word; only = place_only word }
 
-reads_new : (before : List ℕ) → Reads (new_address before) (SpellsNew before)
+pub reads_new : (before : List ℕ) → Reads (new_address before) (SpellsNew before)
 reads_new before = record { found = new_found before; only = new_only before }
 
 -- ---- one line
@@ -37,14 +37,14 @@ abbrev reading : {A : Type 0} → ℕ → (List ℕ → Option A) → List ℕ �
 reading place read r = found_or place (read r.0) (λ a. Ok (a, r.1, r.2))
 
 -- a line that was read, and the lines behind it
-record Line {A : Type 0} (said : List ℕ) (Spells : A → List ℕ → Type 0) (lines : List (List ℕ)) : Type 0 where
-  content : List ℕ
-  a : A
-  rest : List (List ℕ)
-  are : lines ≡ checked said content ∷ rest
-  spelled : Spells a content
+pub record Line {A : Type 0} (said : List ℕ) (Spells : A → List ℕ → Type 0) (lines : List (List ℕ)) : Type 0 where
+  pub content : List ℕ
+  pub a : A
+  pub rest : List (List ℕ)
+  pub are : lines ≡ checked said content ∷ rest
+  pub spelled : Spells a content
 
-line_ok : {A B : Type 0} (place : ℕ) (said : List ℕ) (read : List ℕ → Option A) (Spells : A → List ℕ → Type 0)
+pub line_ok : {A B : Type 0} (place : ℕ) (said : List ℕ) (read : List ℕ → Option A) (Spells : A → List ℕ → Type 0)
     → Reads read Spells → (lines : List (List ℕ)) (f : A × List ℕ × List (List ℕ) → Result B ℕ) (b : B)
     → (line_as place said read lines >>= f) ≡ Ok b
     → (l : Line said Spells lines) × (f (l.a, with_content said l.content, l.rest) ≡ Ok b)
@@ -71,7 +71,7 @@ pub line_on : {A : Type 0} (place : ℕ) (said : List ℕ) (read : List ℕ → 
 unfolding line_as content_at
 line_on place said read Spells law content rest a h = rw (content_only said content, law.only content a h) refl
 
-line_bad : {A B : Type 0} (place : ℕ) (said : List ℕ) (read : List ℕ → Option A) (Spells : A → List ℕ → Type 0)
+pub line_bad : {A B : Type 0} (place : ℕ) (said : List ℕ) (read : List ℕ → Option A) (Spells : A → List ℕ → Type 0)
     → Reads read Spells → (lines : List (List ℕ)) (f : A × List ℕ × List (List ℕ) → Result B ℕ)
     (Later : A × List ℕ → ℕ → List (List ℕ) → Type 0) (n : ℕ)
     → ((a : A) (more : List ℕ) (rest : List (List ℕ)) → f (a, more, rest) ≡ Err n → Later (a, more) n rest)
@@ -105,7 +105,7 @@ line_bad {A} {B} place said read Spells law (line ∷ lines) f Later n later h =
             let same : content_of said line ≡ Some other = ap (content_of said) line_is ∙ content_only said other in cc
     at_content (Some content) e k = at_read content e (read content) refl k
 
-line_bad_only : {A B : Type 0} (place : ℕ) (said : List ℕ) (read : List ℕ → Option A)
+pub line_bad_only : {A B : Type 0} (place : ℕ) (said : List ℕ) (read : List ℕ → Option A)
     (Spells : A → List ℕ → Type 0) → Reads read Spells → (lines : List (List ℕ))
     (f : A × List ℕ × List (List ℕ) → Result B ℕ) (Later : A × List ℕ → ℕ → List (List ℕ) → Type 0) (n : ℕ)
     → ((a : A) (more : List ℕ) (rest : List (List ℕ)) → Later (a, more) n rest → f (a, more, rest) ≡ Err n)
@@ -139,7 +139,7 @@ pub record New (room : ℕ) (said before : List ℕ) (lines : List (List ℕ)) (
   pub lines_are : lines ≡ checked_lines said (map address_text addresses) ++ behind
   pub count : length addresses ≡ room
 
-addresses_found : (room place : ℕ) (said before : List ℕ) (lines : List (List ℕ)) (all : List ℕ)
+pub addresses_found : (room place : ℕ) (said before : List ℕ) (lines : List (List ℕ)) (all : List ℕ)
     → addresses_at room place said before lines ≡ Ok all → New room said before lines all
 unfolding addresses_at
 addresses_found zero place said before lines all h = record {
@@ -164,7 +164,7 @@ addresses_found (suc room) place said before lines all h =
       count = ap suc later.count;
     }
 
-addresses_only : (place : ℕ) (said before addresses : List ℕ) (behind : List (List ℕ)) → AreNew before addresses
+pub addresses_only : (place : ℕ) (said before addresses : List ℕ) (behind : List (List ℕ)) → AreNew before addresses
     → addresses_at (length addresses) place said before (checked_lines said (map address_text addresses) ++ behind)
     ≡ Ok (before ++ addresses)
 unfolding addresses_at
@@ -180,7 +180,7 @@ addresses_only place said before (a ∷ addresses) behind new =
 abbrev behind : ℕ → ℕ → List ℕ → ℕ × List ℕ → ℕ → List (List ℕ) → Type 0
 behind room place before r = FaultOfAddresses room (place + 1) r.1 (before ++ r.0 ∷ [])
 
-addresses_bad : (room place : ℕ) (said before : List ℕ) (lines : List (List ℕ)) (n : ℕ)
+pub addresses_bad : (room place : ℕ) (said before : List ℕ) (lines : List (List ℕ)) (n : ℕ)
     → addresses_at room place said before lines ≡ Err n → FaultOfAddresses room place said before n lines
 unfolding addresses_at
 addresses_bad zero place said before lines n h = cc
@@ -188,7 +188,7 @@ addresses_bad (suc room) place said before lines n h =
     line_bad place said (new_address before) (SpellsNew before) (reads_new before) lines _ (behind room place before) n
     (λ a more rest k. addresses_bad room (place + 1) more (before ++ a ∷ []) rest n k) h
 
-addresses_bad_only : (room place : ℕ) (said before : List ℕ) (lines : List (List ℕ)) (n : ℕ)
+pub addresses_bad_only : (room place : ℕ) (said before : List ℕ) (lines : List (List ℕ)) (n : ℕ)
     → FaultOfAddresses room place said before n lines → addresses_at room place said before lines ≡ Err n
 unfolding addresses_at
 addresses_bad_only zero place said before lines n h = absurd h
@@ -198,7 +198,7 @@ addresses_bad_only (suc room) place said before lines n h =
 
 -- ---- a sheet
 
-bind_ok : {A B : Type 0} (r : Result A ℕ) (f : A → Result B ℕ) (b : B) → (r >>= f) ≡ Ok b
+pub bind_ok : {A B : Type 0} (r : Result A ℕ) (f : A → Result B ℕ) (b : B) → (r >>= f) ≡ Ok b
     → (a : A) × (r ≡ Ok a) × (f a ≡ Ok b)
 bind_ok (Ok a) f b h = (a, refl, h)
 bind_ok (Err n) f b h = cc
@@ -282,11 +282,11 @@ sheet_only place s behind is =
 abbrev made_of : Head → List ℕ → List ℕ → List ℕ → Sheet
 made_of head leader helper addresses = record { head = head; leader = leader; helper = helper; addresses = addresses }
 
-bind_bad : {A B : Type 0} (r : Result A ℕ) (f : A → B) (n : ℕ) → (r >>= (λ a. Ok (f a))) ≡ Err n → r ≡ Err n
+pub bind_bad : {A B : Type 0} (r : Result A ℕ) (f : A → B) (n : ℕ) → (r >>= (λ a. Ok (f a))) ≡ Err n → r ≡ Err n
 bind_bad (Ok a) f n h = cc
 bind_bad (Err m) f n h = cc
 
-bad_bind : {A B : Type 0} (r : Result A ℕ) (f : A → B) (n : ℕ) → r ≡ Err n → (r >>= (λ a. Ok (f a))) ≡ Err n
+pub bad_bind : {A B : Type 0} (r : Result A ℕ) (f : A → B) (n : ℕ) → r ≡ Err n → (r >>= (λ a. Ok (f a))) ≡ Err n
 bad_bind (Ok a) f n h = cc
 bad_bind (Err m) f n h = cc
 

@@ -27,7 +27,7 @@ use Rattle.desk_texts.proofs.DayLaws.{short_day}
 
 -- ---- parts
 
-both : (a b : List ℕ) (m n : ℕ) → length a ≤ m → length b ≤ n → length (a ++ b) ≤ m + n
+pub both : (a b : List ℕ) (m n : ℕ) → length a ≤ m → length b ≤ n → length (a ++ b) ≤ m + n
 both a b m n p q = let e = length-append a b in omega (arith, e, p, q)
 
 filled : (width n : ℕ) → length (decimal n) ≤ width → length (zero_filled width n) ≤ width
@@ -37,16 +37,16 @@ filled width n short =
     let all : length (front ++ decimal n) ≡ length front + length (decimal n) = length-append front (decimal n) in
     omega (arith, zeros, all, short)
 
-two_digits_at : (n : ℕ) → n < 100 → length (decimal n) ≤ 2
+pub two_digits_at : (n : ℕ) → n < 100 → length (decimal n) ≤ 2
 two_digits_at n small = length-decimal-le 2 n (omega arith) (omega (arith, small)) (omega (arith, small))
 
-three_digits_at : (n : ℕ) → n ≤ 255 → length (decimal n) ≤ 3
+pub three_digits_at : (n : ℕ) → n ≤ 255 → length (decimal n) ≤ 3
 three_digits_at n small = length-decimal-le 3 n (omega arith) (omega (arith, small)) (omega (arith, small))
 
-four_digits_at : (n : ℕ) → n ≤ 9999 → length (decimal n) ≤ 4
+pub four_digits_at : (n : ℕ) → n ≤ 9999 → length (decimal n) ≤ 4
 four_digits_at n small = length-decimal-le 4 n (omega arith) (omega (arith, small)) (omega (arith, small))
 
-one_space : length (codes " ") ≤ 1
+pub one_space : length (codes " ") ≤ 1
 one_space = omega arith
 
 one_hyphen : length (codes "-") ≤ 1
@@ -54,7 +54,7 @@ one_hyphen = omega arith
 
 -- ---- heads
 
-day_len : (d : Day) → IsDay d → length (day_text d) ≤ 10
+pub day_len : (d : Day) → IsDay d → length (day_text d) ≤ 10
 day_len d is =
     let short = short_day d is in
     let year = filled 4 d.year (four_digits_at d.year is.year) in
@@ -143,7 +143,7 @@ head_len (Pair h) is = let all = pair_len h is in omega (arith, all)
 
 -- ---- lines
 
-place_len : (place : List ℕ) → is_place place ≡ true → length place ≤ 255
+pub place_len : (place : List ℕ) → is_place place ≡ true → length place ≤ 255
 unfolding is_place
 place_len place is = let front = (and_parts (nat_le (length place) 255) _ is).0 in grind (arith, nat_tests, front)
 
@@ -156,7 +156,7 @@ digits_len address =
     = length-append (codes "address ") (address_digits address) in
     omega (arith, bytes, digits, word, all)
 
-line_len : (said content : List ℕ) (contents : List (List ℕ))
+pub line_len : (said content : List ℕ) (contents : List (List ℕ))
     → length (printed_from said (content ∷ contents)) ≡ length content + 7 + length (printed_from (with_content said content) contents)
 unfolding printed_from
 line_len said content contents =
@@ -166,7 +166,7 @@ line_len said content contents =
     let all = length-append (checked said content ++ 10 ∷ []) (printed_from (with_content said content) contents) in
     omega (arith, word, front, line, all)
 
-addresses_len : (said addresses : List ℕ) → length (printed_from said (map address_text addresses)) ≡ 47 * length addresses
+pub addresses_len : (said addresses : List ℕ) → length (printed_from said (map address_text addresses)) ≡ 47 * length addresses
 unfolding printed_from
 addresses_len said [] = refl
 addresses_len said (a ∷ addresses) =
@@ -181,7 +181,7 @@ few_addresses : (h : Head) → IsHead h → count_of h ≤ 64
 few_addresses (Card h) is = is.few
 few_addresses (Pair h) is = omega arith
 
-place_line : (word place : List ℕ) → length word ≤ 7 → is_place place ≡ true → length (word ++ place) ≤ 262
+pub place_line : (word place : List ℕ) → length word ≤ 7 → is_place place ≡ true → length (word ++ place) ≤ 262
 place_line word place few is = let all : length (word ++ place) ≤ 7 + 255 = both word place 7 255 few (place_len place is) in omega (arith, all)
 
 pub few_bytes : (s : Sheet) → IsSheet s → length (printed s) ≤ 4096

@@ -12,8 +12,12 @@ mod printing;
 mod reading;
 mod sheet;
 
+pub use checks::add_line;
 pub use day::{Day, day_in, day_text};
+pub use lines::{content_at, first_trimmed, from_first};
 pub use places::is_place;
-pub use printing::{check_digits, print};
-pub use reading::{read_sheet, sheet_is_read_exactly};
+pub use printing::{
+    add_addresses, before_last, check_digits, digits_text, helper_text, leader_text, print,
+};
+pub use reading::{addresses_at, place_at, place_text, read_sheet, sheet_is_read_exactly};
 pub use sheet::{CardHead, Head, MOST_ADDRESSES, PairHead, Sheet};

@@ -30,8 +30,8 @@ fn trimmed(line: &[u8]) -> &[u8]
     rest
 }
 
-// The first line, and what follows it.
-fn first_trimmed(text: &[u8]) -> (&[u8], &[u8])
+/// The first line without blanks at its end, and what follows it.
+pub fn first_trimmed(text: &[u8]) -> (&[u8], &[u8])
     requires { 0 < length text.now }
     ensures { lines_in text.now ≡ result.0.now ∷ lines_in result.1.now }
 {

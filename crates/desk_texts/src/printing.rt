@@ -67,14 +67,16 @@ fn head_text(alloc: Global, head: &Head) -> Result<String, AllocError>
     }
 }
 
-fn leader_text(alloc: Global, place: &Text) -> Result<String, AllocError>
+/// What the line of a leader says that is reached at this place.
+pub fn leader_text(alloc: Global, place: &Text) -> Result<String, AllocError>
     ensures { IfOk result (λ text. string_bytes text ≡ codes "leader " ++ place.now) }
 {
     let place = place.as_str();
     format!(in alloc; "leader {place}")
 }
 
-fn helper_text(alloc: Global, place: &Text) -> Result<String, AllocError>
+/// What the line of a helper says that is reached at this place.
+pub fn helper_text(alloc: Global, place: &Text) -> Result<String, AllocError>
     ensures { IfOk result (λ text. string_bytes text ≡ codes "helper " ++ place.now) }
 {
     let place = place.as_str();
@@ -90,8 +92,8 @@ fn address_text(alloc: Global, address: u128) -> Result<Vec<u8>, AllocError>
     Ok(text)
 }
 
-// Adds a line for each address.
-fn add_addresses(
+/// Adds a line for each address to a text, and what it says to what was said so far.
+pub fn add_addresses(
     alloc: Global,
     text: &mut Vec<u8>,
     said: &mut Vec<u8>,
@@ -133,8 +135,8 @@ pub fn print(alloc: Global, sheet: &Sheet) -> Result<Vec<u8>, NoMemory>
     Ok(text)
 }
 
-// The five bytes before the last.
-fn before_last(text: &[u8]) -> &[u8]
+/// The five bytes before the last.
+pub fn before_last(text: &[u8]) -> &[u8]
     requires { 6 ≤ length text.now }
     ensures { result.now ≡ take 5 (drop (length text.now - 6) text.now) }
 {
@@ -142,8 +144,8 @@ fn before_last(text: &[u8]) -> &[u8]
     &text[last - 5..last]
 }
 
-// Digits as a text: they are ASCII.
-fn digits_text(alloc: Global, digits: &[u8]) -> Result<String, AllocError>
+/// Digits as a text: they are ASCII.
+pub fn digits_text(alloc: Global, digits: &[u8]) -> Result<String, AllocError>
     requires { all_ascii_digits digits.now ≡ true }
     ensures { IfOk result (λ text. string_bytes text ≡ digits.now) }
 {

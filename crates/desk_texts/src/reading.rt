@@ -33,8 +33,10 @@ fn head_at<'a>(
     }
 }
 
+/// The place on the line at this place of a text, behind this word, and the text behind that line. What the
+/// line says is added to what was said so far.
 #[tactic(auto, unfolding(crate::specs::Sheets::line_as))]
-fn place_at<'a>(
+pub fn place_at<'a>(
     place: u32,
     said: &mut Vec<u8>,
     word: &[u8],
@@ -80,8 +82,9 @@ fn address_at<'a>(
     }
 }
 
-// The addresses of so many more lines from this place on.
-fn addresses_at(
+/// The addresses of so many more lines from this place on, all different. What the lines say is added to
+/// what was said so far.
+pub fn addresses_at(
     alloc: Global,
     count: u32,
     place: u32,
@@ -112,8 +115,8 @@ fn count_of(head: &Head) -> u32
     }
 }
 
-// A place as a text: its characters are ASCII.
-fn place_text(alloc: Global, place: &[u8]) -> Result<Text, NoMemory>
+/// A place as a text: its characters are ASCII.
+pub fn place_text(alloc: Global, place: &[u8]) -> Result<Text, NoMemory>
     requires { is_place place.now ≡ true }
     ensures { IfOk result (λ text. text ≡ place.now) }
 {

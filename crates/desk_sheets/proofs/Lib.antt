@@ -1,0 +1,6 @@
+mod DigitLaws
+mod HeadLaws
+mod JudgeLaws
+mod PrintLaws
+mod SheetLaws
+mod SizeLaws
