@@ -1,0 +1,4 @@
+pub mod Boxes
+pub mod Closing
+pub mod Letters
+pub mod Moments
