@@ -31,7 +31,7 @@ goes_busy copies bytes a (Some c) is at =
 
 -- a client that was opened for these boxes and asks is one for them
 taken_for : (plan : Plan) (c d : Client) (request : Request) (f : Option Fault)
-    → asked_with c request f ≡ Ok d → c.width ≡ plan.width → c.serial < 2 ^ 32 → IsClientFor plan d
+    → asked_with c request f ≡ Ok d → c.width ≡ plan.card.width → c.serial < 2 ^ 32 → IsClientFor plan d
 taken_for plan c d request None e width fits =
     let same : with_request c request ≡ d = cc e in
     subst (λ (x : Client). IsClientFor plan x) same (record {
@@ -43,7 +43,7 @@ taken_for plan c d request None e width fits =
 taken_for plan c d request (Some f) e width fits = absurd (cc e)
 
 pub asked_for : (plan : Plan) (c d : Client) (request : Request) → asked c request ≡ Ok d
-    → c.width ≡ plan.width
+    → c.width ≡ plan.card.width
     → c.serial < 2 ^ 32 → IsClientFor plan d
 unfolding asked
 asked_for plan c d request e width fits = taken_for plan c d request (fault_at c request c.current) e width

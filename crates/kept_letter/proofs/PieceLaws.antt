@@ -189,8 +189,8 @@ given_by : (s : LetterState) (lane serial : ℕ) (c : Client) (t : Option Try) (
 given_by s lane serial c None now at e = none_some c e
 given_by s lane serial c (Some t) (Some d) at e = none_some c e
 given_by s lane serial c (Some t) None at e =
-    given_asking s c (opened_client lane (present_seed s) s.plan.width 0 serial) t (write_of s t.copy) at refl
-    (opened_seed lane s.plan.width serial (present_seed s)) e
+    given_asking s c (opened_client lane (present_seed s) s.plan.card.width 0 serial) t (write_of s t.copy) at refl
+    (opened_seed lane s.plan.card.width serial (present_seed s)) e
 
 given_writes : (s : LetterState) (lane serial : ℕ) (c : Client) → client_for s lane serial ≡ Some c
     → IsWriting (given s c) c

@@ -20,13 +20,13 @@ letter_in a = record {
 
 -- a client for these boxes, which has a request
 pub record IsClientFor (plan : Plan) (c : Client) : Type 0 where
-  pub width : c.width ≡ plan.width
+  pub width : c.width ≡ plan.card.width
   pub busy : c.current ≢ None
   pub unspent : c.serial < 2 ^ 32
 
 pub record IsInside (a : Inside) : Type 0 where
-  pub width : IsPartWidth a.plan.width
-  pub few : length a.plan.addresses ≤ 64
+  pub width : IsPartWidth a.plan.card.width
+  pub few : length a.plan.card.addresses ≤ 64
   pub room : length a.text.items ≡ a.plan.count
   pub filled : a.filled ≤ a.plan.count
   pub client : IfSome a.client (IsClientFor a.plan)

@@ -97,11 +97,11 @@ address_at addresses (Some place) = slice_get addresses place
 -- copy c is copy c % each of part c / each
 unfoldable pub target_of : LetterState → ℕ → Option ℕ
 target_of s copy =
-    address_at s.plan.addresses
-    (slice_get (part_places (length s.plan.addresses) s.id (copy / each_of s.plan)) (copy % each_of s.plan))
+    address_at s.plan.card.addresses
+    (slice_get (part_places (length s.plan.card.addresses) s.id (copy / each_of s.plan)) (copy % each_of s.plan))
 
 abbrev pub piece_bytes : LetterState → ℕ → List ℕ
-piece_bytes s copy = encoded s.plan.width (piece_of s.plan.width s.id s.text (copy / each_of s.plan))
+piece_bytes s copy = encoded s.plan.card.width (piece_of s.plan.card.width s.id s.text (copy / each_of s.plan))
 
 abbrev pub write_to : Option ℕ → List ℕ → Option Request
 write_to None message = None
@@ -127,7 +127,7 @@ abbrev pub client_by : LetterState → (lane serial : ℕ) → Option Try → Op
 client_by s lane serial None now = None
 client_by s lane serial (Some t) (Some c) = None
 client_by s lane serial (Some t) None =
-    asking (opened_client lane (present_seed s) s.plan.width 0 serial) (write_of s t.copy)
+    asking (opened_client lane (present_seed s) s.plan.card.width 0 serial) (write_of s t.copy)
 
 -- the client that a lease gives the present try, which asks for the write of its copy; none where it has one
 unfoldable pub client_for : LetterState → (lane serial : ℕ) → Option Client

@@ -81,7 +81,7 @@ impl LetterOnItsWay {
         ensures { self.new ≡ gone_on self.old frame.now self.old.client }
     {
         if let Some(client) = self.client.take() {
-            self.client = Some(behind_reply(client, frame, self.plan.width));
+            self.client = Some(behind_reply(client, frame, self.plan.card.width));
             self.key = key_in(frame, self.key);
         }
     }

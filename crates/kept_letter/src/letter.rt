@@ -100,6 +100,27 @@ impl LetterOnItsWay {
         &self.plan
     }
 
+    /// The seed of all that its tries draw.
+    pub fn seed(&self) -> [u8; 32]
+        ensures { result ≡ self.now.seed }
+    {
+        self.seed
+    }
+
+    /// By what its pieces are known.
+    pub fn id(&self) -> LetterId
+        ensures { result.0 ≡ self.now.id }
+    {
+        self.id
+    }
+
+    /// How many tries have begun.
+    pub fn tries(&self) -> u32
+        ensures { result ≡ self.now.tries }
+    {
+        self.tries
+    }
+
     /// Its text, as far as it has come.
     pub fn text(&self) -> &[u8]
         ensures { result.now ≡ self.now.text }

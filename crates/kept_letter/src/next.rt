@@ -85,7 +85,7 @@ impl LetterOnItsWay {
     {
         let key = self.key?;
         let mut room = [0; MOST_WIDTH as usize];
-        let message = &mut room[..self.plan.width as usize];
+        let message = &mut room[..self.plan.card.width as usize];
         let target = self.write_into(copy, message)?;
         Some(hash_of(&self.present_draws().seed, serial, &key, target, message))
     }

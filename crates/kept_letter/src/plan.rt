@@ -2,27 +2,20 @@
 ghost use Rattle.std.specs.Prelude.{◌≡◌, ◌≤◌, ◌*◌, ◌<◌, IfOk, length};
 ghost use Rattle.file_carry.specs.Parts.{IsPartWidth};
 ghost use Rattle.letter_pieces.specs.Sizes.{IsCard};
-ghost use Rattle.desk_texts.specs.Spelling.{IsSheet};
-ghost use Rattle.kept_letter.specs.Plans.{each_of, no_plan, parts_for, plan_of, plan_on, takes_letter};
+ghost use Rattle.desk_sheets.specs.Spelling as spelling;
+ghost use Rattle.kept_letter.specs.Plans.{each_of, no_card, no_plan, parts_for, plan_of, plan_on, takes_letter};
 
-use desk_texts::{Head, Sheet, read_sheet};
-use express_texts::TextFault;
+use desk_sheets::{Card, SheetFault, read_card};
 use express_words::{List, NoMemory, Text};
 use letter_pieces::{COPIES, most_text, parts_for};
 use std::alloc::Global;
 
-/// Where a letter goes: what its card says, and how many bytes its text has. Where the text was no card's, or
-/// the card takes no letter of that length, there is no address, and no byte.
+/// Where a letter goes: its card, and how many bytes its text has. Where the text was no card's, or the card
+/// takes no letter of that length, there is no address, and no byte.
 #[derive(Drop)]
 pub struct Plan {
-    /// The bytes of a box.
-    pub width: u32,
-    /// The addresses of the card's boxes, all different.
-    pub addresses: List<u128>,
-    /// Where the leader is reached, as `host:port`.
-    pub leader: Text,
-    /// Where the helper is reached.
-    pub helper: Text,
+    /// The card by which it is left.
+    pub card: Card,
     /// How many bytes the letter's text has.
     pub count: u32,
 }
@@ -31,10 +24,13 @@ fn no_plan(alloc: Global) -> Plan
     ensures { result ≡ no_plan }
 {
     Plan {
-        width: 32,
-        addresses: List::from_vec(Vec::new(alloc)),
-        leader: Text::from_string(String::new(alloc)),
-        helper: Text::from_string(String::new(alloc)),
+        card: Card {
+            width: 32,
+            until: None,
+            leader: Text::from_string(String::new(alloc)),
+            helper: Text::from_string(String::new(alloc)),
+            addresses: List::from_vec(Vec::new(alloc)),
+        },
         count: 0,
     }
 }
@@ -48,31 +44,17 @@ fn takes_letter(addresses: usize, width: usize, count: usize) -> bool
 }
 
 // The plan of a letter of so many bytes with this card.
-fn plan_on(alloc: Global, count: u32, sheet: Sheet) -> Plan
-    requires { IsSheet sheet }
-    ensures plan { result ≡ plan_on count sheet sheet.head }
-    ensures width { IsPartWidth result.width }
-    ensures few { length result.addresses ≤ 64 }
+fn plan_on(alloc: Global, count: u32, card: Card) -> Plan
+    requires { spelling.IsCard card }
+    ensures plan { result ≡ plan_on count card }
+    ensures width { IsPartWidth result.card.width }
+    ensures few { length result.card.addresses ≤ 64 }
 {
-    let Sheet {
-        head,
-        leader,
-        helper,
-        addresses,
-    } = sheet;
-    let Head::Card(card) = head else {
-        return no_plan(alloc);
-    };
-    let known = addresses.as_slice().len();
-    if !takes_letter(known, card.width as usize, count as usize) {
-        return no_plan(alloc);
-    }
-    Plan {
-        width: card.width,
-        addresses,
-        leader,
-        helper,
-        count,
+    let known = card.addresses.as_slice().len();
+    if takes_letter(known, card.width as usize, count as usize) {
+        Plan { card, count }
+    } else {
+        no_plan(alloc)
     }
 }
 
@@ -80,29 +62,31 @@ fn plan_on(alloc: Global, count: u32, sheet: Sheet) -> Plan
 #[tactic(auto, unfolding(crate::specs::Plans::plan_of))]
 pub(crate) fn plan_of(alloc: Global, card: &[u8], count: u32) -> Result<Plan, NoMemory>
     ensures plan { IfOk result (λ plan. plan ≡ plan_of card.now count) }
-    ensures width { IfOk result (λ plan. IsPartWidth plan.width) }
-    ensures few { IfOk result (λ plan. length plan.addresses ≤ 64) }
+    ensures width { IfOk result (λ plan. IsPartWidth plan.card.width) }
+    ensures few { IfOk result (λ plan. length plan.card.addresses ≤ 64) }
 {
-    match read_sheet(alloc, card) {
-        Ok(sheet) => Ok(plan_on(alloc, count, sheet)),
-        Err(TextFault::NoMemory) => Err(NoMemory),
-        Err(TextFault::Wrong(_) | TextFault::WrongKey(_)) => Ok(no_plan(alloc)),
+    match read_card(alloc, card) {
+        Ok(card) => Ok(plan_on(alloc, count, card)),
+        Err(SheetFault::NoMemory) => Err(NoMemory),
+        Err(SheetFault::Earlier | SheetFault::Wrong(_) | SheetFault::OtherKind) => Ok(no_plan(
+            alloc,
+        )),
     }
 }
 
 impl Plan {
     /// How many parts a text of so many bytes has, none where that is no letter's length.
     pub(crate) fn parts_for(&self, count: usize) -> u8
-        requires width { IsPartWidth self.now.width }
-        requires few { length self.now.addresses ≤ 64 }
+        requires width { IsPartWidth self.now.card.width }
+        requires few { length self.now.card.addresses ≤ 64 }
         ensures parts { result ≡ parts_for self.now count }
         ensures few { result ≤ 64 }
     {
-        let known = self.addresses.as_slice().len();
+        let known = self.card.addresses.as_slice().len();
         if known == 0 {
             return 0;
         }
-        match parts_for(known, self.width as usize, count) {
+        match parts_for(known, self.card.width as usize, count) {
             Ok(parts) => parts,
             Err(_) => 0,
         }
@@ -114,6 +98,6 @@ impl Plan {
         ensures some { 1 ≤ result }
         ensures few { result ≤ 3 }
     {
-        COPIES.min(self.addresses.as_slice().len()).max(1) as u8
+        COPIES.min(self.card.addresses.as_slice().len()).max(1) as u8
     }
 }

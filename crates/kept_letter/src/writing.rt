@@ -19,7 +19,7 @@ impl LetterOnItsWay {
     fn target_of(&self, copy: u8) -> Option<u128>
         ensures { result ≡ target_of self.now copy }
     {
-        let addresses = self.plan.addresses.as_slice();
+        let addresses = self.plan.card.addresses.as_slice();
         let each = self.plan.each();
         let places = Places::draw(self.id, addresses.len());
         let place = places.of_part(copy / each).get(usize::from(copy % each))?;
@@ -29,7 +29,7 @@ impl LetterOnItsWay {
     // The address of a copy that is one of the letter's, with its message in `room`.
     #[tactic(auto, unfolding(crate::specs::Letters::write_of))]
     pub(crate) fn write_into(&self, copy: u8, room: &mut [u8]) -> Option<u128>
-        requires { length room.old ≡ self.now.plan.width }
+        requires { length room.old ≡ self.now.plan.card.width }
         ensures { write_to result room.new ≡ write_of self.now copy }
     {
         let part = copy / self.plan.each();
@@ -60,7 +60,7 @@ impl LetterOnItsWay {
             return Ok(None);
         };
         let mut room = [0; MOST_WIDTH as usize];
-        let message = &mut room[..self.plan.width as usize];
+        let message = &mut room[..self.plan.card.width as usize];
         match self.write_into(tried.copy, message) {
             None => Ok(None),
             Some(target) => self.ask(alloc, at, &Request::Write { target, message }),
@@ -77,7 +77,7 @@ impl LetterOnItsWay {
         requires some { 1 ≤ at.now.serial }
         requires fits { at.now.serial < 2 ^ 32 }
         ensures client { IfOk result (λ client. client
-            ≡ asking (opened_client at.now.lane (present_seed self.now) self.now.plan.width 0 at.now.serial)
+            ≡ asking (opened_client at.now.lane (present_seed self.now) self.now.plan.card.width 0 at.now.serial)
             (Some (plain_request request.now))) }
         ensures is { IfOk result (λ client. IfSome client (IsClientFor self.now.plan)) }
     {
@@ -85,7 +85,7 @@ impl LetterOnItsWay {
             alloc,
             at.lane,
             &self.present_draws().seed,
-            self.plan.width,
+            self.plan.card.width,
             0,
             at.serial,
         )?;

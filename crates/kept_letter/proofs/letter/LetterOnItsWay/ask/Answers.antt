@@ -8,7 +8,7 @@ returns-in-Ok-clause-is c =
     let client = c.in_ok-client.client in
     let serial : client.serial ≡ c.args.at.now.serial =
     opened_serial _ _ _ _ client c.in_ok-client.ensures.opened in
-    let width : client.width ≡ c.args.self.now.plan.width =
-    c.in_ok-client.ensures.width ∙ ap (λ (s : LetterState). s.plan.width) c.self.view_is in
+    let width : client.width ≡ c.args.self.now.plan.card.width =
+    c.in_ok-client.ensures.width ∙ ap (λ (s : LetterState). s.plan.card.width) c.self.view_is in
     asked_for c.args.self.now.plan client c.ask.new.self _ c.in-Ok.ensures.asked width
     (subst (λ (n : ℕ). n < 2 ^ 32) (sym serial) c.requires.fits)
