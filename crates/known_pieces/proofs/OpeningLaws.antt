@@ -13,9 +13,9 @@ use Rattle.express_words.specs.Bytes.{xor_bytes}
 use Rattle.express_words.proofs.Bytes.{xor_bytes_self}
 use Rattle.subset_search.specs.Subsets.{added, IsSubset, HasNone}
 use Rattle.subset_search.proofs.SumLaws.{added-xor, xor_back, AreWide, length-added}
-use Rattle.known_pieces.specs.Known.{Reading, IsPiece, Names, IsOpened, AreKnown}
+use Rattle.known_pieces.specs.Known.{Reading, IsPiece, Names, IsOpened, AreKnown, most_tried}
 use Rattle.known_pieces.specs.Telling.{KnownPiece, Told, Accounts, IsOpen, IsEmpty, IsSumOf, IsSeen, bytes_of}
-use Rattle.known_pieces.specs.Telling.{is_awaited, awaited_at, tried_at, most_tried}
+use Rattle.known_pieces.specs.Telling.{is_awaited, awaited_at, tried_at}
 use Rattle.known_pieces.specs.Opening.{IsFound, IsMarked, AreMarked, IsNew, Opens}
 use Rattle.known_pieces.proofs.ListLaws.{without, added-without, All-without, pairs_without, pairs_cons}
 use Rattle.known_pieces.proofs.ListLaws.{Contains-map, Contains-from_map}
@@ -189,7 +189,7 @@ known_push addresses readings xs q known opened k lt = elim (cases_lt k (length 
       (subst (IsOpened addresses readings xs) (sym (get_or_push xs q [] (length xs) refl)) opened))
 ]
 
-subset_grows : (part xs ys : List (List ℕ)) → ((x : List ℕ) → Contains xs x → Contains ys x)
+pub subset_grows : (part xs ys : List (List ℕ)) → ((x : List ℕ) → Contains xs x → Contains ys x)
     → IsSubset part xs → IsSubset part ys
 subset_grows part xs ys grows sub = record {
   within = All-weaker (Contains xs) (Contains ys) grows part sub.within;
@@ -202,7 +202,7 @@ pub record Parts (new : List KnownPiece) (reading : Reading) (some : List (List 
   pub sum : IsSumOf new reading parts
   pub holds : (x : List ℕ) → Contains some x → Contains parts x
 
-with_sum : (new : List KnownPiece) (reading : Reading) (some : List (List ℕ)) → IsSubset some (bytes_of new)
+pub with_sum : (new : List KnownPiece) (reading : Reading) (some : List (List ℕ)) → IsSubset some (bytes_of new)
     → length some ≤ most_tried →
     Contains (bytes_of new) (added reading.bytes some) → (Contains some (added reading.bytes some) → ⊥) →
     IsSumOf new reading (added reading.bytes some ∷ some)
@@ -411,6 +411,7 @@ module _ (addresses : ℕ) (readings : List Reading) (old : List KnownPiece) (le
               is_read = is_read;
               others = o.parts;
               are_known = in_old;
+              most = o.most;
               name_it = name_it;
               is = refl;
               is_piece = is_piece;
@@ -455,6 +456,7 @@ opened_still addresses readings r known p o = record {
   is_read = Contains-append_left readings (r ∷ []) o.reading o.is_read;
   others = o.others;
   are_known = o.are_known;
+  most = o.most;
   name_it = o.name_it;
   is = o.is;
   is_piece = o.is_piece;

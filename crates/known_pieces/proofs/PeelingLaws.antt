@@ -1,6 +1,6 @@
 -- Of a table that can be peeled every piece is told.
-use Rattle.std.proofs.Common.{◌≡◌, ◌≢◌, ◌<◌, ◌≤◌, ◌⊎◌, inl, inr, ℕ, zero, suc, List, []}
-use Rattle.std.proofs.Common.{length, get_or, take, replicate, sym, ap, ◌∙◌, subst, arith}
+use Rattle.std.proofs.Common.{◌≡◌, ◌≢◌, ◌<◌, ◌≤◌, ◌⊎◌, inl, inr, ℕ, zero, suc, List, [], ◌∷◌}
+use Rattle.std.proofs.Common.{length, get_or, take, replicate, refl, sym, ap, ◌∙◌, subst, arith}
 use Rattle.std.proofs.Common.{length-take, get_or-take}
 use Rattle.std.specs.List.{All, Contains}
 use Rattle.std.proofs.lemmas.Bool.{cases_lt}
@@ -10,13 +10,15 @@ use Rattle.express_words.specs.Bytes.{xor_bytes}
 use Rattle.express_words.proofs.Bytes.{zeros_xor_bytes}
 use Rattle.subset_search.specs.Subsets.{added, IsSubset}
 use Rattle.subset_search.proofs.SumLaws.{added-xor, added-back}
-use Rattle.known_pieces.specs.Known.{Reading, IsPiece, Names, IsKnown}
+use Rattle.known_pieces.specs.Known.{Reading, IsPiece, Names, IsOpened, IsKnown}
 use Rattle.known_pieces.specs.Telling.{KnownPiece, Told, Tells, IsOpen, IsSumOf, pieces_in}
 use Rattle.known_pieces.specs.Telling.{is_awaited, awaited_at, tried_at}
-use Rattle.known_pieces.specs.Peeling.{Box, reading_of, readings_of, IsTable, HasOneSum, Peels, FewAreAwaited}
-use Rattle.known_pieces.specs.Laws.{ToldIsKnown, PeeledIsTold}
+use Rattle.known_pieces.specs.Peeling.{Box, reading_of, readings_of, IsPut, IsTable, HasOneSum, Peels}
+use Rattle.known_pieces.specs.Peeling.{FewAreAwaited}
+use Rattle.known_pieces.specs.Laws.{ToldIsKnown, ToldWasPut, PeeledIsTold}
 use Rattle.known_pieces.proofs.ListLaws.{without, added-without, All-without, pairs_without, apart-without}
 use Rattle.known_pieces.proofs.ListLaws.{Contains-map, Contains-from_map, Contains-filter, all_or, drop_none}
+use Rattle.known_pieces.proofs.OpeningLaws.{with_sum, subset_grows}
 
 pub told_is_known : ToldIsKnown
 told_is_known addresses readings told tells =
@@ -42,27 +44,71 @@ alone width pieces i lt wide =
     (All-without (λ p. length p ≡ width) pieces i wide))
     ∙ zeros_xor_bytes width one (wide i [] lt)
 
+module _ (addresses width : ℕ) (boxes : List Box) (told : Told)
+    (one_sum : HasOneSum addresses width boxes) (tells : Tells addresses (readings_of width boxes) told)
+  where
+    -- a box whose reading is a sum of known pieces has no others
+    sum_told : (b : Box) (parts : List (List ℕ)) → Contains boxes b → IsSumOf told.known (reading_of width b)
+        parts → (p : List ℕ) →
+        ((Contains parts p → Contains b.pieces p) × (Contains b.pieces p → Contains parts p)) ×
+        (Contains parts p → Contains (pieces_in told) p)
+    sum_told b parts there sum p =
+        let known : All (IsKnown addresses (readings_of width boxes)) parts =
+        All-weaker (Contains (pieces_in told)) (IsKnown addresses (readings_of width boxes))
+        (λ piece inside. (pieces_in told, tells.accounts.sound, inside)) parts sum.subset.within in
+        let same = one_sum b parts there sum.subset.once sum.most known sum.sum p in (
+          (same.0, same.1),
+          λ inside. All-contains (Contains (pieces_in told)) parts p sum.subset.within
+              inside,
+        )
+
+    -- a piece that is told is, with those of the sum by which it became known, all that lies in a box
+    module _ (k : ℕ) (lt : k < length (pieces_in told)) (o : IsOpened addresses (readings_of width boxes)
+        (take k (pieces_in told)) (get_or (pieces_in told) k [])) where
+      abbrev piece : List ℕ
+      piece = get_or (pieces_in told) k []
+
+      earlier_told : (x : List ℕ) → Contains (take k (pieces_in told)) x → Contains (pieces_in told) x
+      earlier_told x (j, within, at) =
+          let count = length-take k (pieces_in told) in
+          (j, omega arith, sym (get_or-take k (pieces_in told) j x (omega arith)) ∙ at)
+
+      apart : Contains o.others piece → ⊥
+      apart there =
+          let among =
+          All-contains (Contains (take k (pieces_in told))) o.others piece o.are_known.within there in
+          let count = length-take k (pieces_in told) in
+          let small : among.0 < k = let within = among.1 in omega arith in
+          tells.accounts.once among.0 k piece small lt
+          (sym (get_or-take k (pieces_in told) among.0 piece small) ∙ among.2
+          ∙ get_or_default (pieces_in told) k [] piece lt)
+
+      sum_is : IsSumOf told.known o.reading (piece ∷ o.others)
+      sum_is =
+          subst (λ (q : List ℕ). IsSumOf told.known o.reading (q ∷ o.others)) (sym o.is)
+          (with_sum told.known o.reading o.others
+          (subset_grows o.others (take k (pieces_in told)) (pieces_in told) earlier_told o.are_known) o.most
+          (subst (Contains (pieces_in told)) o.is (k, lt, get_or_default (pieces_in told) k piece [] lt))
+          (λ there. apart (subst (Contains o.others) (sym o.is) there)))
+
+      lies_in : (b : Box) × Contains boxes b × Contains b.pieces piece
+      lies_in =
+          let box = Contains-from_map (reading_of width) boxes o.reading o.is_read in
+          let sum : IsSumOf told.known (reading_of width box.0) (piece ∷ o.others) =
+          subst (λ (r : Reading). IsSumOf told.known r (piece ∷ o.others)) (sym box.2) sum_is in
+          (box.0, box.1, (sum_told box.0 (piece ∷ o.others) box.1 sum piece).0.0 (0, omega arith, refl))
+
+    pub told_lies : All (IsPut boxes) (pieces_in told)
+    told_lies = λ k d lt.
+        subst (IsPut boxes) (get_or_default (pieces_in told) k [] d lt)
+        (lies_in k lt (tells.accounts.sound k lt))
+
 module _ (addresses width : ℕ) (boxes : List Box) (order : List (List ℕ)) (told : Told)
     (table : IsTable addresses width boxes) (one_sum : HasOneSum addresses width boxes)
     (peels : Peels boxes order)
     (tells : Tells addresses (readings_of width boxes) told) (few : FewAreAwaited told) where
   abbrev IsTold : List ℕ → Type 0
   IsTold p = Contains (pieces_in told) p
-
-  -- a box whose reading is a sum of known pieces has no others
-  sum_told : (b : Box) (parts : List (List ℕ)) → Contains boxes b → IsSumOf told.known (reading_of width b)
-      parts → (p : List ℕ) →
-      ((Contains parts p → Contains b.pieces p) × (Contains b.pieces p → Contains parts p)) ×
-      (Contains parts p → IsTold p)
-  sum_told b parts there sum p =
-      let known : All (IsKnown addresses (readings_of width boxes)) parts =
-      All-weaker (Contains (pieces_in told)) (IsKnown addresses (readings_of width boxes))
-      (λ piece inside. (pieces_in told, tells.accounts.sound, inside)) parts sum.subset.within in
-      let same = one_sum b parts there sum.subset.once sum.most known sum.sum p in (
-        (same.0, same.1),
-        λ inside. All-contains (Contains (pieces_in told)) parts p sum.subset.within
-            inside,
-      )
 
   module _ (k : ℕ) (lt : k < length order) (before : (j : ℕ) → j < k → IsTold (get_or order j [])) where
     earlier : (q : List ℕ) → Contains (take (suc k) order) q → q ≢ get_or order k [] → IsTold q
@@ -109,14 +155,14 @@ module _ (addresses width : ℕ) (boxes : List Box) (order : List (List ℕ)) (t
                   let box = Contains-from_map (reading_of width) boxes seen.reading seen.is_read in
                   let sum : IsSumOf told.known (reading_of width box.0) seen.parts =
                   subst (λ (r : Reading). IsSumOf told.known r seen.parts) (sym box.2) seen.sum in
-                  let other = (sum_told box.0 seen.parts box.1 sum q).0.0
-                  (subst (Contains seen.parts) from.2 seen.in_it) in
+                  let all_of = sum_told addresses width boxes told one_sum tells box.0 seen.parts box.1 sum in
+                  let other = (all_of q).0.0 (subst (Contains seen.parts) from.2 seen.in_it) in
                   let address : b.address ≡ box.0.address =
                   sym (ap (λ (r : Reading). r.address) box.2 ∙ seen.there) in
                   let same : b ≡ box.0 = table.once b box.0 q there box.1 address inside other in
                   let here : Contains box.0.pieces (get_or order k []) =
                   subst (λ (c : Box). Contains c.pieces (get_or order k [])) same piece_there in
-                  let all = sum_told box.0 seen.parts box.1 sum (get_or order k []) in
+                  let all = all_of (get_or order k []) in
                   inr (all.1 (all.0.1 here))
             ]
 
@@ -156,7 +202,8 @@ module _ (addresses width : ℕ) (boxes : List Box) (order : List (List ℕ)) (t
                 | inr known ↦ known
               ]
               | inr sum ↦
-                  let all = sum_told b sum.0 there sum.1 (get_or order k []) in
+                  let all =
+                  sum_told addresses width boxes told one_sum tells b sum.0 there sum.1 (get_or order k []) in
                   all.1 (all.0.1 piece_there)
             ]
 
@@ -186,3 +233,7 @@ module _ (addresses width : ℕ) (boxes : List Box) (order : List (List ℕ)) (t
 pub peeled_is_told : PeeledIsTold
 peeled_is_told addresses width boxes order told table one_sum peels tells few =
     every_told addresses width boxes order told table one_sum peels tells few
+
+pub told_was_put : ToldWasPut
+told_was_put addresses width boxes told one_sum tells =
+    told_lies addresses width boxes told one_sum tells

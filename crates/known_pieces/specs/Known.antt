@@ -1,5 +1,5 @@
 -- Which pieces the readings of a card's boxes tell, whoever wrote what into them.
-use Rattle.std.specs.Prelude.{◌≡◌, ℕ, ◌<◌, List, [], length, take, slice_index_or, All}
+use Rattle.std.specs.Prelude.{◌≡◌, ℕ, ◌<◌, ◌≤◌, List, [], length, take, slice_index_or, All}
 use Rattle.std.specs.List.{Contains}
 use Rattle.letter_pieces.specs.Pieces.{Piece, Spells}
 use Rattle.letter_pieces.specs.Places.{places_of}
@@ -18,14 +18,19 @@ IsPiece bytes = (p : Piece) × Spells p bytes
 abbrev pub Names : ℕ → ℕ → List ℕ → Type 0
 Names addresses address bytes = (p : Piece) × Spells p bytes × Contains (places_of addresses p) address
 
--- A reading holds a piece once some known pieces that name its address, each of them once, are added to it.
--- With none of them the reading is the piece itself.
+-- so many known pieces, of those that are awaited at its address the newest, are tried with a reading
+abbrev pub most_tried : ℕ
+most_tried = 16
+
+-- A reading holds a piece once some known pieces that name its address, each of them once and no more than
+-- are tried, are added to it. With none of them the reading is the piece itself.
 pub record IsOpened (addresses : ℕ) (readings : List Reading) (known : List (List ℕ)) (piece : List ℕ) : Type
     0 where
   pub reading : Reading
   pub is_read : Contains readings reading
   pub others : List (List ℕ)
   pub are_known : IsSubset others known
+  pub most : length others ≤ most_tried
   pub name_it : All (Names addresses reading.address) others
   pub is : piece ≡ added reading.bytes others
   pub is_piece : IsPiece piece

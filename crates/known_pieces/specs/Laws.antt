@@ -5,12 +5,18 @@ use Rattle.subset_search.specs.Subsets.{HasNone}
 use Rattle.known_pieces.specs.Known.{Reading, IsKnown}
 use Rattle.known_pieces.specs.Telling.{KnownPiece, Told, Accounts, Tells, IsOpen, pieces_in}
 use Rattle.known_pieces.specs.Opening.{IsFound, Opens}
-use Rattle.known_pieces.specs.Peeling.{Box, readings_of, IsTable, HasOneSum, Peels, FewAreAwaited}
+use Rattle.known_pieces.specs.Peeling.{Box, readings_of, IsPut, IsTable, HasOneSum, Peels, FewAreAwaited}
 
 -- whatever is told is known
 abbrev pub ToldIsKnown : Type 0
 ToldIsKnown = (addresses : ℕ) (readings : List Reading) (told : Told)
     → Tells addresses readings told → All (IsKnown addresses readings) (pieces_in told)
+
+-- of the boxes of a table no piece is told that wasn't put into one
+abbrev pub ToldWasPut : Type 0
+ToldWasPut = (addresses width : ℕ) (boxes : List Box) (told : Told)
+    → HasOneSum addresses width boxes → Tells addresses (readings_of width boxes) told
+    → All (IsPut boxes) (pieces_in told)
 
 -- of a table that can be peeled every piece is told
 abbrev pub PeeledIsTold : Type 0

@@ -2,8 +2,8 @@
 use Rattle.std.specs.Prelude.{◌≡◌, ◌⊎◌, ℕ, ◌≤◌, List, [], ◌∷◌, ◌++◌, true, length}
 use Rattle.std.specs.List.{Contains, AllZip}
 use Rattle.subset_search.specs.Subsets.{added, IsSubset}
-use Rattle.known_pieces.specs.Known.{Reading, IsPiece, Names}
-use Rattle.known_pieces.specs.Telling.{KnownPiece, bytes_of, is_awaited, tried_at, most_tried, IsEmpty}
+use Rattle.known_pieces.specs.Known.{Reading, IsPiece, Names, most_tried}
+use Rattle.known_pieces.specs.Telling.{KnownPiece, bytes_of, is_awaited, tried_at, IsEmpty}
 
 -- what a subset is sought for: nothing is left, or a piece that is none of those that are tried
 abbrev pub IsFound : List (List ℕ) → List ℕ → Type 0

@@ -4,8 +4,8 @@ use Rattle.std.specs.Prelude.{◌≡◌, ◌≢◌, ◌↔◌, ℕ, suc, ◌<◌
 use Rattle.std.specs.Prelude.{slice_index_or, All, AllPairs}
 use Rattle.std.specs.List.{Contains}
 use Rattle.subset_search.specs.Subsets.{added}
-use Rattle.known_pieces.specs.Known.{Reading, Names, IsKnown}
-use Rattle.known_pieces.specs.Telling.{Told, IsEmpty, awaited_at, most_tried}
+use Rattle.known_pieces.specs.Known.{Reading, Names, IsKnown, most_tried}
+use Rattle.known_pieces.specs.Telling.{Told, IsEmpty, awaited_at}
 
 -- a box as it was read: the pieces that were put into it since it was read before
 pub record Box : Type 0 where
@@ -18,6 +18,10 @@ reading_of width box = record { address = box.address; bytes = added (replicate 
 
 abbrev pub readings_of : ℕ → List Box → List Reading
 readings_of width boxes = map (reading_of width) boxes
+
+-- that piece was put into a box
+abbrev pub IsPut : List Box → List ℕ → Type 0
+IsPut boxes piece = (b : Box) × Contains boxes b × Contains b.pieces piece
 
 -- A table: each piece is at an address that it names, and nowhere twice.
 pub record IsTable (addresses width : ℕ) (boxes : List Box) : Type 0 where

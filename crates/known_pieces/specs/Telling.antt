@@ -3,7 +3,7 @@ use Rattle.std.specs.Prelude.{◌≡◌, ◌≢◌, ◌⊎◌, ℕ, ◌≤◌, �
 use Rattle.std.specs.Prelude.{replicate, slice_index_or, All, AllPairs}
 use Rattle.std.specs.List.{Contains, filter}
 use Rattle.subset_search.specs.Subsets.{added, IsSubset, HasNone}
-use Rattle.known_pieces.specs.Known.{Reading, IsPiece, Names, AreKnown}
+use Rattle.known_pieces.specs.Known.{Reading, IsPiece, Names, AreKnown, most_tried}
 
 -- a known piece, and at which addresses of those that it names no reading was found to hold it
 pub record KnownPiece : Type 0 where
@@ -28,10 +28,7 @@ is_awaited address piece = slice_index_or piece.awaited address false
 abbrev pub awaited_at : ℕ → List KnownPiece → List (List ℕ)
 awaited_at address known = bytes_of (filter (is_awaited address) known)
 
--- so many of them, the newest, are tried with a reading
-abbrev pub most_tried : ℕ
-most_tried = 16
-
+-- those of them that are tried with a reading, the newest
 abbrev pub newest : {A : Type 0} → List A → List A
 newest all = drop (length all - most_tried) all
 

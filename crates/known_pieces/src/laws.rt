@@ -1,10 +1,15 @@
 //! The laws of what is told. The functions are empty: their contracts are the laws.
-ghost use Rattle.known_pieces.specs.Laws.{ToldIsKnown, PeeledIsTold};
+ghost use Rattle.known_pieces.specs.Laws.{ToldIsKnown, ToldWasPut, PeeledIsTold};
 ghost use Rattle.known_pieces.specs.Laws.{NothingIsTold, ReadingIsKept, OpenedIsTold, NoneOpens};
 
 /// Whatever is told of readings is known by them.
 pub fn told_is_known()
     ensures { ToldIsKnown }
+{}
+
+/// Of the boxes of a table no piece is told that wasn't put into one.
+pub fn told_was_put()
+    ensures { ToldWasPut }
 {}
 
 /// Of a table that can be peeled every piece is told.

@@ -10,9 +10,9 @@ use Rattle.std.proofs.lemmas.List.Elements.{All-nil, All-cons}
 use Rattle.std.proofs.lemmas.List.Kept.{AllPairs-filter}
 use Rattle.subset_search.specs.Subsets.{added, boxes_at, chosen_below, IsSubset, HasNone}
 use Rattle.subset_search.proofs.SumLaws.{length-boxes_at, boxes_wide, AreWide}
-use Rattle.known_pieces.specs.Known.{Reading}
+use Rattle.known_pieces.specs.Known.{Reading, most_tried}
 use Rattle.known_pieces.specs.Telling.{KnownPiece, bytes_of, is_awaited, awaited_at, tried_at, newest}
-use Rattle.known_pieces.specs.Telling.{most_tried, IsOpen}
+use Rattle.known_pieces.specs.Telling.{IsOpen}
 use Rattle.known_pieces.specs.Opening.{IsFound, AreMarked, IsAdmitted, Opens}
 use Rattle.known_pieces.proofs.ListLaws.{pairs_cons}
 use Rattle.known_pieces.proofs.OpeningLaws.{none_opens}

@@ -3,8 +3,8 @@ use Rattle.std.proofs.Common.{subst}
 use Rattle.std.specs.List.{All}
 use Rattle.std.proofs.lemmas.List.Elements.{All-drop}
 use Rattle.subset_search.specs.Subsets.{boxes_at, added, chosen_below, HasNone}
-use Rattle.known_pieces.specs.Known.{Reading}
-use Rattle.known_pieces.specs.Telling.{KnownPiece, bytes_of, awaited_at, newest, most_tried}
+use Rattle.known_pieces.specs.Known.{Reading, most_tried}
+use Rattle.known_pieces.specs.Telling.{KnownPiece, bytes_of, awaited_at, newest}
 use Rattle.known_pieces.specs.Opening.{IsFound, IsMarked, AreMarked, IsAdmitted}
 use Rattle.std.proofs.lemmas.Slice.Zip.{AllZip-long}
 use Rattle.letter_reader.proofs.TriedLaws.{tried_are, opens_by, none_tried, refilled}
