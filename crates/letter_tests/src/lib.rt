@@ -5,6 +5,8 @@
 #[cfg(test)]
 mod copies;
 #[cfg(test)]
+mod mail;
+#[cfg(test)]
 mod met;
 #[cfg(test)]
 mod pieces;

@@ -63,6 +63,7 @@ fn none_is_left_alone(rt: HostRuntime) -> Result<(), Fail> {
 #[test]
 fn laws_are_called() {
     laws::told_is_known();
+    laws::told_was_put();
     laws::peeled_is_told();
     laws::readings_are_told();
     laws::none_opens();

@@ -1,0 +1,4 @@
+pub mod Laws
+pub mod Listing
+pub mod Mail
+pub mod Parts
