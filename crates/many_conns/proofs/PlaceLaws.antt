@@ -213,10 +213,10 @@ dead_no_frame whole p dead = on (is_peer p.door)
 pub drops_at : {S : Type 0} (rules : Rules S) (old new : Option (List Event)) (h : Hall S)
     → (patience : Patience) (most dear now : ℕ) (places : List Place) (turn : ℕ) (served : Bool) (server : S) (owed : List Entry) (place : ℕ) (before made : Place)
     → (door : Door) (gone : Place) → h ≡ hall patience most dear now places turn served server owed → h.owed ≡ [] → IsOldestAt door places place
-    → is_peer door ≡ false → before ≡ get_or places place before → frame_at rules.whole before ≡ None
+    → is_peer door ≡ false → before ≡ get_or places place before → before.asked ≡ false → frame_at rules.whole before ≡ None
     → gone ≡ get_or places place gone → made ≡ vacated gone → Adds old new (Dropped place)
     → Leads rules old new h (hall patience most dear now (slice_set places place made) turn served server owed)
-drops_at rules old new h patience most dear now places turn served server owed place before made door gone is none oldest no_peer read no_frame read_gone same adds =
+drops_at rules old new h patience most dear now places turn served server owed place before made door gone is none oldest no_peer read stood no_frame read_gone same adds =
     let among = oldest.oldest in
     let there = read_at places place before among.there read in
     let through = among.of before there in
@@ -232,6 +232,7 @@ drops_at rules old new h patience most dear now places turn served server owed p
       no_peer = subst (λ d. is_peer d ≡ false) (sym through) no_peer;
       full = subst (λ d. All (λ p. p.door ≡ d → p.live ≡ true) places) (sym through) oldest.full;
       oldest = subst (λ d. All (λ p. p.door ≡ d → before.since ≤ p.since) places) (sym through) (among.oldest before there);
+      stood = stood;
       no_frame = no_frame;
       is = refl;
     })

@@ -155,13 +155,14 @@ pub record Closes {S : Type 0} (rules : Rules S) (h : Hall S) (place : ℕ) (t :
   pub is : t ≡ with_place h place (empty_place before.door)
 
 -- A connection is dropped for another only where every place of its door has one, and it is one that has been waited
--- for the longest and has no whole frame. The other server's isn't dropped.
+-- for the longest, stood there before the last wait, and has no whole frame. The other server's isn't dropped.
 pub record Drops {S : Type 0} (rules : Rules S) (h : Hall S) (place : ℕ) (t : Hall S) : Type 0 where
   pub before : Place
   pub at : IsOpenAt h place before
   pub no_peer : is_peer before.door ≡ false
   pub full : All (λ p. p.door ≡ before.door → p.live ≡ true) h.places
   pub oldest : All (λ p. p.door ≡ before.door → before.since ≤ p.since) h.places
+  pub stood : before.asked ≡ false
   pub no_frame : frame_at rules.whole before ≡ None
   pub is : t ≡ with_place h place (vacated before)
 

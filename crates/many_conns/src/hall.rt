@@ -19,6 +19,10 @@ use many_words::{Door, Hub};
 use std::alloc::{AllocError, Global};
 use std::marker::Model;
 
+/// Where all places are taken a round lets in one for so many places at most: a crowd that comes during one long round
+/// doesn't take all places between two looks.
+const LET_IN: usize = 4;
+
 /// Why a round ended early.
 #[derive(Clone, Copy, Debug, PartialEq, Eq)]
 pub enum Stop {
@@ -194,8 +198,31 @@ impl<S: Answering> Hall<S> {
     }
 
     // Where each place of a door has a connection and one more waits there, drops the one that has been waited for the
-    // longest of them, unless its frame is whole.
-    fn make_room<H: Hub>(&mut self, hub: &mut H, door: Door)
+    // longest of them, unless its frame is whole or it came since the last wait. Gives its place.
+    fn make_room<H: Hub>(&mut self, hub: &mut H, door: Door) -> Option<usize>
+        requires nothing_owed { self.old.owed ≡ [] }
+        requires no_peer { is_peer door ≡ false }
+        ensures there { IfSome result (λ place. place < length self.new.places) }
+        ensures served { self.new.served ≡ self.old.served }
+        ensures leads { Leads S.rules (H.told hub.old) (H.told hub.new) self.old self.new }
+        ensures goes_on { H.goes_on hub.old hub.new }
+        ensures nothing_owed { self.new.owed ≡ [] }
+    {
+        let place = oldest(&self.places, door)?;
+        if !hub.knocks(door) {
+            return None;
+        }
+        let slot = &mut self.places[place];
+        if slot.is_asked() || slot.frame(&self.server).is_some() {
+            return None;
+        }
+        slot.vacate();
+        hub.drop_for_another(place);
+        Some(place)
+    }
+
+    // Lets in those who wait at a door whose places all have a connection, one after another, as many as a round may.
+    fn let_in<H: Hub>(&mut self, hub: &mut H, door: Door)
         requires nothing_owed { self.old.owed ≡ [] }
         requires no_peer { is_peer door ≡ false }
         ensures served { self.new.served ≡ self.old.served }
@@ -203,17 +230,13 @@ impl<S: Answering> Hall<S> {
         ensures goes_on { H.goes_on hub.old hub.new }
         ensures nothing_owed { self.new.owed ≡ [] }
     {
-        let Some(place) = oldest(&self.places, door) else {
-            return;
-        };
-        if !hub.knocks(door) {
-            return;
+        let most = (self.places.len() / LET_IN).max(1);
+        for _ in 0..most {
+            let Some(vacant) = self.make_room(hub, door) else {
+                return;
+            };
+            self.open_one(hub, vacant);
         }
-        if self.places[place].frame(&self.server).is_some() {
-            return;
-        }
-        self.places[place].vacate();
-        hub.drop_for_another(place);
     }
 
     // Asks each door for connections, and looks at each connection.
@@ -315,9 +338,9 @@ impl<S: Answering> Hall<S> {
         'answering: while self.answer_one(hub) {}
     }
 
-    /// One round: waits, looks at each connection once, logs together the first whole frames, as many as there is
-    /// room for, answers them in that order, and closes the connections whose time is over. An error ends the server:
-    /// what it told its outside until then is right as well.
+    /// One round: waits, lets in who knocks where all places are taken, looks at each connection once, logs together the
+    /// first whole frames, as many as there is room for, answers them in that order, and closes the connections whose
+    /// time is over. An error ends the server: what it told its outside until then is right as well.
     pub fn round<H: Hub>(&mut self, hub: &mut H) -> Result<(), Stop>
         requires settled { IsSettled S.rules self.old }
         ensures leads { Leads S.rules (H.told hub.old) (H.told hub.new) self.old self.new }
@@ -327,8 +350,8 @@ impl<S: Answering> Hall<S> {
         ensures settled { OnOk result (IsSettled S.rules self.new) }
     {
         self.wait(hub);
-        self.make_room(hub, Door::Clients);
-        self.make_room(hub, Door::Status);
+        self.let_in(hub, Door::Clients);
+        self.let_in(hub, Door::Status);
         self.gather(hub);
         self.commit(hub)?;
         self.answer_all(hub);

@@ -139,6 +139,13 @@ impl Place {
         self.live
     }
 
+    /// Whether its door was asked since the last wait: where a connection is, whether it came since then.
+    pub fn is_asked(&self) -> bool
+        ensures { result ≡ self.now.asked }
+    {
+        self.asked
+    }
+
     /// Since when it has been waited for.
     pub fn since(&self) -> u64
         ensures { result ≡ self.now.since }

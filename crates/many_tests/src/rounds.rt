@@ -182,6 +182,17 @@ fn count(notes: &[Note], kind: Kind, number: usize, bytes: &[u8]) -> usize {
     found
 }
 
+// How many connections were dropped for others.
+fn dropped(notes: &[Note]) -> usize {
+    let mut found = 0usize;
+    for note in notes {
+        if note.kind == Kind::Dropped {
+            found = found.saturating_add(1);
+        }
+    }
+    found
+}
+
 #[test]
 fn drippers_hold_nobody_up(rt: HostRuntime) -> Result<(), Fail> {
     let alloc = rt.alloc();
@@ -256,6 +267,26 @@ fn the_one_that_waited_longest_makes_room(rt: HostRuntime) -> Result<(), Fail> {
     assert_eq!(rt; count(notes, Kind::Sent, 2, &[0, 65]), 1);
     assert_eq!(rt; count(notes, Kind::Dropped, 2, &[]), 3);
     assert_eq!(rt; count(notes, Kind::Dropped, 3, &[]), 2);
+    Ok(())
+}
+
+#[test]
+fn several_are_let_in_at_once(rt: HostRuntime) -> Result<(), Fail> {
+    let alloc = rt.alloc();
+    let mut coming = Vec::new(alloc);
+    for _ in 0..12 {
+        coming.push(script(alloc, &[], 0, false)?)?;
+    }
+    coming.push(script(alloc, &[1, 65], 2, true)?)?;
+    let mut hub = MemoryHub::new(alloc, coming, 0);
+    let mut hall = hall(alloc, 8, 1000)?;
+    assert!(rt; hall.serve(&mut hub, 2).is_ok());
+    let notes = hub.notes().unwrap_or(&[]);
+    assert_eq!(rt; dropped(notes), 2);
+    assert!(rt; hall.serve(&mut hub, 2).is_ok());
+    let notes = hub.notes().unwrap_or(&[]);
+    assert_eq!(rt; dropped(notes), 5);
+    assert_eq!(rt; count(notes, Kind::Sent, 6, &[0, 65]), 1);
     Ok(())
 }
 
