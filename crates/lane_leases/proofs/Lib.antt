@@ -1,4 +1,5 @@
 pub mod EndLaws
+pub mod LastEndLaws
 pub mod LeaseLaws
 pub mod LongestLaws
 pub mod OneLaws

@@ -1,5 +1,6 @@
 -- How the last requests ended.
-use Rattle.std.specs.Prelude.{◌≡◌, ◌≢◌, ◌+◌, ◌≤◌, ◌⊎◌, ℕ, List, slice_get, Option, Some, None}
+use Rattle.std.specs.Prelude.{◌≡◌, ◌≢◌, ◌+◌, ◌≤◌, ◌⊎◌, ℕ, List, [], ◌∷◌, slice_get, Option, Some, None}
+use Rattle.std.specs.Prelude.{bytes_eq, if◌then◌else◌}
 use Rattle.lane_gate.specs.declared.ticket.TicketHash.{TicketHash}
 use Rattle.lane_leases.specs.declared.ended.End.{End}
 use Rattle.lane_leases.specs.declared.ended.Ended.{Ended}
@@ -25,3 +26,16 @@ abbrev pub IsLater : Option End → Option Ended → TicketHash → Option End �
 IsLater found None hash now = now ≡ found
 IsLater found (Some ended) hash now =
     ((ended.hash ≡ hash) × (now ≡ Some ended.end)) ⊎ ((ended.hash ≢ hash) × (now ≡ found))
+
+-- this end, where it is of this ticket
+abbrev pub end_if_of : TicketHash → Ended → Option End
+end_if_of hash ended = if bytes_eq ended.hash.0 hash.0 then Some ended.end else None
+
+abbrev pub later_or : Option End → Option End → Option End
+later_or None before = before
+later_or (Some end) before = Some end
+
+-- how the request of the ticket ended, as a function of the ends
+abbrev pub last_end : List Ended → TicketHash → Option End
+last_end [] hash = None
+last_end (ended ∷ ends) hash = later_or (last_end ends hash) (end_if_of hash ended)

@@ -1,5 +1,5 @@
 -- What a leader's gate does over whole lists of notes.
-use Rattle.std.specs.Prelude.{◌≡◌, ℕ, List, [], ◌∷◌, Result, Ok, Err}
+use Rattle.std.specs.Prelude.{◌≡◌, ℕ, List, [], ◌∷◌, Some, Result, Ok, Err}
 use Rattle.circular_buffer.specs.Buffer.{keep_last}
 use Rattle.kept_machine.specs.Machines.{Gives}
 use Rattle.lane_gate.specs.declared.row.GateRow.{GateRow}
@@ -10,6 +10,7 @@ use Rattle.lane_leases.specs.declared.ended.Ended.{Ended}
 use Rattle.lane_leases.specs.declared.fault.UsedUp.{UsedUp}
 use Rattle.lane_leases.specs.declared.record.LeaderNote.{LeaderNote}
 use Rattle.lane_leases.specs.declared.record.LeaderNote.TheVariants as leader
+use Rattle.lane_leases.specs.Ends.{last_end}
 use Rattle.lane_leases.specs.Leases.{LeasesState, IsTold, IsOfRow, with_end}
 use Rattle.lane_leases.specs.Machines.{leader_rules, IsStepOf}
 use Rattle.lane_leases.specs.Resting.{HasRestedLongest}
@@ -57,6 +58,10 @@ after_ends leases (ended ∷ ends) = after_ends (with_end leases ended) ends
 abbrev pub LastEndsAreKept : Type 0
 LastEndsAreKept = (gate : GateState) (ends : List Ended) →
     after_ends (record { gate = gate; ends = [] }) ends ≡ record { gate = gate; ends = keep_last 4096 ends }
+
+-- the end that was remembered last is that of its ticket
+abbrev pub LastEndIsTold : Type 0
+LastEndIsTold = (leases : LeasesState) (ended : Ended) → last_end (with_end leases ended).ends ended.hash ≡ Some ended.end
 
 -- ---- records
 

@@ -5,7 +5,7 @@ ghost use Rattle.lane_gate.specs.Holders.{last_serial};
 ghost use Rattle.lane_gate.specs.Openings.{IsGateOpening};
 ghost use Rattle.lane_gate.specs.Passing.{plain_ticketed};
 ghost use Rattle.lane_leases.specs.Choosing.{longest_of};
-ghost use Rattle.lane_leases.specs.Ends.{IsEndOf};
+ghost use Rattle.lane_leases.specs.Ends.{IsEndOf, last_end};
 ghost use Rattle.lane_leases.specs.Leases.{IsLeased, IsNext, IsOfRow, IsUsedUp};
 ghost use Rattle.lane_leases.specs.Leases.{opened_leases, with_end, with_gate};
 ghost use Rattle.lane_leases.specs.Resting.{rested, HasRestedLongest, NoneRests};
@@ -142,7 +142,8 @@ impl LaneLeases {
 
     /// How the request of this ticket ended, if that is remembered: the last of its ends.
     pub fn ended(&self, hash: &TicketHash) -> Option<End>
-        ensures { IsEndOf self.now.ends hash.now result }
+        ensures last { IsEndOf self.now.ends hash.now result }
+        ensures is { result ≡ last_end self.now.ends hash.now }
     {
         end_of(&self.ends, hash)
     }
