@@ -1,2 +1,3 @@
 mod GivenLaws
+mod LateLaws
 mod OpenLaws

@@ -1,5 +1,5 @@
 -- What a server is behind a record that its log takes.
-use Rattle.std.proofs.Common.{◌≡◌, ◌==◌, ℕ, Bool, true, false, List, [], ◌∷◌, length, Option, Some, None, refl, sym, ◌∙◌, ap, subst, if◌then◌else◌}
+use Rattle.std.proofs.Common.{◌≡◌, ◌==◌, ℕ, Bool, true, false, List, [], ◌∷◌, length, Option, Some, None, refl, ◌∙◌, ap, subst, if◌then◌else◌}
 use Rattle.frame_rules.specs.Whole.{whole}
 use Rattle.many_words.specs.declared.door.Door.{Door}
 use Rattle.many_words.specs.declared.door.Door.TheVariants as door
@@ -8,7 +8,7 @@ use Rattle.lane_leases.specs.declared.ask.Ask.{Ask}
 use Rattle.lane_leases.specs.Records.{ask_bytes}
 use Rattle.lane_gate.specs.Tickets.{ticket_hash}
 use Rattle.http_door.specs.Hearing.{PlainAsked, Request, Preflight, Refused}
-use Rattle.http_door.specs.Requests.{PlainRequest, Frame, Proof, Lease}
+use Rattle.http_door.specs.Requests.{Frame, Proof, Lease}
 use Rattle.door_asks.specs.Asks.{asked_in}
 use Rattle.gated_servers.specs.declared.helper.GatedHelper.{GatedHelper}
 use Rattle.gated_servers.specs.declared.leader.GatedLeader.{GatedLeader}

@@ -1,8 +1,8 @@
 -- What comes through each door, and how it is answered where the server's log takes nothing of it.
-use Rattle.std.specs.Prelude.{ℕ, Bool, true, false, List, ◌∷◌, Option, Some, None, if◌then◌else◌}
+use Rattle.std.specs.Prelude.{ℕ, Bool, true, false, List, Option, Some, None}
 use Rattle.many_words.specs.declared.door.Door.{Door}
 use Rattle.many_words.specs.declared.door.Door.TheVariants as door
-use Rattle.many_conns.specs.Rules.{Outcome, Answers, Nothing}
+use Rattle.many_conns.specs.Rules.{Outcome, Answers}
 use Rattle.node_restart.specs.declared.frames.Sender.TheVariants.{Client, Peer}
 use Rattle.node_restart.specs.Frames.{frame_record, handed}
 use Rattle.lane_gate.specs.Gates.{GateState}
@@ -13,7 +13,7 @@ use Rattle.http_door.specs.Replies as reply
 use Rattle.http_door.specs.Replies.{PlainReply}
 use Rattle.door_asks.specs.Asks.{ask_end, asked_in}
 use Rattle.door_asks.specs.Answers.{answer_bytes}
-use Rattle.many_servers.specs.Packets.{packet, packet_end}
+use Rattle.many_servers.specs.Packets.{packet_end}
 use Rattle.many_servers.specs.Passing.{takes_bytes}
 
 -- asks come through the clients' door, packets of the other server, and nothing through the operators'

@@ -1,5 +1,5 @@
 -- A leader behind its doors.
-use Rattle.std.specs.Prelude.{ℕ, ◌==◌, ◌-◌, Bool, true, false, List, [], ◌∷◌, length, map, Option, Some, None, Result, Ok, Err, if◌then◌else◌}
+use Rattle.std.specs.Prelude.{ℕ, ◌==◌, ◌-◌, List, [], ◌∷◌, length, map, Option, Some, None, Result, Ok, Err, if◌then◌else◌}
 use Rattle.express_words.specs.declared.refusal.Refusal.{Refusal}
 use Rattle.frame_rules.specs.Frames.{PlainFrame}
 use Rattle.frame_rules.specs.Spelling.{spelling}
@@ -11,7 +11,7 @@ use Rattle.leader_core.specs.declared.standing.Standing.{Standing}
 use Rattle.leader_core.specs.declared.standing.Standing.TheVariants.{Busy, Written, Other}
 use Rattle.many_words.specs.declared.door.Door.{Door}
 use Rattle.many_words.specs.declared.door.Door.TheVariants as door
-use Rattle.many_conns.specs.Rules.{Rules, Outcome, Answers, Waits, Commands, Replies, Nothing}
+use Rattle.many_conns.specs.Rules.{Rules, Outcome, Waits, Commands, Replies, Nothing}
 use Rattle.many_conns.specs.declared.said.Key.{Key}
 use Rattle.lane_gate.specs.Tickets.{ticket_hash}
 use Rattle.lane_gate.specs.Gates.{Answer, GateState, lease_answer, row_at}
@@ -19,6 +19,7 @@ use Rattle.lane_gate.specs.Holders.{last_serial}
 use Rattle.lane_leases.specs.declared.ask.Ask.{Ask}
 use Rattle.lane_leases.specs.declared.ask.Announced.{Announced}
 use Rattle.lane_leases.specs.Choosing.{longest_of}
+use Rattle.lane_leases.specs.Leases.{LeasesState}
 use Rattle.lane_leases.specs.Records.{ask_bytes}
 use Rattle.http_door.specs.Hearing.{PlainAsked, Request}
 use Rattle.http_door.specs.Requests.{PlainRequest, Frame, Proof, Lease}
@@ -31,7 +32,8 @@ use Rattle.gated_servers.specs.Leaders.{leader_after, leader_asked, serial_behin
 use Rattle.gated_servers.specs.Records.{ask_in}
 use Rattle.many_servers.specs.declared.leader.LeaderServer.{LeaderServer}
 use Rattle.many_servers.specs.Announced.{announced_record}
-use Rattle.many_servers.specs.Doors.{whole_at, is_dear, record_if, peer_record, frame_noted, answers, refused_ask}
+use Rattle.many_servers.specs.Doors.{whole_at, is_dear, record_if, peer_record, frame_noted, answers}
+use Rattle.many_servers.specs.Ends.{leader_refused}
 use Rattle.many_servers.specs.Packets.{carried, leased_in, packet}
 
 -- ---- what the log takes
@@ -72,27 +74,28 @@ leased_told None = Nothing
 leased_told (Some key) = Replies key (answer_bytes (reply.Lease key.lane key.serial))
 
 -- of what the log takes nothing of
-abbrev pub unnoted_at : Door → List ℕ → Outcome
-unnoted_at door.Clients bytes = answers (refused_ask (asked_in bytes))
-unnoted_at door.Dialled bytes = leased_told (leased_in (carried bytes))
-unnoted_at door.Link bytes = Nothing
-unnoted_at door.Status bytes = Nothing
+abbrev pub unnoted_at : LeasesState → Door → List ℕ → Outcome
+unnoted_at leases door.Clients bytes = answers (leader_refused leases (asked_in bytes))
+unnoted_at leases door.Dialled bytes = leased_told (leased_in (carried bytes))
+unnoted_at leases door.Link bytes = Nothing
+unnoted_at leases door.Status bytes = Nothing
 
 -- the lane and serial of a frame
 abbrev pub key_of : Result PlainFrame Refusal → Key
 key_of (Ok f) = record { lane = f.lane; serial = f.serial }
 key_of (Err refusal) = record { lane = 0; serial = 0 }
 
--- of a client's frame
+-- of a client's frame, which came in this ask
 abbrev pub turn_told : Key → steps.Answer → Outcome
 turn_told key (steps.Reply frame) = answers (reply.Frame (spelling frame))
 turn_told key (steps.Link number command) = Commands (Some key) (packet (peer_record (spelling command)))
 turn_told key (steps.StillWaiting number) = Waits key
 
-abbrev pub request_told : GatedLeader → List ℕ → Outcome
-request_told s frame =
+abbrev pub request_told : GatedLeader → Option PlainAsked → List ℕ → Outcome
+request_told s asked frame =
     if request_open s.leases.gate (whole frame)
-    then turn_told (key_of (whole frame)) (on_client s.leader frame).answer else answers reply.NotYours
+    then turn_told (key_of (whole frame)) (on_client s.leader frame).answer
+    else answers (leader_refused s.leases asked)
 
 -- of the helper's frame
 abbrev pub ack_told : Key → steps.Ack → Outcome
@@ -145,17 +148,17 @@ abbrev pub ask_told : GatedLeader → Option Ask → Outcome
 ask_told s None = Nothing
 ask_told s (Some ask) = given_told (lease_given s ask)
 
--- of a record, by its tag
-abbrev pub leader_told : GatedLeader → List ℕ → Outcome
-leader_told s [] = Nothing
-leader_told s (tag ∷ rest) =
-    if tag == 1 then request_told s rest else
+-- of the record of what came in these bytes, by its tag
+abbrev pub leader_told : GatedLeader → (bytes noted : List ℕ) → Outcome
+leader_told s bytes [] = Nothing
+leader_told s bytes (tag ∷ rest) =
+    if tag == 1 then request_told s (asked_in bytes) rest else
     (if tag == 2 then reply_told s rest else
     (if tag == 20 then ask_told s (whole_ask rest) else Nothing))
 
 abbrev pub told_at : GatedLeader → Door → List ℕ → Option (List ℕ) → Outcome
-told_at s door bytes None = unnoted_at door bytes
-told_at s door bytes (Some noted) = leader_told s noted
+told_at s door bytes None = unnoted_at s.leases door bytes
+told_at s door bytes (Some noted) = leader_told s bytes noted
 
 -- ---- what it is behind a record: a frame's, or an ask's
 

@@ -1,5 +1,6 @@
 pub mod Announced
 pub mod Doors
+pub mod Ends
 pub mod Figures
 pub mod Helpers
 pub mod Laws

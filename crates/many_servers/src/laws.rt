@@ -1,5 +1,5 @@
 //! What holds of both servers behind their doors. Each function is empty: its contract is the law.
-ghost use Rattle.many_servers.specs.Laws.{HelpersOpenTheSame, LeadersOpenTheSame, LeasesComeBack, PacketsComeBack, TestsAreTheGates};
+ghost use Rattle.many_servers.specs.Laws.{HelpersOpenTheSame, LateComersHear, LeadersOpenTheSame, LeasesComeBack, PacketsComeBack, TestsAreTheGates};
 
 /// Behind each record that its log takes, a server is what one makes of it that is opened again from that log.
 pub fn servers_open_the_same()
@@ -10,6 +10,12 @@ pub fn servers_open_the_same()
 /// The test by which a client's frame is taken is the gate's rule.
 pub fn tests_are_the_gates()
     ensures { TestsAreTheGates }
+{}
+
+/// Once its lane is leased to another, whoever comes back with a frame of the lease before hears how its request
+/// ended.
+pub fn late_comers_hear()
+    ensures { LateComersHear }
 {}
 
 /// Packets of the link end where they end, and carry what was put into them.

@@ -13,15 +13,15 @@ ghost use Rattle.many_servers.specs.Packets.{carried, leased_in};
 use crate::announced::announced_record;
 use crate::answers::{answer, put_answer, put_frame};
 use crate::door::{is_dear, whole_at};
+use crate::ended::leader_refused;
 use crate::noting::{note_frame, put, put_tagged};
 use crate::packet::{leased_in, record_in, write_packet};
-use crate::refusing::refused_ask;
 use door_asks::read_ask;
 use frame_rules::FRAME_MAX;
 use gated_servers::GatedLeader;
 use http_door::{Asked, Reply, Request};
 use lane_gate::{LaneGate, Ticket, TicketHash};
-use lane_leases::{Ask, LeaderNote};
+use lane_leases::{Ask, LaneLeases, LeaderNote};
 use leader_core::{Ack, Turn};
 use many_conns::{Answering, Key, Said};
 use many_words::Door;
@@ -134,10 +134,10 @@ fn key_of(received: &Received<'_>) -> Key
 }
 
 impl LeaderServer {
-    // A client's frame.
-    fn hear_client(&mut self, frame: &[u8], out: &mut [u8]) -> Said
+    // A client's frame, which came in this ask.
+    fn hear_client(&mut self, ask: &[u8], frame: &[u8], out: &mut [u8]) -> Said
         requires room { length out.old ≡ 16384 }
-        ensures says { outcome_of result out.new ≡ request_told self.old.gated frame.now }
+        ensures says { outcome_of result out.new ≡ request_told self.old.gated (asked_in ask.now) frame.now }
         ensures within { IsWithin result (length out.new) }
         ensures length { length out.new ≡ length out.old }
         ensures after { self.new.gated ≡ leader_heard self.old.gated frame.now }
@@ -150,7 +150,7 @@ impl LeaderServer {
                 Said::Command(Some(key_of(&received)), put_frame(&room[..n], out))
             }
             Ok(Turn::Waiting(_)) => Said::Wait(key_of(&received)),
-            Err(_) => answer(&Reply::NotYours, out),
+            Err(_) => answer(&leader_refused(&self.gated.leases, &read_ask(ask)), out),
         }
     }
 
@@ -208,16 +208,16 @@ impl LeaderServer {
         }
     }
 
-    // What is told of a record, which is taken.
-    fn take(&mut self, record: &[u8], out: &mut [u8]) -> Said
+    // What is told of the record of what came in these bytes, which is taken.
+    fn take(&mut self, bytes: &[u8], record: &[u8], out: &mut [u8]) -> Said
         requires room { length out.old ≡ 16384 }
-        ensures says { outcome_of result out.new ≡ leader_told self.old.gated record.now }
+        ensures says { outcome_of result out.new ≡ leader_told self.old.gated bytes.now record.now }
         ensures within { IsWithin result (length out.new) }
         ensures length { length out.new ≡ length out.old }
         ensures after { self.new.gated ≡ leader_behind self.old.gated record.now }
     {
         match record {
-            [1, frame @ ..] => self.hear_client(frame, out),
+            [1, frame @ ..] => self.hear_client(bytes, frame, out),
             [2, frame @ ..] => self.hear_link(frame, out),
             [20, hashes @ ..] => self.hear_ask(hashes, out),
             _ => Said::Nothing,
@@ -245,14 +245,14 @@ fn tell_leased(record: &[u8], out: &mut [u8]) -> Said
 }
 
 // What is told of what the log takes nothing of.
-fn tell_unnoted(door: Door, frame: &[u8], out: &mut [u8]) -> Said
+fn tell_unnoted(leases: &LaneLeases, door: Door, frame: &[u8], out: &mut [u8]) -> Said
     requires room { length out.old ≡ 16384 }
-    ensures says { outcome_of result out.new ≡ unnoted_at door frame.now }
+    ensures says { outcome_of result out.new ≡ unnoted_at leases.now door frame.now }
     ensures within { IsWithin result (length out.new) }
     ensures length { length out.new ≡ length out.old }
 {
     match door {
-        Door::Clients => answer(&refused_ask(&read_ask(frame)), out),
+        Door::Clients => answer(&leader_refused(leases, &read_ask(frame)), out),
         Door::Dialled => tell_leased(record_in(frame), out),
         Door::Link | Door::Status => Said::Nothing,
     }
@@ -286,8 +286,8 @@ impl Answering for LeaderServer {
 
     fn step(&mut self, door: Door, frame: &[u8], noted: Option<&[u8]>, out: &mut [u8]) -> Said {
         match noted {
-            Some(record) => self.take(record, out),
-            None => tell_unnoted(door, frame, out),
+            Some(record) => self.take(frame, record, out),
+            None => tell_unnoted(&self.gated.leases, door, frame, out),
         }
     }
 

@@ -4,6 +4,7 @@
 mod announced;
 mod answers;
 mod door;
+mod ended;
 mod figures;
 mod helper;
 pub mod laws;

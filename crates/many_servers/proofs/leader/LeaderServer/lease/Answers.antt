@@ -1,6 +1,5 @@
 use Rattle.std.proofs.Common.{Some, List, ℕ, sym, ◌∙◌, ap}
-use Rattle.many_conns.specs.declared.said.Key.{Key}
-use Rattle.many_conns.specs.Rules.{Outcome, Commands}
+use Rattle.many_conns.specs.Rules.{Commands}
 use Rattle.many_servers.specs.Leaders.{given_told}
 use Rattle.many_servers.specs.Packets.{packet}
 use Rattle.many_servers.proofs.GivenLaws.{of-lease, of-none}
