@@ -1,0 +1,3 @@
+pub mod HaltLaws
+pub mod StepLaws
+pub mod WorkLaws

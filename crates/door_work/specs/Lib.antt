@@ -1,0 +1,4 @@
+pub mod Asking
+pub mod Steps
+pub mod Works
+pub mod Texts
