@@ -5,3 +5,5 @@ pub mod NoteLaws
 pub mod PieceLaws
 pub mod ReplyLaws
 pub mod RunLaws
+pub mod WantLaws
+pub mod SentLaws

@@ -1,3 +1,5 @@
+pub mod Asking
+pub mod AskingLaws
 pub mod Draws
 pub mod Inside
 pub mod Laws
@@ -7,3 +9,4 @@ pub mod Machines
 pub mod Nexts
 pub mod Notes
 pub mod Plans
+pub mod Sent

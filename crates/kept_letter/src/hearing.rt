@@ -66,7 +66,7 @@ fn behind_reply(client: Client, frame: &[u8], width: u32) -> Client
 
 impl LetterOnItsWay {
     // What a frame answers to the present request.
-    fn answer_to(&self, frame: &[u8]) -> Option<Answer>
+    pub(crate) fn answer_to(&self, frame: &[u8]) -> Option<Answer>
         ensures { result ≡ option_map (λ c. answer_in (on_reply c frame.now).progress) self.now.client }
     {
         match &self.client {

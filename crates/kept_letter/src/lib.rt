@@ -2,6 +2,7 @@
 //! it needs next.
 #![tactic(auto)]
 
+mod asking;
 mod draws;
 mod hearing;
 pub mod laws;
@@ -11,6 +12,7 @@ mod next;
 mod note;
 mod opening;
 mod plan;
+mod sending;
 mod writing;
 
 pub use draws::{TryDraws, try_draws};
@@ -20,3 +22,4 @@ pub use next::{LetterNext, Sending};
 pub use note::{LaneSerial, LetterNote, Told};
 pub use opening::{CARD_MAX, LetterOpening};
 pub use plan::Plan;
+pub use sending::{Unsent, send_letter};
