@@ -1,0 +1,13 @@
+pub mod AddressLaws
+pub mod FollowLaws
+pub mod NameLaws
+pub mod NamedLaws
+pub mod NoteLaws
+pub mod OpeningLaws
+pub mod OwnLaws
+pub mod PartLaws
+pub mod ReadLaws
+pub mod SerialLaws
+pub mod TaskLaws
+pub mod TextLaws
+pub mod TraceLaws

@@ -1,0 +1,11 @@
+use Rattle.std.proofs.Common.{◌≡◌, ◌++◌, length, map}
+use Rattle.kept_ledger.specs.Follow.{box_note}
+use Rattle.kept_ledger.specs.Notes.{plain_note}
+use Rattle.kept_ledger.proofs.follow.add_boxes.Given as goal
+
+abbrev pub invariant-loop-rest : goal.invariant-loop-rest
+invariant-loop-rest l =
+    map plain_note l.notes.items ++ map box_note l.rest ≡ map plain_note l.fn.notes.items ++ map box_note l.boxes
+
+abbrev pub decreases-loop-rest : goal.decreases-loop-rest
+decreases-loop-rest l = length l.rest

@@ -1,0 +1,13 @@
+use Rattle.std.proofs.Common.{◌≡◌, length}
+use Rattle.std.specs.Prelude.{slice_get}
+use Rattle.std.specs.List.{flat_map}
+use Rattle.kept_ledger.specs.Standings.{waiting_at}
+use Rattle.kept_ledger.proofs.ledger.Ledger.first_waiting.Given as goal
+
+abbrev pub invariant-loop-rest : goal.invariant-loop-rest
+invariant-loop-rest l =
+    slice_get (flat_map (waiting_at l.self.state) l.rest) 0
+    ≡ slice_get (flat_map (waiting_at l.self.state) l.self.state.named) 0
+
+abbrev pub decreases-loop-rest : goal.decreases-loop-rest
+decreases-loop-rest l = length l.rest

@@ -1,0 +1,16 @@
+pub mod Follow
+pub mod Inside
+pub mod Laws
+pub mod Ledgers
+pub mod MachineLaws
+pub mod Machines
+pub mod Names
+pub mod Openings
+pub mod Notes
+pub mod Records
+pub mod Sends
+pub mod Standings
+pub mod Tags
+pub mod Tasks
+pub mod Texts
+pub mod Written
