@@ -25,6 +25,8 @@ mod schedules;
 #[cfg(test)]
 mod settings;
 #[cfg(test)]
+mod sheets;
+#[cfg(test)]
 mod shown_letters;
 #[cfg(test)]
 mod told;
