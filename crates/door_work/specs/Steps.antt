@@ -15,6 +15,7 @@ use Rattle.kept_machine.specs.Faults.{CountsFault}
 use Rattle.kept_machine.specs.Keeps.{Keeps, sight}
 use Rattle.kept_machine.specs.Kept.{KeptState}
 use Rattle.kept_machine.specs.Machines.{Rules}
+use Rattle.node_exchange.specs.Exchanging.{ClosedAtEnd}
 use Rattle.node_journal.specs.Disk.{DiskSeen}
 use Rattle.door_work.specs.Asking.{Asking, PlainNext, Rest, Note, Ask}
 use Rattle.door_work.specs.declared.halt.Halt.{Halt}
@@ -124,3 +125,9 @@ NetFaultBy other before now = now ≡ before
 abbrev pub DiskFaultBy : {T : Type 0} → Result T Halt → (before now : ℕ) → Type 0
 DiskFaultBy (Err (halt.Keep fault)) before now = CountsFault before now fault
 DiskFaultBy other before now = now ≡ before
+
+-- where an answer ended before it was whole, its connection was closed at the end of what it gave
+abbrev pub EarlyAtEnd : {T C : Type 0} → Result T Halt → Option (List Call) → (C → Seen) → Type 0
+EarlyAtEnd {T} {C} result calls shown =
+    (server : Role) (n : ℕ) → result ≡ Err (halt.Unanswered server (broken.Early n))
+    → (conn : C) × ClosedAtEnd calls (shown conn)

@@ -1,17 +1,16 @@
 //! A request of a machine, and the record by which it hears the answer.
-ghost use Rattle.std.specs.Prelude.{◌≡◌, ◌≤◌, ℕ, false, IfOk, Err, length};
+ghost use Rattle.std.specs.Prelude.{◌≡◌, ◌≤◌, false, IfOk, length};
 ghost use Rattle.http_door.specs.Heads.{body_max};
 ghost use Rattle.http_door.specs.Requests.{plain_request, request_body};
 ghost use Rattle.kept_machine.specs.Keeps.{IsDurable, sight};
-ghost use Rattle.node_exchange.specs.Exchanging.{ClosedAtEnd};
 ghost use Rattle.http_door.specs.Replies.{plain_reply};
-ghost use Rattle.door_work.specs.Steps.{AskedOn, NetFaultBy, halt_at};
+ghost use Rattle.door_work.specs.Steps.{AskedOn, EarlyAtEnd, NetFaultBy, halt_at};
 
 use crate::asks::Asks;
 use crate::halt::Halt;
 use crate::places::Places;
 use crate::record::Record;
-use door_exchange::{Broken, MESSAGE_MAX, exchange};
+use door_exchange::{MESSAGE_MAX, exchange};
 use express_words::Role;
 use express_words::outside::Net;
 use http_door::{Reply, Request};
@@ -44,8 +43,7 @@ pub fn ask<M: Asks, D: Disk, N: Net>(
     // What the disk holds gives the machine that asks, now and after a crash.
     ensures durable { kept.now.journal.closed ≡ false
         → IsDurable M.rules (sight D.disk D.Counted.seen kept.now) }
-    ensures early { (server : Role) (n : ℕ) → result ≡ Err (Halt.Unanswered server (Broken.Early n))
-        → (conn : N.Conn) × ClosedAtEnd (N.seen net.new).calls (N.Conn.seen conn) }
+    ensures early { EarlyAtEnd result (N.seen net.new).calls N.Conn.seen }
     ensures net_fault { NetFaultBy result (N.seen net.old).faults (N.seen net.new).faults }
     ensures door { (N.seen net.new).doors ≡ (N.seen net.old).doors }
 {

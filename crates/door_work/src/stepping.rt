@@ -1,8 +1,7 @@
 //! One step of a machine.
-ghost use Rattle.std.specs.Prelude.{◌≡◌, ℕ, false, Err, OnErr};
+ghost use Rattle.std.specs.Prelude.{◌≡◌, false, OnErr};
 ghost use Rattle.kept_machine.specs.Keeps.{IsDurable, Keeps, sight};
-ghost use Rattle.node_exchange.specs.Exchanging.{ClosedAtEnd};
-ghost use Rattle.door_work.specs.Steps.{DiskFaultBy, NetFaultBy, Stepped};
+ghost use Rattle.door_work.specs.Steps.{DiskFaultBy, EarlyAtEnd, NetFaultBy, Stepped};
 
 use crate::asking::ask;
 use crate::asks::Asks;
@@ -10,8 +9,6 @@ use crate::halt::Halt;
 use crate::next::Next;
 use crate::places::Places;
 use crate::record::Record;
-use door_exchange::Broken;
-use express_words::Role;
 use express_words::outside::Net;
 use kept_machine::{KeepFault, Kept, take};
 use node_journal::{Disk, RECORD_MAX};
@@ -52,8 +49,7 @@ pub fn one_step<M: Asks, D: Disk, N: Net>(
     ensures again { OnErr result (M.asking.next_of kept.new.machine ≡ M.asking.next_of kept.old.machine) }
     ensures durable { kept.new.journal.closed ≡ false
         → IsDurable M.rules (sight D.disk D.Counted.seen kept.new) }
-    ensures early { (server : Role) (n : ℕ) → result ≡ Err (Halt.Unanswered server (Broken.Early n))
-        → (conn : N.Conn) × ClosedAtEnd (N.seen net.new).calls (N.Conn.seen conn) }
+    ensures early { EarlyAtEnd result (N.seen net.new).calls N.Conn.seen }
     ensures net_fault { NetFaultBy result (N.seen net.old).faults (N.seen net.new).faults }
     ensures disk_fault { DiskFaultBy result (D.Counted.seen kept.old.disk).faults
         (D.Counted.seen kept.new.disk).faults }

@@ -1,17 +1,14 @@
 //! A machine, worked off until it rests.
-ghost use Rattle.std.specs.Prelude.{◌≡◌, ℕ, false, Err, OnOk};
+ghost use Rattle.std.specs.Prelude.{◌≡◌, false, OnOk};
 ghost use Rattle.kept_machine.specs.Keeps.{IsDurable, sight};
-ghost use Rattle.node_exchange.specs.Exchanging.{ClosedAtEnd};
 ghost use Rattle.door_work.specs.Asking.{Rest};
-ghost use Rattle.door_work.specs.Steps.{DiskFaultBy, NetFaultBy};
+ghost use Rattle.door_work.specs.Steps.{DiskFaultBy, EarlyAtEnd, NetFaultBy};
 ghost use Rattle.door_work.specs.Works.{WorkedOff};
 
 use crate::asks::Asks;
 use crate::halt::Halt;
 use crate::places::Places;
 use crate::stepping::{Course, one_step};
-use door_exchange::Broken;
-use express_words::Role;
 use express_words::outside::Net;
 use kept_machine::Kept;
 use node_journal::Disk;
@@ -29,8 +26,7 @@ pub fn work<M: Asks, D: Disk, N: Net>(
     ensures rests { OnOk result (M.asking.next_of kept.new.machine ≡ Rest) }
     ensures durable { kept.new.journal.closed ≡ false
         → IsDurable M.rules (sight D.disk D.Counted.seen kept.new) }
-    ensures early { (server : Role) (n : ℕ) → result ≡ Err (Halt.Unanswered server (Broken.Early n))
-        → (conn : N.Conn) × ClosedAtEnd (N.seen net.new).calls (N.Conn.seen conn) }
+    ensures early { EarlyAtEnd result (N.seen net.new).calls N.Conn.seen }
     ensures net_fault { NetFaultBy result (N.seen net.old).faults (N.seen net.new).faults }
     ensures disk_fault { DiskFaultBy result (D.Counted.seen kept.old.disk).faults
         (D.Counted.seen kept.new.disk).faults }

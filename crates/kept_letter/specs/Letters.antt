@@ -123,11 +123,15 @@ abbrev pub asking : Client → Option Request → Option Client
 asking c None = None
 asking c (Some request) = client_or_none (asks.asked c request)
 
+-- a client of the present try, before it asks
+abbrev pub client_on : LetterState → (lane serial : ℕ) → Client
+client_on s lane serial = opened_client lane (present_seed s) s.plan.card.width 0 serial
+
 abbrev pub client_by : LetterState → (lane serial : ℕ) → Option Try → Option Client → Option Client
 client_by s lane serial None now = None
 client_by s lane serial (Some t) (Some c) = None
 client_by s lane serial (Some t) None =
-    asking (opened_client lane (present_seed s) s.plan.card.width 0 serial) (write_of s t.copy)
+    asking (client_on s lane serial) (write_of s t.copy)
 
 -- the client that a lease gives the present try, which asks for the write of its copy; none where it has one
 unfoldable pub client_for : LetterState → (lane serial : ℕ) → Option Client

@@ -1,9 +1,8 @@
 //! The write of a copy, and the client that asks for it.
 ghost use Rattle.std.specs.Prelude.{◌≡◌, ◌≤◌, ◌<◌, ◌^◌, Some, IfOk, IfSome, length};
-ghost use Rattle.step_rules.specs.Client.{opened_client};
 ghost use Rattle.client_core.specs.Requests.{plain_request};
 ghost use Rattle.kept_letter.specs.Inside.{IsClientFor};
-ghost use Rattle.kept_letter.specs.Letters.{asking, client_for, present_seed, target_of, write_of, write_to};
+ghost use Rattle.kept_letter.specs.Letters.{asking, client_for, client_on, target_of, write_of, write_to};
 
 use crate::letter::LetterOnItsWay;
 use crate::note::LaneSerial;
@@ -77,8 +76,7 @@ impl LetterOnItsWay {
         requires some { 1 ≤ at.now.serial }
         requires fits { at.now.serial < 2 ^ 32 }
         ensures client { IfOk result (λ client. client
-            ≡ asking (opened_client at.now.lane (present_seed self.now) self.now.plan.card.width 0 at.now.serial)
-            (Some (plain_request request.now))) }
+            ≡ asking (client_on self.now at.now.lane at.now.serial) (Some (plain_request request.now))) }
         ensures is { IfOk result (λ client. IfSome client (IsClientFor self.now.plan)) }
     {
         let mut client = Client::open(
