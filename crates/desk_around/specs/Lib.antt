@@ -1,5 +1,6 @@
 pub mod Ends
 pub mod Laters
 pub mod Printing
+pub mod Reading
 pub mod Rests
 pub mod Scenes

@@ -10,6 +10,6 @@ mod trouble;
 
 pub use around::Around;
 pub use ending::{WordEnd, end_by, status_of};
-pub use reading::{LONGEST, Unread, paper_at, read_all};
+pub use reading::paper_at;
 pub use saying::{say, say_bytes, tell};
 pub use trouble::{Trouble, later, unnoted};
