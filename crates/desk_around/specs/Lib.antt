@@ -1,4 +1,6 @@
+pub mod Chains
 pub mod Ends
+pub mod Halts
 pub mod Laters
 pub mod Printing
 pub mod Reading

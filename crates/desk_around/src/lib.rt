@@ -3,6 +3,7 @@
 
 mod around;
 mod ending;
+mod halting;
 mod reading;
 mod saying;
 mod telling;
@@ -10,6 +11,7 @@ mod trouble;
 
 pub use around::Around;
 pub use ending::{WordEnd, end_by, status_of};
+pub use halting::{halted, unanswered};
 pub use reading::paper_at;
 pub use saying::{say, say_bytes, tell};
 pub use trouble::{Trouble, later, unnoted};

@@ -1,6 +1,7 @@
 //! Why a word isn't done.
 ghost use Rattle.std.specs.Prelude.{◌≡◌, ◌≢◌, ℕ};
 ghost use Rattle.desk_around.specs.Ends.{IsCause};
+ghost use Rattle.desk_around.specs.Halts.{unnoted};
 ghost use Rattle.desk_around.specs.Laters.{later_trouble};
 
 use desk_outside::{DeskFile, FolderFault, Slot};
@@ -103,6 +104,7 @@ impl From<NoMemory> for Trouble<'_> {
 
 /// What is told where nothing could be noted on a disk.
 pub fn unnoted<'a>(fault: KeepFault) -> Trouble<'a>
+    ensures trouble { result ≡ unnoted fault }
     ensures cause { IsCause result }
     ensures not_behind { (number : ℕ) → result ≢ Trouble.Behind number }
 {

@@ -58,6 +58,7 @@ net_from T U h first before now is c =
     over (halt.Unanswered server (broken.Wrong fault)) e = e
     over (halt.Keep fault) e = e
     over (halt.Busy server) e = e
+    over (halt.NotYours server) e = e
     over (halt.Answer server) e = e
 
 pub disk_from : (T U : Type 0) (h : Halt) (first before now : ℕ) → before ≡ first
@@ -69,4 +70,5 @@ disk_from T U h first before now is c =
     over (halt.Unanswered server why) e = e
     over (halt.Keep fault) e = e
     over (halt.Busy server) e = e
+    over (halt.NotYours server) e = e
     over (halt.Answer server) e = e

@@ -5,7 +5,7 @@ use Rattle.express_words.specs.Causes.{Rose}
 use Rattle.express_words.specs.Seen.{Seen}
 use Rattle.express_words.specs.declared.role.Role.{Role}
 use Rattle.express_words.specs.declared.role.Role.TheVariants.{Leader, Helper}
-use Rattle.http_door.specs.Replies.{PlainReply, Busy}
+use Rattle.http_door.specs.Replies.{PlainReply, Busy, NotYours}
 use Rattle.http_door.specs.Requests.{PlainRequest}
 use Rattle.door_exchange.specs.Exchanging.{DoorExchange, ExchangeOn}
 use Rattle.door_exchange.specs.declared.exchanging.Broken.{Broken}
@@ -33,6 +33,7 @@ place_of places Helper = places.helper
 -- what halts the work at an answer that doesn't bring the machine on
 abbrev pub halt_at : Role → PlainReply → Halt
 halt_at server Busy = halt.Busy server
+halt_at server NotYours = halt.NotYours server
 halt_at server reply = halt.Answer server
 
 abbrev pub heard_by : Role → PlainReply → Option (List ℕ) → Result (List ℕ) Halt

@@ -15,4 +15,5 @@ abbrev pub halt_text : Halt → List ℕ
 halt_text (halt.Keep fault) = fault_text fault
 halt_text (halt.Unanswered server why) = role_text server ++ (codes ": " ++ broken_text why)
 halt_text (halt.Busy server) = role_text server ++ codes " is busy"
+halt_text (halt.NotYours server) = role_text server ++ codes " takes another ticket"
 halt_text (halt.Answer server) = role_text server ++ codes "'s answer leads no further"

@@ -23,6 +23,7 @@ fn halt_at(server: Role, reply: &Reply<'_>) -> Halt
 {
     match reply {
         Reply::Busy => Halt::Busy(server),
+        Reply::NotYours => Halt::NotYours(server),
         _ => Halt::Answer(server),
     }
 }

@@ -16,6 +16,8 @@ pub enum Halt {
     Unanswered(Role, Broken),
     /// This server was busy: it did nothing, and may be asked again after a second.
     Busy(Role),
+    /// This server says that the ticket isn't the one of the frame's lane and serial.
+    NotYours(Role),
     /// What this server answered doesn't bring the machine on.
     Answer(Role),
 }
@@ -38,6 +40,7 @@ impl fmt::Display for Halt {
             Halt::Keep(fault) => write!(f, "{fault}"),
             Halt::Unanswered(server, why) => write!(f, "{}: {why}", role_text(server)),
             Halt::Busy(server) => write!(f, "{} is busy", role_text(server)),
+            Halt::NotYours(server) => write!(f, "{} takes another ticket", role_text(server)),
             Halt::Answer(server) => write!(f, "{}'s answer leads no further", role_text(server)),
         }
     }
