@@ -1,0 +1,4 @@
+pub mod Files
+pub mod Finding
+pub mod Folder
+pub mod Net
