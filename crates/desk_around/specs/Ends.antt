@@ -11,10 +11,12 @@ abbrev pub status_by : Trouble → ℕ
 status_by trouble.NoLetters = 2
 status_by (trouble.NoLetterAt number) = 2
 status_by trouble.WhichLetter = 2
+status_by (trouble.Name fault) = 2
 status_by (trouble.BadLine path line) = 3
 status_by (trouble.Earlier path) = 3
 status_by (trouble.NoPairFile path) = 3
 status_by (trouble.OtherWidth path) = 3
+status_by (trouble.Swapped path) = 3
 status_by (trouble.NoCard path) = 3
 status_by (trouble.NoLetter fault) = 3
 status_by (trouble.Old day) = 3

@@ -33,6 +33,10 @@ impl fmt::Display for Trouble<'_> {
                 f,
                 "{path}: its width isn't the one of these servers; ask your operators for their pair file\n"
             ),
+            Trouble::Swapped(path) => write!(
+                f,
+                "{path}: leader and helper are swapped; ask your operators for their pair file\n"
+            ),
             Trouble::NoCard(path) => write!(f, "{path}: this is no card\n"),
             Trouble::NoLetter(fault) => write!(f, "not sent: {fault}\n"),
             _ => self.fmt_of_desk(f),
@@ -84,6 +88,12 @@ impl Trouble<'_> {
             Trouble::InUse => f.write_str(
                 "the desk is in use: another window or a scheduled run is at work with it; run it again in a moment\n",
             ),
+            _ => self.fmt_of_ledger(f),
+        }
+    }
+
+    fn fmt_of_ledger<W: fmt::Write>(&self, f: &mut fmt::Formatter<W>) -> fmt::Result {
+        match *self {
             Trouble::Copied => f.write_str(
                 "this folder is a copy of a desk's folder, and two that are at work lose letters; if the other one is gone, run adopt, which goes on with this one\n",
             ),
@@ -97,6 +107,7 @@ impl Trouble<'_> {
                 f,
                 "there are no boxes of the name {name}; status shows the names\n"
             ),
+            Trouble::Name(fault) => write!(f, "not done: {fault}\n"),
             Trouble::Damaged => f.write_str(
                 "not done: a file of the desk is damaged; ask your operator\n",
             ),

@@ -7,6 +7,7 @@ ghost use Rattle.desk_around.specs.Laters.{later_trouble};
 use desk_outside::{DeskFile, FolderFault, Slot};
 use desk_texts::Day;
 use express_words::{NoMemory, Refusal, Role};
+use kept_ledger::NameFault;
 use kept_machine::KeepFault;
 use letter_pieces::LetterFault;
 use node_journal::JournalFault;
@@ -42,6 +43,8 @@ pub enum Trouble<'a> {
     NoPairFile(&'a str),
     /// The messages of the pair's servers have another width than the pair file says.
     OtherWidth(&'a str),
+    /// The places of leader and helper are swapped in the pair file.
+    Swapped(&'a str),
     /// The file is no card.
     NoCard(&'a str),
     /// The text makes no letter.
@@ -52,6 +55,8 @@ pub enum Trouble<'a> {
     OtherDesk,
     /// The desk has no live box of this name.
     NoName(&'a str),
+    /// Boxes with this name aren't made.
+    Name(NameFault),
     /// The servers gave no box.
     NoRoom,
     /// A file of the desk isn't what was written into it.
