@@ -100,6 +100,9 @@ impl Trouble<'_> {
             Trouble::NoDesk => f.write_str(
                 "there is no desk here: make one with open PAIR, or name its folder with --desk FOLDER\n",
             ),
+            Trouble::EarlierDesk => f.write_str(
+                "not done: this folder has a desk of an earlier version, whose boxes these servers don't have; open a new one in another folder, with the pair file that your operator gives you\n",
+            ),
             Trouble::OtherDesk => f.write_str(
                 "there is a desk with other servers here: name another folder with --desk FOLDER\n",
             ),

@@ -51,6 +51,8 @@ pub enum Trouble<'a> {
     NoLetter(LetterFault),
     /// No desk was opened in the folder.
     NoDesk,
+    /// A desk of an earlier version is there.
+    EarlierDesk,
     /// A desk for another pair of servers is there.
     OtherDesk,
     /// The desk has no live box of this name.
