@@ -11,3 +11,5 @@ pub mod SerialLaws
 pub mod TaskLaws
 pub mod TextLaws
 pub mod TraceLaws
+pub mod WantLaws
+pub mod WorkLaws

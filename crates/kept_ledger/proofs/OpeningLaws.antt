@@ -1,5 +1,5 @@
 -- An opening's record tells the opening.
-use Rattle.std.proofs.Common.{◌≡◌, ℕ, zero, suc, ◌<◌, ◌≤◌, ◌^◌, List, [], ◌∷◌, ◌++◌, length, get_or, take}
+use Rattle.std.proofs.Common.{◌≡◌, ℕ, ◌<◌, ◌^◌, List, [], ◌∷◌, ◌++◌, length, get_or, take}
 use Rattle.std.proofs.Common.{drop, refl, sym, ◌-◌}
 use Rattle.std.proofs.Common.{◌∙◌, ap, subst, arith}
 use Rattle.std.proofs.Math.Seq.{take-length}
@@ -7,7 +7,6 @@ use Rattle.std.proofs.lemmas.List.{append_assoc, length-append}
 use Rattle.std.specs.Int.{w16, w32, to_be_bytes, from_be_bytes}
 use Rattle.std.proofs.lemmas.Nat.{from_be_bytes-to_be_bytes_2, from_be_bytes-to_be_bytes_4}
 use Rattle.lane_gate.specs.declared.ticket.Ticket.{Ticket}
-use Rattle.desk_sheets.specs.declared.sheet.Pair.{Pair}
 use Rattle.kept_ledger.specs.Notes.{Opening, IsOpening, opening_record}
 use Rattle.kept_ledger.specs.declared.opening.Front.{Front}
 use Rattle.kept_ledger.specs.Openings.{HasNumbers, HasShape, HasTexts, IsFront, front_bytes, front_of}

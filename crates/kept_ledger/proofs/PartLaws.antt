@@ -1,8 +1,6 @@
 -- What stands behind a day.
-use Rattle.std.proofs.Common.{◌≡◌, ℕ, List, [], ◌∷◌, ◌++◌, drop, false, Option, Some, None, refl, sym, ◌∙◌}
+use Rattle.std.proofs.Common.{◌≡◌, ℕ, List, ◌++◌, drop, false, Option, Some, None, refl, sym, ◌∙◌}
 use Rattle.std.proofs.Common.{ap}
-use Rattle.std.specs.Prelude.{IfSome}
-use Rattle.desk_texts.specs.Days.{IsDay}
 use Rattle.desk_texts.specs.declared.day.Day.{Day}
 use Rattle.kept_ledger.specs.Names.{is_name}
 use Rattle.kept_ledger.specs.Notes.{day_bytes, named_bytes, until_bytes}

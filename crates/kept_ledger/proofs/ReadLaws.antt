@@ -146,9 +146,9 @@ readings_are_what_boxes_held o notes r has = told traced_readings o r notes has
 
 -- ---- none is left out
 
-record Grows (s now : LedgerState) : Type 0 where
-  more : List Reading
-  is : now.readings ≡ s.readings ++ more
+pub record Grows (s now : LedgerState) : Type 0 where
+  pub more : List Reading
+  pub is : now.readings ≡ s.readings ++ more
 
 grown : (s now : LedgerState) → now.readings ≡ s.readings → Grows s now
 grown s now e = record { more = []; is = e ∙ sym (append-nil s.readings) }
@@ -190,7 +190,7 @@ ended_grows s serial (Some t) (Later r) = grown s s refl
 ended_grows s serial (Some t) Next = grown s s refl
 ended_grows s serial None p = grown s s refl
 
-step_grows : (s : LedgerState) (n : Noted) → Grows s (step_of s n)
+pub step_grows : (s : LedgerState) (n : Noted) → Grows s (step_of s n)
 step_grows s (Named w) =
     grown s _ (named_readings s (record s { named = s.named ++ boxes_wanted w ∷ [] }) (fits_names s.named w)
     refl)

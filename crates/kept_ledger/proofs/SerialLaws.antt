@@ -40,9 +40,16 @@ pub record Keeps (s now : LedgerState) : Type 0 where
   pub pair : now.pair ≡ s.pair
   pub seed : now.seed ≡ s.seed
   pub named : now.named ≡ s.named
+  pub marks : now.marks ≡ s.marks
 
 keeps : (s : LedgerState) → Keeps s s
-keeps s = record { client = refl; pair = refl; seed = refl; named = refl }
+keeps s = record { client = refl; pair = refl; seed = refl; named = refl; marks = refl }
+
+-- of a state that has the same parts
+same_parts : (s now : LedgerState) → now.client ≡ s.client → now.pair ≡ s.pair → now.seed ≡ s.seed
+    → now.named ≡ s.named → now.marks ≡ s.marks → Keeps s now
+same_parts s now client pair seed named marks =
+    record { client = client; pair = pair; seed = seed; named = named; marks = marks }
 
 keeps_if : (s now : LedgerState) (b : Bool) → Keeps s now → Keeps s (if b then s else now)
 keeps_if s now true k = keeps s
@@ -50,16 +57,16 @@ keeps_if s now false k = k
 
 register_keeps : (s : LedgerState) (serial address : ℕ) (o : Outcome)
     → Keeps s (of_register s serial address o)
-register_keeps s serial address (Registered number) = record { client = refl; pair = refl; seed = refl; named = refl }
-register_keeps s serial address (Refused (refusal.Taken n)) = record { client = refl; pair = refl; seed = refl; named = refl }
-register_keeps s serial address (Refused (refusal.Full n)) = record { client = refl; pair = refl; seed = refl; named = refl }
+register_keeps s serial address (Registered number) = same_parts _ _ refl refl refl refl refl
+register_keeps s serial address (Refused (refusal.Taken n)) = same_parts _ _ refl refl refl refl refl
+register_keeps s serial address (Refused (refusal.Full n)) = same_parts _ _ refl refl refl refl refl
 register_keeps s serial address o = keeps s
 
 reading_keeps : (s : LedgerState) (b : Option LedgerBox) (bytes : List ℕ) → Keeps s (reading_with s b bytes)
 reading_keeps s None bytes = keeps s
 reading_keeps s (Some b) bytes =
     keeps_if s (record s { readings = s.readings ++ reading_at b.address s.seconds bytes ∷ [] })
-    (are_zeros bytes) (record { client = refl; pair = refl; seed = refl; named = refl })
+    (are_zeros bytes) (same_parts _ _ refl refl refl refl refl)
 
 read_keeps : (s : LedgerState) (own : ℕ) (o : Outcome) → Keeps s (of_read s own o)
 read_keeps s own (Message bytes) = reading_keeps s (slice_get s.boxes own) bytes
@@ -68,8 +75,8 @@ read_keeps s own o = keeps s
 retire_keeps : (s : LedgerState) (own : ℕ) (o : Outcome) → Keeps s (of_retire s own o)
 retire_keeps s own (Message bytes) =
     let k = reading_keeps s (slice_get s.boxes own) bytes in
-    record { client = k.client; pair = k.pair; seed = k.seed; named = k.named }
-retire_keeps s own (Refused (refusal.NoBox n)) = record { client = refl; pair = refl; seed = refl; named = refl }
+    record { client = k.client; pair = k.pair; seed = k.seed; named = k.named; marks = k.marks }
+retire_keeps s own (Refused (refusal.NoBox n)) = same_parts _ _ refl refl refl refl refl
 retire_keeps s own o = keeps s
 
 task_keeps : (s : LedgerState) (serial : ℕ) (t : Task) (o : Outcome) → Keeps s (of_task s serial t o)

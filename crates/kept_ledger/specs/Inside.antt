@@ -1,5 +1,5 @@
 -- A ledger read from what holds it.
-use Rattle.std.specs.Prelude.{◌≡◌, ◌≢◌, ℕ, ◌≤◌, ◌<◌, ◌^◌, length, None, vec_capacity}
+use Rattle.std.specs.Prelude.{◌≡◌, ◌≢◌, ℕ, ◌<◌, ◌^◌, None, vec_capacity}
 use Rattle.kept_ledger.specs.declared.ledger.Ledger.TheInside.{Inside}
 use Rattle.kept_ledger.specs.Ledgers.{LedgerState}
 use Rattle.kept_ledger.specs.Notes.{IsPair}
@@ -28,6 +28,7 @@ state_in a = record {
   readings = a.readings.items;
   marks = a.marks.items;
   seconds = a.seconds;
+  refused = a.refused;
 }
 
 abbrev pub room_in : Inside → Room

@@ -1,8 +1,9 @@
 -- An owner's ledger, and what each note does to it.
 use Rattle.std.specs.Prelude.{ℕ, ◌==◌, ◌&&◌, ◌||◌, not, if◌then◌else◌, Bool, true, false, bytes_eq}
 use Rattle.std.specs.Prelude.{List, [], ◌∷◌, ◌++◌, slice_get, slice_set, Option, Some, None, Result, Ok}
-use Rattle.std.specs.Prelude.{Err, unwrap_or}
+use Rattle.std.specs.Prelude.{Err, is_none, unwrap_or}
 use Rattle.std.specs.List.{list_all, list_any, position}
+use Rattle.express_words.specs.declared.refusal.Refusal.{Refusal}
 use Rattle.express_words.specs.declared.refusal.Refusal.TheVariants as refusal
 use Rattle.mailbox_rules.specs.Requests as plain
 use Rattle.step_rules.specs.Client as steps
@@ -30,7 +31,8 @@ use Rattle.kept_ledger.specs.Notes.{Heard, GivenUp, Owned, Denied, Carried}
 
 -- Its pair of servers, the seed of all that is drawn, its client, the names of its boxes, the boxes that it
 -- got, in the order of the client's own, the addresses that get none, what boxes held, which letters were
--- shown or written out, and the time that was noted last, in seconds since 1970 UTC.
+-- shown or written out, the time that was noted last, in seconds since 1970 UTC, and why the last request came
+-- to nothing, or isn't taken now.
 pub record LedgerState : Type 0 where
   pub pair : Pair
   pub seed : List ℕ
@@ -41,6 +43,7 @@ pub record LedgerState : Type 0 where
   pub readings : List Reading
   pub marks : List MarkedLetter
   pub seconds : ℕ
+  pub refused : Option Refusal
 
 abbrev pub client_at : Opening → Client
 client_at o = opened_client o.pair.lane o.seed o.pair.width o.pair.boxes o.first_serial
@@ -56,6 +59,7 @@ opened_ledger o = record {
   readings = [];
   marks = [];
   seconds = 0;
+  refused = None;
 }
 
 -- ---- names
@@ -148,8 +152,15 @@ abbrev pub client_or : Client → Result Client Fault → Client
 client_or c (Ok taken) = taken
 client_or c (Err fault) = c
 
+-- the client takes a request for this
+abbrev pub takes_task : LedgerState → Task → Bool
+takes_task s t = is_none (asks.fault_at s.client (request_of t) s.client.current)
+
 abbrev pub asked_of : LedgerState → Task → LedgerState
-asked_of s t = record s { client = client_or s.client (asks.asked s.client (request_of t)) }
+asked_of s t = record s {
+  client = client_or s.client (asks.asked s.client (request_of t));
+  refused = None;
+}
 
 -- ---- what comes of them
 
@@ -222,9 +233,34 @@ ended_by s serial (Some t) (steps.Finished outcome) = of_task s serial t outcome
 ended_by s serial task progress = s
 
 -- the client goes on, and of a request that the frame ends there stays what came of it
-abbrev pub heard_by : LedgerState → Turn → LedgerState
-heard_by s turn =
+abbrev pub turned_by : LedgerState → Turn → LedgerState
+turned_by s turn =
     ended_by (record s { client = turn.client }) s.client.serial (task_at s.client.current) turn.progress
+
+-- the refusals of which something else is noted: of a register that its address is taken or that the servers
+-- are full, and of a retire that they have no such box
+abbrev pub is_noted : Task → Refusal → Bool
+is_noted (Register address) (refusal.Taken number) = true
+is_noted (Register address) (refusal.Full limit) = true
+is_noted (Retire own) (refusal.NoBox number) = true
+is_noted t r = false
+
+-- any other refusal that ended the request
+abbrev pub refusal_in : Task → Outcome → Option Refusal
+refusal_in t (steps.Refused r) = if is_noted t r then None else Some r
+refusal_in t outcome = None
+
+-- it is taken later, or has ended so; what neither ends it nor puts it off leaves what was told before
+abbrev pub refused_by : (before : Option Refusal) → Option Task → Progress → Option Refusal
+refused_by before t (steps.Later r) = Some r
+refused_by before (Some t) (steps.Finished outcome) = refusal_in t outcome
+refused_by before t progress = before
+
+abbrev pub refused_behind : LedgerState → Turn → Option Refusal
+refused_behind s turn = refused_by s.refused (task_at s.client.current) turn.progress
+
+abbrev pub heard_by : LedgerState → Turn → LedgerState
+heard_by s turn = record (turned_by s turn) { refused = refused_behind s turn }
 
 abbrev pub heard : LedgerState → List ℕ → LedgerState
 heard s frame = heard_by s (on_reply s.client frame)
@@ -255,9 +291,9 @@ step_of s (Closed name day) = record s { named = changed (closed_on day) name s.
 step_of s (Retiring name) = record s { named = changed to_retire name s.named }
 step_of s (Marked m) = record s { marks = marks_with s.marks m }
 step_of s (Asked t) = asked_of s t
-step_of s (Time seconds) = record s { seconds = seconds }
+step_of s (Time seconds) = record s { seconds = seconds; refused = None }
 step_of s (Heard frame) = heard s frame
-step_of s GivenUp = record s { client = given_up s.client }
+step_of s GivenUp = record s { client = given_up s.client; refused = None }
 step_of s (Owned b) = owned s b
 step_of s (Denied d) = record s { denied = s.denied ++ d ∷ [] }
 step_of s (Carried r) = record s { readings = s.readings ++ r ∷ [] }

@@ -1,3 +1,5 @@
+pub mod Asking
+pub mod AskingLaws
 pub mod Follow
 pub mod Inside
 pub mod Laws
@@ -13,4 +15,5 @@ pub mod Standings
 pub mod Tags
 pub mod Tasks
 pub mod Texts
+pub mod Worked
 pub mod Written

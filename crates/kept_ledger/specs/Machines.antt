@@ -4,8 +4,8 @@ use Rattle.kept_machine.specs.Machines.{Rules}
 use Rattle.kept_ledger.specs.declared.machine.KeptLedger.{KeptLedger}
 use Rattle.kept_ledger.specs.Inside.{LedgerSeen}
 use Rattle.kept_ledger.specs.Ledgers.{boxes_wanted, opened_ledger, step_of}
-use Rattle.kept_ledger.specs.Notes.{Opening, Noted, Named, Closed, Retiring, Marked, Asked, Time, Heard}
-use Rattle.kept_ledger.specs.Notes.{GivenUp, Owned, Denied, Carried}
+use Rattle.kept_ledger.specs.Notes.{Opening, Noted, Named, Marked, Heard}
+use Rattle.kept_ledger.specs.Notes.{Owned, Denied, Carried}
 use Rattle.kept_ledger.specs.Notes.{FitsRecord, IsNote, IsOpening, note_record, opening_record}
 
 -- the record is an opening's

@@ -1,10 +1,12 @@
 //! What a ledger makes of a server's frame.
 ghost use Rattle.std.specs.Prelude.{◌≡◌, ◌<◌, ◌++◌, ◌∷◌, [], ℕ, List, length, slice_get};
+ghost use Rattle.step_rules.specs.Client as steps;
 ghost use Rattle.step_rules.specs.ClientReplies.{on_reply};
-ghost use Rattle.client_core.specs.Answers.{message_or, progress_in};
+ghost use Rattle.client_core.specs.Answers.{message_or, outcome_in, progress_in};
 ghost use Rattle.client_core.specs.Outcomes.{with_message};
 ghost use Rattle.kept_ledger.specs.Ledgers.{are_zeros, denied_with, heard, of_read, of_register, of_retire};
-ghost use Rattle.kept_ledger.specs.Ledgers.{box_at, of_task, read_from, retired_at, task_at};
+ghost use Rattle.kept_ledger.specs.Ledgers.{box_at, is_noted, of_task, read_from, refusal_in, refused_behind};
+ghost use Rattle.kept_ledger.specs.Ledgers.{refused_by, retired_at, task_at, turned_by};
 ghost use Rattle.kept_ledger.specs.Machines.{HasReplyRoom};
 
 use crate::entry::{Denial, Denied, LedgerBox, Reading};
@@ -17,6 +19,39 @@ fn are_zeros(bytes: &[u8]) -> bool
     ensures { result ≡ are_zeros bytes.now }
 {
     bytes.iter().all(|b| *b == 0)
+}
+
+// Whether something else is noted where the servers refuse this so.
+fn is_noted(task: Task, refusal: Refusal) -> bool
+    ensures { result ≡ is_noted task refusal }
+{
+    match (task, refusal) {
+        (Task::Register(_), Refusal::Taken(_)) => true,
+        (Task::Register(_), Refusal::Full(_)) => true,
+        (Task::Retire(_), Refusal::NoBox(_)) => true,
+        (_, _) => false,
+    }
+}
+
+// The refusal that ended a request, where nothing else is noted of it.
+fn refusal_in(task: Task, outcome: Outcome) -> Option<Refusal>
+    ensures { (o : steps.Outcome) → outcome ≡ outcome_in o → result ≡ refusal_in task o }
+{
+    match outcome {
+        Outcome::Refused(refusal) if !is_noted(task, refusal) => Some(refusal),
+        _ => None,
+    }
+}
+
+// Why a request comes to nothing, or isn't taken now, by how it goes on.
+fn refused_by(before: Option<Refusal>, task: Option<Task>, progress: Progress) -> Option<Refusal>
+    ensures { (p : steps.Progress) → progress ≡ progress_in p → result ≡ refused_by before task p }
+{
+    match (task, progress) {
+        (_, Progress::Later(refusal)) => Some(refusal),
+        (Some(task), Progress::Finished(outcome)) => refusal_in(task, outcome),
+        (_, _) => before,
+    }
 }
 
 impl Ledger {
@@ -141,11 +176,18 @@ impl Ledger {
         }
     }
 
-    // A frame came, of which a message is put into these bytes.
-    pub(crate) fn hear(&mut self, frame: &[u8], bytes: Vec<u8>)
+    // Why the request comes to nothing behind this frame, or isn't taken now.
+    fn refused_behind(&self, frame: &[u8]) -> Option<Refusal>
+        ensures { result ≡ refused_behind self.now.state (on_reply self.now.state.client frame.now) }
+    {
+        refused_by(self.refused, self.task(), self.client.progress_at(frame))
+    }
+
+    // The client goes on, and what came of a request that ends is noted.
+    fn turn(&mut self, frame: &[u8], bytes: Vec<u8>)
         requires message { length bytes.items ≡ self.old.state.pair.width }
         requires room { HasReplyRoom self.old }
-        ensures { self.new.state ≡ heard self.old.state frame.now }
+        ensures { self.new.state ≡ turned_by self.old.state (on_reply self.old.state.client frame.now) }
     {
         let task = self.task();
         let serial = self.client.serial();
@@ -156,5 +198,16 @@ impl Ledger {
         {
             self.end(serial as u32, task, outcome, message);
         }
+    }
+
+    // A frame came, of which a message is put into these bytes.
+    pub(crate) fn hear(&mut self, frame: &[u8], bytes: Vec<u8>)
+        requires message { length bytes.items ≡ self.old.state.pair.width }
+        requires room { HasReplyRoom self.old }
+        ensures { self.new.state ≡ heard self.old.state frame.now }
+    {
+        let refused = self.refused_behind(frame);
+        self.turn(frame, bytes);
+        self.refused = refused;
     }
 }

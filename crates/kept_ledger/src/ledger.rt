@@ -7,7 +7,7 @@ use crate::entry::{Denied, LedgerBox, Marked, NamedBoxes, Reading};
 use crate::opening::LedgerOpening;
 use client_core::Client;
 use desk_sheets::Pair;
-use express_words::NoMemory;
+use express_words::{NoMemory, Refusal};
 use std::alloc::Global;
 use std::marker::Model;
 
@@ -23,6 +23,7 @@ pub struct Ledger {
     pub(crate) readings: Vec<Reading>,
     pub(crate) marks: Vec<Marked>,
     pub(crate) seconds: u64,
+    pub(crate) refused: Option<Refusal>,
 }
 
 impl Model for Ledger {
@@ -62,6 +63,7 @@ impl Ledger {
             readings: Vec::new(alloc),
             marks: Vec::new(alloc),
             seconds: 0,
+            refused: None,
         })
     }
 
@@ -126,5 +128,13 @@ impl Ledger {
         ensures { result ≡ self.now.state.client.serial }
     {
         self.client.serial()
+    }
+
+    /// Why the last request came to nothing, where nothing else is noted of that; or why the current one isn't
+    /// taken now. None again once something is asked, a request is given up, or the time is noted.
+    pub fn refused(&self) -> Option<Refusal>
+        ensures { result ≡ self.now.state.refused }
+    {
+        self.refused
     }
 }

@@ -2,6 +2,7 @@
 //! what they held, and the client that asks the servers for it.
 #![tactic(auto)]
 
+mod asking;
 mod digits;
 mod entry;
 mod fault;
@@ -23,6 +24,7 @@ mod sending;
 mod standing;
 mod tag;
 mod task;
+mod working;
 mod writing;
 
 pub use entry::{
@@ -38,3 +40,4 @@ pub use opening::{LedgerOpening, ServerAt};
 pub use sending::Sending;
 pub use standing::Standing;
 pub use task::Task;
+pub use working::{Unworked, work_ledger};

@@ -1,9 +1,9 @@
 //! What a ledger's other notes do to it.
-ghost use Rattle.std.specs.Prelude.{◌≡◌, ◌<◌, ◌++◌, ◌∷◌, [], length, is_some, unwrap_or};
+ghost use Rattle.std.specs.Prelude.{◌≡◌, ◌<◌, ◌++◌, ◌∷◌, [], None, length, is_some, unwrap_or};
 ghost use Rattle.std.specs.List.{list_any};
 ghost use Rattle.client_core.specs.GivingUp.{given_up};
 ghost use Rattle.kept_ledger.specs.Ledgers.{asked_of, is_mark_of, is_marked, is_same_handling};
-ghost use Rattle.kept_ledger.specs.Ledgers.{is_same_mark, marks_with, owned, owning};
+ghost use Rattle.kept_ledger.specs.Ledgers.{is_same_mark, marks_with, owned, owning, takes_task};
 
 use crate::entry::{Handling, LetterMark, Marked, NamedBoxes, OwnBox, Reading};
 use crate::ledger::Ledger;
@@ -51,25 +51,36 @@ impl Ledger {
         self.named.push_reserved(named);
     }
 
+    /// Whether it takes a request for this: none is current, not all serials are spent, and there is room for
+    /// the box, or it is there.
+    pub fn takes(&self, task: Task) -> bool
+        ensures { result ≡ takes_task self.now.state task }
+    {
+        self.client.fault_at(&task.request()).is_none()
+    }
+
     // The servers are asked for this, where the client takes it.
     pub(crate) fn ask(&mut self, task: Task)
         ensures { self.new.state ≡ asked_of self.old.state task }
     {
         let _ = self.client.ask(&task.request());
+        self.refused = None;
     }
 
     pub(crate) fn give_up(&mut self)
         ensures { self.new.state
-            ≡ record self.old.state { client = given_up self.old.state.client } }
+            ≡ record self.old.state { client = given_up self.old.state.client; refused = None } }
     {
         self.client.give_up();
+        self.refused = None;
     }
 
     // It is this time.
     pub(crate) fn note_time(&mut self, seconds: u64)
-        ensures { self.new.state ≡ record self.old.state { seconds = seconds } }
+        ensures { self.new.state ≡ record self.old.state { seconds = seconds; refused = None } }
     {
         self.seconds = seconds;
+        self.refused = None;
     }
 
     // The client owns an earlier ledger's box, where no request is current and it has room.

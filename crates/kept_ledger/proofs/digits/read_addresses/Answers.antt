@@ -1,6 +1,6 @@
 use Rattle.std.proofs.Common.{◌≡◌, ◌++◌, ℕ, List, ◌∙◌, ap, arith, take}
 use Rattle.std.proofs.lemmas.List.{take-append-drop}
-use Rattle.kept_ledger.specs.Notes.{AreAddresses, address_bytes}
+use Rattle.kept_ledger.specs.Notes.{address_bytes}
 use Rattle.kept_ledger.proofs.AddressLaws.{are_push, flat_more}
 use Rattle.kept_ledger.proofs.digits.read_addresses.Goals as goal
 

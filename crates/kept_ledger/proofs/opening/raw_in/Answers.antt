@@ -1,5 +1,4 @@
-use Rattle.std.proofs.Common.{◌≡◌, ◌∷◌, ◌++◌, List, ℕ, ◌∙◌, sym, refl, ap, drop}
-use Rattle.kept_ledger.specs.Notes.{Opening}
+use Rattle.std.proofs.Common.{◌++◌, List, ℕ, ◌∙◌, sym, refl, ap, drop}
 use Rattle.kept_ledger.specs.Openings.{front_bytes}
 use Rattle.kept_ledger.proofs.OpeningLaws.{none_placed, tail_whole}
 use Rattle.kept_ledger.proofs.opening.raw_in.Goals as goal

@@ -1,8 +1,5 @@
-use Rattle.std.proofs.Common.{◌≡◌, ◌≤◌, ◌*◌, ◌++◌, ℕ, List, length, false, drop, sym, ◌∙◌, ap, subst, arith}
-use Rattle.std.specs.Int.{w128, to_be_bytes}
-use Rattle.std.specs.List.{flat_map}
+use Rattle.std.proofs.Common.{◌≡◌, ◌≤◌, ◌*◌, ◌++◌, ℕ, List, length, false, drop, ◌∙◌, ap, subst, arith}
 use Rattle.std.proofs.lemmas.List.{take-append-drop}
-use Rattle.kept_ledger.specs.Notes.{AreAddresses, address_bytes}
 use Rattle.kept_ledger.specs.Names.{is_name}
 use Rattle.kept_ledger.proofs.NamedLaws.{named_is, none_unnamed}
 use Rattle.kept_ledger.proofs.reading.wanted_of.Goals as goal

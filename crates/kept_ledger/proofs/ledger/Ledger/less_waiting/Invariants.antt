@@ -1,4 +1,4 @@
-use Rattle.std.proofs.Common.{◌≡◌, ◌≤◌, ◌-◌, length}
+use Rattle.std.proofs.Common.{◌≡◌, ◌-◌, length}
 use Rattle.std.specs.List.{flat_map}
 use Rattle.kept_ledger.specs.Standings.{waiting_at}
 use Rattle.kept_ledger.proofs.ledger.Ledger.less_waiting.Given as goal

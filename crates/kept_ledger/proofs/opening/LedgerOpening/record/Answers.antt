@@ -1,4 +1,4 @@
-use Rattle.std.proofs.Common.{◌≡◌, ◌++◌, List, ℕ, ◌∙◌}
+use Rattle.std.proofs.Common.{◌≡◌, ◌++◌, ◌∙◌}
 use Rattle.kept_ledger.specs.Notes.{plain_opening}
 use Rattle.kept_ledger.proofs.OpeningLaws.{record_of}
 use Rattle.kept_ledger.proofs.opening.LedgerOpening.record.Goals as goal
