@@ -1,6 +1,6 @@
 -- A ledger that is worked off asks what it has to ask, and notes what it hears.
-use Rattle.std.proofs.Common.{◌≡◌, ℕ, Bool, true, false, List, [], ◌∷◌, ◌++◌, map, Option, Some, None, Result, Ok}
-use Rattle.std.proofs.Common.{Err, refl, sym, ap, ◌∙◌, inl, inr, length}
+use Rattle.std.proofs.Common.{◌≡◌, ℕ, Bool, true, false, List, [], ◌∷◌, ◌++◌, map, Option, Some, None}
+use Rattle.std.proofs.Common.{Result, Ok, Err, refl, sym, ap, ◌∙◌, inl, inr, length}
 use Rattle.std.specs.Prelude.{if◌then◌else◌, ◌&&◌, is_some, nat_le, option_map}
 use Rattle.express_words.specs.Calls.{Call}
 use Rattle.express_words.specs.Seen.{Seen}
@@ -75,8 +75,8 @@ worked_at shows counts old new result a b places are durable works = record {
   works = works;
   own = λ unclosed.
       let given = ledger_given old.machine (shows old.disk).reads (durable unclosed).stands in
-      let own = goes_own given.0 given.1 places old.machine works.last.machine works.made a works.calls given.2
-      works.goes_on in
+      let own = goes_own given.0 given.1 places old.machine works.last.machine works.made a works.calls
+      given.2 works.goes_on in
       record { opening = given.0; steps = own.0; notes = own.1.0; came_to = own.1.1 };
 }
 
@@ -106,7 +106,8 @@ heard_if server r false frame bytes e = absurd (cc e)
 heard_reply : (s : LedgerState) (server : Role) (r : PlainReply) (bytes : List ℕ)
     → heard_by server r (ledger_hears s r) ≡ Ok bytes → (frame : List ℕ) × (bytes ≡ note_record (Heard frame))
 heard_reply s server (reply.Frame frame) bytes e =
-    (frame, heard_if server (reply.Frame frame) (nat_le (length frame) 8213 && brings_on s frame) frame bytes e)
+    let is = nat_le (length frame) 8213 && brings_on s frame in
+    (frame, heard_if server (reply.Frame frame) is frame bytes e)
 heard_reply s server (reply.Lease lane serial) bytes e = absurd (cc e)
 heard_reply s server reply.NotYours bytes e = absurd (cc e)
 heard_reply s server (reply.Ended end) bytes e = absurd (cc e)

@@ -31,8 +31,8 @@ use Rattle.kept_ledger.specs.Notes.{Heard, GivenUp, Owned, Denied, Carried}
 
 -- Its pair of servers, the seed of all that is drawn, its client, the names of its boxes, the boxes that it
 -- got, in the order of the client's own, the addresses that get none, what boxes held, which letters were
--- shown or written out, the time that was noted last, in seconds since 1970 UTC, and why the last request came
--- to nothing, or isn't taken now.
+-- shown or written out, the time that was noted last, in seconds since 1970 UTC, and why the last request
+-- came to nothing, or isn't taken now.
 pub record LedgerState : Type 0 where
   pub pair : Pair
   pub seed : List ℕ

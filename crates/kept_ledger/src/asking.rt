@@ -29,8 +29,8 @@ fn request_of(ticket: Ticket, frame: &[u8]) -> Request<'_>
 }
 
 impl Ledger {
-    /// What it asks next at a door, in `room`; rest where no request is current, or the current one isn't taken
-    /// now.
+    /// What it asks next at a door, in `room`; rest where no request is current, or the current one isn't
+    /// taken now.
     #[tactic(auto, unfolding(crate::specs::Asking::ledger_wants))]
     pub fn wants<'a>(&self, room: &'a mut [u8; RECORD_MAX]) -> Next<'a>
         ensures next { plain_next result ≡ ledger_wants self.now.state }

@@ -130,8 +130,8 @@ impl Ledger {
         self.client.serial()
     }
 
-    /// Why the last request came to nothing, where nothing else is noted of that; or why the current one isn't
-    /// taken now. None again once something is asked, a request is given up, or the time is noted.
+    /// Why the last request came to nothing, where nothing else is noted of that; or why the current one
+    /// isn't taken now. None again once something is asked, a request is given up, or the time is noted.
     pub fn refused(&self) -> Option<Refusal>
         ensures { result ≡ self.now.state.refused }
     {

@@ -79,9 +79,9 @@ fn work_at<D: Disk, N: Net>(
     }
 }
 
-/// Works the current request off at the doors that the ledger's pair names, until it has ended, or a server says
-/// that it takes it later (`Ledger::refused`). Where the work halts the ledger stands where it had come to, and
-/// may be worked on again.
+/// Works the current request off at the doors that the ledger's pair names, until it has ended, or a server
+/// says that it takes it later (`Ledger::refused`). Where the work halts the ledger stands where it had come to,
+/// and may be worked on again.
 pub fn work_ledger<D: Disk, N: Net>(
     alloc: Global,
     kept: &mut Kept<KeptLedger, D>,
