@@ -1,0 +1,12 @@
+pub mod DrawLaws
+pub mod EndLaws
+pub mod FindLaws
+pub mod GivingLaws
+pub mod NoteLaws
+pub mod OpeningLaws
+pub mod PlaceLaws
+pub mod RefusalLaws
+pub mod ResumeLaws
+pub mod SendLaws
+pub mod StartLaws
+pub mod TroubleLaws

@@ -1,0 +1,12 @@
+pub mod Cards
+pub mod Clearing
+pub mod Ends
+pub mod Labels
+pub mod Letters
+pub mod MakingWay
+pub mod Places
+pub mod Resuming
+pub mod Searching
+pub mod Sending
+pub mod Starting
+pub mod Waiting

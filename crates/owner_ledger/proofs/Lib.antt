@@ -1,0 +1,4 @@
+pub mod CheckLaws
+pub mod MakeLaws
+pub mod NoteLaws
+pub mod PairLaws

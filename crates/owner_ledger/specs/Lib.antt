@@ -1,0 +1,4 @@
+pub mod Checks
+pub mod Desks
+pub mod Opens
+pub mod Puts

@@ -1,0 +1,5 @@
+pub mod MailLaws
+pub mod MarkLaws
+pub mod PlaceLaws
+pub mod StatusLaws
+pub mod TellLaws

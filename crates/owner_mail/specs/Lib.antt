@@ -1,0 +1,9 @@
+pub mod Cards
+pub mod Laws
+pub mod Mail
+pub mod News
+pub mod Places
+pub mod Status
+pub mod Targets
+pub mod Telling
+pub mod Unseen
