@@ -1,4 +1,4 @@
-"""A proxy before a server, which cuts connections at chosen bytes."""
+"""Proxies before a server, which cut connections: at chosen bytes, or all at once."""
 
 import select
 import socket
@@ -67,3 +67,47 @@ def pass_on(near, far, plan):
                     return
                 del ways[source]
                 target.shutdown(socket.SHUT_WR)
+
+
+class Cut:
+    """A proxy in front of the helper's door for its leader, which can cut what goes through it."""
+
+    def __init__(self, port):
+        self.target, self.open, self.cuts = port, [], 0
+        self.door = socket.create_server(("127.0.0.1", 0), backlog=16)
+        threading.Thread(target=self.serve, daemon=True).start()
+
+    def serve(self):
+        while True:
+            near, _ = self.door.accept()
+            try:
+                far = socket.create_connection(("127.0.0.1", self.target))
+            except OSError:
+                near.close()
+                continue
+            self.open += [near, far]
+            for source, target in ((near, far), (far, near)):
+                threading.Thread(target=self.hand_on, args=(source, target), daemon=True).start()
+
+    @staticmethod
+    def hand_on(source, target):
+        try:
+            while part := source.recv(1 << 16):
+                target.sendall(part)
+        except OSError:
+            pass  # it was cut
+        for end in (source, target):
+            try:
+                end.shutdown(socket.SHUT_RDWR)
+            except OSError:
+                pass  # the other direction has done so
+
+    def cut(self):
+        open_, self.open = self.open, []
+        self.cuts += 1
+        for end in open_:
+            try:
+                end.shutdown(socket.SHUT_RDWR)
+            except OSError:
+                pass  # it has ended by itself
+            end.close()

@@ -14,6 +14,7 @@ import time
 
 import plain
 import processes
+import scheduled
 from operators import HEADER, PROOF, ROLES, WRITE, frame_from
 
 SERVER = os.path.join(processes.TOP, "crates/express_server/out/express_server")
@@ -32,9 +33,9 @@ class Refused(Exception):
     """A server answered with another status than 200."""
 
 
-def post(port, path, body):
+def post(port, path, body, patience=PATIENCE):
     """The status and the body of an answer."""
-    door = http.client.HTTPConnection("127.0.0.1", port, timeout=PATIENCE)
+    door = http.client.HTTPConnection("127.0.0.1", port, timeout=patience)
     try:
         door.request("POST", path, body, OCTETS)
         answer = door.getresponse()
@@ -45,9 +46,10 @@ def post(port, path, body):
 
 class Pair:
     """Two servers in folders of their own, with the keys of an owner's lane. The leader dials its helper, or whoever stands
-    between. `front` has the words by role that a server's own are put behind when it starts."""
+    between. `front` has the words by role that a server's own are put behind when it starts. With a seed, the servers have
+    those of its schedules, and else draw theirs."""
 
-    def __init__(self, path, room, sizes, owners, between=None, places=1024):
+    def __init__(self, path, room, sizes, owners, between=None, places=1024, seed=None):
         self.path, self.room, self.sizes, self.owners, self.places = path, room, sizes, owners, places
         *doors, self.link = processes.lasting_ports(5)
         self.ports = dict(zip(ROLES, doors))
@@ -58,6 +60,8 @@ class Pair:
             os.mkdir(os.path.join(room, role))
             with open(self.settings(role), "w", encoding="ascii") as file:
                 file.write(self.text(role))
+            if seed is not None:
+                scheduled.begin_log(os.path.join(room, role, LOG), role, sizes, owners, seed)
             line = self.says("owner", self.settings(role), str(OWNER))
             self.keys[role] = bytes.fromhex(line.split()[-1])
 
