@@ -8,6 +8,7 @@ use crate::logs::{LogDisk, disk_at, open_helper, open_leader, opening_of, path_o
 use crate::status_door::{StatusDoor, socket_of};
 use crate::watch::Watch;
 use express_words::Role;
+use gated_runs::{run_helper, run_leader};
 use http_door::HeaderValue;
 use http_wires::HttpWires;
 use logged_hub::{LoggedHub, batch_of};
@@ -17,7 +18,7 @@ use many_wires::RecordLog;
 use mio_wires::{MioWires, OtherServer, WiresFault, WiresSettings};
 use node_journal::{Disk, Journal};
 use server_settings::{Key, ServerSettings};
-use server_status::{CountingWires, Figured, run_viewed};
+use server_status::CountingWires;
 use server_words::{Start, Stop};
 
 /// So many frames a round takes at most.
@@ -111,15 +112,19 @@ fn open_hall<S: Answering + Drop>(
     Hall::open(rt.alloc(), server, doors, bounds).map_err(|_| Stop::NoMemory)
 }
 
-// Serves until the log fails.
-fn serve<'a, S: Answering + Figured + Drop>(
-    rt: &HostRuntime,
+// A server's connections and its log.
+type ServerHub<'a> = LoggedHub<ServerWires, LogDisk<'a>>;
+
+// All that a server runs with; its operator is told that it begins.
+fn begin<'a, S: Answering + Drop>(
+    rt: &'a HostRuntime,
     settings: &ServerSettings,
     server: S,
     log: Log<'a>,
-) -> Result<(), Stop>
+) -> Result<(Hall<S>, ServerHub<'a>, Watch<'a>), Stop>
     requires ready { IsReady log.journal (⟦<LogDisk<'a> as Disk>⟧.disk log.disk) }
     requires held { Holds log.held (⟦<LogDisk<'a> as Disk>⟧.disk log.disk).reads }
+    ensures settled { IfOk result (λ parts. IsSettled S.rules parts.0) }
 {
     let Log {
         journal,
@@ -132,16 +137,17 @@ fn serve<'a, S: Answering + Figured + Drop>(
         bytes: journal.end(),
         records: count,
     };
-    let mut hall = open_hall(rt, settings, server)?;
+    let hall = open_hall(rt, settings, server)?;
     let wires = open_wires(rt, settings)?;
     let batch = batch_of(rt.alloc(), FRAMES)?;
     let mut watch = Watch::open(rt, StatusDoor::of(rt, settings)?)?;
-    let mut hub = LoggedHub::open(wires, journal, disk, held, batch);
+    let hub = LoggedHub::open(wires, journal, disk, held, batch);
     watch.begin(&start);
-    run_viewed(&mut hall, &mut hub, &mut watch, ROUNDS).map_err(|_| Stop::LogFailed)
+    Ok((hall, hub, watch))
 }
 
-fn run_helper(rt: &HostRuntime, settings: &ServerSettings) -> Result<(), Stop> {
+// Serves until the log fails.
+fn serve_helper(rt: &HostRuntime, settings: &ServerSettings) -> Result<(), Stop> {
     let path = path_of(rt, settings)?;
     let opening = opening_of(rt, settings)?;
     let log = open_helper(rt, &opening, disk_at(rt, &path))?;
@@ -152,10 +158,11 @@ fn run_helper(rt: &HostRuntime, settings: &ServerSettings) -> Result<(), Stop> {
         held: log.held,
         count: log.count,
     };
-    serve(rt, settings, server, log)
+    let (mut hall, mut hub, mut watch) = begin(rt, settings, server, log)?;
+    run_helper(&mut hall, &mut hub, &mut watch, ROUNDS).map_err(|_| Stop::LogFailed)
 }
 
-fn run_leader(rt: &HostRuntime, settings: &ServerSettings) -> Result<(), Stop> {
+fn serve_leader(rt: &HostRuntime, settings: &ServerSettings) -> Result<(), Stop> {
     let path = path_of(rt, settings)?;
     let opening = opening_of(rt, settings)?;
     let log = open_leader(rt, &opening, disk_at(rt, &path))?;
@@ -166,13 +173,14 @@ fn run_leader(rt: &HostRuntime, settings: &ServerSettings) -> Result<(), Stop> {
         held: log.held,
         count: log.count,
     };
-    serve(rt, settings, server, log)
+    let (mut hall, mut hub, mut watch) = begin(rt, settings, server, log)?;
+    run_leader(&mut hall, &mut hub, &mut watch, ROUNDS).map_err(|_| Stop::LogFailed)
 }
 
 /// Runs the server of the settings.
 pub fn run(rt: &HostRuntime, settings: &ServerSettings) -> Result<(), Stop> {
     match settings.role {
-        Role::Helper => run_helper(rt, settings),
-        Role::Leader => run_leader(rt, settings),
+        Role::Helper => serve_helper(rt, settings),
+        Role::Leader => serve_leader(rt, settings),
     }
 }
