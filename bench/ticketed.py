@@ -12,6 +12,7 @@ import subprocess
 import threading
 import time
 
+import journals
 import plain
 import processes
 import scheduled
@@ -190,13 +191,24 @@ def begin(client, bridge, serial, requests, owned=()):
     return processes.Client(client.express, settings)
 
 
+def was_accepted(pair, lane, serial):
+    """Whether the leader's log says that a write was accepted. Where its answer was lost with a server that was killed, each
+    process that repeats it is stopped for an answer."""
+    return any((frame.lane, frame.serial) == (lane, serial) and frame.body[0] == journals.ACCEPTED
+               for frame in journals.frames(os.path.join(pair.room, ROLES[0]), LOG)
+               if not frame.is_clients and frame.kind == journals.REPLY)
+
+
 def outcomes(client, pair, serial, requests, owned=()):
     """What becomes of a client's requests. One whose connection ended is sent again by a new process."""
     told = []
     bridge = Bridge(pair, client.tickets)
     for place, request in enumerate(requests):
         for _ in range(100):
-            outcome = plain.outcome_of(*begin(client, bridge, serial + place, [request], owned).lines())
+            lines = begin(client, bridge, serial + place, [request], owned).lines()
+            outcome = plain.outcome_of(*lines)
+            if plain.stop_of(*lines) == "answer" and was_accepted(pair, client.lane, serial + place):
+                outcome = "accepted"
             if outcome is not None:
                 break
             time.sleep(0.2)
