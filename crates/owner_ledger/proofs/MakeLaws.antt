@@ -66,7 +66,7 @@ opened o bytes k is same opens =
 pub puts : {D T E : Type 0} (shows : D → DiskSeen) (counts : D → Seen) (state : LedgerState) (disk : D)
     (next : KeptState KeptLedger D) (a b c : Option (List (FolderCall D))) (r : Result T E)
     → MakesFile NextLedger disk a b → next.machine.ledger.state ≡ state
-    → (next.journal.closed ≡ false → IsDurable ledger_rules (sight shows counts next))
+    → IsDurable ledger_rules (sight shows counts next)
     → Adds b c (Placed NextLedger Ledger (is_err r)) → OnOk r (PutsLedger shows counts state a c)
 puts shows counts state disk next a b c (Ok x) made is durable placed = record {
   disk = disk;
@@ -83,7 +83,7 @@ puts shows counts state disk next a b c (Err why) made is durable placed = tt
 pub puts_noted : {D T E : Type 0} (shows : D → DiskSeen) (counts : D → Seen) (state noted : LedgerState)
     (disk : D) (next : KeptState KeptLedger D) (a b c : Option (List (FolderCall D))) (r : Result T E)
     → MakesFile NextLedger disk a b → OnOk r (next.machine.ledger.state ≡ noted) → noted ≡ state
-    → OnOk r (next.journal.closed ≡ false → IsDurable ledger_rules (sight shows counts next))
+    → OnOk r (IsDurable ledger_rules (sight shows counts next))
     → OnOk r (Adds b c (Placed NextLedger Ledger false)) → OnOk r (PutsLedger shows counts state a c)
 puts_noted shows counts state noted disk next a b c (Ok x) made is same durable placed = record {
   disk = disk;

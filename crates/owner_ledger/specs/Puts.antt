@@ -21,7 +21,7 @@ pub record PutsLedger {D : Type 0} (shows : D → DiskSeen) (counts : D → Seen
   pub made : MakesFile NextLedger disk old mid
   pub next : KeptState KeptLedger D
   pub is : next.machine.ledger.state ≡ ledger
-  pub durable : next.journal.closed ≡ false → IsDurable ledger_rules (sight shows counts next)
+  pub durable : IsDurable ledger_rules (sight shows counts next)
   pub placed : Adds mid new (Placed NextLedger Ledger false)
 
 -- The ledger that goes on behind this one, with requests from a serial on: its pair and seed are the same, and

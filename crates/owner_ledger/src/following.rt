@@ -30,12 +30,13 @@ fn note_and_put<'a, F: Folder>(
     folder: &mut F,
 ) -> Result<(), Trouble<'a>>
     requires next { IsNextLedger (fold_from next.old.machine.ledger.state (map plain_note notes.now)) }
+    requires still_open { next.old.journal.closed ≡ false }
     ensures noted { OnOk result (next.new.machine.ledger.state
         ≡ fold_from next.old.machine.ledger.state (map plain_note notes.now)) }
     ensures placed { OnOk result (Adds (F.calls folder.old) (F.calls folder.new)
         (Placed DeskFile.NextLedger DeskFile.Ledger false)) }
-    ensures durable { OnOk result (next.new.journal.closed ≡ false
-        → IsDurable ledger_rules (sight F.File.disk F.File.Counted.seen next.new)) }
+    ensures durable { OnOk result
+        (IsDurable ledger_rules (sight F.File.disk F.File.Counted.seen next.new)) }
     ensures cause { IfErr result IsCause }
     ensures steps { FolderStepsOn F.File.disk F.File.Counted.seen (F.calls folder.old) (F.calls folder.new) }
 {

@@ -28,6 +28,7 @@ pub(crate) fn create<'a, D: Disk + Drop>(
     requires opening { IsOpening (plain_opening opening.now) }
     ensures opened { IfOk result (λ kept. kept.machine.ledger.state
         ≡ opened_ledger (plain_opening opening.now)) }
+    ensures still_open { IfOk result (λ kept. kept.journal.closed ≡ false) }
     ensures cause { IfErr result IsCause }
 {
     let mut room = [0; RECORD_MAX];
@@ -45,10 +46,10 @@ pub(crate) fn put<'a, F: Folder>(
     folder: &mut F,
 ) -> Result<(), Trouble<'a>>
     requires next { IsNextLedger next.now.machine.ledger.state }
+    requires still_open { next.now.journal.closed ≡ false }
     ensures placed { Adds (F.calls folder.old) (F.calls folder.new)
         (Placed DeskFile.NextLedger DeskFile.Ledger (is_err result)) }
-    ensures durable { next.now.journal.closed ≡ false
-        → IsDurable ledger_rules (sight F.File.disk F.File.Counted.seen next.now) }
+    ensures durable { IsDurable ledger_rules (sight F.File.disk F.File.Counted.seen next.now) }
     ensures cause { IfErr result IsCause }
     ensures steps { FolderStepsOn F.File.disk F.File.Counted.seen (F.calls folder.old) (F.calls folder.new) }
 {

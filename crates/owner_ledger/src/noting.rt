@@ -75,6 +75,7 @@ fn note_one<'a, D: Disk>(
     ensures noted { OnOk result (kept.new.machine.ledger.state
         ≡ step_of kept.old.machine.ledger.state (plain_note note.now)) }
     ensures same { OnErr result (kept.new.machine.ledger.state ≡ kept.old.machine.ledger.state) }
+    ensures still_open { OnOk result (kept.new.journal.closed ≡ kept.old.journal.closed) }
     ensures cause { IfErr result IsCause }
 {
     if !is_input(*note) {
@@ -94,6 +95,7 @@ pub(crate) fn note_all<'a, D: Disk>(
 ) -> Result<(), Trouble<'a>>
     ensures noted { OnOk result (kept.new.machine.ledger.state
         ≡ fold_from kept.old.machine.ledger.state (map plain_note notes.now)) }
+    ensures still_open { OnOk result (kept.new.journal.closed ≡ kept.old.journal.closed) }
     ensures cause { IfErr result IsCause }
 {
     let mut rest = notes;

@@ -11,6 +11,7 @@ note_and_put-placed-requires g c = record {
       (follows c.args.keeping c.args.first c.args.old.now.state _
       (plain_opening c.opening_at.result) _ c.in_ok-next.ensures.opened c.opening_at.ensures.opening
       (ap (λ (l : List LedgerNote). map plain_note l) c.as_slice.ensures.value ∙ c.in_ok-notes.ensures));
+  still_open = c.in_ok-next.ensures.still_open;
 }
 
 pub returns-clause-follows : goal.returns-clause-follows
